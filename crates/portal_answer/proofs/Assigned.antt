@@ -1,6 +1,5 @@
 -- The lines of the students, one after the other.
-use Rattle.portal_answer.proofs.Base.{◌≡◌, ◌+◌, ◌<◌, ◌++◌, ℕ, List, [], length, take, get_or, Option, Some, None, is_some, is_none, refl, sym, ap, arith, flat_map, zip, count_by, Spa, Text, assign_line}
-use Rattle.std.proofs.lemmas.List.{take_more, append-nil, take_all}
+use Rattle.portal_answer.proofs.Base.{◌≡◌, ◌+◌, ◌<◌, ◌++◌, ℕ, List, [], length, take, get_or, Option, Some, None, is_some, is_none, refl, sym, ap, arith, flat_map, zip, count_by, Spa, Text, assign_line, take_more, append-nil, take_all}
 use Rattle.std.proofs.lemmas.List.Sums.{count_by_more_yes, count_by_more_no}
 use Rattle.std.proofs.lemmas.Grind.{flat_map-append}
 use Rattle.std.proofs.lemmas.Slice.Zip.{get_or-zip, length-zip}

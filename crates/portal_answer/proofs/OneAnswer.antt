@@ -1,13 +1,9 @@
 -- To the bytes of a file one text alone is told.
-use Rattle.portal_answer.proofs.Base.{◌≡◌, ◌∙◌, inl, inr, ℕ, ◌<◌, Bool, true, false, Result, Ok, Err, List, [], length, get_or, Option, Some, None, refl, sym, subst, ap, arith, Pair, InstanceFault, File, rows, RollFault, Spa, Text, Told, refused_instance, Tells, OfPairs, OfRead, IfLonger, IsAnswer, Task, Check, Solve}
-use Rattle.std.proofs.Common.{◌⊎◌, zero, suc, cond, eqb, ◌∷◌}
+use Rattle.portal_answer.proofs.Base.{◌≡◌, ◌∙◌, inl, inr, ℕ, ◌<◌, Bool, true, false, Result, Ok, Err, List, [], length, get_or, Option, Some, None, refl, sym, subst, ap, arith, Pair, InstanceFault, File, rows, RollFault, Spa, Text, Told, refused_instance, Tells, OfPairs, OfRead, IfLonger, IsAnswer, Task, Check, Solve, ◌⊎◌, zero, suc, cond, eqb, ◌∷◌, ext_get_or, Rows, Blocks, project_of, refused_matching, blocking, assignment, OfFile, file_rows, limit}
 use Rattle.std.specs.Prelude.{AllPairs, Contains, nat_lt}
 use Rattle.std.proofs.lemmas.Bool.{cases_lt}
-use Rattle.std.proofs.lemmas.List.{ext_get_or}
-use Rattle.spa_rows.specs.Lines.{Rows}
 use Rattle.spa_rows.specs.Faults.{HasNoneBefore, IsFirstFault, number_of}
 use Rattle.spa_rows.specs.declared.faults.InstanceFault.TheVariants as row
-use Rattle.spa_model.specs.Spa.{Blocks, project_of}
 use Rattle.spa_model.specs.Pairs.{HasPairs, IsFirstPairFault, number_of_pair_fault, student_in, project_in}
 use Rattle.spa_model.specs.declared.matching.MatchingFault.{MatchingFault}
 use Rattle.spa_model.proofs.FirstFault.{fault_of, fault_of-number}
@@ -15,10 +11,6 @@ use Rattle.spa_model.proofs.OneOnly.{best_is_one}
 use Rattle.spa_model.proofs.OneInstance.{instance_is_one}
 use Rattle.spa_check.specs.Listed.{AreAllBlocks, IsEarlier}
 use Rattle.spa_check.specs.declared.block.Block.{Block}
-use Rattle.portal_answer.specs.Refused.{refused_matching}
-use Rattle.portal_answer.specs.Blocking.{blocking}
-use Rattle.portal_answer.specs.Solution.{assignment}
-use Rattle.portal_answer.specs.Answer.{OfFile, file_rows, limit}
 
 -- ---- blocking pairs: two lists that rise and have the same members are one
 

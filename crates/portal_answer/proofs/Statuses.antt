@@ -1,9 +1,7 @@
 -- The status of an answer is at most 2.
-use Rattle.portal_answer.proofs.Base.{◌≡◌, ℕ, Bool, true, false, List, Option, Result, Ok, Err, refl, sym, subst, inl, inr, arith, length, InstanceFault, File, rows, RollFault, Spa, Pair, Text, Told, refused_instance, Tells, OfPairs, OfRead, IfLonger, IsAnswer, Task, Check, Solve}
-use Rattle.std.proofs.Common.{◌≤◌, ◌==◌, if◌then◌else◌}
+use Rattle.portal_answer.proofs.Base.{◌≡◌, ℕ, Bool, true, false, List, Option, Result, Ok, Err, refl, sym, subst, inl, inr, arith, length, InstanceFault, File, rows, RollFault, Spa, Pair, Text, Told, refused_instance, Tells, OfPairs, OfRead, IfLonger, IsAnswer, Task, Check, Solve, ◌≤◌, ◌==◌, if◌then◌else◌, refused_file}
 use Rattle.spa_rows.specs.declared.faults.InstanceFault.TheVariants as instance
 use Rattle.portal_rolls.specs.declared.fault.RollFault.TheVariants as file
-use Rattle.portal_answer.specs.Refused.{refused_file}
 
 -- a told text of a known status
 of_status : (t u : Told) (n : ℕ) → t ≡ u → u.status ≡ n → n ≤ 2 → t.status ≤ 2

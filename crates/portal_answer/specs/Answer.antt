@@ -1,30 +1,123 @@
--- What is answered to the bytes of an instance file.
-use Rattle.std.specs.Prelude.{◌≡◌, ◌⊎◌, ℕ, List, Option, Result, Ok, Err, Bool, true, false, length, nat_lt, codes}
+-- The answers of `portal check` and `portal solve` to the bytes of an instance file.
+use Rattle.std.specs.Prelude.{ℕ, List, codes, ◌++◌, [], ◌≡◌, Option, length, slice_index_or, ◌==◌, if◌then◌else◌, Some, None, count_by, is_some, is_none, ◌⊎◌, Result, Ok, Err, Bool, true, false, nat_lt}
+use Rattle.std.specs.Fmt.{decimal}
+use Rattle.spa_rows.specs.declared.faults.InstanceFault.{InstanceFault}
+use Rattle.spa_rows.specs.declared.faults.InstanceFault.TheVariants as instance
+use Rattle.spa_model.specs.declared.matching.MatchingFault.{MatchingFault}
+use Rattle.spa_model.specs.declared.matching.MatchingFault.TheVariants as matching
+use Rattle.portal_rolls.specs.declared.fault.RollFault.{RollFault}
+use Rattle.portal_rolls.specs.declared.fault.RollFault.TheVariants as file
+use Rattle.std.specs.List.{flat_map, zip}
+use Rattle.spa_model.specs.Spa.{Spa, text_of, IsBest, IsLawful, IsMatching}
+use Rattle.spa_check.specs.Listed.{AreAllBlocks}
+use Rattle.spa_check.specs.declared.block.Block.{Block}
 use Rattle.spa_rows.specs.Lines.{Pair, Rows}
 use Rattle.spa_rows.specs.Faults.{IsFirstFault, HasNoneBefore}
-use Rattle.spa_rows.specs.declared.faults.InstanceFault.{InstanceFault}
 use Rattle.spa_rows.specs.declared.faults.InstanceFault.TheVariants.{Memory}
-use Rattle.spa_model.specs.Spa.{Spa, IsLawful, IsMatching}
-use Rattle.spa_model.specs.Built.{StandsFor}
-use Rattle.spa_model.specs.Pairs.{HasPairs, IsFirstPairFault}
-use Rattle.spa_model.specs.Assigned.{AreSound}
-use Rattle.spa_model.specs.declared.matching.MatchingFault.{MatchingFault}
+use Rattle.spa_model.specs.Pairs.{StandsFor, HasPairs, IsFirstPairFault, AreSound}
 use Rattle.portal_rolls.specs.Lines.{File, rows}
-use Rattle.portal_rolls.specs.declared.fault.RollFault.{RollFault}
-use Rattle.portal_answer.specs.Told.{Text, Told, refused_plain}
-use Rattle.portal_answer.specs.Refused.{refused_file, refused_instance, refused_matching}
-use Rattle.portal_answer.specs.Blocking.{TellsBlocks}
-use Rattle.portal_answer.specs.Solution.{TellsBest}
 use Rattle.portal_answer.specs.declared.answer.Task.{Task}
 use Rattle.portal_answer.specs.declared.answer.Task.TheVariants.{Check, Solve}
 
--- what is told of an instance and a matching: its blocking pairs, or the best matching whatever the
--- one in the file
+abbrev pub Text : Type 0
+Text = List ℕ
+
+-- an output text with its exit status
+pub record Told : Type 0 where
+  pub text : Text
+  pub status : ℕ
+
+-- refused input has the exit status 2
+abbrev pub refusal : Text → Told
+refusal text = record { text = text; status = 2 }
+
+-- a refusal that names no row
+abbrev pub refused_plain : Text → Told
+refused_plain word = refusal (codes "refused " ++ word ++ codes "\n")
+
+-- a refusal that names a row
+abbrev pub refused_row : Text → ℕ → Told
+refused_row word row = refusal (codes "refused " ++ word ++ codes " row " ++ decimal row ++ codes "\n")
+
+-- the refusal of a file that cannot be read as rows
+abbrev pub refused_file : RollFault → Told
+refused_file file.NoHeader = refused_plain (codes "no_header")
+refused_file file.BadHeader = refused_plain (codes "bad_header")
+refused_file (file.FieldCount row) = refused_row (codes "field_count") row
+refused_file (file.NotText row) = refused_row (codes "not_text") row
+refused_file (file.BadField row column) = refusal (codes "refused bad_field row " ++ decimal row ++ codes " column " ++ decimal column ++ codes "\n")
+refused_file file.TooMany = refused_plain (codes "too_many_rows")
+refused_file file.Memory = refusal []
+
+-- the error word of a fault
+abbrev pub instance_word : InstanceFault → Text
+instance_word instance.TooMany = codes "too_many"
+instance_word instance.BadKey = codes "bad_key"
+instance_word instance.KeyTwice = codes "key_twice"
+instance_word instance.BadCapacity = codes "bad_capacity"
+instance_word instance.NoSuchLecturer = codes "no_such_lecturer"
+instance_word instance.NoSuchProject = codes "no_such_project"
+instance_word instance.RepeatInList = codes "repeat_in_list"
+instance_word instance.ListTooLong = codes "list_too_long"
+instance_word instance.NotApplicant = codes "not_applicant"
+instance_word instance.ApplicantMissing = codes "applicant_missing"
+instance_word instance.Memory = []
+
+abbrev pub matching_word : MatchingFault → Text
+matching_word matching.NoSuchStudent = codes "pair_no_student"
+matching_word matching.NoSuchProject = codes "pair_no_project"
+matching_word matching.NotAcceptable = codes "pair_not_acceptable"
+matching_word matching.StudentTwice = codes "student_twice"
+matching_word matching.ProjectOver = codes "project_over"
+matching_word matching.LecturerOver = codes "lecturer_over"
+matching_word matching.Memory = []
+
+-- the refusal of rows that are no instance; only `too_many` names no row
+abbrev pub refused_instance : InstanceFault → ℕ → Told
+refused_instance instance.TooMany row = refused_plain (instance_word instance.TooMany)
+refused_instance fault row = refused_row (instance_word fault) row
+
+-- the refusal of pairs that are no matching
+abbrev pub refused_matching : MatchingFault → ℕ → Told
+refused_matching fault row = refused_row (matching_word fault) row
+
+abbrev pub block_line : Spa → Block → Text
+block_line i b = codes "block " ++ slice_index_or i.student_keys b.student [] ++ codes " " ++ slice_index_or i.project_keys b.project [] ++ codes " " ++ text_of b.letter ++ codes "\n"
+
+-- a line for each blocking pair, then their number; the status is 0 if there is none, otherwise 1
+abbrev pub blocking : Spa → List Block → Told
+blocking i blocks = record {
+  text = flat_map (block_line i) blocks ++ (codes "blocking " ++ decimal (length blocks) ++ codes "\n");
+  status = if length blocks == 0 then 0 else 1;
+}
+
+-- the answer lists all pairs that block the matching, by student, then by project
+abbrev pub TellsBlocks : Spa → List (Option ℕ) → Told → Type 0
+TellsBlocks i m told = (blocks : List Block) × AreAllBlocks i m blocks × (told ≡ blocking i blocks)
+
+-- the line of a student, with the project or none
+abbrev pub assign_line : Spa → Text → Option ℕ → Text
+assign_line i student None = codes "none " ++ student ++ codes "\n"
+assign_line i student (Some p) = codes "assign " ++ student ++ codes " " ++ slice_index_or i.project_keys p [] ++ codes "\n"
+
+-- a line for each student, by key, then the numbers of students with and without a project
+abbrev pub assignment : Spa → List (Option ℕ) → Told
+assignment i m = record {
+  text = flat_map (λ e. assign_line i e.0 e.1) (zip i.student_keys m)
+      ++ (codes "assigned " ++ decimal (count_by is_some m) ++ codes " unassigned " ++ decimal (count_by is_none m) ++ codes "\n");
+  status = 0;
+}
+
+-- the answer is the student-optimal stable matching
+abbrev pub TellsBest : Spa → Told → Type 0
+TellsBest i told = (m : List (Option ℕ)) × IsBest i m × (told ≡ assignment i m)
+
+-- `Check` reports the blocking pairs; `Solve` the best matching, whatever the one in the file
 abbrev pub Tells : Task → Spa → List (Option ℕ) → Told → Type 0
 Tells Check i m told = TellsBlocks i m told
 Tells Solve i m told = TellsBest i told
 
--- what is told of an instance and pairs: their first fault, or, if there is none, of their matching
+-- the answer for an instance and pairs: their first fault, or the answer for their matching
 abbrev pub OfPairs : Task → Spa → List Pair → Told → Type 0
 OfPairs task i pairs told =
     ((fault : MatchingFault) × (r : ℕ) × IsFirstPairFault i pairs fault r × (told ≡ refused_matching fault r))
@@ -33,27 +126,26 @@ OfPairs task i pairs told =
 abbrev pub file_rows : File → Rows
 file_rows f = record { lecturers = f.lecturers; projects = f.projects; students = f.students }
 
--- what is told of a file's rows: their first fault, or, where they have none, of their instance and
--- the pairs
+-- the answer for a file's rows: their first fault, or the answer for their instance and the pairs
 abbrev pub OfFile : Task → File → Told → Type 0
 OfFile task f told =
     ((fault : InstanceFault) × (r : ℕ) × IsFirstFault (file_rows f) fault r × (told ≡ refused_instance fault r))
     ⊎ ((i : Spa) × HasNoneBefore (file_rows f) Memory × StandsFor (file_rows f) i × IsLawful i × OfPairs task i f.pairs told)
 
--- what is told of what was read: the reader's fault, or of the file
+-- the answer for what was read: the reader's fault, or the answer for the file
 abbrev pub OfRead : Task → Result File RollFault → Told → Type 0
 OfRead task (Err fault) told = told ≡ refused_file fault
 OfRead task (Ok f) told = OfFile task f told
 
--- the most bytes of a file
+-- the greatest size of a file, in bytes
 abbrev pub limit : ℕ
 limit = 4194304
 
--- a file over the limit is refused, another one read
+-- a file over the limit is refused, any other is read
 abbrev pub IfLonger : Task → Bool → Text → Told → Type 0
 IfLonger task true bytes told = told ≡ refused_plain (codes "too_large")
 IfLonger task false bytes told = OfRead task (rows bytes) told
 
--- what is told of the bytes of a file
+-- the answer for the bytes of a file
 abbrev pub IsAnswer : Task → Text → Told → Type 0
 IsAnswer task bytes told = IfLonger task (nat_lt limit (length bytes)) bytes told

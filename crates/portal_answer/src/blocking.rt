@@ -2,7 +2,7 @@
 
 ghost use Rattle.std.specs.Prelude.{◌≡◌, ◌<◌, ◌++◌, All, OnOk, IfOk, length};
 ghost use Rattle.spa_model.specs.Spa.{IsMatching};
-ghost use Rattle.portal_answer.specs.Blocking.{block_line, blocking, TellsBlocks};
+ghost use Rattle.portal_answer.specs.Answer.{block_line, blocking, TellsBlocks};
 
 use crate::told::Told;
 use spa_check::{Block, blocking_pairs};

@@ -1,8 +1,7 @@
 //! Laws over the definitions alone.
 
 ghost use Rattle.std.specs.Prelude.{◌≡◌};
-ghost use Rattle.portal_answer.specs.Told.{Text, Told};
-ghost use Rattle.portal_answer.specs.Answer.{IsAnswer};
+ghost use Rattle.portal_answer.specs.Answer.{Text, Told, IsAnswer};
 ghost use Rattle.portal_answer.specs.declared.answer.Task.{Task};
 
 /// To the bytes of a file each command tells one text alone, with one status.

@@ -2,7 +2,7 @@
 
 ghost use Rattle.std.specs.Prelude.{◌≡◌, ◌<◌, ◌++◌, IfOk, IfSome, OnOk, length, slice_index_or, []};
 ghost use Rattle.spa_model.specs.Spa.{IsMatching};
-ghost use Rattle.portal_answer.specs.Solution.{assign_line, assignment, TellsBest};
+ghost use Rattle.portal_answer.specs.Answer.{assign_line, assignment, TellsBest};
 
 use crate::told::Told;
 use spa_model::{Instance, Matching};

@@ -1,8 +1,8 @@
 //! What the program tells, and its refusals.
 
 ghost use Rattle.std.specs.Prelude.{◌≡◌, IfOk, IsErr};
-ghost use Rattle.portal_answer.specs.Told.{refused_plain, refused_row};
-ghost use Rattle.portal_answer.specs.Refused as spec;
+ghost use Rattle.portal_answer.specs.Answer.{refused_plain, refused_row};
+ghost use Rattle.portal_answer.specs.Answer as spec;
 
 use portal_rolls::RollFault;
 use spa_model::{BadInstance, BadMatching, InstanceFault, MatchingFault};
@@ -17,7 +17,7 @@ pub struct Told {
 }
 
 impl Model for Told {
-    ghost use Rattle.portal_answer.specs.Told as spec;
+    ghost use Rattle.portal_answer.specs.Answer as spec;
 
     ghost Value = { spec.Told };
 

@@ -1,21 +1,15 @@
--- What a list or a ranking that is put leaves of a caller, and what is seen after a call of one's own.
-use Rattle.portal_core.proofs.Base.{◌≡◌, Bool, true, false, cond, List, refl, ◌∙◌, ap, map, Option, Some, None, option_map, find, filter_map, Key, equals, World, in_play, Choices, Ranks, Students, Placements, changed, in_first, with_students, with_choice, with_ranking, First, Second, StudentRow, Nobody, Office, Lecturer, Student, Caller, NoCaller, OfficeCaller, LecturerCaller, StudentCaller, caller_among, lecturer_with, student_with, caller, sight_of, view, listing_with, listings, catalogue, student_sees, lecturer_sees, office_sees, AbstractCall, Decision, decision, StepLeaves, Calls, is_move_or_add}
+-- What a list or ranking that is put leaves of a caller, and what one sees after one's own call.
+use Rattle.portal_core.proofs.Base.{◌≡◌, true, false, cond, List, refl, ◌∙◌, ap, map, Some, option_map, find, filter_map, Key, equals, World, in_play, Choices, Ranks, Students, Placements, changed, in_first, with_students, with_choice, with_ranking, First, Second, StudentRow, Office, Lecturer, Student, Caller, NoCaller, OfficeCaller, LecturerCaller, StudentCaller, student_with, caller, sight_of, view, listing_with, listings, catalogue, student_sees, lecturer_sees, office_sees, AbstractCall, Decision, decision, StepLeaves, Calls, is_move_or_add, arith, Fill, [], Sight, with_own}
 use Rattle.portal_core.specs.World as rows
-use Rattle.portal_core.specs.declared.view.View.{View as Sight}
-use Rattle.portal_core.specs.Answer.{with_own}
-use Rattle.portal_core.proofs.Cases.{by_student, by_lecturer, by_office}
 use Rattle.portal_core.proofs.Keys.{is_own, find_map}
 use Rattle.portal_core.proofs.Reranked.{re_called, caller_kept, names_kept}
 use Rattle.portal_core.proofs.Fills.{view_filled}
-use Rattle.portal_core.proofs.InPlay.{play_chosen, play_ranked, play_placed, play_joined}
+use Rattle.portal_core.proofs.InPlay.{play_chosen, play_ranked, play_placed, play_joined, ranking_row}
 
 -- a change of a list keeps the row
 
 pub choice_row : (k : Key) (list : List Key) (s : rows.Student) → (with_choice k list s).row ≡ s.row
 choice_row k list s = elim (equals s.row.key k) as (λ b. (cond b (record s { choice = list }) s).row ≡ s.row) [ true ↦ refl | false ↦ refl ]
-
-pub ranking_row : (k : Key) (list : List Key) (l : rows.Lecturer) → (with_ranking k list l).row ≡ l.row
-ranking_row k list l = elim (equals l.row.key k) as (λ b. (cond b (record l { ranking = Some list }) l).row ≡ l.row) [ true ↦ refl | false ↦ refl ]
 
 -- the caller after a change of a list
 
@@ -23,22 +17,11 @@ abbrev pub re_chosen : Key → List Key → Caller → Caller
 re_chosen k list (StudentCaller s) = StudentCaller (with_choice k list s)
 re_chosen k list x = x
 
-among_chosen : (k : Key) (list : List Key) (l : Option rows.Lecturer) (s : Option rows.Student) → caller_among l (option_map (with_choice k list) s) ≡ re_chosen k list (caller_among l s)
-among_chosen k list (Some l) s = refl
-among_chosen k list None (Some s) = refl
-among_chosen k list None None = refl
-
-if_chosen : (k : Key) (list : List Key) (b : Bool) (x : Caller) → cond b OfficeCaller (re_chosen k list x) ≡ re_chosen k list (cond b OfficeCaller x)
-if_chosen k list true x = refl
-if_chosen k list false x = refl
-
 pub caller_chosen : (w : World) (k : Key) (list : List Key) (c : Key) → caller (changed w (Choices k list)) c ≡ re_chosen k list (caller w c)
 caller_chosen w k list c =
     let found : find (λ (s : rows.Student). equals s.row.code c) (map (with_choice k list) w.students) ≡ option_map (with_choice k list) (student_with w c)
     = find_map (with_choice k list) (λ s. equals s.row.code c) (λ s. equals s.row.code c) (λ s. ap (λ r. equals r.code c) (choice_row k list s)) w.students in
-    ap (λ o. cond (equals w.office c) OfficeCaller (caller_among (lecturer_with w c) o)) found
-    ∙ ap (cond (equals w.office c) OfficeCaller) (among_chosen k list (lecturer_with w c) (student_with w c))
-    ∙ if_chosen k list (equals w.office c) _
+    grind (arith, found)
 
 pub caller_ranked : (w : World) (k : Key) (list : List Key) (c : Key) → caller (changed w (Ranks k list)) c ≡ re_called (with_ranking k list) (caller w c)
 caller_ranked w k list c = caller_kept (with_ranking k list) (ranking_row k list) w c
@@ -92,24 +75,14 @@ module _ (w w' : World) (c : Key) where
   pub own_kept : (x : Caller) → caller w c ≡ x → (ask : AbstractCall) → Shows (sight_of w x) ask (decision (sight_of w x) ask)
   own_kept NoCaller e ask = λ calm. stays NoCaller e
   own_kept (StudentCaller s) e ask =
-      by_student (Shows (Student (student_sees w s))) (λ ask reply calm. stays (StudentCaller s) e) (student_sees w s)
-      (λ list now left none calm done. ap (λ u. view u c) done ∙ view_chosen w c s list e) ask
+      let own : (list : List Key) → w' ≡ changed w (Choices s.row.key list) → view w' c ≡ Student (record (student_sees w s) { choices = list }) = λ list done. ap (λ u. view u c) done ∙ view_chosen w c s list e in
+      grind (arith, stays (StudentCaller s) e, own)
   own_kept (LecturerCaller l) e ask =
-      by_lecturer (Shows (Lecturer (lecturer_sees w l))) (λ ask reply calm. stays (LecturerCaller l) e) (lecturer_sees w l)
-      (λ list now none calm done. ap (λ u. view u c) done ∙ view_ranked w c l list e) ask
+      let own : (list : List Key) → w' ≡ changed w (Ranks l.row.key list) → view w' c ≡ Lecturer (record (lecturer_sees w l) { ranking = Some list }) = λ list done. ap (λ u. view u c) done ∙ view_ranked w c l list e in
+      grind (arith, stays (LecturerCaller l) e, own)
   own_kept OfficeCaller e ask =
-      by_office (Shows (Office (office_sees w))) (λ ask reply calm. stays OfficeCaller e) (office_sees w)
-      (record {
-        lecturers = λ rs new n now took calm. cc;
-        projects = λ rs new n now took calm. cc;
-        students = λ rs new n now took calm. cc;
-        choosing = λ named at calm. cc;
-        ranking = λ named at calm. cc;
-        published = λ named at none calm. cc;
-        opened = λ one at calm. cc;
-        filled = λ now some calm done. ap (λ u. view u c) done ∙ view_filled w c e;
-        sheets = λ ask text sheet quiet calm. stays OfficeCaller e;
-      }) ask
+      let own : w' ≡ changed w Fill → view w' c ≡ Office (record (office_sees w) { still_to_rank = [] }) = λ done. ap (λ u. view u c) done ∙ view_filled w c e in
+      grind (arith, stays OfficeCaller e, own)
 
 -- a Move and an Add call are no change of one's own list
 
@@ -117,19 +90,4 @@ abbrev Unchanged : Sight → AbstractCall → Decision → Type 0
 Unchanged v ask d = is_move_or_add (Calls ask) ≡ true → with_own v d.act ≡ v
 
 pub own_move : (v : Sight) (ask : AbstractCall) → Unchanged v ask (decision v ask)
-own_move Nobody ask = λ e. refl
-own_move (Student v) ask = by_student (Unchanged (Student v)) (λ ask reply e. refl) v (λ list now left none e. cc) ask
-own_move (Lecturer v) ask = by_lecturer (Unchanged (Lecturer v)) (λ ask reply e. refl) v (λ list now none e. cc) ask
-own_move (Office v) ask =
-    by_office (Unchanged (Office v)) (λ ask reply e. refl) v
-    (record {
-      lecturers = λ rs new n now took e. refl;
-      projects = λ rs new n now took e. refl;
-      students = λ rs new n now took e. refl;
-      choosing = λ named at e. refl;
-      ranking = λ named at e. refl;
-      published = λ named at none e. refl;
-      opened = λ one at e. refl;
-      filled = λ now some e. cc;
-      sheets = λ ask text sheet calm e. refl;
-    }) ask
+own_move v ask = grind arith

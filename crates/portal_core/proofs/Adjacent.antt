@@ -1,9 +1,7 @@
 -- Rows that rise by their keys, each beside the next.
-use Rattle.portal_core.proofs.Base.{◌≡◌, zero, suc, ◌+◌, ◌<◌, Bool, true, false, List, [], ◌∷◌, map, length, get_or, refl, sym, ◌∙◌, ap, ℕ, arith, nat_cmp, is_lt, ordering_reverse, slice_cmp, nat_list_cmp_total, length-map, get_or-map, Key, is_before, Rise}
-use Rattle.std.proofs.Common.{IsTrue, ◌↔◌, Ordering, Less, Equal, Greater}
-use Rattle.std.specs.List.{IsAllAdjacentAnswer}
+use Rattle.portal_core.proofs.Base.{◌≡◌, zero, suc, ◌+◌, ◌<◌, Bool, true, false, List, [], ◌∷◌, map, length, get_or, refl, sym, ◌∙◌, ap, ℕ, arith, nat_cmp, is_lt, ordering_reverse, slice_cmp, nat_list_cmp_total, length-map, get_or-map, Key, is_before, Rise, IsTrue, ◌↔◌, IsAllAdjacentAnswer, false≢true}
+use Rattle.std.proofs.Common.{Ordering, Less}
 use Rattle.std.specs.List.Sorted.{IsSortedBy, IsStrictlySortedBy}
-use Rattle.std.proofs.lemmas.Bool.{false≢true}
 use Rattle.std.proofs.lemmas.Map.Keys.{sorted_from_all_adjacent}
 use Rattle.spa_rows.proofs.Lists.{at_place}
 use Rattle.portal_core.proofs.AllLaws.{all_at, all_weaker}
@@ -17,9 +15,7 @@ strictly (k ∷ ks) s = (
 )
 
 less : (o : Ordering) → true ≡ is_lt o → o ≡ Less
-less Less e = refl
-less Equal e = cc
-less Greater e = cc
+less o e = grind arith
 
 -- of keys that rise each comes before those behind it
 comes_before : (ks : List Key) → Rise ks → (i j : ℕ) → i < j → j < length ks → is_before (get_or ks i []) (get_or ks j []) ≡ true

@@ -1,5 +1,5 @@
 -- Laws of what holds of each element, and of tests.
-use Rattle.portal_core.proofs.Base.{◌≡◌, ℕ, zero, suc, ◌<◌, Bool, true, false, cond, List, [], ◌∷◌, ◌++◌, length, get_or, refl, sym, ◌∙◌, ap, subst, arith, map, filter, Option, Some, None, ◌&&◌, ◌||◌, list_any, filter_map, cons_option, AllByRecursion, or-true, or_parts, Key, equals, has, is_empty, AreDistinct}
+use Rattle.portal_core.proofs.Base.{◌≡◌, ℕ, zero, suc, ◌<◌, Bool, true, false, List, [], ◌∷◌, ◌++◌, length, get_or, refl, ◌∙◌, ap, arith, map, filter, Option, Some, ◌&&◌, ◌||◌, list_any, filter_map, AllByRecursion, Key, equals, has, is_empty, AreDistinct}
 pub use Rattle.std.proofs.lemmas.List.Folds.{list_any-append as any_append}
 use Rattle.portal_core.proofs.Keys.{is_same, is_own}
 
@@ -19,6 +19,10 @@ pub all_append : {X : Type 0} (P : X → Type 0) (xs ys : List X) → AllByRecur
 all_append P [] ys p q = q
 all_append P (x ∷ xs) ys p q = (p.0, all_append P xs ys p.1 q)
 
+pub each_one : {X : Type 0} (P : X → Type 0) → ((x : X) → P x) → (xs : List X) → AllByRecursion P xs
+each_one P k [] = tt
+each_one P k (x ∷ xs) = (k x, each_one P k xs)
+
 -- what holds of each holds at a place
 pub all_at : {X : Type 0} (P : X → Type 0) (xs : List X) (k : ℕ) (d : X) → AllByRecursion P xs → k < length xs → P (get_or xs k d)
 all_at P [] k d all h = absurd (omega arith)
@@ -32,20 +36,11 @@ map_same key f same (x ∷ xs) = λ i. same x i ∷ map_same key f same xs i
 
 -- the test of keys is symmetric
 pub is_sym : (a b : Key) → equals a b ≡ equals b a
-is_sym a b = go (equals a b) (equals b a) refl refl
-  where
-    go : (s t : Bool) → equals a b ≡ s → equals b a ≡ t → s ≡ t
-    go true true e f = refl
-    go false false e f = refl
-    go true false e f = sym (subst (λ x. equals x a ≡ true) (is_same a b e) (is_own a)) ∙ f
-    go false true e f = sym e ∙ subst (λ x. equals x b ≡ true) (is_same b a f) (is_own b)
+is_sym a b = grind (arith, is_same a b, is_same b a, is_own a, is_own b)
 
 -- the first two of three tests in turn
 pub or_swap : (a b c : Bool) → (a || (b || c)) ≡ (b || (a || c))
-or_swap true true c = refl
-or_swap true false c = refl
-or_swap false true c = refl
-or_swap false false c = refl
+or_swap a b c = grind arith
 
 -- none of the list is the key
 pub none_is : (k : Key) (ks : List Key) → AllByRecursion (λ l. equals l k ≡ false) ks → has ks k ≡ false
@@ -54,7 +49,7 @@ none_is k (l ∷ ks) all = ap (λ b. b || has ks k) (is_sym k l ∙ all.0) ∙ n
 
 pub none_of : (ks : List Key) (k : Key) → has ks k ≡ false → AllByRecursion (λ l. equals k l ≡ false) ks
 none_of [] k h = tt
-none_of (l ∷ ks) k h = let parts : (equals k l ≡ false) × (has ks k ≡ false) = or_parts (equals k l) (has ks k) h in (parts.0, none_of ks k parts.1)
+none_of (l ∷ ks) k h = grind (arith, none_of ks k)
 
 -- where the keys differ, the others are not the first
 pub not_first : (k : Key) (ks : List Key) → AreDistinct (k ∷ ks) → AllByRecursion (λ l. equals l k ≡ false) ks
@@ -66,9 +61,7 @@ none_yet [] = tt
 none_yet (k ∷ ks) = (refl, none_yet ks)
 
 pub split_append : (xs : List Key) (k l : Key) → has (xs ++ k ∷ []) l ≡ false → (has xs l ≡ false) × (equals l k ≡ false)
-split_append xs k l h =
-    let parts : (has xs l ≡ false) × ((equals l k || false) ≡ false) = or_parts (has xs l) (equals l k || false) (sym (any_append (equals l) xs (k ∷ [])) ∙ h) in
-    (parts.0, (or_parts (equals l k) false parts.1).0)
+split_append xs k l h = grind (arith, any_append (equals l) xs (k ∷ []))
 
 pub none_after : (xs : List Key) (k l : Key) → has xs l ≡ false → equals l k ≡ false → has (xs ++ k ∷ []) l ≡ false
 none_after xs k l h e = any_append (equals l) xs (k ∷ []) ∙ ap (λ b. b || (equals l k || false)) h ∙ ap (λ b. b || false) e
@@ -85,22 +78,12 @@ any_alike p q alike (x ∷ xs) = λ i. alike x i || any_alike p q alike xs i
 -- a test of what passed another
 pub filtered_any : {X : Type 0} (q t : X → Bool) (xs : List X) → list_any q (filter t xs) ≡ list_any (λ x. t x && q x) xs
 filtered_any q t [] = refl
-filtered_any {X} q t (x ∷ xs) =
-    elim (t x) as (λ b. list_any q (cond b (x ∷ filter t xs) (filter t xs)) ≡ ((b && q x) || list_any (λ y. t y && q y) xs)) [
-      | true ↦ ap (λ b. q x || b) (filtered_any q t xs)
-      | false ↦ filtered_any q t xs
-    ]
+filtered_any q t (x ∷ xs) = grind (arith, filtered_any q t xs)
 
 -- either of two tests
 pub any_or : {X : Type 0} (f g : X → Bool) (xs : List X) → list_any (λ x. f x || g x) xs ≡ (list_any f xs || list_any g xs)
 any_or f g [] = refl
-any_or f g (x ∷ xs) = ap (λ b. (f x || g x) || b) (any_or f g xs) ∙ swap (f x) (g x) (list_any f xs) (list_any g xs)
-  where
-    swap : (a b c d : Bool) → ((a || b) || (c || d)) ≡ ((a || c) || (b || d))
-    swap true b c d = refl
-    swap false true true d = refl
-    swap false true false d = refl
-    swap false false c d = refl
+any_or f g (x ∷ xs) = grind (arith, any_or f g xs)
 
 pub any_nowhere : {X : Type 0} (xs : List X) → list_any (λ (x : X). false) xs ≡ false
 any_nowhere [] = refl
@@ -108,30 +91,14 @@ any_nowhere (x ∷ xs) = any_nowhere xs
 
 pub none_passes : {X Y : Type 0} (f : X → Y) (p : X → Bool) (xs : List X) → is_empty (map f (filter p xs)) ≡ true → AllByRecursion (λ x. p x ≡ false) xs
 none_passes f p [] e = tt
-none_passes {X} f p (x ∷ xs) e =
-    (elim (p x) as (λ b. is_empty (map f (cond b (x ∷ filter p xs) (filter p xs))) ≡ true → (b ≡ false) × AllByRecursion (λ y. p y ≡ false) xs) [
-      | true ↦ λ h. cc
-      | false ↦ λ h. (refl, none_passes f p xs h)
-    ]) e
+none_passes f p (x ∷ xs) e = grind (arith, none_passes f p xs)
 
 -- what is shown passes, so the row that it is of does
 pub any_shown : {X Y : Type 0} (p : Y → Bool) (q : X → Bool) (f : X → Option Y) → ((x : X) (y : Y) → f x ≡ Some y → p y ≡ true → q x ≡ true) → (xs : List X) → list_any p (filter_map f xs) ≡ true → list_any q xs ≡ true
 any_shown p q f k [] h = cc
-any_shown {X} {Y} p q f k (x ∷ xs) h = step (f x) refl (any_shown p q f k xs) h
-  where
-    step : (o : Option Y) → f x ≡ o → (list_any p (filter_map f xs) ≡ true → list_any q xs ≡ true) → list_any p (cons_option o (filter_map f xs)) ≡ true → (q x || list_any q xs) ≡ true
-    step None e rest g = ap (λ b. q x || b) (rest g) ∙ or-true (q x)
-    step (Some y) e rest g = at (p y) refl g
-      where
-        at : (b : Bool) → p y ≡ b → (b || list_any p (filter_map f xs)) ≡ true → (q x || list_any q xs) ≡ true
-        at true t g = ap (λ b. b || list_any q xs) (k x y e t)
-        at false t g = ap (λ b. q x || b) (rest g) ∙ or-true (q x)
+any_shown p q f k (x ∷ xs) h = grind (arith, k x, any_shown p q f k xs)
 
 -- a change that keeps what is shown and the test
 pub kept_filtered : {X Y : Type 0} (key : X → Y) (f : X → X) (q : X → Bool) → ((x : X) → key (f x) ≡ key x) → ((x : X) → q (f x) ≡ q x) → (xs : List X) → map key (filter q (map f xs)) ≡ map key (filter q xs)
 kept_filtered key f q same alike [] = refl
-kept_filtered {X} key f q same alike (x ∷ xs) =
-    rw (alike x) (elim (q x) as (λ b. map key (cond b (f x ∷ filter q (map f xs)) (filter q (map f xs))) ≡ map key (cond b (x ∷ filter q xs) (filter q xs))) [
-      | true ↦ λ i. same x i ∷ kept_filtered key f q same alike xs i
-      | false ↦ kept_filtered key f q same alike xs
-    ])
+kept_filtered key f q same alike (x ∷ xs) = grind (arith, same x, alike x, kept_filtered key f q same alike xs)

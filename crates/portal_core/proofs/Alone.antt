@@ -1,72 +1,44 @@
 -- What a round is played in is a good world of one round.
-use Rattle.portal_core.proofs.Base.{◌≡◌, ℕ, suc, ◌≤◌, Bool, true, false, cond, List, [], ◌∷◌, ◌++◌, length, refl, sym, ◌∙◌, ap, subst, arith, map, filter, nat_lt, unwrap_or, option_map, not, ◌&&◌, ◌||◌, Option, None, IfSome, is_none, list_any, AllByRecursion, nat_tests, or_parts, length-map, Key, equals, is_before, has, is_empty, Rise, AreDistinct, World, in_play, alone, alone_lecturer, alone_student, lecturer_key, project_key, student_key, applicants_of, projects_of, is_still_to_rank, is_left, is_published, lowered_lecturer, lowered_project, lecturers_left, projects_left, students_left, instance, instance_of, places_of, lecturer_keys, project_keys, student_keys, ProjectRow, Round, First, Second, IsStable, number_in, Good, Sound, IsChoice, IsRanking, IsLecturer, IsProject, IsStudent}
+use Rattle.portal_core.proofs.Base.{◌≡◌, ℕ, ◌≤◌, Bool, true, false, cond, List, [], ◌∷◌, ◌++◌, length, refl, sym, ◌∙◌, ap, subst, arith, map, filter, nat_lt, unwrap_or, option_map, not, ◌&&◌, ◌||◌, Option, None, IfSome, is_none, list_any, AllByRecursion, nat_tests, length-map, Key, equals, is_before, has, is_empty, Rise, AreDistinct, World, in_play, alone, alone_lecturer, alone_student, lecturer_key, project_key, student_key, applicants_of, projects_of, is_still_to_rank, is_left, lowered_lecturer, lowered_project, lecturers_left, students_left, instance, instance_of, places_of, lecturer_keys, project_keys, student_keys, ProjectRow, Round, First, Second, IsStable, number_in, Good, Sound, IsChoice, IsRanking, IsLecturer, IsProject, IsStudent}
 use Rattle.portal_core.specs.World as rows
 use Rattle.portal_core.proofs.Keys.{is_same, all_unmap}
 use Rattle.portal_core.proofs.AllLaws.{all_map, all_weaker, all_both, map_same, any_map, is_sym, kept_filtered}
 use Rattle.portal_core.proofs.Kept.{empty_map}
 use Rattle.portal_core.proofs.InPlay.{filter_kept}
-use Rattle.portal_core.proofs.InRound.{all_filter}
+use Rattle.portal_core.proofs.InRound.{all_filter, known_left}
 use Rattle.portal_core.proofs.Fills.{before_other, rise_kept}
-use Rattle.portal_core.proofs.Whole.{known_left}
 use Rattle.portal_core.proofs.Capacities.{left_of, second_plays, first_plays, each_one, none_has}
 
 -- filters
 
 pub passes : {X : Type 0} (P R : X → Type 0) (q : X → Bool) → ((x : X) → P x → q x ≡ true → R x) → (xs : List X) → AllByRecursion P xs → AllByRecursion R (filter q xs)
 passes P R q k [] all = tt
-passes {X} P R q k (x ∷ xs) all =
-    (elim (q x) as (λ b. q x ≡ b → AllByRecursion R (cond b (x ∷ filter q xs) (filter q xs))) [
-      | true ↦ λ e. (k x all.0 e, passes P R q k xs all.1)
-      | false ↦ λ e. passes P R q k xs all.1
-    ]) refl
+passes P R q k (x ∷ xs) all = grind (arith, k x all.0, passes P R q k xs all.1)
 
 fewer : {X : Type 0} (q : X → Bool) (xs : List X) → length (filter q xs) ≤ length xs
 fewer q [] = omega arith
-fewer q (x ∷ xs) =
-    let rest : length (filter q xs) ≤ length xs = fewer q xs in
-    elim (q x) as (λ b. length (cond b (x ∷ filter q xs) (filter q xs)) ≤ suc (length xs)) [ true ↦ omega arith | false ↦ omega arith ]
+fewer q (x ∷ xs) = grind (arith, fewer q xs)
 
 none_kept : {X : Type 0} (code : X → Key) (q : X → Bool) (xs : List X) (rest : List Key) (k : Key) → has (map code xs ++ rest) k ≡ false → has (map code (filter q xs) ++ rest) k ≡ false
 none_kept code q [] rest k h = h
-none_kept {X} code q (x ∷ xs) rest k h =
-    let parts : (equals k (code x) ≡ false) × (has (map code xs ++ rest) k ≡ false) = or_parts (equals k (code x)) (has (map code xs ++ rest) k) h in
-    elim (q x) as (λ b. has (map code (cond b (x ∷ filter q xs) (filter q xs)) ++ rest) k ≡ false) [
-      | true ↦ ap (λ b. b || has (map code (filter q xs) ++ rest) k) parts.0 ∙ none_kept code q xs rest k parts.1
-      | false ↦ none_kept code q xs rest k parts.1
-    ]
+none_kept code q (x ∷ xs) rest k h = grind (arith, none_kept code q xs rest k)
 
 apart_front : {X : Type 0} (code : X → Key) (q : X → Bool) (xs : List X) (rest : List Key) → AreDistinct (map code xs ++ rest) → AreDistinct (map code (filter q xs) ++ rest)
 apart_front code q [] rest d = d
-apart_front {X} code q (x ∷ xs) rest d =
-    elim (q x) as (λ b. AreDistinct (map code (cond b (x ∷ filter q xs) (filter q xs)) ++ rest)) [
-      | true ↦ (none_kept code q xs rest (code x) d.0, apart_front code q xs rest d.1)
-      | false ↦ apart_front code q xs rest d.1
-    ]
+apart_front code q (x ∷ xs) rest d = grind (arith, none_kept code q xs rest (code x) d.0, apart_front code q xs rest d.1)
 
 none_back : {X : Type 0} (code : X → Key) (q : X → Bool) (ks : List Key) (xs : List X) (k : Key) → has (ks ++ map code xs) k ≡ false → has (ks ++ map code (filter q xs)) k ≡ false
 none_back code q [] [] k h = h
-none_back {X} code q [] (x ∷ xs) k h =
-    let parts : (equals k (code x) ≡ false) × (has (map code xs) k ≡ false) = or_parts (equals k (code x)) (has (map code xs) k) h in
-    elim (q x) as (λ b. has (map code (cond b (x ∷ filter q xs) (filter q xs))) k ≡ false) [
-      | true ↦ ap (λ b. b || has (map code (filter q xs)) k) parts.0 ∙ none_back code q [] xs k parts.1
-      | false ↦ none_back code q [] xs k parts.1
-    ]
-none_back code q (l ∷ ks) xs k h =
-    let parts : (equals k l ≡ false) × (has (ks ++ map code xs) k ≡ false) = or_parts (equals k l) (has (ks ++ map code xs) k) h in
-    ap (λ b. b || has (ks ++ map code (filter q xs)) k) parts.0 ∙ none_back code q ks xs k parts.1
+none_back code q [] (x ∷ xs) k h = grind (arith, none_back code q [] xs k)
+none_back code q (l ∷ ks) xs k h = grind (arith, none_back code q ks xs k)
 
 apart_back : {X : Type 0} (code : X → Key) (q : X → Bool) (ks : List Key) (xs : List X) → AreDistinct (ks ++ map code xs) → AreDistinct (ks ++ map code (filter q xs))
 apart_back code q [] [] d = d
-apart_back {X} code q [] (x ∷ xs) d =
-    elim (q x) as (λ b. AreDistinct (map code (cond b (x ∷ filter q xs) (filter q xs)))) [
-      | true ↦ (none_back code q [] xs (code x) d.0, apart_back code q [] xs d.1)
-      | false ↦ apart_back code q [] xs d.1
-    ]
+apart_back code q [] (x ∷ xs) d = grind (arith, none_back code q [] xs (code x) d.0, apart_back code q [] xs d.1)
 apart_back code q (k ∷ ks) xs d = (none_back code q ks xs k d.0, apart_back code q ks xs d.1)
 
 and_first : (a b : Bool) → (a && b) ≡ true → a ≡ true
-and_first true b h = refl
-and_first false b h = cc
+and_first a b h = grind arith
 
 some_room : (n : ℕ) → nat_lt 0 n ≡ true → 1 ≤ n
 some_room n h = grind (arith, nat_tests)
@@ -79,47 +51,26 @@ out_not_in t [] rise = tt
 out_not_in t (z ∷ zs) rise =
     let later : AllByRecursion (λ y. is_before (project_key z) (project_key y) ≡ true) zs = all_unmap (λ k. is_before (project_key z) k ≡ true) project_key zs rise.0 in
     let rest : AllByRecursion (λ y. t y ≡ false → has (map project_key (filter t zs)) y.key ≡ false) zs = out_not_in t zs rise.1 in (
-      (λ e. ap (λ b. has (map project_key (cond b (z ∷ filter t zs) (filter t zs))) z.key) e ∙ none_has z.key t zs (all_weaker _ _ (λ y h. is_swapped y.key z.key (before_other z.key y.key h)) zs later)),
+      (λ e. ap (λ b. has (map project_key (cond b (z ∷ filter t zs) (filter t zs))) z.key) e ∙ none_has z.key t zs (all_weaker _ _ (λ y h. is_sym y.key z.key ∙ before_other z.key y.key h) zs later)),
       (elim (t z) as (λ b. AllByRecursion (λ y. t y ≡ false → has (map project_key (cond b (z ∷ filter t zs) (filter t zs))) y.key ≡ false) zs) [
         | true ↦ all_weaker (λ y. (is_before (project_key z) (project_key y) ≡ true) × (t y ≡ false → has (map project_key (filter t zs)) y.key ≡ false)) _
-            (λ y h e. ap (λ b. b || has (map project_key (filter t zs)) y.key) (is_swapped y.key z.key (before_other z.key y.key h.0)) ∙ h.1 e) zs
+            (λ y h e. ap (λ b. b || has (map project_key (filter t zs)) y.key) (is_sym y.key z.key ∙ before_other z.key y.key h.0) ∙ h.1 e) zs
             (all_both (λ y. is_before (project_key z) (project_key y) ≡ true) (λ y. t y ≡ false → has (map project_key (filter t zs)) y.key ≡ false) zs later rest)
         | false ↦ rest
       ]),
     )
-  where
-    is_swapped : (a b : Key) → equals b a ≡ false → equals a b ≡ false
-    is_swapped a b h = is_sym a b ∙ h
 
 listed_in : (choice known : List Key) (k : Key) → AllByRecursion (λ c. has known c ≡ true) choice → has known k ≡ false → has choice k ≡ false
 listed_in [] known k all h = refl
-listed_in (c ∷ cs) known k all h =
-    (elim (equals k c) as (λ b. equals k c ≡ b → (b || has cs k) ≡ false) [
-      | true ↦ λ e. let same : k ≡ c = is_same k c e in let yes' : has known k ≡ true = subst (λ x. has known x ≡ true) (sym same) all.0 in cc
-      | false ↦ λ e. listed_in cs known k all.1 h
-    ]) refl
+listed_in (c ∷ cs) known k all h = grind (arith, is_same k c, listed_in cs known k all.1 h)
 
 any_of_left : (f own t : ProjectRow → Bool) (zs : List ProjectRow) → AllByRecursion (λ z. t z ≡ false → f z ≡ false) zs → list_any f (filter own (filter t zs)) ≡ list_any f (filter own zs)
 any_of_left f own t [] all = refl
-any_of_left f own t (z ∷ zs) all =
-    (elim (t z) as (λ b. t z ≡ b → list_any f (filter own (cond b (z ∷ filter t zs) (filter t zs))) ≡ list_any f (filter own (z ∷ zs))) [
-      | true ↦ λ e. elim (own z) as (λ c. list_any f (cond c (z ∷ filter own (filter t zs)) (filter own (filter t zs))) ≡ list_any f (cond c (z ∷ filter own zs) (filter own zs))) [
-        | true ↦ ap (λ b. f z || b) (any_of_left f own t zs all.1)
-        | false ↦ any_of_left f own t zs all.1
-      ]
-      | false ↦ λ e. elim (own z) as (λ c. list_any f (filter own (filter t zs)) ≡ list_any f (cond c (z ∷ filter own zs) (filter own zs))) [
-        | true ↦ any_of_left f own t zs all.1 ∙ ap (λ b. b || list_any f (filter own zs)) (sym (all.0 e))
-        | false ↦ any_of_left f own t zs all.1
-      ]
-    ]) refl
+any_of_left f own t (z ∷ zs) all = grind (arith, all.0, any_of_left f own t zs all.1)
 
 filter_of_left : {X : Type 0} (a b q : X → Bool) (xs : List X) → AllByRecursion (λ x. (q x ≡ true → a x ≡ b x) × (q x ≡ false → b x ≡ false)) xs → filter a (filter q xs) ≡ filter b xs
 filter_of_left a b q [] all = refl
-filter_of_left {X} a b q (x ∷ xs) all =
-    (elim (q x) as (λ s. q x ≡ s → filter a (cond s (x ∷ filter q xs) (filter q xs)) ≡ cond (b x) (x ∷ filter b xs) (filter b xs)) [
-      | true ↦ λ e. λ i. cond (all.0.0 e i) (x ∷ filter_of_left a b q xs all.1 i) (filter_of_left a b q xs all.1 i)
-      | false ↦ λ e. filter_of_left a b q xs all.1 ∙ sym (ap (λ c. cond c (x ∷ filter b xs) (filter b xs)) (all.0.1 e))
-    ]) refl
+filter_of_left a b q (x ∷ xs) all = grind (arith, all.0, filter_of_left a b q xs all.1)
 
 module _ (w : World) (g : Sound w) (two : w.round ≡ Second) where
   abbrev taken : ProjectRow → Bool

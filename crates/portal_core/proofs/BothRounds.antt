@@ -1,14 +1,13 @@
 -- The honest list in the first round is best over both rounds.
-use Rattle.portal_core.proofs.Base.{◌≡◌, ℕ, ◌<◌, ◌≤◌, Bool, true, false, [], map, length, get_or, refl, sym, ◌∙◌, ap, subst, Option, Some, None, option_map, is_none, find, get_or-map, IsBest, number_in, Key, equals, has, World, student_key, project_key, is_left, is_published, is_second, students_in, in_play, first, first_placed, First, Second, instance_of, places_of, project_keys, student_keys, StudentSees, view, student_with, student_sees, Good, HasBest, DifferInOneList, IsNoWorse}
+use Rattle.portal_core.proofs.Base.{◌≡◌, ℕ, ◌<◌, ◌≤◌, Bool, true, false, [], map, length, get_or, refl, sym, ◌∙◌, ap, subst, Option, Some, None, option_map, is_none, find, get_or-map, IsBest, number_in, Key, equals, has, World, student_key, project_key, is_left, is_published, is_second, students_in, in_play, first, first_placed, First, Second, instance_of, places_of, project_keys, student_keys, StudentSees, view, student_with, student_sees, Good, HasBest, DifferInOneList, IsNoWorse, waiting_by_number}
 use Rattle.spa_honest.specs.Honest as instances
-use Rattle.spa_honest.proofs.Waits.{waiting_never_pays as waiting_by_number}
 use Rattle.portal_core.specs.World.{Student}
 use Rattle.portal_core.specs.declared.view.View.TheVariants as sees
 use Rattle.portal_core.proofs.Keys.{find_map, found_all}
 use Rattle.portal_core.proofs.AllLaws.{all_at}
-use Rattle.portal_core.proofs.Capacities.{first_plays, known_in}
-use Rattle.portal_core.proofs.Stays.{the_second}
-use Rattle.portal_core.proofs.HonestLists.{IsStudent, IsBestRound, IsStableRound, number_has, world_ranked, x_given, no_worse_by_number, differ_in_one, by_rows, same_place, shown_student, find_left, shown}
+use Rattle.portal_core.proofs.Capacities.{number_has, first_plays, known_in}
+use Rattle.portal_core.proofs.Opened.{the_second}
+use Rattle.portal_core.proofs.HonestLists.{IsStudent, IsBestRound, IsStableRound, world_ranked, x_given, no_worse_by_number, differ_in_one, by_rows, same_place, shown_student, find_left, shown}
 use Rattle.portal_core.proofs.LeftOver.{stable_rows, stays_open}
 
 module _ (w u : World) (key : Key) (best : HasBest w) (good : Good u) (second : is_second u.round ≡ true) (differ : DifferInOneList w (first u) key) where

@@ -1,19 +1,14 @@
 -- Replies do not tell the order within students' lists before the result is open.
-use Rattle.portal_core.proofs.Base.{◌≡◌, Bool, true, false, cond, List, [], ◌∷◌, refl, sym, ◌∙◌, subst, inl, inr, ◌⊎◌, Option, Some, None, is_none, AllZip, Data, Key, World, is_choosing, Choices, changed, Listing, StudentSees, Nobody, Office, Lecturer, Student, view, AbstractCall, projects_body, ListFault, choice_fault, Answer, Act, Decision, Nothing, Apply, Publish, Render, open_where, unless_faulty, applies, already_placed, decision, answer, to_student, StepLeaves, Step, Wish, Calls, Refused, Request, Answers, Run, AllAnswered, Reordered, SameButPlaces}
-use Rattle.portal_core.specs.declared.view.View.{View as Sight}
-use Rattle.portal_core.specs.Places.{SameWish, equal, sets, SameRequest, has_places, moves_to_published, Unless, AlikeUntilPublished}
-use Rattle.portal_core.proofs.Cases.{by_student, by_lecturer, by_office}
+use Rattle.portal_core.proofs.Base.{◌≡◌, Bool, true, false, cond, List, [], ◌∷◌, refl, sym, ◌∙◌, subst, inl, inr, ◌⊎◌, Option, Some, None, is_none, AllZip, Data, Key, World, is_choosing, Choices, changed, Listing, StudentSees, Student, view, AbstractCall, projects_body, ListFault, choice_fault, Answer, Act, Decision, Nothing, Apply, Publish, Render, open_where, unless_faulty, applies, already_placed, decision, answer, to_student, StepLeaves, Step, Wish, Calls, Refused, Request, Answers, Run, AllAnswered, Reordered, SameButPlaces, arith, Sight, SameWish, equal, sets, SameRequest, has_places, moves_to_published, Unless, AlikeUntilPublished}
 use Rattle.portal_core.proofs.Hearing.{really}
 use Rattle.portal_core.proofs.Reorder.{accepted_reordered, reordered_back}
 use Rattle.portal_core.proofs.Similar.{SameSight, same_view, both_choose, both_changed}
 
 unless_any : (b : Bool) (P : Type 0) → P → Unless b P
-unless_any true P p = tt
-unless_any false P p = p
+unless_any b P p = grind arith
 
 pub unless_map : (b : Bool) (P Q : Type 0) → (P → Q) → Unless b P → Unless b Q
-unless_map true P Q f p = tt
-unless_map false P Q f p = f p
+unless_map b P Q f p = grind (arith, f)
 
 -- acts that differ at most in the order of a student's list
 data SameAct : Act → Act → Type 0 where
@@ -52,12 +47,8 @@ same_sets : (x y : Sight) → SameSight x y → (ks ls : List Key) → Reordered
 same_sets (Student v) (Student u) s ks ls r =
     subst (λ z. SameAct (to_student v (AbstractCall.SetChoices ks)).act (to_student z (AbstractCall.SetChoices ls)).act) s
     (set_acts v.catalogue v.me.key ks ls r (is_choosing v.phase) (is_none v.result) (choice_fault v.catalogue 1 [] ks) (choice_fault v.catalogue 1 [] ls) refl refl (projects_body ks) (projects_body ls))
-same_sets Nobody y s ks ls r = subst (λ z. SameAct Nothing (decision z (AbstractCall.SetChoices ls)).act) s (same_act Nothing)
-same_sets (Office v) y s ks ls r = subst (λ z. SameAct Nothing (decision z (AbstractCall.SetChoices ls)).act) s (same_act Nothing)
-same_sets (Lecturer v) y s ks ls r = subst (λ z. SameAct Nothing (decision z (AbstractCall.SetChoices ls)).act) s (same_act Nothing)
-same_sets (Student v) Nobody s ks ls r = cc
-same_sets (Student v) (Office u) s ks ls r = cc
-same_sets (Student v) (Lecturer u) s ks ls r = cc
+same_sets (Student v) y s ks ls r = grind arith
+same_sets x y s ks ls r = subst (λ z. SameAct Nothing (decision z (AbstractCall.SetChoices ls)).act) s (same_act Nothing)
 
 -- what publishes is an accepted move to published
 
@@ -69,22 +60,7 @@ abbrev Opens : AbstractCall → Decision → Type 0
 Opens ask d = is_publish d.act ≡ true → moves_to_published (Calls ask) d.reply ≡ true
 
 publishes_opens : (x : Sight) (ask : AbstractCall) → Opens ask (decision x ask)
-publishes_opens Nobody ask = λ e. cc
-publishes_opens (Student v) ask = by_student Opens (λ ask reply e. cc) v (λ list now left none e. cc) ask
-publishes_opens (Lecturer v) ask = by_lecturer Opens (λ ask reply e. cc) v (λ list now none e. cc) ask
-publishes_opens (Office v) ask =
-    by_office Opens (λ ask reply e. cc) v
-    (record {
-      lecturers = λ rs new n now took e. cc;
-      projects = λ rs new n now took e. cc;
-      students = λ rs new n now took e. cc;
-      choosing = λ named at e. cc;
-      ranking = λ named at e. cc;
-      published = λ named at none e. refl;
-      opened = λ one at e. cc;
-      filled = λ now some e. cc;
-      sheets = λ ask text sheet calm e. cc;
-    }) ask
+publishes_opens x ask = grind arith
 
 -- one request
 
@@ -128,8 +104,4 @@ places_unseen v w (q ∷ qs) (r ∷ rs) (a ∷ told) (b ∷ said) (v' ∷ after)
     rest : SameButPlaces v' w' ⊎ (moves_to_published q.wish a ≡ true) → (SameButPlaces v' w' → AlikeUntilPublished qs told said) → Unless (moves_to_published q.wish a) (AlikeUntilPublished qs told said)
     rest (inl t) k = unless_any _ _ (k t)
     rest (inr e) k = subst (λ b. Unless b (AlikeUntilPublished qs told said)) (sym e) tt
-places_unseen v w (q ∷ qs) [] told said after later s z run all run' all' = absurd z
-places_unseen v w (q ∷ qs) (r ∷ rs) [] said after later s z run all run' all' = tt
-places_unseen v w (q ∷ qs) (r ∷ rs) (a ∷ told) [] after later s z run all run' all' = tt
-places_unseen v w (q ∷ qs) (r ∷ rs) (a ∷ told) (b ∷ said) [] later s z run all run' all' = absurd run
-places_unseen v w (q ∷ qs) (r ∷ rs) (a ∷ told) (b ∷ said) (v' ∷ after) [] s z run all run' all' = absurd run'
+places_unseen v w asked others told said after later s z run all run' all' = grind arith

@@ -1,7 +1,5 @@
 -- One new row keeps the rows sound, and so does a whole roll.
-use Rattle.portal_core.proofs.Base.{◌≡◌, ℕ, suc, ◌+◌, ◌≤◌, true, false, List, [], ◌∷◌, ◌++◌, length, refl, sym, ◌∙◌, ap, subst, arith, append-nil, map, ◌||◌, None, AllByRecursion, or-true, or_parts, map-id, Key, equals, has, AreDistinct, put, World, lecturer_key, project_key, student_key, applicants_of, is_from_ranking, is_published, is_left, in_play, projects_in, First, with_lecturers, with_projects, with_students, new_lecturer, new_student, lecturer_keys, project_keys, Phase, Setup, Choosing, Ranking, Published, LecturerRow, ProjectRow, StudentRow, office_sees, Took, take_rows, lecturer_roll, project_roll, student_roll, Sound, IsLecturer, IsProject, IsStudent, IsChoice, IsRanking, codes_of}
-use Rattle.std.proofs.Math.Bool.{or_comm}
-use Rattle.std.proofs.lemmas.Bool.{not-false}
+use Rattle.portal_core.proofs.Base.{◌≡◌, ℕ, suc, ◌+◌, ◌≤◌, true, false, List, [], ◌∷◌, ◌++◌, length, refl, sym, ◌∙◌, ap, subst, arith, append-nil, map, ◌||◌, None, AllByRecursion, or_parts, map-id, Key, equals, has, AreDistinct, put, World, lecturer_key, project_key, student_key, applicants_of, is_from_ranking, is_published, is_left, in_play, projects_in, First, with_lecturers, with_projects, with_students, new_lecturer, new_student, lecturer_keys, project_keys, Phase, LecturerRow, ProjectRow, StudentRow, office_sees, Took, take_rows, lecturer_roll, project_roll, student_roll, Sound, IsLecturer, IsProject, IsStudent, IsChoice, IsRanking, codes_of, is_second, is_setup, is_still_to_rank, or_comm, not-false}
 use Rattle.std.proofs.lemmas.Simd.{map-map}
 use Rattle.portal_core.specs.World as rows
 use Rattle.portal_core.proofs.Kept.{none_ranked}
@@ -11,10 +9,7 @@ use Rattle.portal_core.proofs.Adds.{Alike, has_alike, taken}
 
 -- before rankings nothing is published
 pub open_phase : (phase : Phase) → is_from_ranking phase ≡ false → is_published phase ≡ false
-open_phase Setup e = refl
-open_phase Choosing e = refl
-open_phase Ranking e = cc
-open_phase Published e = cc
+open_phase phase e = grind arith
 
 -- a key stands in either order or in none
 has_swap : (xs ys : List Key) (k : Key) → has (xs ++ ys) k ≡ has (ys ++ xs) k
@@ -36,7 +31,7 @@ distinct_swap (x ∷ xs) ys d = distinct_between ys xs x (distinct_swap xs ys d.
 
 -- what a list of keys has, it has with one more
 still_has : {X : Type 0} (key : X → Key) (x : X) (ys : List X) (k : Key) → has (map key ys) k ≡ true → has (map key (put key x ys)) k ≡ true
-still_has key x ys k h = has_put key x key ys k ∙ ap (λ b. equals k (key x) || b) h ∙ or-true (equals k (key x))
+still_has key x ys k h = grind (arith, has_put key x key ys k)
 
 module _ (w : World) (early : is_from_ranking w.phase ≡ false) (one : w.round ≡ First) where
   -- in the first round each project takes part
@@ -50,32 +45,22 @@ module _ (w : World) (early : is_from_ranking w.phase ≡ false) (one : w.round 
       let code : has (codes_of (record w { students = ss })) r.code ≡ false
       = subst (λ ls. has (w.office ∷ ls ++ map (λ (s : rows.Student). s.row.code) ss) r.code ≡ false) (map-map (λ (r : LecturerRow). r.code) (λ (l : rows.Lecturer). l.row) w.lecturers)
       (subst (λ cs. has (w.office ∷ map (λ (l : LecturerRow). l.code) (map (λ (l : rows.Lecturer). l.row) w.lecturers) ++ cs) r.code ≡ false) (map-map (λ (r : StudentRow). r.code) (λ (s : rows.Student). s.row) ss) free) in
-      record {
-        lecturers_rise = g.lecturers_rise;
-        projects_rise = g.projects_rise;
-        students_rise = rise_put student_key (new_student r) ss g.students_rise key;
-        lecturer_forms = g.lecturer_forms;
-        project_forms = g.project_forms;
-        student_forms = all_put student_key (new_student r) (λ s. IsStudent s.row) ss form g.student_forms;
-        office_form = g.office_form;
-        few_lecturers = g.few_lecturers;
-        few_projects = g.few_projects;
-        few_students = omega arith;
-        codes = distinct_put student_key (new_student r) (λ s. s.row.code) (w.office ∷ map (λ (l : rows.Lecturer). l.row.code) w.lecturers) ss g.codes code;
-        lecturers_known = g.lecturers_known;
-        choices = subst (λ ks. AllByRecursion (λ s. IsChoice ks s.choice) (put student_key (new_student r) ss)) (sym (all_take_part w.lecturers w.projects (put student_key (new_student r) ss)))
-            (all_put student_key (new_student r) (λ s. IsChoice (project_keys w) s.choice) ss (record { few = omega arith; known = tt; once = tt })
-            (subst (λ ks. AllByRecursion (λ s. IsChoice ks s.choice) ss) (all_take_part w.lecturers w.projects ss) g.choices));
-        no_choices_yet = λ h. all_put student_key (new_student r) (λ s. s.choice ≡ []) ss refl (g.no_choices_yet h);
-        no_rankings_yet = g.no_rankings_yet;
-        rankings = none_ranked (λ l. IsRanking (map student_key (applicants_of (record w { students = put student_key (new_student r) ss }) l.row.key))) w.lecturers (g.no_rankings_yet early);
-        no_result_yet = λ h. all_put student_key (new_student r) (λ s. s.placed ≡ None) ss refl (g.no_result_yet h);
-        all_ranked = λ h. let not' : is_published w.phase ≡ false = open_phase w.phase early in cc;
-        no_earlier_lists = λ h. all_put student_key (new_student r) (λ s. (s.earlier_choice ≡ []) × (s.earlier_placement ≡ None)) ss (refl, refl) (g.no_earlier_lists h);
-        no_earlier_rankings = g.no_earlier_rankings;
-        no_second_setup = g.no_second_setup;
-        only_left = all_put student_key (new_student r) (λ s. is_left s ≡ false → (s.choice ≡ []) × (s.placed ≡ None)) ss (λ h. (refl, refl)) g.only_left;
-      }
+      let students_rise = rise_put student_key (new_student r) ss g.students_rise key in
+      let student_forms = all_put student_key (new_student r) (λ s. IsStudent s.row) ss form g.student_forms in
+      let few_students : length (put student_key (new_student r) ss) ≤ 2000 = omega arith in
+      let apart = distinct_put student_key (new_student r) (λ s. s.row.code) (w.office ∷ map (λ (l : rows.Lecturer). l.row.code) w.lecturers) ss g.codes code in
+      let choices = subst (λ ks. AllByRecursion (λ (s : rows.Student). IsChoice ks s.choice) (put student_key (new_student r) ss)) (sym (all_take_part w.lecturers w.projects (put student_key (new_student r) ss)))
+      (all_put student_key (new_student r) (λ s. IsChoice (project_keys w) s.choice) ss (record { few = omega arith; known = tt; once = tt })
+      (subst (λ ks. AllByRecursion (λ (s : rows.Student). IsChoice ks s.choice) ss) (all_take_part w.lecturers w.projects ss) g.choices)) in
+      let no_choices_yet : is_setup w.phase ≡ true → AllByRecursion (λ (s : rows.Student). s.choice ≡ []) (put student_key (new_student r) ss) = λ h. all_put student_key (new_student r) _ ss refl (g.no_choices_yet h) in
+      let rankings = none_ranked (λ l. IsRanking (map student_key (applicants_of (record w { students = put student_key (new_student r) ss }) l.row.key))) w.lecturers (g.no_rankings_yet early) in
+      let no_result_yet : is_published w.phase ≡ false → AllByRecursion (λ (s : rows.Student). s.placed ≡ None) (put student_key (new_student r) ss) = λ h. all_put student_key (new_student r) _ ss refl (g.no_result_yet h) in
+      let shut : is_published w.phase ≡ false = open_phase w.phase early in
+      let all_ranked : is_published w.phase ≡ true → AllByRecursion (λ l. is_still_to_rank (record w { students = put student_key (new_student r) ss }) l ≡ false) w.lecturers = λ h. cc in
+      let no_earlier_lists : is_second w.round ≡ false → AllByRecursion (λ (s : rows.Student). (s.earlier_choice ≡ []) × (s.earlier_placement ≡ None)) (put student_key (new_student r) ss)
+      = λ h. all_put student_key (new_student r) _ ss (refl, refl) (g.no_earlier_lists h) in
+      let only_left = all_put student_key (new_student r) (λ s. is_left s ≡ false → (s.choice ≡ []) × (s.placed ≡ None)) ss (λ h. (refl, refl)) g.only_left in
+      assumption
 
   put_lecturer : (ls : List rows.Lecturer) (r : LecturerRow) → Sound (record w { lecturers = ls }) → IsLecturer r → has (map lecturer_key ls) r.key ≡ false
       → (lecturer_roll (office_sees w)).is_bad (map (λ (l : rows.Lecturer). l.row) ls) r ≡ false → length ls + 1 ≤ 300 → Sound (record w { lecturers = put lecturer_key (new_lecturer r) ls })
@@ -89,33 +74,20 @@ module _ (w : World) (early : is_from_ranking w.phase ≡ false) (one : w.round 
       = (has_swap ss (map (λ (l : rows.Lecturer). l.row.code) ls) w.office ∙ g.codes.0, distinct_swap (map (λ (l : rows.Lecturer). l.row.code) ls) ss g.codes.1) in
       let more : AreDistinct (w.office ∷ ss ++ map (λ (l : rows.Lecturer). l.row.code) (put lecturer_key (new_lecturer r) ls))
       = distinct_put lecturer_key (new_lecturer r) (λ l. l.row.code) (w.office ∷ ss) ls turned code in
-      let none : is_from_ranking w.phase ≡ false → AllByRecursion (λ l. l.ranking ≡ None) (put lecturer_key (new_lecturer r) ls)
-      = λ h. all_put lecturer_key (new_lecturer r) (λ l. l.ranking ≡ None) ls refl (g.no_rankings_yet h) in
-      record {
-        lecturers_rise = rise_put lecturer_key (new_lecturer r) ls g.lecturers_rise key;
-        projects_rise = g.projects_rise;
-        students_rise = g.students_rise;
-        lecturer_forms = all_put lecturer_key (new_lecturer r) (λ l. IsLecturer l.row) ls form g.lecturer_forms;
-        project_forms = g.project_forms;
-        student_forms = g.student_forms;
-        office_form = g.office_form;
-        few_lecturers = omega arith;
-        few_projects = g.few_projects;
-        few_students = g.few_students;
-        codes = (has_swap (map (λ (l : rows.Lecturer). l.row.code) (put lecturer_key (new_lecturer r) ls)) ss w.office ∙ more.0, distinct_swap ss (map (λ (l : rows.Lecturer). l.row.code) (put lecturer_key (new_lecturer r) ls)) more.1);
-        lecturers_known = all_weaker _ _ (λ p h. still_has lecturer_key (new_lecturer r) ls p.lecturer h) w.projects g.lecturers_known;
-        choices = subst (λ ks. AllByRecursion (λ s. IsChoice ks s.choice) w.students) (sym (all_take_part (put lecturer_key (new_lecturer r) ls) w.projects w.students))
-            (subst (λ ks. AllByRecursion (λ s. IsChoice ks s.choice) w.students) (all_take_part ls w.projects w.students) g.choices);
-        no_choices_yet = g.no_choices_yet;
-        no_rankings_yet = none;
-        rankings = none_ranked (λ l. IsRanking (map student_key (applicants_of (record w { lecturers = put lecturer_key (new_lecturer r) ls }) l.row.key))) (put lecturer_key (new_lecturer r) ls) (none early);
-        no_result_yet = g.no_result_yet;
-        all_ranked = λ h. let not' : is_published w.phase ≡ false = open_phase w.phase early in cc;
-        no_earlier_lists = g.no_earlier_lists;
-        no_earlier_rankings = λ h. all_put lecturer_key (new_lecturer r) (λ l. l.earlier_ranking ≡ None) ls refl (g.no_earlier_rankings h);
-        no_second_setup = g.no_second_setup;
-        only_left = g.only_left;
-      }
+      let lecturers_rise = rise_put lecturer_key (new_lecturer r) ls g.lecturers_rise key in
+      let lecturer_forms = all_put lecturer_key (new_lecturer r) (λ l. IsLecturer l.row) ls form g.lecturer_forms in
+      let few_lecturers : length (put lecturer_key (new_lecturer r) ls) ≤ 300 = omega arith in
+      let apart : AreDistinct (codes_of (record w { lecturers = put lecturer_key (new_lecturer r) ls }))
+      = (has_swap (map (λ (l : rows.Lecturer). l.row.code) (put lecturer_key (new_lecturer r) ls)) ss w.office ∙ more.0, distinct_swap ss (map (λ (l : rows.Lecturer). l.row.code) (put lecturer_key (new_lecturer r) ls)) more.1) in
+      let lecturers_known : AllByRecursion (λ (p : ProjectRow). has (map lecturer_key (put lecturer_key (new_lecturer r) ls)) p.lecturer ≡ true) w.projects
+      = all_weaker _ _ (λ p h. still_has lecturer_key (new_lecturer r) ls p.lecturer h) w.projects g.lecturers_known in
+      let choices = subst (λ ks. AllByRecursion (λ (s : rows.Student). IsChoice ks s.choice) w.students) (all_take_part ls w.projects w.students ∙ sym (all_take_part (put lecturer_key (new_lecturer r) ls) w.projects w.students)) g.choices in
+      let no_rankings_yet : is_from_ranking w.phase ≡ false → AllByRecursion (λ l. l.ranking ≡ None) (put lecturer_key (new_lecturer r) ls) = λ h. all_put lecturer_key (new_lecturer r) _ ls refl (g.no_rankings_yet h) in
+      let rankings = none_ranked (λ l. IsRanking (map student_key (applicants_of (record w { lecturers = put lecturer_key (new_lecturer r) ls }) l.row.key))) (put lecturer_key (new_lecturer r) ls) (no_rankings_yet early) in
+      let shut : is_published w.phase ≡ false = open_phase w.phase early in
+      let all_ranked : is_published w.phase ≡ true → AllByRecursion (λ l. is_still_to_rank (record w { lecturers = put lecturer_key (new_lecturer r) ls }) l ≡ false) (put lecturer_key (new_lecturer r) ls) = λ h. cc in
+      let no_earlier_rankings : is_second w.round ≡ false → AllByRecursion (λ (l : rows.Lecturer). l.earlier_ranking ≡ None) (put lecturer_key (new_lecturer r) ls) = λ h. all_put lecturer_key (new_lecturer r) _ ls refl (g.no_earlier_rankings h) in
+      assumption
 
   put_project : (ps : List ProjectRow) (r : ProjectRow) → Sound (record w { projects = ps }) → IsProject r → has (map project_key ps) r.key ≡ false
       → (project_roll (office_sees w)).is_bad (map (λ (p : ProjectRow). p) ps) r ≡ false → length ps + 1 ≤ 1000 → Sound (record w { projects = put project_key r ps })
@@ -123,32 +95,17 @@ module _ (w : World) (early : is_from_ranking w.phase ≡ false) (one : w.round 
       let long : length (put project_key r ps) ≡ suc (length ps) = length_put project_key r ps in
       let known : has (lecturer_keys w) r.lecturer ≡ true
       = subst (λ ks. has ks r.lecturer ≡ true) (map-map (λ (r : LecturerRow). r.key) (λ (l : rows.Lecturer). l.row) w.lecturers) (not-false _ free) in
-      record {
-        lecturers_rise = g.lecturers_rise;
-        projects_rise = rise_put project_key r ps g.projects_rise key;
-        students_rise = g.students_rise;
-        lecturer_forms = g.lecturer_forms;
-        project_forms = all_put project_key r IsProject ps form g.project_forms;
-        student_forms = g.student_forms;
-        office_form = g.office_form;
-        few_lecturers = g.few_lecturers;
-        few_projects = omega arith;
-        few_students = g.few_students;
-        codes = g.codes;
-        lecturers_known = all_put project_key r (λ p. has (lecturer_keys w) p.lecturer ≡ true) ps known g.lecturers_known;
-        choices = subst (λ ks. AllByRecursion (λ s. IsChoice ks s.choice) w.students) (sym (all_take_part w.lecturers (put project_key r ps) w.students))
-            (all_weaker _ _ (λ s c. record { few = c.few; known = all_weaker _ _ (λ p h. still_has project_key r ps p h) s.choice c.known; once = c.once }) w.students
-            (subst (λ ks. AllByRecursion (λ s. IsChoice ks s.choice) w.students) (all_take_part w.lecturers ps w.students) g.choices));
-        no_choices_yet = g.no_choices_yet;
-        no_rankings_yet = g.no_rankings_yet;
-        rankings = none_ranked (λ l. IsRanking (map student_key (applicants_of (record w { projects = put project_key r ps }) l.row.key))) w.lecturers (g.no_rankings_yet early);
-        no_result_yet = g.no_result_yet;
-        all_ranked = λ h. let not' : is_published w.phase ≡ false = open_phase w.phase early in cc;
-        no_earlier_lists = g.no_earlier_lists;
-        no_earlier_rankings = g.no_earlier_rankings;
-        no_second_setup = g.no_second_setup;
-        only_left = g.only_left;
-      }
+      let projects_rise = rise_put project_key r ps g.projects_rise key in
+      let project_forms = all_put project_key r IsProject ps form g.project_forms in
+      let few_projects : length (put project_key r ps) ≤ 1000 = omega arith in
+      let lecturers_known = all_put project_key r (λ p. has (lecturer_keys w) p.lecturer ≡ true) ps known g.lecturers_known in
+      let choices = subst (λ ks. AllByRecursion (λ (s : rows.Student). IsChoice ks s.choice) w.students) (sym (all_take_part w.lecturers (put project_key r ps) w.students))
+      (all_weaker _ _ (λ s c. record { few = c.few; known = all_weaker _ _ (λ p h. still_has project_key r ps p h) s.choice c.known; once = c.once }) w.students
+      (subst (λ ks. AllByRecursion (λ (s : rows.Student). IsChoice ks s.choice) w.students) (all_take_part w.lecturers ps w.students) g.choices)) in
+      let rankings = none_ranked (λ l. IsRanking (map student_key (applicants_of (record w { projects = put project_key r ps }) l.row.key))) w.lecturers (g.no_rankings_yet early) in
+      let shut : is_published w.phase ≡ false = open_phase w.phase early in
+      let all_ranked : is_published w.phase ≡ true → AllByRecursion (λ l. is_still_to_rank (record w { projects = put project_key r ps }) l ≡ false) w.lecturers = λ h. cc in
+      assumption
 
   itself : {X : Type 0} (xs : List X) → Alike xs xs
   itself xs = record { tests = λ p. refl; long = refl }

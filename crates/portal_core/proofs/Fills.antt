@@ -1,5 +1,5 @@
 -- What the office's fill leaves of each caller, and that it keeps the rows sound.
-use Rattle.portal_core.proofs.Base.{◌≡◌, Bool, true, false, cond, List, [], ◌∷◌, refl, sym, ◌∙◌, ap, subst, map, filter, Some, option_map, IfSome, not, ◌||◌, filter_map, AllByRecursion, or-true, and-false, Key, equals, has, is_before, is_empty, Rise, AreDistinct, World, in_play, lecturer_key, student_key, applicants_of, is_still_to_rank, is_ranking, is_published, is_from_ranking, Fill, changed, with_fill, Office, OfficeCaller, caller, sight_of, view, listing_with, listings, catalogue, office_sees, Sound, IsRanking, project_keys}
+use Rattle.portal_core.proofs.Base.{◌≡◌, Bool, true, false, cond, List, [], ◌∷◌, refl, ◌∙◌, ap, map, filter, Some, option_map, IfSome, ◌||◌, filter_map, AllByRecursion, or-true, Key, equals, has, is_before, Rise, AreDistinct, World, in_play, student_key, applicants_of, is_still_to_rank, is_ranking, is_from_ranking, Fill, changed, with_fill, Office, OfficeCaller, caller, sight_of, view, listing_with, listings, catalogue, office_sees, Sound, IsRanking, project_keys, arith, list_any, projects_of}
 use Rattle.portal_core.specs.World as rows
 use Rattle.portal_core.proofs.Keys.{is_same, is_own, not_before_itself}
 use Rattle.portal_core.proofs.InPlay.{fill_row, play_filled}
@@ -18,11 +18,7 @@ module _ (w : World) where
   -- nobody is still to rank
 
   pub now_ranked : (l : rows.Lecturer) → is_still_to_rank (changed w Fill) (with_fill w l) ≡ false
-  now_ranked l = go (is_still_to_rank w l) refl
-    where
-      go : (b : Bool) → is_still_to_rank w l ≡ b → is_still_to_rank (changed w Fill) (cond b (given l) l) ≡ false
-      go true e = and-false (not (is_empty (applicants_of w l.row.key)))
-      go false e = e
+  now_ranked l = grind arith
 
   none_left : (ls : List rows.Lecturer) → filter (is_still_to_rank (changed w Fill)) (map (with_fill w) ls) ≡ []
   none_left [] = refl
@@ -36,8 +32,7 @@ module _ (w : World) where
   }
     where
       left : (b : Bool) → cond b (map (λ (l : rows.Lecturer). l.row.key) (filter (is_still_to_rank (changed w Fill)) (map (with_fill w) w.lecturers))) [] ≡ []
-      left true = ap (map (λ (l : rows.Lecturer). l.row.key)) (none_left w.lecturers)
-      left false = refl
+      left b = grind (arith, none_left w.lecturers)
 
   pub view_filled : (c : Key) → caller w c ≡ OfficeCaller → view (changed w Fill) c ≡ Office (record (office_sees w) { still_to_rank = [] })
   view_filled c e = ap (sight_of (changed w Fill)) (caller_kept (with_fill w) (fill_row w) w c ∙ ap (re_called (with_fill w)) e) ∙ ap Office office_filled
@@ -50,15 +45,11 @@ all_there (x ∷ ks) ls k = (k x (ap (λ b. b || has ks x) (is_own x)), all_ther
 
 -- a key that stands before another is another
 pub before_other : (k l : Key) → is_before k l ≡ true → equals k l ≡ false
-before_other k l h =
-    (elim (equals k l) as (λ b. equals k l ≡ b → b ≡ false) [
-      | true ↦ λ e. absurd (not_before_itself k (subst (λ x. is_before k x ≡ true) (sym (is_same k l e)) h))
-      | false ↦ λ e. refl
-    ]) refl
+before_other k l h = grind (arith, is_same k l, not_before_itself k)
 
 none_same : (k : Key) (ks : List Key) → AllByRecursion (λ l. is_before k l ≡ true) ks → has ks k ≡ false
 none_same k [] all = refl
-none_same k (l ∷ ks) all = ap (λ b. b || has ks k) (before_other k l all.0) ∙ none_same k ks all.1
+none_same k (l ∷ ks) all = grind (arith, before_other k l, none_same k ks)
 
 pub rise_distinct : (ks : List Key) → Rise ks → AreDistinct ks
 rise_distinct [] rise = tt
@@ -67,19 +58,11 @@ rise_distinct (k ∷ ks) rise = (none_same k ks rise.0, rise_distinct ks rise.1)
 module _ {X : Type 0} (key : X → Key) (p : X → Bool) where
   all_kept : (P : Key → Type 0) (xs : List X) → AllByRecursion P (map key xs) → AllByRecursion P (map key (filter p xs))
   all_kept P [] all = tt
-  all_kept P (x ∷ xs) all =
-      elim (p x) as (λ b. AllByRecursion P (map key (cond b (x ∷ filter p xs) (filter p xs)))) [
-        | true ↦ (all.0, all_kept P xs all.1)
-        | false ↦ all_kept P xs all.1
-      ]
+  all_kept P (x ∷ xs) all = grind (arith, all_kept P xs all.1)
 
   pub rise_kept : (xs : List X) → Rise (map key xs) → Rise (map key (filter p xs))
   rise_kept [] rise = tt
-  rise_kept (x ∷ xs) rise =
-      elim (p x) as (λ b. Rise (map key (cond b (x ∷ filter p xs) (filter p xs)))) [
-        | true ↦ (all_kept (λ l. is_before (key x) l ≡ true) xs rise.0, rise_kept xs rise.1)
-        | false ↦ rise_kept xs rise.1
-      ]
+  rise_kept (x ∷ xs) rise = grind (arith, all_kept (λ l. is_before (key x) l ≡ true) xs rise.0, rise_kept xs rise.1)
 
 pub ranks_by_key : (ks : List Key) → Rise ks → IsRanking ks ks
 ranks_by_key ks rise = record { all = all_there ks ks (λ k h. h); only = all_there ks ks (λ k h. h); once = rise_distinct ks rise }
@@ -89,17 +72,13 @@ rankings_filled : (w : World) → Rise (map student_key w.students) → (ls : Li
     → AllByRecursion (λ l. IfSome l.ranking (IsRanking (map student_key (applicants_of w l.row.key)))) ls
     → AllByRecursion (λ l. IfSome l.ranking (IsRanking (map student_key (applicants_of w l.row.key)))) (map (with_fill w) ls)
 rankings_filled w rise [] all = tt
-rankings_filled w rise (l ∷ ls) all = (
-  elim (is_still_to_rank w l) as (λ b. IfSome (cond b (given w l) l).ranking (IsRanking (map student_key (applicants_of w (cond b (given w l) l).row.key)))) [
-    | true ↦ ranks_by_key (map student_key (applicants_of w l.row.key)) (rise_kept student_key _ w.students rise)
-    | false ↦ all.0
-  ],
-  rankings_filled w rise ls all.1,
-)
+rankings_filled w rise (l ∷ ls) all =
+    let by_key = ranks_by_key (map student_key (applicants_of w l.row.key)) (rise_kept student_key (λ s. list_any (λ p. has s.choice p.key) (projects_of w l.row.key)) w.students rise) in
+    grind (arith, by_key, rankings_filled w rise ls all.1)
 
 -- the ranking of the first round stays
 pub fill_first : (w : World) (l : rows.Lecturer) → (with_fill w l).earlier_ranking ≡ l.earlier_ranking
-fill_first w l = elim (is_still_to_rank w l) as (λ b. (cond b (given w l) l).earlier_ranking ≡ l.earlier_ranking) [ true ↦ refl | false ↦ refl ]
+fill_first w l = grind arith
 
 pub filling : (w : World) → Sound w → is_ranking w.phase ≡ true → Sound (changed w Fill)
 filling w g e = sound_kept (with_fill w) (fill_row w) w (fill_first w) (ap project_keys (play_filled w)) g e (rankings_filled w g.students_rise w.lecturers g.rankings)

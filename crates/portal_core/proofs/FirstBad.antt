@@ -1,17 +1,11 @@
 -- A fault is told where it is first.
-use Rattle.portal_core.proofs.Base.{◌≡◌, ◌⊎◌, inl, inr, ℕ, ◌+◌, Bool, true, false, List, [], ◌∷◌, ◌++◌, length, refl, sym, ◌∙◌, ap, subst, arith, append_assoc, append-nil, Option, Some, None, ◌==◌, nat_le, codes, find, nat_tests, Listing, Person, Key, equals, has, ListFault, fault_at, choice_fault, ranking_fault, in_catalogue, is_applicant, lacks_one, Roll, RollRefusal, Taken, Faulty, Took, take_rows, one_new, one_same}
-use Rattle.std.proofs.lemmas.List.{length-append}
-use Rattle.portal_core.specs.Rolls.{conflict_at, roll_full}
-use Rattle.portal_core.specs.Legal.{wrong_choice, wrong_rank, NoneWrong, IsFirstWrong, IsRefused, with_new, IsFirstRefused}
+use Rattle.portal_core.proofs.Base.{◌≡◌, ◌⊎◌, inl, inr, ℕ, ◌+◌, Bool, true, false, List, [], ◌∷◌, ◌++◌, length, refl, sym, ◌∙◌, ap, subst, arith, append_assoc, append-nil, Option, Some, None, nat_le, codes, find, nat_tests, Listing, Person, Key, equals, ListFault, fault_at, choice_fault, ranking_fault, lacks_one, Roll, RollRefusal, Taken, Faulty, Took, take_rows, one_new, one_same, length-append, conflict_at, roll_full, wrong_choice, wrong_rank, NoneWrong, IsFirstWrong, IsRefused, with_new, IsFirstRefused}
 
 -- lists of keys
 
 -- a scan tells one fault
 told_once : (o : Option ListFault) (f g : ListFault) → o ≡ Some f → o ≡ Some g → g ≡ f
-told_once o f g so told =
-    let both : Some f ≡ Some g = sym so ∙ told in
-    let one : f ≡ g = cc in
-    sym one
+told_once o f g so told = grind arith
 
 module _ (wrong : List Key → Key → Option (List ℕ)) (scan : List Key → List Key → Option ListFault) where
   -- the next key is wrong and its fault is told at its position, or the scan goes on
@@ -88,18 +82,7 @@ module _ (catalogue : List Listing) where
   choices earlier list = choice_fault catalogue (length earlier + 1) earlier list
 
   choice_steps : Steps (wrong_choice catalogue) choices
-  choice_steps earlier k ks = go (length earlier == 20) (in_catalogue catalogue k) (has earlier k) refl refl refl
-    where
-      at_last : (full : Bool) → (length earlier == 20) ≡ full → (length earlier + 1 == 21) ≡ full
-      at_last true e = grind (arith, nat_tests)
-      at_last false e = grind (arith, nat_tests)
-
-      go : (full known twice : Bool) → (length earlier == 20) ≡ full → in_catalogue catalogue k ≡ known → has earlier k ≡ twice → StepsAt (wrong_choice catalogue) choices earlier k ks
-      go true known twice ef ek et = inl (codes "too_long", rw ef refl, rw (at_last true ef) refl)
-      go false false twice ef ek et = inl (codes "unknown_project", rw (ef, ek) refl, rw (at_last false ef, ek) refl)
-      go false true true ef ek et = inl (codes "repeated", rw (ef, ek, et) refl, rw (at_last false ef, ek, et) refl)
-      go false true false ef ek et =
-          inr (rw (ef, ek, et) refl, rw (at_last false ef, ek, et) (ap (λ n. choice_fault catalogue n (earlier ++ k ∷ []) ks) (omega (arith, length-append earlier (k ∷ [])))))
+  choice_steps earlier k ks = let long : length (earlier ++ k ∷ []) ≡ length earlier + 1 = omega (arith, length-append earlier (k ∷ [])) in grind (arith, nat_tests, long)
 
   pub choice_first : (list : List Key) (f : ListFault) → choice_fault catalogue 1 [] list ≡ Some f → IsFirstWrong (wrong_choice catalogue) list f
   choice_first list f e = elim (first_wrong (wrong_choice catalogue) choices choice_steps list f e) [
@@ -114,16 +97,10 @@ module _ (applicants : List (Key × List Person)) where
   ranks earlier list = ranking_fault applicants (length earlier + 1) earlier list
 
   rank_steps : Steps (wrong_rank applicants) ranks
-  rank_steps earlier k ks = go (is_applicant applicants k) (has earlier k) refl refl
-    where
-      go : (known twice : Bool) → is_applicant applicants k ≡ known → has earlier k ≡ twice → StepsAt (wrong_rank applicants) ranks earlier k ks
-      go false twice ek et = inl (codes "not_an_applicant", rw ek refl, rw ek refl)
-      go true true ek et = inl (codes "repeated", rw (ek, et) refl, rw (ek, et) refl)
-      go true false ek et = inr (rw (ek, et) refl, rw (ek, et) (ap (λ n. ranking_fault applicants n (earlier ++ k ∷ []) ks) (omega (arith, length-append earlier (k ∷ [])))))
+  rank_steps earlier k ks = let long : length (earlier ++ k ∷ []) ≡ length earlier + 1 = omega (arith, length-append earlier (k ∷ [])) in grind (arith, nat_tests, long)
 
   missing : (list : List Key) (f : ListFault) (lacks : Bool) → lacks_one applicants list ≡ lacks → ranks list [] ≡ Some f → (f ≡ fault_at 0 (codes "missing")) × (lacks_one applicants list ≡ true)
-  missing list f true so e = (told_once (ranks list []) (fault_at 0 (codes "missing")) f (rw so refl) e, so)
-  missing list f false so e = let none : ranks list [] ≡ None = rw so refl in let both : None ≡ Some f = sym none ∙ e in cc
+  missing list f lacks so e = grind arith
 
   pub rank_first : (list : List Key) (f : ListFault) → ranking_fault applicants 1 [] list ≡ Some f
       → IsFirstWrong (wrong_rank applicants) list f ⊎ ((f ≡ fault_at 0 (codes "missing")) × NoneWrong (wrong_rank applicants) list × (lacks_one applicants list ≡ true))
@@ -141,12 +118,10 @@ module _ {X : Type 0} (roll : Roll X) (fault : RollRefusal) where
       × IsRefused roll (with_new new there) (at + length front) r fault
 
   same_fault : (t : Taken X) → one_same t ≡ Faulty fault → t ≡ Faulty fault
-  same_fault (Faulty f) e = e
-  same_fault (Took new same) e = cc
+  same_fault t e = grind arith
 
   new_fault : (x : X) (t : Taken X) → one_new x t ≡ Faulty fault → t ≡ Faulty fault
-  new_fault x (Faulty f) e = e
-  new_fault x (Took new same) e = cc
+  new_fault x t e = grind arith
 
   one_fault : (f : RollRefusal) (t : Taken X) → t ≡ Faulty f → t ≡ Faulty fault → fault ≡ f
   one_fault f t so told = let both : ◌≡◌ {A = Taken X} (Faulty f) (Faulty fault) = sym so ∙ told in let one : f ≡ fault = cc in sym one

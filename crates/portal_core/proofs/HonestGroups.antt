@@ -1,40 +1,24 @@
 -- No group of students gains anything by other lists: of worlds.
-use Rattle.portal_core.proofs.Base.{◌≡◌, ℕ, ◌<◌, Bool, true, false, cond, List, [], ◌∷◌, map, length, get_or, refl, sym, ◌∙◌, ap, subst, arith, Option, Some, None, is_none, ◌||◌, filter, AllByRecursion, or-true, get_or-map, length-map, AllZip-get_or, AllZip-long, project_of, IsOn, number_in, number_is, Round, First, Second, StudentRow, Key, equals, has, World, project_key, student_key, is_left, is_second, is_published, students_in, in_play, alone, alone_student, instance_of, places_of, student_keys, view, student_sees, Good, HasBest, ListAlike, DifferInLists, IsNoWorse}
-use Rattle.std.proofs.lemmas.List.{get_or_default}
+use Rattle.portal_core.proofs.Base.{◌≡◌, ℕ, ◌<◌, Bool, true, false, List, [], ◌∷◌, map, length, get_or, refl, sym, ◌∙◌, ap, subst, arith, Option, None, is_none, filter, AllByRecursion, get_or-map, length-map, AllZip-get_or, AllZip-long, project_of, IsOn, number_in, number_is, Round, First, Second, StudentRow, Key, equals, has, World, project_key, student_key, is_left, is_second, is_published, students_in, in_play, alone, alone_student, instance_of, places_of, student_keys, view, student_sees, Good, HasBest, ListAlike, DifferInLists, IsNoWorse, get_or_default, no_group_by_number, OneGainsNothing}
 use Rattle.spa_honest.specs.Honest as instances
-use Rattle.spa_honest.proofs.Gains.{no_group_gains as no_group_by_number}
 use Rattle.portal_core.specs.declared.view.View.TheVariants as sees
 use Rattle.portal_core.specs.World.{Student}
-use Rattle.portal_core.specs.Honest.{OneGainsNothing}
 use Rattle.portal_core.proofs.Keys.{is_same}
 use Rattle.portal_core.proofs.AllLaws.{all_at, all_map, all_weaker, all_both, any_map}
 use Rattle.portal_core.proofs.Alone.{passes}
 use Rattle.portal_core.proofs.Named.{students_named}
 use Rattle.portal_core.proofs.Published.{number_back}
-use Rattle.portal_core.proofs.HonestLists.{has_number, number_has, on_number, key_of, no_student, IsBestRound, IsStableRound, best_alone, stable_alone, world_ranked, differ_by_number, differ_alone, rows_no_worse, shown}
+use Rattle.portal_core.proofs.Capacities.{number_has}
+use Rattle.portal_core.proofs.HonestLists.{has_number, on_number, key_of, no_student, IsBestRound, IsStableRound, best_alone, stable_alone, world_ranked, differ_by_number, differ_alone, rows_no_worse, shown}
 
 -- what is kept of a list of keys stands on it and passes, and what does so is kept
 kept_key : (f : Key → Bool) (ks : List Key) (k : Key) → has ks k ≡ true → f k ≡ true → has (filter f ks) k ≡ true
 kept_key f [] k there meets = there
-kept_key f (g ∷ gs) k there meets = by_tests (equals k g) (f g) refl refl (λ h. kept_key f gs k h meets) there
-  where
-    by_tests : (a b : Bool) → equals k g ≡ a → f g ≡ b → (has gs k ≡ true → has (filter f gs) k ≡ true) → (a || has gs k) ≡ true → has (cond b (g ∷ filter f gs) (filter f gs)) k ≡ true
-    by_tests true true ea eb r h = ap (λ b. b || has (filter f gs) k) ea
-    by_tests true false ea eb r h = let too : f g ≡ true = subst (λ x. f x ≡ true) (is_same k g ea) meets in absurd (cc)
-    by_tests false true ea eb r h = ap (λ b. equals k g || b) (r h) ∙ or-true (equals k g)
-    by_tests false false ea eb r h = r h
+kept_key f (g ∷ gs) k there meets = grind (arith, is_same k g, kept_key f gs k)
 
 was_key : (f : Key → Bool) (ks : List Key) (k : Key) → has (filter f ks) k ≡ true → (has ks k ≡ true) × (f k ≡ true)
 was_key f [] k there = absurd (cc)
-was_key f (g ∷ gs) k there = by_test (f g) refl (was_key f gs k) there
-  where
-    by_test : (b : Bool) → f g ≡ b → (has (filter f gs) k ≡ true → (has gs k ≡ true) × (f k ≡ true)) → has (cond b (g ∷ filter f gs) (filter f gs)) k ≡ true → ((equals k g || has gs k) ≡ true) × (f k ≡ true)
-    by_test false e r h = (ap (λ b. equals k g || b) (r h).0 ∙ or-true (equals k g), (r h).1)
-    by_test true e r h = by_key (equals k g) refl h
-      where
-        by_key : (b : Bool) → equals k g ≡ b → (b || has (filter f gs) k) ≡ true → ((b || has gs k) ≡ true) × (f k ≡ true)
-        by_key true same h = (refl, subst (λ x. f x ≡ true) (sym (is_same k g same)) e)
-        by_key false other h = r h
+was_key f (g ∷ gs) k there = grind (arith, is_same k g, was_key f gs k)
 
 -- a student of a round, and who that is in the world
 abbrev IsShown : World → Student → Type 0
@@ -44,8 +28,7 @@ all_shown : (w : World) → Good w → AllByRecursion (IsShown w) (alone (in_pla
 all_shown w good = all_map (IsShown w) alone_student (students_in w.round w.students) (by_round w.round refl)
   where
     left : (o : Option Key) → is_none o ≡ true → o ≡ None
-    left None e = refl
-    left (Some p) e = absurd (cc)
+    left o e = grind arith
 
     by_round : (r : Round) → w.round ≡ r → AllByRecursion (λ u. IsShown w (alone_student u)) (students_in r w.students)
     by_round First e =
@@ -71,7 +54,7 @@ module _ (w v : World) (group : List Key) (one : HasBest w) (other : Good v) (di
       let k_low : number_in keys k < length keys = subst (λ n. n < length (student_keys (alone (in_play w)))) (sym number) low in
       subst (IsOn (map (number_in keys) ours)) number (on_number keys ours k k_low (kept_key (has keys) group k m (number_has keys k k_low)))
 
-  -- the student with a key of the group gains nothing, where what is published gives nothing better by number
+  -- a student with a key of the group gains nothing, if no better is published by number
   of_key : (k : Key) → has group k ≡ true → number_in (student_keys (alone (in_play w))) k < length (student_keys (alone (in_play w)))
       → (is_published v.phase ≡ true → instances.IsNoWorse (instance_of (alone (in_play w))) (number_in (student_keys (alone (in_play w))) k) (project_of (places_of (alone (in_play w))) (number_in (student_keys (alone (in_play w))) k)) (project_of (places_of (alone (in_play v))) (number_in (student_keys (alone (in_play w))) k)))
       → OneGainsNothing w v group

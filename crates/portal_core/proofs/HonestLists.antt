@@ -1,31 +1,22 @@
 -- No other list gains anything: of worlds.
-use Rattle.portal_core.proofs.Base.{◌≡◌, ℕ, zero, suc, ◌+◌, ◌-◌, ◌<◌, ◌≤◌, Bool, true, false, not, cond, inl, inr, List, [], ◌∷◌, map, length, get_or, refl, sym, ◌∙◌, ap, subst, arith, Option, Some, None, IfSome, option_map, unwrap_or, is_none, nat_lt, count_by, ◌&&◌, ◌||◌, filter, AllByRecursion, AllZip, list_any, find, or-true, eqb-true, eq-eqb, get_or-map, length-map, AllZip-get_or, AllZip-long, list_any_at, IsBest, IsStable, place, project_of, lecturer_of, IsOn, IsAcceptable, number_in, number_is, number_known, count_by-map, ProjectRow, Key, equals, has, is_empty, AreDistinct, World, lecturer_key, project_key, student_key, projects_of, applicants_of, is_published, is_at, is_left, given_with, lowered_lecturer, lowered_project, lecturers_left, students_left, lecturers_in, projects_in, students_in, in_play, alone, alone_lecturer, alone_student, Round, First, Second, instance, instance_of, places_of, lecturer_keys, project_keys, student_keys, OfficeCaller, caller_among, lecturer_with, student_with, sight_of, view, student_sees, Good, Sound, IsChoice, IsRanking, StudentSees, HasBest, ListAlike, DifferInLists, DifferInOneList, IsNoWorse}
-use Rattle.std.proofs.Common.{eqb}
-use Rattle.std.proofs.lemmas.Bool.{cases_lt}
-use Rattle.std.proofs.lemmas.List.{get_or_past}
-use Rattle.spa_model.specs.Spa.{choices_of, ranking_of, IsAsGood, IsDistinct}
+use Rattle.portal_core.proofs.Base.{◌≡◌, ℕ, zero, suc, ◌-◌, ◌<◌, ◌≤◌, Bool, true, false, not, cond, inl, inr, List, [], ◌∷◌, map, length, get_or, refl, sym, ◌∙◌, ap, subst, arith, Option, Some, None, IfSome, option_map, unwrap_or, is_none, nat_lt, ◌&&◌, filter, AllByRecursion, AllZip, list_any, find, eqb-true, get_or-map, length-map, AllZip-get_or, AllZip-long, list_any_at, IsBest, IsStable, place, project_of, lecturer_of, IsOn, IsAcceptable, number_in, number_is, number_known, ProjectRow, Key, equals, has, is_empty, AreDistinct, World, lecturer_key, project_key, student_key, projects_of, applicants_of, is_published, is_left, given_with, lowered_lecturer, lowered_project, lecturers_left, students_left, lecturers_in, projects_in, students_in, in_play, alone, alone_lecturer, alone_student, Round, First, Second, instance, instance_of, places_of, lecturer_keys, project_keys, student_keys, student_with, view, student_sees, Good, Sound, IsChoice, IsRanking, StudentSees, HasBest, ListAlike, DifferInLists, DifferInOneList, IsNoWorse, cases_lt, get_or_past, choices_of, ranking_of, IsAsGood, IsDistinct, honest_by_number, OrderAlike, RankAlike}
 use Rattle.spa_student.specs.inner.Machine.{IsRanked}
 use Rattle.spa_student.proofs.CutSteps.{acceptable_in_range}
 use Rattle.spa_honest.specs.Honest as instances
-use Rattle.spa_honest.proofs.Gains.{honest_is_best as honest_by_number}
 use Rattle.portal_core.specs.World.{Lecturer, Student}
 use Rattle.portal_core.specs.declared.view.View.TheVariants as sees
-use Rattle.portal_core.specs.Honest.{OrderAlike, RankAlike}
 use Rattle.portal_core.proofs.Keys.{is_same, is_own}
 use Rattle.portal_core.proofs.AllLaws.{all_at, any_map, filtered_any}
 use Rattle.portal_core.proofs.Only.{has_contains, on_roll}
 use Rattle.portal_core.proofs.Published.{number_back}
-use Rattle.portal_core.proofs.Capacities.{first_plays}
-use Rattle.portal_core.proofs.InPlay.{lecturers_given, projects_given}
+use Rattle.portal_core.proofs.Capacities.{first_plays, number_has}
+use Rattle.portal_core.proofs.Zips.{zip_same, zip_mapped, zip_kept, zip_in, zip_lecturers, zip_projects}
 use Rattle.portal_core.proofs.Alone.{played_alone, rows_alone, places_alone}
 
 -- numbers of keys
 
 pub has_number : (keys : List Key) (k : Key) → has keys k ≡ true → number_in keys k < length keys
 has_number keys k h = number_known keys k (has_contains keys k h)
-
-pub number_has : (keys : List Key) (k : Key) → number_in keys k < length keys → has keys k ≡ true
-number_has keys k low = list_any_at (equals k) keys (number_in keys k) [] low (rw (number_is keys k low) (is_own k))
 
 module _ (keys : List Key) where
   same_key : (a b : Key) → number_in keys a ≡ number_in keys b → number_in keys b < length keys → a ≡ b
@@ -34,18 +25,7 @@ module _ (keys : List Key) where
   -- the numbers stand on a list as the keys do
   place_number : (list : List Key) (k : Key) → number_in keys k < length keys → place (map (number_in keys) list) (number_in keys k) ≡ number_in list k
   place_number [] k low = refl
-  place_number (c ∷ cs) k low =
-      by_tests (eqb (number_in keys c) (number_in keys k)) (equals c k)
-      (λ e. subst (λ x. equals x k ≡ true) (sym (same_key c k (eqb-true (number_in keys c) (number_in keys k) e) low)) (is_own k))
-      (λ e. eq-eqb (number_in keys c) (number_in keys k) (ap (number_in keys) (is_same c k e)))
-      (place_number cs k low)
-    where
-      by_tests : (a b : Bool) → (a ≡ true → b ≡ true) → (b ≡ true → a ≡ true) → place (map (number_in keys) cs) (number_in keys k) ≡ number_in cs k
-          → cond a 0 (1 + place (map (number_in keys) cs) (number_in keys k)) ≡ cond (not b) (1 + number_in cs k) 0
-      by_tests true true f g e = refl
-      by_tests true false f g e = let wrong = f refl in absurd (cc)
-      by_tests false true f g e = let wrong = g refl in absurd (cc)
-      by_tests false false f g e = ap (λ n. 1 + n) e
+  place_number (c ∷ cs) k low = grind (arith, same_key c k, eqb-true (number_in keys c) (number_in keys k), is_same c k, is_own k, place_number cs k low)
 
   pub on_number : (list : List Key) (k : Key) → number_in keys k < length keys → has list k ≡ true → IsOn (map (number_in keys) list) (number_in keys k)
   on_number list k low h = omega (arith, place_number list k low, has_number list k h, length-map list (number_in keys))
@@ -56,33 +36,18 @@ module _ (keys : List Key) where
   -- what stands among the numbers is the number of a key
   pub key_of : (list : List Key) (n : ℕ) → IsOn (map (number_in keys) list) n → (k : Key) × (has list k ≡ true) × (number_in keys k ≡ n)
   key_of [] n on = absurd (omega (arith, on))
-  key_of (c ∷ cs) n on = by_test (eqb (number_in keys c) n) (eqb-true (number_in keys c) n) (key_of cs n) on
-    where
-      by_test : (b : Bool) → (b ≡ true → number_in keys c ≡ n) → (IsOn (map (number_in keys) cs) n → (k : Key) × (has cs k ≡ true) × (number_in keys k ≡ n))
-          → cond b 0 (1 + place (map (number_in keys) cs) n) < suc (length (map (number_in keys) cs)) → (k : Key) × (has (c ∷ cs) k ≡ true) × (number_in keys k ≡ n)
-      by_test true f r h = (c, ap (λ b. b || has cs c) (is_own c), f refl)
-      by_test false f r h = let rest = r (omega arith) in (rest.0, ap (λ b. equals rest.0 c || b) rest.1 ∙ or-true (equals rest.0 c), rest.2)
+  key_of (c ∷ cs) n on = grind (arith, is_own c, key_of cs n)
 
   -- keys that differ have numbers that differ
   not_again : (cs : List Key) (c : Key) → AllByRecursion (λ l. has keys l ≡ true) cs → has cs c ≡ false → (k d : ℕ) → k < length (map (number_in keys) cs) → number_in keys c ≡ get_or (map (number_in keys) cs) k d → ⊥
   not_again [] c known new k d h e = omega arith
-  not_again (x ∷ cs) c known new zero d h e =
-      let same : c ≡ x = same_key c x e (has_number keys x known.0) in
-      let there : equals c x ≡ true = subst (λ y. equals c y ≡ true) same (is_own c) in
-      let both : (equals c x || has cs c) ≡ true = ap (λ b. b || has cs c) there in
-      absurd (cc)
-  not_again (x ∷ cs) c known new (suc k) d h e = not_again cs c known.1 (rest (equals c x) (has cs c) new) k d (omega arith) e
-    where
-      rest : (a b : Bool) → (a || b) ≡ false → b ≡ false
-      rest true b f = absurd (cc)
-      rest false b f = f
+  not_again (x ∷ cs) c known new zero d h e = let same : c ≡ x = same_key c x e (has_number keys x known.0) in grind (arith, is_own x)
+  not_again (x ∷ cs) c known new (suc k) d h e = not_again cs c known.1 (grind arith) k d (omega arith) e
 
   numbers_distinct : (list : List Key) → AllByRecursion (λ l. has keys l ≡ true) list → AreDistinct list → IsDistinct (map (number_in keys) list)
-  numbers_distinct [] known once j k d less h e = omega arith
-  numbers_distinct (c ∷ cs) known once zero zero d less h e = omega arith
   numbers_distinct (c ∷ cs) known once zero (suc k) d less h e = not_again cs c known.1 once.0 k d (omega arith) e
-  numbers_distinct (c ∷ cs) known once (suc j) zero d less h e = omega arith
   numbers_distinct (c ∷ cs) known once (suc j) (suc k) d less h e = numbers_distinct cs known.1 once.1 j k d (omega arith) (omega arith) e
+  numbers_distinct list known once j k d less h e = omega arith
 
 -- rows by number
 
@@ -97,15 +62,13 @@ no_lecturer = record { row = record { key = []; name = []; code = []; capacity =
 
 -- an applicant stands on the ranking, where nobody is still to rank
 on_ranking : (apps : List Student) (k : Key) (o : Option (List Key)) → IfSome o (IsRanking (map student_key apps)) → (not (is_empty apps) && is_none o) ≡ false → has (map student_key apps) k ≡ true → has (unwrap_or o []) k ≡ true
-on_ranking [] k None ranks ranked there = absurd (cc)
-on_ranking (a ∷ apps) k None ranks ranked there = absurd (cc)
+on_ranking apps k None ranks ranked there = grind arith
 on_ranking apps k (Some r) ranks ranked there =
     let at = has_contains (map student_key apps) k there in
     subst (λ x. has r x ≡ true) at.2 (all_at (λ x. has r x ≡ true) (map student_key apps) at.0 k ranks.all at.1)
 
 pub both_hold : (a b : Bool) → a ≡ true → b ≡ true → (a && b) ≡ true
-both_hold true b e f = f
-both_hold false b e f = absurd (cc)
+both_hold a b e f = grind arith
 
 module _ (w : World) (sound : Sound w) (one : w.round ≡ First) (published : is_published w.phase ≡ true) where
   chosen : AllByRecursion (λ (x : Student). IsChoice (project_keys w) x.choice) w.students
@@ -238,24 +201,10 @@ module _ (w : World) (sound : Sound w) (one : w.round ≡ First) (published : is
 
 -- from rows to instances
 
-rows_same : {X Y : Type 0} (R : X → X → Type 0) (f : X → Y) → ((x y : X) → R x y → f y ≡ f x) → (xs ys : List X) → AllZip R xs ys → map f ys ≡ map f xs
-rows_same R f same [] [] z = refl
-rows_same R f same [] (y ∷ ys) z = absurd z
-rows_same R f same (x ∷ xs) [] z = absurd z
-rows_same R f same (x ∷ xs) (y ∷ ys) z = λ i. same x y z.0 i ∷ rows_same R f same xs ys z.1 i
-
 -- who passes a test is on the roll
 kept_has : (f : Student → Bool) (ss : List Student) (k : Key) → has (map student_key (filter f ss)) k ≡ true → has (map student_key ss) k ≡ true
 kept_has f [] k h = h
-kept_has f (s ∷ ss) k h = by_test (f s) (kept_has f ss k) h
-  where
-    by_test : (b : Bool) → (has (map student_key (filter f ss)) k ≡ true → has (map student_key ss) k ≡ true) → has (map student_key (cond b (s ∷ filter f ss) (filter f ss))) k ≡ true → (equals k s.row.key || has (map student_key ss) k) ≡ true
-    by_test false r g = ap (λ b. equals k s.row.key || b) (r g) ∙ or-true (equals k s.row.key)
-    by_test true r g = by_key (equals k s.row.key) g
-      where
-        by_key : (b : Bool) → (b || has (map student_key (filter f ss)) k) ≡ true → (b || has (map student_key ss) k) ≡ true
-        by_key true g = refl
-        by_key false g = r g
+kept_has f (s ∷ ss) k h = grind (arith, kept_has f ss k)
 
 -- who stands on a ranking is on the roll
 rank_known : (w : World) → Sound w → (l : ℕ) (d : Lecturer) → l < length w.lecturers → (k : Key) → has (unwrap_or (get_or w.lecturers l d).ranking []) k ≡ true → number_in (student_keys w) k < length (student_keys w)
@@ -288,10 +237,10 @@ order_numbers keys xs ys low alike a b on_a on_b before =
 -- where those whose lists may differ by key may do so by number
 module _ (w v : World) (good : Sound v) (May : Key → Type 0) (ByNumber : ℕ → Type 0) (differ : DifferInLists w v May) (may : (t : ℕ) → t < length w.students → May (get_or (student_keys w) t []) → ByNumber t) where
   students_same : student_keys v ≡ student_keys w
-  students_same = rows_same (ListAlike May) student_key (λ x y r. ap (λ row. row.key) r.0) w.students v.students differ.students
+  students_same = zip_same (ListAlike May) student_key (λ x y r. ap (λ row. row.key) r.0) w.students v.students differ.students
 
   lecturers_same : lecturer_keys v ≡ lecturer_keys w
-  lecturers_same = rows_same RankAlike lecturer_key (λ x y r. ap (λ row. row.key) r.0) w.lecturers v.lecturers differ.lecturers
+  lecturers_same = zip_same RankAlike lecturer_key (λ x y r. ap (λ row. row.key) r.0) w.lecturers v.lecturers differ.lecturers
 
   projects_same : project_keys v ≡ project_keys w
   projects_same = ap (map project_key) differ.projects
@@ -313,7 +262,7 @@ module _ (w v : World) (good : Sound v) (May : Key → Type 0) (ByNumber : ℕ �
     students = length-map v.students _ ∙ count_students ∙ sym (length-map w.students _);
     lecturers = λ i. map (λ (p : ProjectRow). number_in (lecturers_same i) p.lecturer) (differ.projects i);
     capacities = ap (map (λ (p : ProjectRow). p.capacity)) differ.projects;
-    limits = rows_same RankAlike (λ (l : Lecturer). l.row.capacity) (λ x y r. ap (λ row. row.capacity) r.0) w.lecturers v.lecturers differ.lecturers;
+    limits = zip_same RankAlike (λ (l : Lecturer). l.row.capacity) (λ x y r. ap (λ row. row.capacity) r.0) w.lecturers v.lecturers differ.lecturers;
     others = others;
     orders = orders;
   } where
@@ -357,13 +306,7 @@ differ_in_one w v sound good s key differ s_in s_key = differ_by_number w v good
 -- who is shown what
 
 pub shown_student : (w : World) (code : Key) (a : StudentSees) → view w code ≡ sees.Student a → (x : Student) × (student_with w code ≡ Some x) × (student_sees w x ≡ a)
-shown_student w code a e = by_caller (equals w.office code) (lecturer_with w code) (student_with w code) refl e
-  where
-    by_caller : (b : Bool) (l : Option Lecturer) (o : Option Student) → student_with w code ≡ o → sight_of w (cond b OfficeCaller (caller_among l o)) ≡ sees.Student a → (x : Student) × (student_with w code ≡ Some x) × (student_sees w x ≡ a)
-    by_caller true l o eo e = absurd (cc)
-    by_caller false (Some l) o eo e = absurd (cc)
-    by_caller false None None eo e = absurd (cc)
-    by_caller false None (Some x) eo e = (x, eo, (cc))
+shown_student w code a e = grind arith
 
 -- one code finds the students of one number
 pub same_place : (May : Key → Type 0) (code : Key) (x y : Student) (ss ts : List Student) → AllZip (ListAlike May) ss ts → find (λ s. equals s.row.code code) ss ≡ Some x → find (λ s. equals s.row.code code) ts ≡ Some y
@@ -377,9 +320,8 @@ same_place May code x y (s ∷ ss) (t ∷ ts) z e f = by_test (equals s.row.code
         → cond a (Some s) (find (λ s. equals s.row.code code) ss) ≡ Some x → cond b (Some t) (find (λ s. equals s.row.code code) ts) ≡ Some y
         → (n : ℕ) × (n < suc (length ss)) × (get_or (s ∷ ss) n x ≡ x) × (n < suc (length ts)) × (get_or (t ∷ ts) n y ≡ y)
     by_test true true same r e f = (0, omega arith, (cc), omega arith, (cc))
-    by_test true false same r e f = absurd (cc)
-    by_test false true same r e f = absurd (cc)
     by_test false false same r e f = let rest = r e f in (suc rest.0, omega (arith, rest.1), rest.2, omega (arith, rest.3), rest.4)
+    by_test a b same r e f = absurd (cc)
 
 -- a world of one round in published, whose result is the best for the students
 pub record IsBestRound (w : World) : Type 0 where
@@ -424,67 +366,39 @@ by_rows w v s x y one other same_projects differ is_x is_y =
 
 -- from a round to the world that it is played in
 
-zip_kept : {X : Type 0} (R : X → X → Type 0) (q : X → Bool) → ((x y : X) → R x y → q y ≡ q x) → (xs ys : List X) → AllZip R xs ys → AllZip R (filter q xs) (filter q ys)
-zip_kept R q same [] [] z = tt
-zip_kept R q same [] (y ∷ ys) z = absurd z
-zip_kept R q same (x ∷ xs) [] z = absurd z
-zip_kept {X} R q same (x ∷ xs) (y ∷ ys) z =
-    subst (λ b. AllZip R (cond (q x) (x ∷ filter q xs) (filter q xs)) (cond b (y ∷ filter q ys) (filter q ys))) (sym (same x y z.0))
-    (elim (q x) as (λ b. AllZip R (cond b (x ∷ filter q xs) (filter q xs)) (cond b (y ∷ filter q ys) (filter q ys))) [
-      | true ↦ (z.0, zip_kept R q same xs ys z.1)
-      | false ↦ zip_kept R q same xs ys z.1
-    ])
-
-zip_mapped : {X : Type 0} (R : X → X → Type 0) (f : X → X) → ((x y : X) → R x y → R (f x) (f y)) → (xs ys : List X) → AllZip R xs ys → AllZip R (map f xs) (map f ys)
-zip_mapped R f same [] [] z = tt
-zip_mapped R f same [] (y ∷ ys) z = absurd z
-zip_mapped R f same (x ∷ xs) [] z = absurd z
-zip_mapped R f same (x ∷ xs) (y ∷ ys) z = (same x y z.0, zip_mapped R f same xs ys z.1)
-
 module _ (ps : List ProjectRow) (ss : List Student) where
   staff_zip : (r : Round) (ls ks : List Lecturer) → AllZip RankAlike ls ks → AllZip RankAlike (lecturers_in r ls ps ss) (lecturers_in r ks ps ss)
   staff_zip First ls ks z = z
   staff_zip Second ls ks z =
       zip_kept RankAlike (λ l. nat_lt 0 l.row.capacity) (λ l k r. ap (λ row. nat_lt 0 row.capacity) r.0) (map (lowered_lecturer ps ss) ls) (map (lowered_lecturer ps ss) ks)
-      (zip_mapped RankAlike (lowered_lecturer ps ss) (λ l k r. ((λ i. record (r.0 i) { capacity = (r.0 i).capacity - given_with ps ss (r.0 i).key }), r.1)) ls ks z)
+      (zip_mapped RankAlike (lowered_lecturer ps ss) (lowered_lecturer ps ss) (λ l k r. ((λ i. record (r.0 i) { capacity = (r.0 i).capacity - given_with ps ss (r.0 i).key }), r.1)) ls ks z)
 
   offers_same : (r : Round) (ls ks : List Lecturer) → AllZip RankAlike ls ks → projects_in r ks ps ss ≡ projects_in r ls ps ss
   offers_same First ls ks z = refl
   offers_same Second ls ks z =
       let keys : map lecturer_key (lecturers_left ks ps ss) ≡ map lecturer_key (lecturers_left ls ps ss) =
-      rows_same RankAlike lecturer_key (λ l k r. ap (λ row. row.key) r.0) (lecturers_left ls ps ss) (lecturers_left ks ps ss) (staff_zip Second ls ks z) in
+      zip_same RankAlike lecturer_key (λ l k r. ap (λ row. row.key) r.0) (lecturers_left ls ps ss) (lecturers_left ks ps ss) (staff_zip Second ls ks z) in
       λ i. filter (λ p. nat_lt 0 p.capacity && has (keys i) p.lecturer) (map (lowered_project ss) ps)
-
-group_zip : (May : Key → Type 0) (r : Round) (ss ts : List Student) → AllZip (ListAlike May) ss ts → AllZip (ListAlike May) (students_in r ss) (students_in r ts)
-group_zip May First ss ts z = z
-group_zip May Second ss ts z = zip_kept (ListAlike May) is_left (λ x y r. ap is_none r.2) ss ts z
 
 -- two rounds that differ in some lists are so when each stands alone
 module _ (w v : World) (May : Key → Type 0) (differ : DifferInLists w v May) where
-  count_same : (q : Option Key → Bool) → count_by (λ (s : Student). q s.earlier_placement) v.students ≡ count_by (λ s. q s.earlier_placement) w.students
-  count_same q =
-      sym (count_by-map q (λ (s : Student). s.earlier_placement) v.students)
-      ∙ ap (count_by q) (rows_same (ListAlike May) (λ (s : Student). s.earlier_placement) (λ x y r. r.2) w.students v.students differ.students)
-      ∙ count_by-map q (λ (s : Student). s.earlier_placement) w.students
+  placed_alike : (x y : Student) → ListAlike May x y → y.earlier_placement ≡ x.earlier_placement
+  placed_alike x y r = r.2
 
   staff_given : (ls : List Lecturer) → lecturers_in v.round ls v.projects v.students ≡ lecturers_in w.round ls w.projects w.students
-  staff_given ls =
-      (λ i. lecturers_in (differ.round i) ls (differ.projects i) v.students)
-      ∙ lecturers_given v.students w.students (λ p. count_same (is_at p)) (λ ps l. count_same (λ o. list_any (λ p. equals p.lecturer l && is_at p.key o) ps)) w.round ls w.projects
+  staff_given ls = (λ i. lecturers_in (differ.round i) ls (differ.projects i) v.students) ∙ zip_lecturers (ListAlike May) placed_alike w.students v.students differ.students w.round ls w.projects
 
   offers_given : (ls : List Lecturer) → projects_in v.round ls v.projects v.students ≡ projects_in w.round ls w.projects w.students
-  offers_given ls =
-      (λ i. projects_in (differ.round i) ls (differ.projects i) v.students)
-      ∙ projects_given v.students w.students (λ p. count_same (is_at p)) (λ ps l. count_same (λ o. list_any (λ p. equals p.lecturer l && is_at p.key o) ps)) w.round ls w.projects
+  offers_given ls = (λ i. projects_in (differ.round i) ls (differ.projects i) v.students) ∙ zip_projects (ListAlike May) placed_alike w.students v.students differ.students w.round ls w.projects
 
   pub differ_alone : DifferInLists (alone (in_play w)) (alone (in_play v)) May
   differ_alone = record {
     round = refl;
-    lecturers = zip_mapped RankAlike alone_lecturer (λ l k r. r) (in_play w).lecturers (in_play v).lecturers
+    lecturers = zip_mapped RankAlike alone_lecturer alone_lecturer (λ l k r. r) (in_play w).lecturers (in_play v).lecturers
         (subst (AllZip RankAlike (in_play w).lecturers) (sym (staff_given v.lecturers)) (staff_zip w.projects w.students w.round w.lecturers v.lecturers differ.lecturers));
     projects = offers_given v.lecturers ∙ offers_same w.projects w.students w.round w.lecturers v.lecturers differ.lecturers;
-    students = zip_mapped (ListAlike May) alone_student (λ x y r. (r.0, r.1, refl)) (in_play w).students (in_play v).students
-        (subst (λ r. AllZip (ListAlike May) (students_in w.round w.students) (students_in r v.students)) (sym differ.round) (group_zip May w.round w.students v.students differ.students));
+    students = zip_mapped (ListAlike May) alone_student alone_student (λ x y r. (r.0, r.1, refl)) (in_play w).students (in_play v).students
+        (subst (λ r. AllZip (ListAlike May) (students_in w.round w.students) (students_in r v.students)) (sym differ.round) (zip_in (ListAlike May) placed_alike w.round w.students v.students differ.students));
   }
 
 pub best_alone : (w : World) → HasBest w → IsBestRound (alone (in_play w))
@@ -506,22 +420,11 @@ stable_alone v good published = record {
 -- who is left by the first round is found among those who are
 pub find_left : (q : Student → Bool) (ss : List Student) (x : Student) → find q ss ≡ Some x → is_left x ≡ true → find q (students_left ss) ≡ Some x
 find_left q [] x e left = absurd (cc)
-find_left q (s ∷ ss) x e left = by_tests (q s) (is_left s) refl refl (λ f. find_left q ss x f left) e
-  where
-    by_tests : (a b : Bool) → q s ≡ a → is_left s ≡ b → (find q ss ≡ Some x → find q (students_left ss) ≡ Some x) → cond a (Some s) (find q ss) ≡ Some x → find q (cond b (s ∷ students_left ss) (students_left ss)) ≡ Some x
-    by_tests true true f g r e = ap (λ c. cond c (Some s) (find q (students_left ss))) f ∙ e
-    by_tests true false f g r e = let here : s ≡ x = cc in let gone : is_left x ≡ false = subst (λ z. is_left z ≡ false) here g in absurd (cc)
-    by_tests false true f g r e = ap (λ c. cond c (Some s) (find q (students_left ss))) f ∙ r e
-    by_tests false false f g r e = r e
+find_left q (s ∷ ss) x e left = grind (arith, find_left q ss x)
 
 find_alone : (code : Key) (ss : List Student) (x : Student) → find (λ s. equals s.row.code code) ss ≡ Some x → find (λ s. equals s.row.code code) (map alone_student ss) ≡ Some (alone_student x)
 find_alone code [] x e = absurd (cc)
-find_alone code (s ∷ ss) x e = by_test (equals s.row.code code) (find_alone code ss x) e
-  where
-    by_test : (b : Bool) → (find (λ s. equals s.row.code code) ss ≡ Some x → find (λ s. equals s.row.code code) (map alone_student ss) ≡ Some (alone_student x))
-        → cond b (Some s) (find (λ s. equals s.row.code code) ss) ≡ Some x → cond b (Some (alone_student s)) (find (λ s. equals s.row.code code) (map alone_student ss)) ≡ Some (alone_student x)
-    by_test true r e = ap (option_map alone_student) e
-    by_test false r e = r e
+find_alone code (s ∷ ss) x e = grind (arith, find_alone code ss x)
 
 found_alone : (w : World) (code : Key) (x : Student) → student_with w code ≡ Some x → is_left x ≡ true → find (λ s. equals s.row.code code) (alone (in_play w)).students ≡ Some (alone_student x)
 found_alone w code x e left = find_alone code (students_in w.round w.students) x (by_round w.round)

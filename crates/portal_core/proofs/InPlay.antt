@@ -1,23 +1,16 @@
 -- What a change leaves of those who take part in a round.
-use Rattle.portal_core.proofs.Base.{◌≡◌, ◌-◌, Bool, true, false, cond, List, [], ◌∷◌, length, refl, sym, ◌∙◌, ap, map, filter, count_by, nat_lt, ◌&&◌, ◌||◌, Some, None, is_none, and-false, length-filter, list_any, count_by-map, Key, equals, has, is_before, put, put_all, World, in_play, applicants_of, is_still_to_rank, lecturer_key, project_key, student_key, is_at, is_left, given_to, given_with, lowered_lecturer, lowered_project, lecturers_left, projects_left, students_left, lecturers_in, projects_in, students_in, Choices, Ranks, Placements, Fill, changed, with_choice, with_ranking, with_place, with_fill, placement_in, new_student, with_students, Round, First, Second, ProjectRow, StudentRow}
+use Rattle.portal_core.proofs.Base.{◌≡◌, ◌-◌, Bool, true, false, cond, List, [], ◌∷◌, length, refl, sym, ◌∙◌, ap, map, filter, count_by, nat_lt, ◌&&◌, Some, None, is_none, length-filter, list_any, count_by-map, Key, equals, has, put, put_all, World, in_play, applicants_of, is_still_to_rank, lecturer_key, student_key, is_at, is_left, given_to, given_with, lowered_lecturer, lowered_project, lecturers_left, projects_left, lecturers_in, projects_in, students_in, Choices, Ranks, Placements, Fill, changed, with_choice, with_ranking, with_place, with_fill, placement_in, new_student, with_students, Round, First, Second, ProjectRow, StudentRow, arith}
 use Rattle.portal_core.specs.World as rows
+use Rattle.portal_core.proofs.AllLaws.{map_same}
 
 -- a filter after a change that keeps the test
 pub filter_kept : {X : Type 0} (f : X → X) (q : X → Bool) → ((x : X) → q (f x) ≡ q x) → (xs : List X) → filter q (map f xs) ≡ map f (filter q xs)
 filter_kept f q alike [] = refl
-filter_kept {X} f q alike (x ∷ xs) =
-    rw (alike x) (elim (q x) as (λ b. cond b (f x ∷ filter q (map f xs)) (filter q (map f xs)) ≡ map f (cond b (x ∷ filter q xs) (filter q xs))) [
-      | true ↦ ap (λ ys. f x ∷ ys) (filter_kept f q alike xs)
-      | false ↦ filter_kept f q alike xs
-    ])
+filter_kept f q alike (x ∷ xs) = grind (arith, alike x, filter_kept f q alike xs)
 
 pub map_swap : {X : Type 0} (f g : X → X) → ((x : X) → g (f x) ≡ f (g x)) → (xs : List X) → map g (map f xs) ≡ map f (map g xs)
 map_swap f g alike [] = refl
 map_swap f g alike (x ∷ xs) = λ i. alike x i ∷ map_swap f g alike xs i
-
-pub map_kept : {X Y : Type 0} (key : X → Y) (f : X → X) → ((x : X) → key (f x) ≡ key x) → (xs : List X) → map key (map f xs) ≡ map key xs
-map_kept key f same [] = refl
-map_kept key f same (x ∷ xs) = λ i. same x i ∷ map_kept key f same xs i
 
 -- what takes part goes by what the first round gave
 module _ (new old : List rows.Student) (to : (p : Key) → given_to new p ≡ given_to old p) (with' : (ps : List ProjectRow) (l : Key) → given_with ps new l ≡ given_with ps old l) where
@@ -64,7 +57,7 @@ module _ (f : rows.Lecturer → rows.Lecturer) (keeps : (l : rows.Lecturer) → 
   projects_left_of : (ls : List rows.Lecturer) (ps : List ProjectRow) (ss : List rows.Student) → projects_left (map f ls) ps ss ≡ projects_left ls ps ss
   projects_left_of ls ps ss =
       let keys : map lecturer_key (lecturers_left (map f ls) ps ss) ≡ map lecturer_key (lecturers_left ls ps ss)
-      = ap (map lecturer_key) (lecturers_left_of ls ps ss) ∙ map_kept lecturer_key f (λ l. ap (λ r. r.key) (keeps l)) (lecturers_left ls ps ss) in
+      = ap (map lecturer_key) (lecturers_left_of ls ps ss) ∙ map_same lecturer_key f (λ l. ap (λ r. r.key) (keeps l)) (lecturers_left ls ps ss) in
       λ i. filter (λ p. nat_lt 0 p.capacity && has (keys i) p.lecturer) (map (lowered_project ss) ps)
 
   pub lecturers_of : (r : Round) (ls : List rows.Lecturer) (ps : List ProjectRow) (ss : List rows.Student) → lecturers_in r (map f ls) ps ss ≡ map f (lecturers_in r ls ps ss)
@@ -83,8 +76,8 @@ choice_earlier k list s = elim (equals s.row.key k) as (λ b. (cond b (record s 
 pub place_earlier : (pairs : List (Key × Key)) (s : rows.Student) → (with_place pairs s).earlier_placement ≡ s.earlier_placement
 place_earlier pairs s = elim (is_left s) as (λ b. (cond b (record s { placed = placement_in pairs s.row.key }) s).earlier_placement ≡ s.earlier_placement) [ true ↦ refl | false ↦ refl ]
 
-ranking_kept_row : (k : Key) (list : List Key) (l : rows.Lecturer) → (with_ranking k list l).row ≡ l.row
-ranking_kept_row k list l = elim (equals l.row.key k) as (λ b. (cond b (record l { ranking = Some list }) l).row ≡ l.row) [ true ↦ refl | false ↦ refl ]
+pub ranking_row : (k : Key) (list : List Key) (l : rows.Lecturer) → (with_ranking k list l).row ≡ l.row
+ranking_row k list l = elim (equals l.row.key k) as (λ b. (cond b (record l { ranking = Some list }) l).row ≡ l.row) [ true ↦ refl | false ↦ refl ]
 
 ranking_lowered : (k : Key) (list : List Key) (ps : List ProjectRow) (ss : List rows.Student) (l : rows.Lecturer) → lowered_lecturer ps ss (with_ranking k list l) ≡ with_ranking k list (lowered_lecturer ps ss l)
 ranking_lowered k list ps ss l =
@@ -101,12 +94,8 @@ fill_lowered w ps ss l =
 -- a student who is new was given nothing
 
 filter_put : {X : Type 0} (key : X → Key) (x : X) (q : X → Bool) → q x ≡ false → (ys : List X) → filter q (put key x ys) ≡ filter q ys
-filter_put key x q no' [] = ap (λ b. cond b (x ∷ []) []) no'
-filter_put key x q no' (y ∷ ys) =
-    elim (is_before (key x) (key y)) as (λ b. filter q (cond b (x ∷ y ∷ ys) (y ∷ put key x ys)) ≡ filter q (y ∷ ys)) [
-      | true ↦ ap (λ b. cond b (x ∷ filter q (y ∷ ys)) (filter q (y ∷ ys))) no'
-      | false ↦ ap (λ zs. cond (q y) (y ∷ zs) zs) (filter_put key x q no' ys)
-    ]
+filter_put key x q no' [] = grind arith
+filter_put key x q no' (y ∷ ys) = grind (arith, filter_put key x q no' ys)
 
 count_new : (q : rows.Student → Bool) → ((r : StudentRow) → q (new_student r) ≡ false) → (rs : List StudentRow) (ss : List rows.Student)
     → count_by q (put_all student_key (map new_student rs) ss) ≡ count_by q ss
@@ -115,9 +104,9 @@ count_new q none (r ∷ rs) ss =
     count_new q none rs (put student_key (new_student r) ss) ∙ sym (length-filter q (put student_key (new_student r) ss))
     ∙ ap length (filter_put student_key (new_student r) q (none r) ss) ∙ length-filter q ss
 
-given_none : (ps : List ProjectRow) (l : Key) → list_any (λ p. equals p.lecturer l && is_at p.key None) ps ≡ false
+pub given_none : (ps : List ProjectRow) (l : Key) → list_any (λ p. equals p.lecturer l && is_at p.key None) ps ≡ false
 given_none [] l = refl
-given_none (p ∷ ps) l = (λ i. and-false (equals p.lecturer l) i || list_any (λ p. equals p.lecturer l && is_at p.key None) ps) ∙ given_none ps l
+given_none (p ∷ ps) l = grind (arith, given_none ps l)
 
 -- the round after a change is the change of the round
 
@@ -130,8 +119,8 @@ play_chosen w k list = λ i. record w {
 
 pub play_ranked : (w : World) (k : Key) (list : List Key) → in_play (changed w (Ranks k list)) ≡ changed (in_play w) (Ranks k list)
 play_ranked w k list = λ i. record w {
-  lecturers = lecturers_of (with_ranking k list) (ranking_kept_row k list) (ranking_lowered k list) w.round w.lecturers w.projects w.students i;
-  projects = projects_of (with_ranking k list) (ranking_kept_row k list) (ranking_lowered k list) w.round w.lecturers w.projects w.students i;
+  lecturers = lecturers_of (with_ranking k list) (ranking_row k list) (ranking_lowered k list) w.round w.lecturers w.projects w.students i;
+  projects = projects_of (with_ranking k list) (ranking_row k list) (ranking_lowered k list) w.round w.lecturers w.projects w.students i;
   students = students_in w.round w.students;
 }
 

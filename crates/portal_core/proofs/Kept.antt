@@ -1,10 +1,10 @@
 -- A change that is decided keeps the rows sound.
-use Rattle.portal_core.proofs.Base.{◌≡◌, ℕ, ◌+◌, ◌≤◌, Bool, true, false, cond, List, [], ◌∷◌, ◌++◌, length, refl, sym, ◌∙◌, ap, subst, arith, append_assoc, append-nil, map, filter, Option, Some, None, option_map, IfSome, not, ◌||◌, ◌&&◌, ◌==◌, if◌then◌else◌, is_none, unwrap_or, list_any, AllByRecursion, nat_tests, length-map, IsBest, IsStable, number_in, Key, equals, has, is_empty, Rise, AreDistinct, World, lecturer_key, project_key, student_key, applicants_to, projects_of, applicants_of, is_still_to_rank, is_setup, is_choosing, is_ranking, is_published, is_from_ranking, is_second, is_left, in_play, first, first_placed, first_published, Choices, Ranks, To, Placements, changed, with_choice, with_ranking, with_place, placement_in, instance, instance_of, matching_of, project_keys, student_keys, Phase, Setup, Choosing, Ranking, Published, Listing, Person, ProjectRow, catalogue, listings, office_sees, persons, name_in, listing_with, ListFault, choice_fault, ranking_fault, in_catalogue, is_applicant, lacks_one, Good, IsRound, Sound, IsChoice, IsRanking, IsStudent}
+use Rattle.portal_core.proofs.Base.{◌≡◌, ℕ, ◌+◌, ◌≤◌, Bool, true, false, cond, List, [], ◌∷◌, ◌++◌, length, refl, sym, ◌∙◌, ap, subst, arith, append_assoc, append-nil, map, filter, Some, None, option_map, IfSome, not, ◌||◌, ◌&&◌, if◌then◌else◌, is_none, unwrap_or, list_any, AllByRecursion, nat_tests, length-map, IsBest, IsStable, number_in, Key, equals, has, is_empty, Rise, AreDistinct, World, project_key, student_key, applicants_to, projects_of, applicants_of, is_still_to_rank, is_setup, is_choosing, is_ranking, is_published, is_from_ranking, is_second, is_left, in_play, first, first_placed, first_published, Choices, Ranks, To, Placements, changed, with_choice, with_ranking, with_place, placement_in, instance, instance_of, matching_of, project_keys, student_keys, Phase, Setup, Choosing, Ranking, Listing, Person, ProjectRow, catalogue, listings, office_sees, persons, name_in, listing_with, choice_fault, ranking_fault, in_catalogue, is_applicant, lacks_one, Good, IsRound, Sound, IsChoice, IsRanking, IsStudent, Published}
 use Rattle.portal_core.specs.World as rows
 use Rattle.portal_core.proofs.Keys.{is_same}
 use Rattle.portal_core.proofs.Reranked.{sound_kept}
-use Rattle.portal_core.proofs.Acts.{choice_row, ranking_row}
-use Rattle.portal_core.proofs.InPlay.{play_chosen, play_ranked, play_placed}
+use Rattle.portal_core.proofs.Acts.{choice_row}
+use Rattle.portal_core.proofs.InPlay.{play_chosen, play_ranked, play_placed, ranking_row}
 use Rattle.portal_core.proofs.AllLaws.{kept_filtered, all_map, all_both, all_weaker, map_same, is_sym, none_is, split_append, any_map, any_shown, any_alike, any_or, any_nowhere, filtered_any, none_passes}
 
 -- before the result is published nothing has to be stable
@@ -17,30 +17,11 @@ not_published w g shut before = record { sound = g; stable = λ h. cc; before = 
 to_phase : (w : World) (phase : Phase) → Sound w → is_setup phase ≡ false → is_published phase ≡ false → is_published w.phase ≡ false → (is_from_ranking phase ≡ false → is_from_ranking w.phase ≡ false)
     → Sound (changed w (To phase))
 to_phase w phase g begun shut before early =
-    record {
-      lecturers_rise = g.lecturers_rise;
-      projects_rise = g.projects_rise;
-      students_rise = g.students_rise;
-      lecturer_forms = g.lecturer_forms;
-      project_forms = g.project_forms;
-      student_forms = g.student_forms;
-      office_form = g.office_form;
-      few_lecturers = g.few_lecturers;
-      few_projects = g.few_projects;
-      few_students = g.few_students;
-      codes = g.codes;
-      lecturers_known = g.lecturers_known;
-      choices = g.choices;
-      no_choices_yet = λ h. cc;
-      no_rankings_yet = λ h. g.no_rankings_yet (early h);
-      rankings = g.rankings;
-      no_result_yet = λ h. g.no_result_yet before;
-      all_ranked = λ h. cc;
-      no_earlier_lists = g.no_earlier_lists;
-      no_earlier_rankings = g.no_earlier_rankings;
-      no_second_setup = λ h. begun;
-      only_left = g.only_left;
-    }
+    let no_choices_yet : is_setup phase ≡ true → AllByRecursion (λ (s : rows.Student). s.choice ≡ []) w.students = λ h. cc in
+    let no_rankings_yet : is_from_ranking phase ≡ false → AllByRecursion (λ (l : rows.Lecturer). l.ranking ≡ None) w.lecturers = λ h. g.no_rankings_yet (early h) in
+    let no_result_yet = g.no_result_yet before in
+    let all_ranked : is_published phase ≡ true → AllByRecursion (λ l. is_still_to_rank w l ≡ false) w.lecturers = λ h. cc in
+    assumption
 
 pub to_choosing : (w : World) → Sound w → w.phase ≡ Setup → Sound (changed w (To Choosing))
 to_choosing w g e = to_phase w Choosing g refl refl (ap is_published e) (λ h. ap is_from_ranking e)
@@ -51,8 +32,7 @@ to_ranking w g e = to_phase w Ranking g refl refl (ap is_published e) (λ h. ap 
 -- the result
 
 pub empty_map : {X Y : Type 0} (f : X → Y) (xs : List X) → is_empty (map f xs) ≡ is_empty xs
-empty_map f [] = refl
-empty_map f (x ∷ xs) = refl
+empty_map f xs = grind arith
 
 -- a place changes neither the row nor the list, nor the earlier round
 pub place_row : (pairs : List (Key × Key)) (s : rows.Student) → (with_place pairs s).row ≡ s.row
@@ -69,11 +49,7 @@ abbrev StaysOut : rows.Student → Type 0
 StaysOut s = is_left s ≡ false → (s.choice ≡ []) × (s.placed ≡ None)
 
 place_out : (pairs : List (Key × Key)) (s : rows.Student) → StaysOut s → StaysOut (with_place pairs s)
-place_out pairs s h =
-    (elim (is_left s) as (λ b. is_left s ≡ b → StaysOut (cond b (record s { placed = placement_in pairs s.row.key }) s)) [
-      | true ↦ λ e f. let f' : is_left s ≡ false = f in cc
-      | false ↦ λ e. h
-    ]) refl
+place_out pairs s h = grind arith
 
 module _ (w : World) (pairs : List (Key × Key)) where
   applicants_placed : (l : Key) → map student_key (applicants_of (changed w (Placements pairs)) l) ≡ map student_key (applicants_of w l)
@@ -105,33 +81,22 @@ module _ (w : World) (pairs : List (Key × Key)) where
   pub placed_sound : Sound w → is_setup w.phase ≡ false → AllByRecursion (λ l. is_still_to_rank w l ≡ false) w.lecturers → Sound (changed w (Placements pairs))
   placed_sound g late ranked =
       let codes : map (λ (s : rows.Student). s.row.code) (map (with_place pairs) w.students) ≡ map (λ s. s.row.code) w.students = map_same _ (with_place pairs) (λ s. ap (λ r. r.code) (place_row pairs s)) w.students in
-      let long : length (map (with_place pairs) w.students) ≡ length w.students = length-map w.students (with_place pairs) in
-      record {
-        lecturers_rise = g.lecturers_rise;
-        projects_rise = g.projects_rise;
-        students_rise = subst Rise (sym keys_placed) g.students_rise;
-        lecturer_forms = g.lecturer_forms;
-        project_forms = g.project_forms;
-        student_forms = all_map (λ s. IsStudent s.row) (with_place pairs) w.students (all_weaker _ _ (λ s h. subst IsStudent (sym (place_row pairs s)) h) w.students g.student_forms);
-        office_form = g.office_form;
-        few_lecturers = g.few_lecturers;
-        few_projects = g.few_projects;
-        few_students = let few = g.few_students in omega arith;
-        codes = subst (λ cs. AreDistinct (w.office ∷ map (λ (l : rows.Lecturer). l.row.code) w.lecturers ++ cs)) (sym codes) g.codes;
-        lecturers_known = g.lecturers_known;
-        choices = subst (λ ks. AllByRecursion (λ s. IsChoice ks s.choice) (map (with_place pairs) w.students)) (sym catalogue_placed)
-            (all_map (λ s. IsChoice (project_keys (in_play w)) s.choice) (with_place pairs) w.students (all_weaker _ _ (λ s h. subst (IsChoice (project_keys (in_play w))) (sym (place_choice pairs s)) h) w.students g.choices));
-        no_choices_yet = λ h. cc;
-        no_rankings_yet = λ h. cc;
-        rankings = all_weaker _ _ (λ l h. subst (λ ks. IfSome l.ranking (IsRanking ks)) (sym (applicants_placed l.row.key)) h) w.lecturers g.rankings;
-        no_result_yet = λ h. cc;
-        all_ranked = λ h. all_weaker _ _ (λ l e. ranked_placed l ∙ e) w.lecturers ranked;
-        no_earlier_lists = λ h. all_map (λ (s : rows.Student). (s.earlier_choice ≡ []) × (s.earlier_placement ≡ None)) (with_place pairs) w.students
-            (all_weaker _ _ (λ s e. (ap (λ x. x.choice) (place_first pairs s) ∙ e.0, ap (λ x. x.placed) (place_first pairs s) ∙ e.1)) w.students (g.no_earlier_lists h));
-        no_earlier_rankings = g.no_earlier_rankings;
-        no_second_setup = λ h. refl;
-        only_left = all_map StaysOut (with_place pairs) w.students (all_weaker _ _ (λ s h. place_out pairs s h) w.students g.only_left);
-      }
+      let students_rise : Rise (student_keys (changed w (Placements pairs))) = subst Rise (sym keys_placed) g.students_rise in
+      let student_forms = all_map (λ (s : rows.Student). IsStudent s.row) (with_place pairs) w.students (all_weaker _ _ (λ s h. subst IsStudent (sym (place_row pairs s)) h) w.students g.student_forms) in
+      let few_students : length (map (with_place pairs) w.students) ≤ 2000 = omega (arith, g.few_students, length-map w.students (with_place pairs)) in
+      let apart = subst (λ cs. AreDistinct (w.office ∷ map (λ (l : rows.Lecturer). l.row.code) w.lecturers ++ cs)) (sym codes) g.codes in
+      let choices = subst (λ ks. AllByRecursion (λ (s : rows.Student). IsChoice ks s.choice) (map (with_place pairs) w.students)) (sym catalogue_placed)
+      (all_map (λ (s : rows.Student). IsChoice (project_keys (in_play w)) s.choice) (with_place pairs) w.students (all_weaker _ _ (λ s h. subst (IsChoice (project_keys (in_play w))) (sym (place_choice pairs s)) h) w.students g.choices)) in
+      let no_choices_yet : is_setup Published ≡ true → AllByRecursion (λ (s : rows.Student). s.choice ≡ []) (map (with_place pairs) w.students) = λ h. cc in
+      let no_rankings_yet : is_from_ranking Published ≡ false → AllByRecursion (λ (l : rows.Lecturer). l.ranking ≡ None) w.lecturers = λ h. cc in
+      let rankings : AllByRecursion (λ (l : rows.Lecturer). IfSome l.ranking (IsRanking (map student_key (applicants_of (changed w (Placements pairs)) l.row.key)))) w.lecturers
+      = all_weaker _ _ (λ l h. subst (λ ks. IfSome l.ranking (IsRanking ks)) (sym (applicants_placed l.row.key)) h) w.lecturers g.rankings in
+      let no_result_yet : is_published Published ≡ false → AllByRecursion (λ (s : rows.Student). s.placed ≡ None) (map (with_place pairs) w.students) = λ h. cc in
+      let all_ranked : AllByRecursion (λ l. is_still_to_rank (changed w (Placements pairs)) l ≡ false) w.lecturers = all_weaker _ _ (λ l e. ranked_placed l ∙ e) w.lecturers ranked in
+      let no_earlier_lists : is_second w.round ≡ false → AllByRecursion (λ (s : rows.Student). (s.earlier_choice ≡ []) × (s.earlier_placement ≡ None)) (map (with_place pairs) w.students)
+      = λ h. all_map _ (with_place pairs) w.students (all_weaker _ _ (λ s e. (ap (λ x. x.choice) (place_first pairs s) ∙ e.0, ap (λ x. x.placed) (place_first pairs s) ∙ e.1)) w.students (g.no_earlier_lists h)) in
+      let only_left = all_map StaysOut (with_place pairs) w.students (all_weaker _ _ (λ s h. place_out pairs s h) w.students g.only_left) in
+      assumption
 
 -- the instance of the round is the same
 pub instance_placed : (w : World) (pairs : List (Key × Key)) → instance (changed w (Placements pairs)) ≡ instance w
@@ -161,40 +126,23 @@ pub record Chooses (cat : List Listing) (at : ℕ) (earlier list : List Key) : T
 
 pub no_fault : (cat : List Listing) (at : ℕ) (earlier list : List Key) → at ≤ 21 → choice_fault cat at earlier list ≡ None → Chooses cat at earlier list
 no_fault cat at earlier [] low e = record { few = omega arith; known = tt; once = tt; new = tt }
-no_fault cat at earlier (k ∷ ks) low e = passes (λ room h. no_fault cat (at + 1) (earlier ++ k ∷ []) ks room h) (at == 21) (in_catalogue cat k) (has earlier k) refl refl refl _ _ _ e
-  where
-    below : (at == 21) ≡ false → at ≤ 21 → at + 1 ≤ 21
-    below ef low = grind (arith, nat_tests)
-
-    next : in_catalogue cat k ≡ true → has earlier k ≡ false → at + 1 ≤ 21 → Chooses cat (at + 1) (earlier ++ k ∷ []) ks → Chooses cat at earlier (k ∷ ks)
-    next ek et room rest =
-        let apart : AllByRecursion (λ l. (has earlier l ≡ false) × (equals l k ≡ false)) ks = all_weaker _ _ (λ l h. split_append earlier k l h) ks rest.new in
-        record {
-          few = let few = rest.few in omega arith;
-          known = (ek, rest.known);
-          once = (none_is k ks (all_weaker _ _ (λ l h. h.1) ks apart), rest.once);
-          new = (et, all_weaker _ _ (λ l h. h.0) ks apart);
-        }
-
-    passes : (at + 1 ≤ 21 → choice_fault cat (at + 1) (earlier ++ k ∷ []) ks ≡ None → Chooses cat (at + 1) (earlier ++ k ∷ []) ks)
-        → (full known twice : Bool) → (at == 21) ≡ full → in_catalogue cat k ≡ known → has earlier k ≡ twice → (a b c : ListFault)
-        → (if full then Some a else if not known then Some b else if twice then Some c else choice_fault cat (at + 1) (earlier ++ k ∷ []) ks) ≡ None
-        → Chooses cat at earlier (k ∷ ks)
-    passes again true known twice ef ek et a b c h = cc
-    passes again false false twice ef ek et a b c h = cc
-    passes again false true true ef ek et a b c h = cc
-    passes again false true false ef ek et a b c h = let room : at + 1 ≤ 21 = below ef low in next ek et room (again room h)
+no_fault cat at earlier (k ∷ ks) low e =
+    let here : (at + 1 ≤ 21) × (in_catalogue cat k ≡ true) × (has earlier k ≡ false) × (choice_fault cat (at + 1) (earlier ++ k ∷ []) ks ≡ None) = grind (arith, nat_tests) in
+    let rest : Chooses cat (at + 1) (earlier ++ k ∷ []) ks = no_fault cat (at + 1) (earlier ++ k ∷ []) ks here.0 here.3 in
+    let apart : AllByRecursion (λ l. (has earlier l ≡ false) × (equals l k ≡ false)) ks = all_weaker _ _ (λ l h. split_append earlier k l h) ks rest.new in
+    record {
+      few = let few = rest.few in omega arith;
+      known = (here.1, rest.known);
+      once = (none_is k ks (all_weaker _ _ (λ l h. h.1) ks apart), rest.once);
+      new = (here.2, all_weaker _ _ (λ l h. h.0) ks apart);
+    }
 
 -- the catalogue has the projects' keys
 listed_is_there : (w : World) (k : Key) → in_catalogue (listings w.lecturers w.projects) k ≡ true → has (map project_key w.projects) k ≡ true
 listed_is_there w k h = any_map (equals k) project_key w.projects ∙ any_shown (λ (l : Listing). equals l.key k) (λ p. equals k p.key) _ here w.projects h
   where
     here : (p : ProjectRow) (l : Listing) → option_map (listing_with p) (name_in w.lecturers p.lecturer) ≡ Some l → equals l.key k ≡ true → equals k p.key ≡ true
-    here p l e t = of_name (name_in w.lecturers p.lecturer) e
-      where
-        of_name : (o : Option Key) → option_map (listing_with p) o ≡ Some l → equals k p.key ≡ true
-        of_name None f = cc
-        of_name (Some name) f = let same : listing_with p name ≡ l = cc in is_sym k p.key ∙ ap (λ (x : Listing). equals x.key k) same ∙ t
+    here p l e t = grind (arith, is_sym k p.key)
 
 chosen_good : (w : World) (list : List Key) → choice_fault (catalogue w) 1 [] list ≡ None → IsChoice (project_keys (in_play w)) list
 chosen_good w list e =
@@ -208,10 +156,7 @@ chosen_good w list e =
 -- what holds of a row holds after its list is replaced
 choice_with : (P : List Key → Type 0) (k : Key) (list : List Key) → P list → (ss : List rows.Student) → AllByRecursion (λ s. P s.choice) ss → AllByRecursion (λ s. P s.choice) (map (with_choice k list) ss)
 choice_with P k list new [] all = tt
-choice_with P k list new (s ∷ ss) all = (
-  elim (equals s.row.key k) as (λ b. P (cond b (record s { choice = list }) s).choice) [ true ↦ new | false ↦ all.0 ],
-  choice_with P k list new ss all.1,
-)
+choice_with P k list new (s ∷ ss) all = grind (arith, new, choice_with P k list new ss all.1)
 
 pub none_ranked : (P : rows.Lecturer → List Key → Type 0) (ls : List rows.Lecturer) → AllByRecursion (λ l. l.ranking ≡ None) ls → AllByRecursion (λ l. IfSome l.ranking (P l)) ls
 none_ranked P [] all = tt
@@ -225,11 +170,7 @@ pub choice_first : (k : Key) (list : List Key) (s : rows.Student) → first_plac
 choice_first k list s = elim (equals s.row.key k) as (λ b. first_placed (cond b (record s { choice = list }) s) ≡ first_placed s) [ true ↦ refl | false ↦ refl ]
 
 choice_out : (k : Key) (list : List Key) (s : rows.Student) → (equals s.row.key k ≡ true → is_left s ≡ true) → StaysOut s → StaysOut (with_choice k list s)
-choice_out k list s mine h =
-    (elim (equals s.row.key k) as (λ b. equals s.row.key k ≡ b → StaysOut (cond b (record s { choice = list }) s)) [
-      | true ↦ λ e f. let f' : is_left s ≡ false = f in let t : is_left s ≡ true = mine e in cc
-      | false ↦ λ e. h
-    ]) refl
+choice_out k list s mine h = grind arith
 
 -- who makes a list has no project of the earlier round
 pub choosing : (w : World) (k : Key) (list : List Key) → Sound w → is_choosing w.phase ≡ true → AllByRecursion (λ s. equals s.row.key k ≡ true → is_left s ≡ true) w.students → choice_fault (catalogue w) 1 [] list ≡ None
@@ -237,52 +178,31 @@ pub choosing : (w : World) (k : Key) (list : List Key) → Sound w → is_choosi
 choosing w k list g e mine none =
     let keys : map student_key (map (with_choice k list) w.students) ≡ map student_key w.students = map_same student_key (with_choice k list) (λ s. ap (λ r. r.key) (choice_row k list s)) w.students in
     let codes : map (λ (s : rows.Student). s.row.code) (map (with_choice k list) w.students) ≡ map (λ s. s.row.code) w.students = map_same _ (with_choice k list) (λ s. ap (λ r. r.code) (choice_row k list s)) w.students in
-    let long : length (map (with_choice k list) w.students) ≡ length w.students = length-map w.students (with_choice k list) in
     let shut : (is_setup w.phase ≡ false) × (is_from_ranking w.phase ≡ false) × (is_published w.phase ≡ false) = only_choosing w.phase e in
-    record {
-      lecturers_rise = g.lecturers_rise;
-      projects_rise = g.projects_rise;
-      students_rise = subst Rise (sym keys) g.students_rise;
-      lecturer_forms = g.lecturer_forms;
-      project_forms = g.project_forms;
-      student_forms = all_map _ (with_choice k list) w.students (all_weaker _ _ (λ s h. subst IsStudent (sym (choice_row k list s)) h) w.students g.student_forms);
-      office_form = g.office_form;
-      few_lecturers = g.few_lecturers;
-      few_projects = g.few_projects;
-      few_students = let few = g.few_students in omega arith;
-      codes = subst (λ cs. AreDistinct (w.office ∷ map (λ (l : rows.Lecturer). l.row.code) w.lecturers ++ cs)) (sym codes) g.codes;
-      lecturers_known = g.lecturers_known;
-      choices = subst (λ ks. AllByRecursion (λ s. IsChoice ks s.choice) (map (with_choice k list) w.students)) (λ i. map project_key (sym (play_chosen w k list) i).projects)
-          (choice_with (IsChoice (project_keys (in_play w))) k list (chosen_good w list none) w.students g.choices);
-      no_choices_yet = λ h. cc;
-      no_rankings_yet = g.no_rankings_yet;
-      rankings = none_ranked (λ l. IsRanking (map student_key (applicants_of (changed w (Choices k list)) l.row.key))) w.lecturers (g.no_rankings_yet shut.1);
-      no_result_yet = λ h. all_map (λ (s : rows.Student). s.placed ≡ None) (with_choice k list) w.students (all_weaker _ _ (λ s e. choice_placed k list s ∙ e) w.students (g.no_result_yet h));
-      all_ranked = λ h. cc;
-      no_earlier_lists = λ h. all_map (λ (s : rows.Student). (s.earlier_choice ≡ []) × (s.earlier_placement ≡ None)) (with_choice k list) w.students
-          (all_weaker _ _ (λ s e. (ap (λ x. x.choice) (choice_first k list s) ∙ e.0, ap (λ x. x.placed) (choice_first k list s) ∙ e.1)) w.students (g.no_earlier_lists h));
-      no_earlier_rankings = g.no_earlier_rankings;
-      no_second_setup = g.no_second_setup;
-      only_left = all_map StaysOut (with_choice k list) w.students (all_weaker _ _ (λ s h. choice_out k list s h.0 h.1) w.students (all_both _ _ w.students mine g.only_left));
-    }
+    let students_rise = subst Rise (sym keys) g.students_rise in
+    let student_forms = all_map (λ (s : rows.Student). IsStudent s.row) (with_choice k list) w.students (all_weaker _ _ (λ s h. subst IsStudent (sym (choice_row k list s)) h) w.students g.student_forms) in
+    let few_students : length (map (with_choice k list) w.students) ≤ 2000 = omega (arith, g.few_students, length-map w.students (with_choice k list)) in
+    let apart = subst (λ cs. AreDistinct (w.office ∷ map (λ (l : rows.Lecturer). l.row.code) w.lecturers ++ cs)) (sym codes) g.codes in
+    let choices = subst (λ ks. AllByRecursion (λ (s : rows.Student). IsChoice ks s.choice) (map (with_choice k list) w.students)) (λ i. map project_key (sym (play_chosen w k list) i).projects)
+    (choice_with (IsChoice (project_keys (in_play w))) k list (chosen_good w list none) w.students g.choices) in
+    let no_choices_yet : is_setup w.phase ≡ true → AllByRecursion (λ (s : rows.Student). s.choice ≡ []) (map (with_choice k list) w.students) = λ h. cc in
+    let rankings = none_ranked (λ l. IsRanking (map student_key (applicants_of (changed w (Choices k list)) l.row.key))) w.lecturers (g.no_rankings_yet shut.1) in
+    let no_result_yet : is_published w.phase ≡ false → AllByRecursion (λ (s : rows.Student). s.placed ≡ None) (map (with_choice k list) w.students)
+    = λ h. all_map _ (with_choice k list) w.students (all_weaker _ _ (λ s e. choice_placed k list s ∙ e) w.students (g.no_result_yet h)) in
+    let all_ranked : is_published w.phase ≡ true → AllByRecursion (λ l. is_still_to_rank (changed w (Choices k list)) l ≡ false) w.lecturers = λ h. cc in
+    let no_earlier_lists : is_second w.round ≡ false → AllByRecursion (λ (s : rows.Student). (s.earlier_choice ≡ []) × (s.earlier_placement ≡ None)) (map (with_choice k list) w.students)
+    = λ h. all_map _ (with_choice k list) w.students (all_weaker _ _ (λ s e. (ap (λ x. x.choice) (choice_first k list s) ∙ e.0, ap (λ x. x.placed) (choice_first k list s) ∙ e.1)) w.students (g.no_earlier_lists h)) in
+    let only_left = all_map StaysOut (with_choice k list) w.students (all_weaker _ _ (λ s h. choice_out k list s h.0 h.1) w.students (all_both _ _ w.students mine g.only_left)) in
+    assumption
   where
     only_choosing : (phase : Phase) → is_choosing phase ≡ true → (is_setup phase ≡ false) × (is_from_ranking phase ≡ false) × (is_published phase ≡ false)
-    only_choosing Setup e = cc
-    only_choosing Choosing e = (refl, refl, refl)
-    only_choosing Ranking e = cc
-    only_choosing Published e = cc
+    only_choosing phase e = grind arith
 
 -- a lecturer's ranking
 
 any_and : {X : Type 0} (f : X → Bool) (b : Bool) (xs : List X) → list_any (λ x. f x && b) xs ≡ (list_any f xs && b)
 any_and f b [] = refl
-any_and f b (x ∷ xs) = ap (λ c. (f x && b) || c) (any_and f b xs) ∙ spread (f x) b (list_any f xs)
-  where
-    spread : (a b c : Bool) → ((a && b) || (c && b)) ≡ ((a || c) && b)
-    spread true true c = refl
-    spread true false true = refl
-    spread true false false = refl
-    spread false b c = refl
+any_and f b (x ∷ xs) = grind (arith, any_and f b xs)
 
 -- some student of some project's applicants, or of all projects' applicants together
 exchanged : {X Y : Type 0} (t : X → Y → Bool) (q : Y → Bool) (xs : List X) (ys : List Y) → list_any (λ x. list_any (λ y. t x y && q y) ys) xs ≡ list_any (λ y. list_any (λ x. t x y) xs && q y) ys
@@ -307,38 +227,21 @@ pub record Ranked (ps : List (Key × List Person)) (earlier list : List Key) : T
   pub all : lacks_one ps (earlier ++ list) ≡ false
 
 no_rank_fault : (ps : List (Key × List Person)) (at : ℕ) (earlier list : List Key) → ranking_fault ps at earlier list ≡ None → Ranked ps earlier list
-no_rank_fault ps at earlier [] e = record { only = tt; once = tt; new = tt; all = rw append-nil (whole (lacks_one ps earlier) _ e) }
-  where
-    whole : (b : Bool) (a : ListFault) → (if b then Some a else None) ≡ None → b ≡ false
-    whole true a h = cc
-    whole false a h = refl
-no_rank_fault ps at earlier (k ∷ ks) e = passes (λ h. no_rank_fault ps (at + 1) (earlier ++ k ∷ []) ks h) (is_applicant ps k) (has earlier k) refl refl _ _ e
-  where
-    next : is_applicant ps k ≡ true → has earlier k ≡ false → Ranked ps (earlier ++ k ∷ []) ks → Ranked ps earlier (k ∷ ks)
-    next ek et rest =
-        let apart : AllByRecursion (λ l. (has earlier l ≡ false) × (equals l k ≡ false)) ks = all_weaker _ _ (λ l h. split_append earlier k l h) ks rest.new in
-        record {
-          only = (ek, rest.only);
-          once = (none_is k ks (all_weaker _ _ (λ l h. h.1) ks apart), rest.once);
-          new = (et, all_weaker _ _ (λ l h. h.0) ks apart);
-          all = subst (λ xs. lacks_one ps xs ≡ false) (append_assoc earlier (k ∷ []) ks) rest.all;
-        }
-
-    passes : (ranking_fault ps (at + 1) (earlier ++ k ∷ []) ks ≡ None → Ranked ps (earlier ++ k ∷ []) ks)
-        → (known twice : Bool) → is_applicant ps k ≡ known → has earlier k ≡ twice → (a b : ListFault)
-        → (if not known then Some a else if twice then Some b else ranking_fault ps (at + 1) (earlier ++ k ∷ []) ks) ≡ None
-        → Ranked ps earlier (k ∷ ks)
-    passes again false twice ek et a b h = cc
-    passes again true true ek et a b h = cc
-    passes again true false ek et a b h = next ek et (again h)
+no_rank_fault ps at earlier [] e = record { only = tt; once = tt; new = tt; all = rw append-nil (grind arith) }
+no_rank_fault ps at earlier (k ∷ ks) e =
+    let here : (is_applicant ps k ≡ true) × (has earlier k ≡ false) × (ranking_fault ps (at + 1) (earlier ++ k ∷ []) ks ≡ None) = grind arith in
+    let rest : Ranked ps (earlier ++ k ∷ []) ks = no_rank_fault ps (at + 1) (earlier ++ k ∷ []) ks here.2 in
+    let apart : AllByRecursion (λ l. (has earlier l ≡ false) × (equals l k ≡ false)) ks = all_weaker _ _ (λ l h. split_append earlier k l h) ks rest.new in
+    record {
+      only = (here.0, rest.only);
+      once = (none_is k ks (all_weaker _ _ (λ l h. h.1) ks apart), rest.once);
+      new = (here.1, all_weaker _ _ (λ l h. h.0) ks apart);
+      all = subst (λ xs. lacks_one ps xs ≡ false) (append_assoc earlier (k ∷ []) ks) rest.all;
+    }
 
 none_lacks : (list ks : List Key) → list_any (λ k. not (has list k)) ks ≡ false → AllByRecursion (λ k. has list k ≡ true) ks
 none_lacks list [] e = tt
-none_lacks list (k ∷ ks) e = step (has list k) refl (λ h. none_lacks list ks h) e
-  where
-    step : (b : Bool) → has list k ≡ b → (list_any (λ k. not (has list k)) ks ≡ false → AllByRecursion (λ k. has list k ≡ true) ks) → (not b || list_any (λ k. not (has list k)) ks) ≡ false → AllByRecursion (λ k. has list k ≡ true) (k ∷ ks)
-    step true e rest h = (e, rest h)
-    step false e rest h = cc
+none_lacks list (k ∷ ks) e = grind (arith, none_lacks list ks)
 
 -- what the lecturer is shown while rankings are made
 abbrev pub shown_sets : World → Key → Bool → List (Key × List Person)
@@ -359,13 +262,7 @@ ranks_all w l list e =
 -- the new ranking stands at its lecturer, and each other one stays
 ranking_with : (P : Key → List Key → Type 0) (k : Key) (list : List Key) → P k list → (ls : List rows.Lecturer) → AllByRecursion (λ l. IfSome l.ranking (P l.row.key)) ls → AllByRecursion (λ l. IfSome l.ranking (P l.row.key)) (map (with_ranking k list) ls)
 ranking_with P k list new [] all = tt
-ranking_with P k list new (l ∷ ls) all = (
-  (elim (equals l.row.key k) as (λ b. equals l.row.key k ≡ b → IfSome (cond b (record l { ranking = Some list }) l).ranking (P (cond b (record l { ranking = Some list }) l).row.key)) [
-    | true ↦ λ e. subst (λ q. P q list) (sym (is_same l.row.key k e)) new
-    | false ↦ λ e. all.0
-  ]) refl,
-  ranking_with P k list new ls all.1,
-)
+ranking_with P k list new (l ∷ ls) all = grind (arith, new, is_same l.row.key k, ranking_with P k list new ls all.1)
 
 pub ranking_first : (k : Key) (list : List Key) (l : rows.Lecturer) → first_published (with_ranking k list l) ≡ first_published l
 ranking_first k list l = elim (equals l.row.key k) as (λ b. first_published (cond b (record l { ranking = Some list }) l) ≡ first_published l) [ true ↦ refl | false ↦ refl ]
@@ -377,7 +274,4 @@ ranking w k list g e none =
     (ranks_all w k list (subst (λ b. ranking_fault (shown_sets w k b) 1 [] list ≡ None) (closed w.phase e) none)) w.lecturers g.rankings)
   where
     closed : (phase : Phase) → is_ranking phase ≡ true → is_from_ranking phase ≡ true
-    closed Setup h = cc
-    closed Choosing h = cc
-    closed Ranking h = refl
-    closed Published h = cc
+    closed phase e = grind arith

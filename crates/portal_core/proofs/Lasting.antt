@@ -1,19 +1,15 @@
 -- What is shown of a result is shown in each world that comes after.
-use Rattle.portal_core.proofs.Base.{◌≡◌, suc, Bool, true, false, cond, List, [], ◌∷◌, Contains, refl, sym, ◌∙◌, ap, subst, inl, inr, arith, map, filter, Option, Some, None, option_map, is_none, filter_map, cons_option, AllByRecursion, Key, equals, is_before, put, put_all, World, first, first_placed, first_published, is_at, is_choosing, is_published, is_second, shown_placement, pairs_of, placed_at, projects_of, lecturer_key, project_key, student_key, Phase, Setup, Choosing, Ranking, Published, Round, First, Second, Person, LecturerRow, ProjectRow, StudentRow, Nobody, Office, Lecturer, Student, Choices, To, Placements, SecondRound, changed, ranked_before, placed_before, with_choice, with_ranking, with_place, with_fill, new_lecturer, new_student, with_lecturers, with_students, in_first, Caller, NoCaller, OfficeCaller, LecturerCaller, StudentCaller, caller, sight_of, view, office_sees, lecturer_sees, student_sees, persons, lecturer_with, student_with, AbstractCall, Answer, Decision, decision, Good, StepLeaves, Step, Request, Wish, Calls, Refused, Answers, Serves, Run}
-use Rattle.std.proofs.lemmas.List.Elements.{All-contains, All-from_recursion}
+use Rattle.portal_core.proofs.Base.{◌≡◌, suc, Bool, true, false, cond, List, [], ◌∷◌, Contains, refl, sym, ◌∙◌, ap, subst, arith, map, filter, Option, Some, None, option_map, is_none, filter_map, cons_option, AllByRecursion, Key, equals, is_before, put, put_all, World, first, first_placed, first_published, is_at, is_choosing, is_published, is_second, shown_placement, pairs_of, placed_at, projects_of, lecturer_key, project_key, student_key, Phase, Setup, Choosing, Ranking, Published, Round, First, Second, Person, LecturerRow, ProjectRow, StudentRow, Nobody, Office, Lecturer, Student, Choices, To, Placements, SecondRound, changed, ranked_before, placed_before, with_choice, with_ranking, with_place, with_fill, new_lecturer, new_student, with_lecturers, with_students, in_first, Caller, NoCaller, OfficeCaller, LecturerCaller, StudentCaller, caller, sight_of, view, office_sees, lecturer_sees, student_sees, persons, lecturer_with, student_with, AbstractCall, Answer, Decision, decision, Good, StepLeaves, Step, Request, Run, All-contains, All-from_recursion, Sight, IsShownAt, ShowsStill}
 use Rattle.portal_core.specs.World as rows
-use Rattle.portal_core.specs.declared.view.View.{View as Sight}
-use Rattle.portal_core.specs.Results.{IsShownAt, ShowsStill}
 use Rattle.portal_core.proofs.Keys.{is_same, found_passes, found_all, all_unmap}
 use Rattle.portal_core.proofs.AllLaws.{all_map, all_weaker, all_both}
-use Rattle.portal_core.proofs.Acts.{choice_row, ranking_row}
-use Rattle.portal_core.proofs.InPlay.{fill_row}
-use Rattle.portal_core.proofs.Unseen.{choosing_open, lecturer_found, student_found, office_not, person_of}
+use Rattle.portal_core.proofs.Acts.{choice_row}
+use Rattle.portal_core.proofs.InPlay.{fill_row, ranking_row}
+use Rattle.portal_core.proofs.Unseen.{choosing_open, lecturer_found, student_found, is_office, person_of}
 use Rattle.portal_core.proofs.Kept.{choice_first, place_row, place_first}
 use Rattle.portal_core.proofs.Opened.{opens_to}
 use Rattle.portal_core.proofs.Named.{office_named, lecturers_named, students_named}
-use Rattle.portal_core.proofs.Steps.{step_good}
-use Rattle.portal_core.proofs.Runs.{served_good}
+use Rattle.portal_core.proofs.Steps.{run_keeps, step_good}
 use Rattle.portal_core.proofs.Cases.{by_student, by_lecturer, by_office}
 
 -- what is of a list, and of what is made of it
@@ -42,11 +38,7 @@ module _ {X : Type 0} where
 
   all_filtered : (P : X → Type 0) (p : X → Bool) (xs : List X) → AllByRecursion (λ x. p x ≡ true → P x) xs → AllByRecursion P (filter p xs)
   all_filtered P p [] all = tt
-  all_filtered P p (x ∷ xs) all =
-      (elim (p x) as (λ b. (b ≡ true → P x) → AllByRecursion P (cond b (x ∷ filter p xs) (filter p xs))) [
-        | true ↦ λ k. (k refl, all_filtered P p xs all.1)
-        | false ↦ λ k. all_filtered P p xs all.1
-      ]) all.0
+  all_filtered P p (x ∷ xs) all = grind (arith, all.0, all_filtered P p xs all.1)
 
 module _ {X Y : Type 0} (f : X → Y) where
   mapped : (xs : List X) (x : X) → Contains xs x → Contains (map f xs) (f x)
@@ -63,13 +55,9 @@ module _ {X Y : Type 0} (f : X → Option Y) where
 
   all_shown : (P : Y → Type 0) (xs : List X) → AllByRecursion (λ x. (y : Y) → f x ≡ Some y → P y) xs → AllByRecursion P (filter_map f xs)
   all_shown P [] all = tt
-  all_shown P (x ∷ xs) all =
-      (elim (f x) as (λ o. ((y : Y) → o ≡ Some y → P y) → AllByRecursion P (cons_option o (filter_map f xs))) [
-        | None ↦ λ k. all_shown P xs all.1
-        | Some a ↦ λ k. (k a refl, all_shown P xs all.1)
-      ]) all.0
+  all_shown P (x ∷ xs) all = grind (arith, all.0, all_shown P xs all.1)
 
--- a world after another: each row is there, and each student is shown the same project, if one was shown
+-- a later world: each row is there, and each student shown a project is still shown the same one
 
 abbrev Mate : {X : Type 0} → (X → X → Type 0) → List X → X → Type 0
 Mate {X} R ys x = (y : X) × Contains ys y × R x y
@@ -95,8 +83,7 @@ module _ (w v : World) (g : Grows w v) (good : Good v) where
       (all_weaker _ _ (λ s mate h. each s mate.0 mate.1 mate.2 h) w.students g.students))
     where
       place : (s t : rows.Student) → KeepsPlace w.phase v.phase s t → (o : Option Key) → shown_placement w.phase s ≡ o → is_at p o ≡ true → is_at p (shown_placement v.phase t) ≡ true
-      place s t k None e h = cc
-      place s t k (Some q) e h = ap (is_at p) (k.1 q e) ∙ h
+      place s t k o e h = grind (arith, k.1)
 
       each : (s t : rows.Student) → Contains v.students t → KeepsPlace w.phase v.phase s t → is_at p (shown_placement w.phase s) ≡ true → Contains (persons (placed_at v p)) (person_of s)
       each s t there k h =
@@ -126,18 +113,13 @@ module _ (w v : World) (g : Grows w v) (good : Good v) where
           one_of _ v.students t (shown_of (λ t. option_map (λ p. (t.row.key, p)) (shown_placement v.phase t)) v.students) there y (at (shown_placement w.phase s) refl e)
         where
           at : (o : Option Key) → shown_placement w.phase s ≡ o → option_map (λ p. (s.row.key, p)) o ≡ Some y → option_map (λ p. (t.row.key, p)) (shown_placement v.phase t) ≡ Some y
-          at None f h = cc
-          at (Some p) f h = ap (option_map (λ p. (t.row.key, p))) (k.1 p f) ∙ ap (λ r. Some (r.key, p)) k.0 ∙ h
+          at o f h = grind (arith, k.1, k.0)
 
   still : (c : Key) (x : Caller) → caller w c ≡ x → ShowsStill (sight_of w x) (view v c)
   still c NoCaller e = tt
   still c OfficeCaller e =
-      subst (ShowsStill (Office (office_sees w))) (sym (office_named v good.sound) ∙ ap (view v) (g.office ∙ code (equals w.office c) refl))
+      subst (ShowsStill (Office (office_sees w))) (sym (office_named v good.sound) ∙ ap (view v) (g.office ∙ is_office w c e))
       (λ x there. one_of _ (pairs_of w) x pairs_stay there)
-    where
-      code : (b : Bool) → equals w.office c ≡ b → w.office ≡ c
-      code true f = is_same w.office c f
-      code false f = absurd (office_not w c f e)
   still c (LecturerCaller l) e =
       let found : lecturer_with w c ≡ Some l = lecturer_found w c l e in
       let mate : Mate SameLecturer v.lecturers l = found_all _ _ w.lecturers l g.lecturers found in
@@ -176,11 +158,7 @@ module _ {X : Type 0} (key : X → Key) where
 
 -- where nothing was published a student is shown the project of the earlier round, if any
 lasts : (before after : Phase) → is_published before ≡ false → (s t : rows.Student) → t.earlier_placement ≡ s.earlier_placement → (p : Key) → shown_placement before s ≡ Some p → shown_placement after t ≡ Some p
-lasts before after shut s t same p h = subst (λ o. cond (is_none o) (cond (is_published after) t.placed None) o ≡ Some p) (sym same) (go s.earlier_placement h)
-  where
-    go : (o : Option Key) → cond (is_none o) (cond (is_published before) s.placed None) o ≡ Some p → cond (is_none o) (cond (is_published after) t.placed None) o ≡ Some p
-    go None h = let none : None ≡ Some p = sym (ap (λ b. cond b s.placed None) shut) ∙ h in cc
-    go (Some q) h = h
+lasts before after shut s t same p h = grind arith
 
 -- each act leaves such a world
 
@@ -274,36 +252,19 @@ step_still w v c code ask reply g s = still w v (grows w v g (caller w code) ask
 
 still_then : (a b c : Sight) → ShowsStill a b → ShowsStill b c → ShowsStill a c
 still_then Nobody b c h k = tt
-still_then (Student v) (Student u) (Student t) h k = (k.0 ∙ h.0, λ p e. k.1 p (h.1 p e))
+still_then (Student v) b c h k = grind arith
 still_then (Lecturer v) (Lecturer u) (Lecturer t) h k = (k.0 ∙ h.0, λ p s e. k.1 p s (h.1 p s e))
 still_then (Office v) (Office u) (Office t) h k = λ x e. k x (h x e)
-still_then (Student v) (Student u) _ h k = absurd k
-still_then (Lecturer v) (Lecturer u) _ h k = absurd k
-still_then (Office v) (Office u) _ h k = absurd k
-still_then (Student v) _ c h k = absurd h
-still_then (Lecturer v) _ c h k = absurd h
-still_then (Office v) _ c h k = absurd h
+still_then a b c h k = grind arith
 
-module _ (c : Key) where
-  unmoved : (w v : World) → Good w → v ≡ w → ShowsStill (view w c) (view v c)
-  unmoved w v g e = subst (λ u. ShowsStill (view w c) (view u c)) (sym e) (still w w (whole w) g c (caller w c) refl)
+abbrev StillGood : World → Key → World → Type 0
+StillGood w c v = Good v × ShowsStill (view w c) (view v c)
 
-  answered_still : (w v : World) (r : Request) (a : Answer) (wish : Wish) → Good w → Answers w r wish a v → ShowsStill (view w c) (view v c)
-  answered_still w v r a (Calls ask) g s = step_still w v c r.code ask a g s
-  answered_still w v r a (Refused refusal) g s = unmoved w v g s.1
-
-  served_still : (w v : World) (r : Request) (a : Answer) → Good w → Serves w r a v → ShowsStill (view w c) (view v c)
-  served_still w v r a g (inl s) = answered_still w v r a r.wish g s
-  served_still w v r a g (inr s) = unmoved w v g s.1
-
-  pub run_still : (w : World) (asked : List Request) (told : List Answer) (after : List World) → Good w → Run w asked told after → AllByRecursion (λ v. ShowsStill (view w c) (view v c)) after
-  run_still w asked told [] g run = tt
-  run_still w (r ∷ rs) (a ∷ told) (v ∷ after) g run =
-      let next : ShowsStill (view w c) (view v c) = served_still w v r a g run.0 in
-      (next, all_weaker _ _ (λ u rest. still_then (view w c) (view v c) (view u c) next rest) after (run_still v rs told after (served_good w v r a g run.0) run.1))
-  run_still w [] [] (v ∷ after) g run = absurd run
-  run_still w [] (a ∷ told) (v ∷ after) g run = absurd run
-  run_still w (r ∷ rs) [] (v ∷ after) g run = absurd run
+pub run_still : (c : Key) (w : World) (asked : List Request) (told : List Answer) (after : List World) → Good w → Run w asked told after → AllByRecursion (λ v. ShowsStill (view w c) (view v c)) after
+run_still c w asked told after g run = all_weaker _ _ (λ v h. h.1) after (run_keeps (StillGood w c) step w asked told after (g, still w w (whole w) g c (caller w c) refl) run)
+  where
+    step : (u v : World) (code : Key) (ask : AbstractCall) (reply : Answer) → StillGood w c u → Step u code ask reply v → StillGood w c v
+    step u v code ask reply (good, so_far) s = (step_good u v code ask reply good s, still_then (view w c) (view u c) (view v c) so_far (step_still u v c code ask reply good s))
 
 -- the world in which the first round was published, and any of the second
 

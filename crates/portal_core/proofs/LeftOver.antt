@@ -1,15 +1,13 @@
 -- What has room after the first round, and that nobody whom it left had listed it.
-use Rattle.portal_core.proofs.Base.{◌≡◌, ℕ, suc, ◌-◌, ◌<◌, ◌≤◌, Bool, true, false, List, [], ◌∷◌, map, length, get_or, refl, sym, ◌∙◌, ap, subst, arith, Option, Some, None, option_map, is_none, nat_lt, count_by, ◌==◌, ◌&&◌, ◌||◌, AllByRecursion, list_any, eqb-true, nat_tests, get_or-map, length-map, list_any_at, IsStable, IsAcceptable, is_project, is_lecturer, at_project, at_lecturer, lecturer_of, project_of, number_in, number_is, count_by-map, Key, equals, has, World, lecturer_key, project_key, is_at, is_left, is_published, is_second, given_to, given_with, lowered_lecturer, lowered_project, lecturers_left, in_play, first, first_placed, first_published, First, Second, Listing, ProjectRow, instance, instance_of, matching_of, places_of, lecturer_keys, project_keys, in_catalogue, catalogue, Good, IsRound, Sound, IsChoice, placed_to, placed_with}
-use Rattle.spa_model.specs.Spa.{capacity_of, limit_of}
+use Rattle.portal_core.proofs.Base.{◌≡◌, ℕ, suc, ◌-◌, ◌<◌, ◌≤◌, Bool, true, false, List, [], ◌∷◌, map, length, get_or, refl, sym, ◌∙◌, ap, subst, arith, Option, Some, None, option_map, is_none, nat_lt, count_by, ◌&&◌, ◌||◌, AllByRecursion, list_any, eqb-true, nat_tests, get_or-map, length-map, list_any_at, IsStable, IsAcceptable, is_project, is_lecturer, at_project, at_lecturer, lecturer_of, project_of, number_in, number_is, count_by-map, Key, equals, has, World, lecturer_key, project_key, is_at, is_left, is_published, is_second, given_to, given_with, lowered_lecturer, lowered_project, lecturers_left, in_play, first, first_placed, first_published, First, Second, Listing, ProjectRow, instance, instance_of, matching_of, places_of, lecturer_keys, project_keys, in_catalogue, catalogue, Good, IsRound, Sound, IsChoice, placed_to, placed_with, capacity_of, limit_of, left_by_number}
 use Rattle.spa_honest.specs.Honest.{HasRoom}
-use Rattle.spa_honest.proofs.Waits.{left_finds_none as left_by_number}
 use Rattle.portal_core.specs.World.{Lecturer, Student}
 use Rattle.portal_core.proofs.Keys.{is_same, is_own}
-use Rattle.portal_core.proofs.AllLaws.{all_at, any_map, any_alike, filtered_any, is_sym}
+use Rattle.portal_core.proofs.AllLaws.{all_at, all_weaker, any_map, any_alike, filtered_any, is_sym}
 use Rattle.portal_core.proofs.Published.{number_back}
 use Rattle.portal_core.proofs.Capacities.{count_mono, known_in, first_plays, left_of, second_plays}
-use Rattle.portal_core.proofs.Stays.{the_second}
-use Rattle.portal_core.proofs.Whole.{catalogue_whole}
+use Rattle.portal_core.proofs.Opened.{the_second}
+use Rattle.portal_core.proofs.InRound.{catalogue_whole}
 use Rattle.portal_core.proofs.HonestLists.{no_student, no_project, no_lecturer, has_number, on_number, both_hold, lecturer_at, lecturer_known, choice, choices, given}
 
 -- lists and tests
@@ -29,18 +27,13 @@ all_from P [] d each = tt
 all_from P (x ∷ xs) d each = (each 0 (omega arith), all_from P xs d (λ k h. each (suc k) (omega arith)))
 
 and_parts : (a b : Bool) → (a && b) ≡ true → (a ≡ true) × (b ≡ true)
-and_parts true b h = (refl, h)
-and_parts false b h = absurd (cc)
+and_parts a b h = grind arith
 
 is_below : (n : ℕ) → nat_lt 0 n ≡ true → 0 < n
 is_below n h = grind (arith, nat_tests)
 
-same_number : (a b : ℕ) → (a == b) ≡ true → a ≡ b
-same_number a b h = eqb-true a b h
-
 is_none_of : {X : Type 0} (o : Option X) → is_none o ≡ true → o ≡ None
-is_none_of None h = refl
-is_none_of (Some x) h = absurd (cc)
+is_none_of o h = grind arith
 
 -- one published round, by its rows
 module _ (v : World) (sound : Sound v) (one : v.round ≡ First) (published : is_published v.phase ≡ true) (stable : IsStable (instance v) (matching_of v)) where
@@ -62,24 +55,19 @@ module _ (v : World) (sound : Sound v) (one : v.round ≡ First) (published : is
       let counted : at_project (places_of v) k ≡ count_by (λ s. is_project k (option_map (number_in (project_keys v)) s.placed)) v.students
       = count_by-map (is_project k) (λ (s : Student). option_map (number_in (project_keys v)) s.placed) v.students in
       let fewer : count_by (λ s. is_project k (option_map (number_in (project_keys v)) s.placed)) v.students ≤ count_by (λ (s : Student). is_at (get_or v.projects k no_project).key s.placed) v.students
-      = count_mono _ _ v.students (each v.students placed_known) in
+      = count_mono _ _ v.students (all_weaker _ _ (λ s low. here s.placed low) v.students placed_known) in
       omega (arith, counted, fewer)
     where
       here : (o : Option Key) → ((q : Key) → o ≡ Some q → number_in (project_keys v) q < length (project_keys v)) → is_project k (option_map (number_in (project_keys v)) o) ≡ true → is_at (get_or v.projects k no_project).key o ≡ true
       here None low e = absurd (cc)
-      here (Some q) low e = subst (λ x. equals q x ≡ true) (at_key k h q (low q refl) (same_number (number_in (project_keys v) q) k e)) (is_own q)
-
-      each : (ss : List Student) → AllByRecursion (λ (s : Student). (q : Key) → s.placed ≡ Some q → number_in (project_keys v) q < length (project_keys v)) ss
-          → AllByRecursion (λ (s : Student). is_project k (option_map (number_in (project_keys v)) s.placed) ≡ true → is_at (get_or v.projects k no_project).key s.placed ≡ true) ss
-      each [] all = tt
-      each (s ∷ ss) all = (here s.placed all.0, each ss all.1)
+      here (Some q) low e = subst (λ x. equals q x ≡ true) (at_key k h q (low q refl) (eqb-true (number_in (project_keys v) q) k e)) (is_own q)
 
   few_with : (h : ℕ) → h < length v.lecturers → at_lecturer (instance_of v) (places_of v) h ≤ placed_with v.projects v.students (get_or v.lecturers h no_lecturer).row.key
   few_with h h_in =
       let counted : at_lecturer (instance_of v) (places_of v) h ≡ count_by (λ s. is_lecturer (instance_of v) h (option_map (number_in (project_keys v)) s.placed)) v.students
       = count_by-map (is_lecturer (instance_of v) h) (λ (s : Student). option_map (number_in (project_keys v)) s.placed) v.students in
       let fewer : count_by (λ s. is_lecturer (instance_of v) h (option_map (number_in (project_keys v)) s.placed)) v.students ≤ placed_with v.projects v.students (get_or v.lecturers h no_lecturer).row.key
-      = count_mono _ _ v.students (each v.students placed_known) in
+      = count_mono _ _ v.students (all_weaker _ _ (λ s low. here s.placed low) v.students placed_known) in
       omega (arith, counted, fewer)
     where
       here : (o : Option Key) → ((q : Key) → o ≡ Some q → number_in (project_keys v) q < length (project_keys v)) → is_lecturer (instance_of v) h (option_map (number_in (project_keys v)) o) ≡ true
@@ -91,7 +79,7 @@ module _ (v : World) (sound : Sound v) (one : v.round ≡ First) (published : is
           let k_in : number_in (project_keys v) q < length v.projects = omega (arith, k_low, length-map v.projects project_key) in
           let row : ProjectRow = get_or v.projects (number_in (project_keys v) q) no_project in
           let l_is : number_in (lecturer_keys v) (get_or v.projects (number_in (project_keys v) q) no_project).lecturer ≡ h
-          = sym (lecturer_at v sound one published (number_in (project_keys v) q) k_in) ∙ same_number (lecturer_of (instance_of v) (number_in (project_keys v) q)) h e in
+          = sym (lecturer_at v sound one published (number_in (project_keys v) q) k_in) ∙ eqb-true (lecturer_of (instance_of v) (number_in (project_keys v) q)) h e in
           let of_l : (get_or v.projects (number_in (project_keys v) q) no_project).lecturer ≡ (get_or v.lecturers h no_lecturer).row.key
           = sym (number_is (lecturer_keys v) (get_or v.projects (number_in (project_keys v) q) no_project).lecturer (lecturer_known v sound one published (number_in (project_keys v) q) k_in))
           ∙ ap (λ n. get_or (lecturer_keys v) n []) l_is ∙ get_or-map lecturer_key v.lecturers h no_lecturer [] h_in in
@@ -100,11 +88,6 @@ module _ (v : World) (sound : Sound v) (one : v.round ≡ First) (published : is
           (both_hold _ _
           (subst (λ x. equals (get_or v.projects (number_in (project_keys v) q) no_project).lecturer x ≡ true) of_l (is_own (get_or v.projects (number_in (project_keys v) q) no_project).lecturer))
           (subst (λ x. equals q x ≡ true) q_is (is_own q)))
-
-      each : (ss : List Student) → AllByRecursion (λ (s : Student). (q : Key) → s.placed ≡ Some q → number_in (project_keys v) q < length (project_keys v)) ss
-          → AllByRecursion (λ (s : Student). is_lecturer (instance_of v) h (option_map (number_in (project_keys v)) s.placed) ≡ true → list_any (λ (p : ProjectRow). equals p.lecturer (get_or v.lecturers h no_lecturer).row.key && is_at p.key s.placed) v.projects ≡ true) ss
-      each [] all = tt
-      each (s ∷ ss) all = (here s.placed all.0, each ss all.1)
 
   -- a row with room, whose lecturer has room, has it by number
   has_room : (k h : ℕ) → k < length v.projects → h < length v.lecturers → (get_or v.projects k no_project).lecturer ≡ (get_or v.lecturers h no_lecturer).row.key
@@ -121,7 +104,7 @@ module _ (v : World) (sound : Sound v) (one : v.round ≡ First) (published : is
         rw l_is (omega (arith, few_with h h_in, room_l, top)),
       )
 
--- a project that takes part in the second round, and its lecturer, by their places on the rolls: the first round left room at both
+-- a second-round project and its lecturer, by places on the rolls: the first round left both room
 record HasRows (w : World) (p : Key) : Type 0 where
   pub project : ℕ
   pub lecturer : ℕ

@@ -7,6 +7,7 @@ pub mod Persons
 pub mod Puts
 pub mod InPlay
 mod Reranked
+mod Zips
 pub mod Fills
 pub mod Numbers
 pub mod InRound
@@ -16,15 +17,12 @@ pub mod Hearing
 pub mod Unseen
 pub mod Kept
 pub mod Opened
-mod Stays
 pub mod Adds
 pub mod Enrol
 pub mod Steps
-mod Runs
 mod Lasting
 mod Opening
 pub mod Once
-pub mod Whole
 pub mod Refreshed
 pub mod Reorder
 mod Taken

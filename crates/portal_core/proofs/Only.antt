@@ -1,5 +1,5 @@
 -- A step has one reply and one end, since there is one best matching; and so has a run.
-use Rattle.portal_core.proofs.Base.{◌≡◌, ℕ, zero, suc, ◌+◌, ◌<◌, ◌≤◌, true, false, cond, List, [], ◌∷◌, map, length, get_or, refl, sym, ◌∙◌, ap, subst, arith, Contains, ◌==◌, ◌||◌, Option, Some, None, option_map, AllByRecursion, eq-eqb, nat_tests, length-map, IsBest, IsMatching, IsOn, place, project_of, is_project, at_project, number_in, number_is, number_known, Key, equals, has, World, in_play, project_key, is_left, students_left, students_in, Round, First, Second, Placements, placement_in, with_place, changed, instance, matching_of, places_of, project_keys, view, AbstractCall, Answer, Act, Nothing, Apply, Publish, Render, decision, ProjectRow, IsChoice, StepLeaves, Step, Wish, Calls, Refused, Request, Answers, Run, AllAnswered}
+use Rattle.portal_core.proofs.Base.{◌≡◌, ℕ, zero, suc, ◌<◌, ◌≤◌, true, false, cond, List, [], ◌∷◌, map, length, get_or, refl, sym, ◌∙◌, ap, subst, arith, Contains, ◌||◌, Option, Some, None, option_map, AllByRecursion, eq-eqb, nat_tests, length-map, IsBest, IsMatching, IsOn, project_of, is_project, at_project, number_in, number_is, number_known, Key, equals, has, World, in_play, project_key, is_left, students_in, Round, First, Second, Placements, placement_in, with_place, changed, instance, matching_of, places_of, project_keys, view, AbstractCall, Answer, Act, Nothing, Apply, Publish, Render, decision, ProjectRow, IsChoice, StepLeaves, Step, Wish, Calls, Refused, Request, Answers, Run, AllAnswered}
 use Rattle.spa_model.proofs.Counts.{one_if, count_by-cons}
 use Rattle.spa_model.proofs.OneOnly.{best_is_one}
 use Rattle.portal_core.specs.World as rows
@@ -19,11 +19,7 @@ module _ (keys : List Key) where
   -- what a list of known keys holds is a number of the roll
   on_list : (choice : List Key) → AllByRecursion (λ p. has keys p ≡ true) choice → (n : ℕ) → IsOn (map (number_in keys) choice) n → n < length keys
   on_list [] known n on = absurd (omega (arith, on))
-  on_list (c ∷ cs) known n on =
-      (elim (number_in keys c == n) as (λ b. (number_in keys c == n) ≡ b → cond b 0 (1 + place (map (number_in keys) cs) n) < suc (length (map (number_in keys) cs)) → n < length keys) [
-        | true ↦ λ e f. let low : number_in keys c < length keys = number_known keys c (has_contains keys c known.0) in grind (arith, nat_tests)
-        | false ↦ λ e f. on_list cs known.1 n (omega arith)
-      ]) refl on
+  on_list (c ∷ cs) known n on = grind (arith, nat_tests, number_known keys c (has_contains keys c known.0), on_list cs known.1 n)
 
   pub on_roll : (ss : List rows.Student) → AllByRecursion (λ s. IsChoice keys s.choice) ss → (s n : ℕ) → IsOn (get_or (map (λ (s : rows.Student). map (number_in keys) s.choice) ss) s []) n → n < length keys
   on_roll [] all s n on = absurd (omega (arith, on))
@@ -34,13 +30,11 @@ module _ (keys : List Key) where
   number_of s = option_map (number_in keys) s.placed
 
   same_key : (a b : Option Key) → option_map (number_in keys) a ≡ option_map (number_in keys) b → ((n : ℕ) → option_map (number_in keys) a ≡ Some n → n < length keys) → a ≡ b
-  same_key None None e low = refl
-  same_key None (Some b) e low = cc
-  same_key (Some a) None e low = cc
   same_key (Some a) (Some b) e low =
       let number : number_in keys a ≡ number_in keys b = cc in
       let here : number_in keys a < length keys = low (number_in keys a) refl in
       ap Some (sym (number_is keys a here) ∙ ap (λ n. get_or keys n []) number ∙ number_is keys b (subst (λ n. n < length keys) number here))
+  same_key a b e low = grind arith
 
   same_places : (p q : List (Key × Key)) (ss : List rows.Student) → map number_of (map (with_place p) ss) ≡ map number_of (map (with_place q) ss)
       → ((s n : ℕ) → get_or (map number_of (map (with_place p) ss)) s None ≡ Some n → n < length keys) → map (with_place p) ss ≡ map (with_place q) ss
@@ -61,16 +55,7 @@ module _ (keys : List Key) where
 in_whole : (r : Round) (p q : List (Key × Key)) (ss : List rows.Student) → map (with_place p) (students_in r ss) ≡ map (with_place q) (students_in r ss) → map (with_place p) ss ≡ map (with_place q) ss
 in_whole First p q ss e = e
 in_whole Second p q [] e = refl
-in_whole Second p q (x ∷ ss) e =
-    (elim (is_left x) as (λ b. map (with_place p) (cond b (x ∷ students_left ss) (students_left ss)) ≡ map (with_place q) (cond b (x ∷ students_left ss) (students_left ss)) → is_left x ≡ b → map (with_place p) (x ∷ ss) ≡ map (with_place q) (x ∷ ss)) [
-      | true ↦ λ f t.
-          let one : with_place p x ≡ with_place q x = cc in
-          let rest : map (with_place p) (students_left ss) ≡ map (with_place q) (students_left ss) = cc in
-          λ i. one i ∷ in_whole Second p q ss rest i
-      | false ↦ λ f t.
-          let stays : (pairs : List (Key × Key)) → with_place pairs x ≡ x = λ pairs. ap (λ b. cond b (record x { placed = placement_in pairs x.row.key }) x) t in
-          λ i. (stays p ∙ sym (stays q)) i ∷ in_whole Second p q ss f i
-    ]) e refl
+in_whole Second p q (x ∷ ss) e = grind (arith, in_whole Second p q ss)
 
 -- who has a project is counted there, so that it has room, and is one of the roll
 
@@ -124,11 +109,4 @@ one_run w (r ∷ rs) (a ∷ told) (b ∷ said) (v ∷ after) (u ∷ later) run a
     let here : (a ≡ b) × (v ≡ u) = answered_once w v u r r.wish a b (really w v r a run.0 all.0) (really w u r b other.0 all'.0) in
     let rest : (told ≡ said) × (after ≡ later) = one_run v rs told said after later run.1 all.1 (subst (λ x. Run x rs said later) (sym here.1) other.1) all'.1 in
     (λ i. here.0 i ∷ rest.0 i, λ i. here.1 i ∷ rest.1 i)
-one_run w [] (a ∷ told) said after later run all other all' = absurd run
-one_run w [] [] said (v ∷ after) later run all other all' = absurd run
-one_run w [] [] (b ∷ said) [] later run all other all' = absurd other
-one_run w [] [] [] [] (u ∷ later) run all other all' = absurd other
-one_run w (r ∷ rs) [] said after later run all other all' = absurd run
-one_run w (r ∷ rs) (a ∷ told) said [] later run all other all' = absurd run
-one_run w (r ∷ rs) (a ∷ told) [] (v ∷ after) later run all other all' = absurd other
-one_run w (r ∷ rs) (a ∷ told) (b ∷ said) (v ∷ after) [] run all other all' = absurd other
+one_run w asked told said after later run all other all' = grind arith

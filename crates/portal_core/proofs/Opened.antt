@@ -1,11 +1,11 @@
 -- The second round: what it opens with, and that the first stays as it was published.
-use Rattle.portal_core.proofs.Base.{◌≡◌, Bool, true, false, cond, List, [], ◌∷◌, ◌++◌, length, refl, sym, ◌∙◌, ap, subst, arith, map, Option, Some, None, IfSome, is_none, find, AllByRecursion, length-map, Key, equals, has, is_before, Rise, AreDistinct, World, lecturer_key, project_key, student_key, applicants_of, is_published, is_second, is_left, in_play, first, first_placed, first_published, shown_placement, Choices, Ranks, Fill, SecondRound, changed, opened, ranked_before, placed_before, with_choice, with_ranking, with_fill, Phase, Published, First, project_keys, Good, IsRound, Sound, IsChoice, IsRanking, IsLecturer, IsStudent}
+use Rattle.portal_core.proofs.Base.{◌≡◌, Bool, true, false, cond, List, [], ◌∷◌, ◌++◌, length, refl, sym, ◌∙◌, ap, subst, arith, map, Some, None, IfSome, is_none, find, AllByRecursion, length-map, Key, equals, has, is_before, Rise, AreDistinct, World, lecturer_key, student_key, applicants_of, is_second, is_left, in_play, first, first_placed, first_published, shown_placement, Choices, Ranks, Fill, SecondRound, changed, opened, ranked_before, placed_before, with_choice, with_ranking, with_fill, Phase, Published, First, project_keys, Good, IsRound, Sound, IsChoice, IsRanking, IsLecturer, IsStudent, ProjectRow, ◌≤◌, is_still_to_rank, Round, Second, Caller, caller, sight_of, AbstractCall, Answer, Decision, decision, is_open_to_rolls, StepLeaves, Step}
 use Rattle.portal_core.specs.World as rows
 use Rattle.portal_core.proofs.Keys.{is_same, not_before_itself, found_all, all_unmap}
-use Rattle.portal_core.proofs.AllLaws.{all_map, all_weaker, map_same}
+use Rattle.portal_core.proofs.AllLaws.{each_one, all_map, all_weaker, map_same}
 use Rattle.portal_core.proofs.InPlay.{fill_row}
 use Rattle.portal_core.proofs.Fills.{fill_first}
-use Rattle.portal_core.proofs.Kept.{choice_first, ranking_first}
+use Rattle.portal_core.proofs.Kept.{choice_first, ranking_first, first_kept}
 
 -- a list or a ranking of the second round changes nothing of the first
 
@@ -39,44 +39,32 @@ first_back w g one out = λ i. record w {
   students = back_students w.students (g.no_earlier_lists (ap is_second one)) i;
 }
 
-all_of : {X : Type 0} (P : X → Type 0) → ((x : X) → P x) → (xs : List X) → AllByRecursion P xs
-all_of P k [] = tt
-all_of P k (x ∷ xs) = (k x, all_of P k xs)
-
 opened_sound : (w : World) → Sound w → Sound (opened First Published w)
 opened_sound w g =
     let students : map student_key (map placed_before w.students) ≡ map student_key w.students = map_same student_key placed_before (λ s. refl) w.students in
     let lecturers : map lecturer_key (map ranked_before w.lecturers) ≡ map lecturer_key w.lecturers = map_same lecturer_key ranked_before (λ l. refl) w.lecturers in
     let student_codes : map (λ (s : rows.Student). s.row.code) (map placed_before w.students) ≡ map (λ s. s.row.code) w.students = map_same _ placed_before (λ s. refl) w.students in
     let lecturer_codes : map (λ (l : rows.Lecturer). l.row.code) (map ranked_before w.lecturers) ≡ map (λ l. l.row.code) w.lecturers = map_same _ ranked_before (λ l. refl) w.lecturers in
-    let many : length (map placed_before w.students) ≡ length w.students = length-map w.students placed_before in
-    let staff : length (map ranked_before w.lecturers) ≡ length w.lecturers = length-map w.lecturers ranked_before in
     let keys : List Key = project_keys (in_play (opened First Published w)) in
-    record {
-      lecturers_rise = subst Rise (sym lecturers) g.lecturers_rise;
-      projects_rise = g.projects_rise;
-      students_rise = subst Rise (sym students) g.students_rise;
-      lecturer_forms = all_map (λ (l : rows.Lecturer). IsLecturer l.row) ranked_before w.lecturers g.lecturer_forms;
-      project_forms = g.project_forms;
-      student_forms = all_map (λ (s : rows.Student). IsStudent s.row) placed_before w.students g.student_forms;
-      office_form = g.office_form;
-      few_lecturers = let few = g.few_lecturers in omega arith;
-      few_projects = g.few_projects;
-      few_students = let few = g.few_students in omega arith;
-      codes = subst (λ cs. AreDistinct (w.office ∷ cs ++ map (λ (s : rows.Student). s.row.code) (map placed_before w.students))) (sym lecturer_codes)
-          (subst (λ cs. AreDistinct (w.office ∷ map (λ (l : rows.Lecturer). l.row.code) w.lecturers ++ cs)) (sym student_codes) g.codes);
-      lecturers_known = subst (λ ks. AllByRecursion (λ p. has ks p.lecturer ≡ true) w.projects) (sym lecturers) g.lecturers_known;
-      choices = all_map (λ (s : rows.Student). IsChoice keys s.choice) placed_before w.students (all_of _ (λ s. record { few = omega arith; known = tt; once = tt }) w.students);
-      no_choices_yet = λ h. cc;
-      no_rankings_yet = λ h. all_map (λ (l : rows.Lecturer). l.ranking ≡ None) ranked_before w.lecturers (all_of _ (λ l. refl) w.lecturers);
-      rankings = all_map (λ (l : rows.Lecturer). IfSome l.ranking (IsRanking (map student_key (applicants_of (opened First Published w) l.row.key)))) ranked_before w.lecturers (all_of _ (λ l. tt) w.lecturers);
-      no_result_yet = λ h. all_map (λ (s : rows.Student). s.placed ≡ None) placed_before w.students (all_of _ (λ s. refl) w.students);
-      all_ranked = λ h. cc;
-      no_earlier_lists = λ h. cc;
-      no_earlier_rankings = λ h. cc;
-      no_second_setup = λ h. refl;
-      only_left = all_map (λ (s : rows.Student). is_left s ≡ false → (s.choice ≡ []) × (s.placed ≡ None)) placed_before w.students (all_of _ (λ s h. (refl, refl)) w.students);
-    }
+    let lecturers_rise = subst Rise (sym lecturers) g.lecturers_rise in
+    let students_rise = subst Rise (sym students) g.students_rise in
+    let lecturer_forms = all_map (λ (l : rows.Lecturer). IsLecturer l.row) ranked_before w.lecturers g.lecturer_forms in
+    let student_forms = all_map (λ (s : rows.Student). IsStudent s.row) placed_before w.students g.student_forms in
+    let few_lecturers : length (map ranked_before w.lecturers) ≤ 300 = omega (arith, g.few_lecturers, length-map w.lecturers ranked_before) in
+    let few_students : length (map placed_before w.students) ≤ 2000 = omega (arith, g.few_students, length-map w.students placed_before) in
+    let apart = subst (λ cs. AreDistinct (w.office ∷ cs ++ map (λ (s : rows.Student). s.row.code) (map placed_before w.students))) (sym lecturer_codes)
+    (subst (λ cs. AreDistinct (w.office ∷ map (λ (l : rows.Lecturer). l.row.code) w.lecturers ++ cs)) (sym student_codes) g.codes) in
+    let lecturers_known = subst (λ ks. AllByRecursion (λ (p : ProjectRow). has ks p.lecturer ≡ true) w.projects) (sym lecturers) g.lecturers_known in
+    let choices = all_map (λ (s : rows.Student). IsChoice keys s.choice) placed_before w.students (each_one _ (λ s. record { few = omega arith; known = tt; once = tt }) w.students) in
+    let no_rankings_yet = all_map (λ (l : rows.Lecturer). l.ranking ≡ None) ranked_before w.lecturers (each_one _ (λ l. refl) w.lecturers) in
+    let rankings = all_map (λ (l : rows.Lecturer). IfSome l.ranking (IsRanking (map student_key (applicants_of (opened First Published w) l.row.key)))) ranked_before w.lecturers (each_one _ (λ l. tt) w.lecturers) in
+    let no_result_yet = all_map (λ (s : rows.Student). s.placed ≡ None) placed_before w.students (each_one _ (λ s. refl) w.students) in
+    let only_left = all_map (λ (s : rows.Student). is_left s ≡ false → (s.choice ≡ []) × (s.placed ≡ None)) placed_before w.students (each_one _ (λ s h. (refl, refl)) w.students) in
+    let no_choices_yet : false ≡ true → AllByRecursion (λ (s : rows.Student). s.choice ≡ []) (map placed_before w.students) = λ h. cc in
+    let all_ranked : false ≡ true → AllByRecursion (λ l. is_still_to_rank (opened First Published w) l ≡ false) (map ranked_before w.lecturers) = λ h. cc in
+    let no_earlier_lists : true ≡ false → AllByRecursion (λ (s : rows.Student). (s.earlier_choice ≡ []) × (s.earlier_placement ≡ None)) (map placed_before w.students) = λ h. cc in
+    let no_earlier_rankings : true ≡ false → AllByRecursion (λ (l : rows.Lecturer). l.earlier_ranking ≡ None) (map ranked_before w.lecturers) = λ h. cc in
+    assumption
 
 pub opened_good : (w : World) → Good w → w.round ≡ First → w.phase ≡ Published → Good (opened First Published w)
 opened_good w g one out =
@@ -105,13 +93,31 @@ rows_with {X} key p (x ∷ xs) a rise e =
 
 -- a student who is shown no project has none of the first round
 unplaced_left : (phase : Phase) (s : rows.Student) → is_none (shown_placement phase s) ≡ true → is_left s ≡ true
-unplaced_left phase s e = go s.earlier_placement refl e
-  where
-    go : (o : Option Key) → s.earlier_placement ≡ o → is_none (cond (is_none o) (cond (is_published phase) s.placed None) o) ≡ true → is_left s ≡ true
-    go None f h = ap is_none f
-    go (Some p) f h = cc
+unplaced_left phase s e = grind arith
 
 -- and no other student has this key
 pub alone_left : (w : World) (p : rows.Student → Bool) (s : rows.Student) → Sound w → find p w.students ≡ Some s → is_none (shown_placement w.phase s) ≡ true → AllByRecursion (λ t. equals t.row.key s.row.key ≡ true → is_left t ≡ true) w.students
 alone_left w p s g found free =
     all_weaker _ _ (λ t one same. ap is_left (one (is_same t.row.key s.row.key same)) ∙ unplaced_left w.phase s free) w.students (rows_with student_key p w.students s g.students_rise found)
+
+-- no step of the second round changes the first
+
+module _ (w v : World) (second : w.round ≡ Second) where
+  -- an act that leaves the round and the first
+  abbrev Keeps : AbstractCall → Decision → Type 0
+  Keeps ask d = StepLeaves w d.act v → (v.round ≡ w.round) × (first v ≡ first w)
+
+  keeps : (u : World) → u.round ≡ w.round → first u ≡ first w → v ≡ u → (v.round ≡ w.round) × (first v ≡ first w)
+  keeps u round before e = (ap (λ x. x.round) e ∙ round, ap first e ∙ before)
+
+  closed : {X : Type 0} → is_open_to_rolls w.round w.phase ≡ true → X
+  closed now = let none : false ≡ true = subst (λ r. is_open_to_rolls r w.phase ≡ true) second now in cc
+
+  stays : (x : Caller) (ask : AbstractCall) → Keeps ask (decision (sight_of w x) ask)
+  stays x ask = grind (arith, second, first_chosen w, first_ranked w, first_filled w, first_kept w)
+
+pub the_second : (r : Round) → is_second r ≡ true → r ≡ Second
+the_second r e = grind arith
+
+pub first_stays : (w v : World) (code : Key) (ask : AbstractCall) (reply : Answer) → is_second w.round ≡ true → Step w code ask reply v → (v.round ≡ w.round) × (first v ≡ first w)
+first_stays w v code ask reply e s = stays w v (the_second w.round e) (caller w code) ask s.left

@@ -1,13 +1,10 @@
 -- From a published first round a run reaches that world, or a second round that opened from it.
-use Rattle.portal_core.proofs.Base.{◌≡◌, ◌⊎◌, inl, inr, true, false, List, [], ◌∷◌, refl, sym, ◌∙◌, ap, subst, AllByRecursion, Key, World, is_published, is_second, first, SecondRound, changed, Published, First, StudentSees, Caller, NoCaller, OfficeCaller, LecturerCaller, StudentCaller, caller, sight_of, view, office_sees, lecturer_sees, student_sees, AbstractCall, Answer, Decision, decision, Good, StepLeaves, Step, Request, Wish, Calls, Refused, Answers, Serves, Run, HasBest, DifferInOneList, IsNoWorse}
+use Rattle.portal_core.proofs.Base.{◌≡◌, ◌⊎◌, inl, inr, true, false, List, refl, sym, ◌∙◌, ap, subst, AllByRecursion, Key, World, is_published, is_second, first, SecondRound, changed, Published, First, StudentSees, Caller, caller, sight_of, view, AbstractCall, Answer, Decision, decision, Good, StepLeaves, Step, Request, Run, HasBest, DifferInOneList, IsNoWorse, arith}
 use Rattle.portal_core.specs.declared.view.View.TheVariants as sees
-use Rattle.portal_core.proofs.Cases.{by_student, by_lecturer, by_office}
-use Rattle.portal_core.proofs.Unseen.{choosing_open}
-use Rattle.portal_core.proofs.Enrol.{open_phase}
-use Rattle.portal_core.proofs.Stays.{first_stays}
-use Rattle.portal_core.proofs.Steps.{step_good, ranking_open, rolls_early}
-use Rattle.portal_core.proofs.Opened.{opens_to}
+use Rattle.portal_core.proofs.Steps.{run_keeps, step_good}
+use Rattle.portal_core.proofs.Opened.{opens_to, first_stays}
 use Rattle.portal_core.proofs.Opening.{first_kept}
+use Rattle.portal_core.proofs.AllLaws.{all_weaker}
 use Rattle.portal_core.proofs.BothRounds.{honest_over_both}
 
 module _ (w u : World) (out : w.phase ≡ Published) where
@@ -22,22 +19,7 @@ module _ (w u : World) (out : w.phase ≡ Published) where
   closed e = let no : true ≡ false = sym (ap is_published out) ∙ e in cc
 
   outcome : (x : Caller) (ask : AbstractCall) → Leads ask (decision (sight_of w x) ask)
-  outcome NoCaller ask = inl
-  outcome (StudentCaller s) ask = by_student Leads (λ ask reply. inl) (student_sees w s) (λ list now left none. closed (choosing_open w.phase now).1) ask
-  outcome (LecturerCaller l) ask = by_lecturer Leads (λ ask reply. inl) (lecturer_sees w l) (λ list now none. closed (ranking_open w.phase now)) ask
-  outcome OfficeCaller ask =
-      by_office Leads (λ ask reply. inl) (office_sees w)
-      (record {
-        lecturers = λ rs new n now took. closed (open_phase w.phase (rolls_early w.round w.phase now));
-        projects = λ rs new n now took. closed (open_phase w.phase (rolls_early w.round w.phase now));
-        students = λ rs new n now took. closed (open_phase w.phase (rolls_early w.round w.phase now));
-        choosing = λ named at. closed (ap is_published at);
-        ranking = λ named at. closed (ap is_published at);
-        published = λ named at none. closed (ap is_published at);
-        opened = λ one at. inr;
-        filled = λ now some. closed (ranking_open w.phase now);
-        sheets = λ ask text sheet calm. inl;
-      }) ask
+  outcome x ask = grind (arith, out)
 
 module _ (v : World) (one : v.round ≡ First) (out : v.phase ≡ Published) where
   -- a good world: that one, or of a second round before which it stood
@@ -62,27 +44,12 @@ module _ (v : World) (one : v.round ≡ First) (out : v.phase ≡ Published) whe
       let stays = first_stays w u code ask reply two s in
       (step_good w u code ask reply good s, inr (ap is_second stays.0 ∙ two, stays.1 ∙ is))
 
-  answered_reaches : (w u : World) (r : Request) (a : Answer) (wish : Wish) → Reached w → Answers w r wish a u → Reached u
-  answered_reaches w u r a (Calls ask) at s = step_reaches w u r.code ask a at s
-  answered_reaches w u r a (Refused refusal) at s = subst Reached (sym s.1) at
-
-  served_reaches : (w u : World) (r : Request) (a : Answer) → Reached w → Serves w r a u → Reached u
-  served_reaches w u r a at (inl s) = answered_reaches w u r a r.wish at s
-  served_reaches w u r a at (inr s) = subst Reached (sym s.1) at
-
-  run_reaches : {P : World → Type 0} → ((u : World) → Reached u → P u) → (w : World) (asked : List Request) (told : List Answer) (after : List World) → Reached w → Run w asked told after → AllByRecursion P after
-  run_reaches so w asked told [] at run = tt
-  run_reaches so w (r ∷ rs) (a ∷ told) (u ∷ after) at run = let next : Reached u = served_reaches w u r a at run.0 in (so u next, run_reaches so u rs told after next run.1)
-  run_reaches so w [] [] (u ∷ after) at run = absurd run
-  run_reaches so w [] (a ∷ told) (u ∷ after) at run = absurd run
-  run_reaches so w (r ∷ rs) [] (u ∷ after) at run = absurd run
-
 -- NO LIST GAINS IN A SECOND ROUND THAT A RUN REACHES
 pub honest_over_runs : (w v : World) (code : Key) (a : StudentSees) (asked : List Request) (told : List Answer) (after : List World) → HasBest w → Good v → v.round ≡ First → v.phase ≡ Published
     → DifferInOneList w v a.me.key → view w code ≡ sees.Student a → Run v asked told after
     → AllByRecursion (λ u. (b : StudentSees) → is_second u.round ≡ true → view u code ≡ sees.Student b → IsNoWorse a.choices a.result b.result) after
 honest_over_runs w v code a asked told after best good one out differ sees_a run =
-    run_reaches v one out no_worse v asked told after (good, inl refl) run
+    all_weaker _ _ no_worse after (run_keeps (Reached v one out) (step_reaches v one out) v asked told after (good, inl refl) run)
   where
     no_worse : (u : World) → Reached v one out u → (b : StudentSees) → is_second u.round ≡ true → view u code ≡ sees.Student b → IsNoWorse a.choices a.result b.result
     no_worse u (good_u, inl is) b two sees_b = let no : is_second u.round ≡ false = ap (λ (x : World). is_second x.round) is ∙ ap is_second one in absurd (cc)

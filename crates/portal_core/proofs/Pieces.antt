@@ -1,9 +1,5 @@
 -- A text that grows by a piece for each element, and a text that a `format!` made.
-use Rattle.portal_core.proofs.Base.{◌≡◌, ◌∙◌, ◌+◌, ◌<◌, ◌++◌, ℕ, List, [], ◌∷◌, length, take, get_or, sym, ap, Some, IfSome, Global}
-use Rattle.std.proofs.Common.{IfOk, Ok, Err, string_bytes}
-use Rattle.std.specs.Prelude.{Result, String}
-use Rattle.std.specs.List.{flat_map}
-use Rattle.std.proofs.lemmas.List.{flat_map_more, take_more}
+use Rattle.portal_core.proofs.Base.{◌≡◌, ◌∙◌, ◌+◌, ◌<◌, ◌++◌, ℕ, List, [], ◌∷◌, length, take, get_or, sym, ap, Some, IfSome, Global, IfOk, Ok, Err, string_bytes, Result, String, flat_map, flat_map_more, take_more}
 
 pub one_more : {X : Type 0} (f : X → List ℕ) (front : List ℕ) (xs : List X) (i : ℕ) (x : X) → i < length xs → x ≡ get_or xs i x
     → (front ++ flat_map f (take i xs)) ++ f x ≡ front ++ flat_map f (take (i + 1) xs)

@@ -1,9 +1,8 @@
 -- The pairs of a matching by numbers place the students as the matching does.
-use Rattle.portal_core.proofs.Base.{◌≡◌, ℕ, zero, suc, ◌+◌, ◌<◌, Bool, true, false, cond, List, [], ◌∷◌, map, length, get_or, refl, sym, ◌∙◌, ap, subst, arith, Option, Some, None, option_map, AllByRecursion, length-map, IsMatching, number_in, Key, equals, is_before, Rise, World, in_play, is_left, student_key, Placements, placement_in, with_place, changed, instance, matching_of, places_of, project_keys, student_keys, Sound}
+use Rattle.portal_core.proofs.Base.{◌≡◌, ℕ, zero, suc, ◌+◌, ◌<◌, true, cond, List, [], ◌∷◌, map, length, get_or, refl, ◌∙◌, ap, arith, Option, Some, None, option_map, AllByRecursion, length-map, IsMatching, number_in, Key, is_before, Rise, World, in_play, is_left, student_key, Placements, placement_in, with_place, changed, instance, matching_of, places_of, project_keys, student_keys, Sound, pairs_by}
 use Rattle.portal_core.specs.World as rows
-use Rattle.portal_core.specs.Instance.{pairs_by}
-use Rattle.portal_core.proofs.Keys.{is_same, is_own, all_unmap}
-use Rattle.portal_core.proofs.AllLaws.{all_at}
+use Rattle.portal_core.proofs.Keys.{is_own, all_unmap}
+use Rattle.portal_core.proofs.AllLaws.{is_sym, all_at}
 use Rattle.portal_core.proofs.Fills.{before_other}
 use Rattle.portal_core.proofs.Only.{on_roll}
 use Rattle.portal_core.proofs.InPlay.{play_placed}
@@ -35,14 +34,7 @@ module _ (projects : List Key) (rise : Rise projects) where
       → placement_in (pairs_by (map student_key ss) projects places) k ≡ None
   absent [] places k all = refl
   absent (s ∷ ss) [] k all = refl
-  absent (s ∷ ss) (Some p ∷ places) k all = rw (other s.row.key k (before_other k s.row.key all.0)) (absent ss places k all.1)
-    where
-      other : (a b : Key) → equals b a ≡ false → equals a b ≡ false
-      other a b e = go (equals a b) refl
-        where
-          go : (c : Bool) → equals a b ≡ c → c ≡ false
-          go true f = absurd (let own : equals b b ≡ true = is_own b in let g : equals b a ≡ true = subst (λ x. equals b x ≡ true) (sym (is_same a b f)) own in cc)
-          go false f = refl
+  absent (s ∷ ss) (Some p ∷ places) k all = rw (is_sym s.row.key k ∙ before_other k s.row.key all.0) (absent ss places k all.1)
   absent (s ∷ ss) (None ∷ places) k all = absent ss places k all.1
 
   pub placed_back : (ss : List rows.Student) (places : List (Option ℕ)) → Rise (map student_key ss) → length places ≡ length ss

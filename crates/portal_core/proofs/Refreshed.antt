@@ -1,9 +1,9 @@
 -- What the office sees after a list or a ranking was put.
-use Rattle.portal_core.proofs.Base.{◌≡◌, Bool, true, false, cond, List, [], ◌∷◌, refl, sym, ◌∙◌, ap, map, filter, Option, Some, option_map, not, ◌&&◌, is_none, filter_map, cons_option, Key, equals, is_empty, World, in_play, shown_placement, is_still_to_rank, applicants_of, is_from_ranking, pairs_of, Choices, Ranks, changed, with_choice, with_ranking, Choosing, Ranking, LecturerRow, OfficeSees, office_sees}
+use Rattle.portal_core.proofs.Base.{◌≡◌, Bool, false, cond, List, [], ◌∷◌, refl, sym, ◌∙◌, ap, map, filter, Option, option_map, not, ◌&&◌, is_none, filter_map, Key, equals, is_empty, World, in_play, shown_placement, is_still_to_rank, applicants_of, is_from_ranking, pairs_of, Choices, Ranks, changed, with_choice, with_ranking, Choosing, Ranking, LecturerRow, OfficeSees, office_sees, arith}
 use Rattle.portal_core.specs.World as rows
 use Rattle.portal_core.specs.declared.view.OfficeView.TheInside.{Inside}
-use Rattle.portal_core.proofs.Acts.{choice_row, ranking_row, catalogue_chosen, catalogue_ranked}
-use Rattle.portal_core.proofs.InPlay.{play_chosen}
+use Rattle.portal_core.proofs.Acts.{choice_row, catalogue_chosen, catalogue_ranked}
+use Rattle.portal_core.proofs.InPlay.{play_chosen, ranking_row}
 use Rattle.portal_core.proofs.AllLaws.{map_same}
 
 -- what the office's view of the code shows, with other keys where keys are taken out
@@ -22,39 +22,18 @@ seen_with v without still =
       pairs = v.pairs.items;
     }
 
--- Where a change keeps the keys, and takes those from the chosen whose key has not the mark: their keys, without these.
+-- A change that keeps keys and drops chosen ones without the mark filters the chosen keys by it.
 module _ {X : Type 0} (key : X → Key) (chosen : X → Bool) (change : X → X) (keeps : Key → Bool) (same : (x : X) → key (change x) ≡ key x)
     (one : (x : X) → chosen (change x) ≡ (chosen x && keeps (key x))) where
-  mapped : (b : Bool) (x : X) (xs : List X) → map key (cond b (x ∷ xs) xs) ≡ cond b (key x ∷ map key xs) (map key xs)
-  mapped true x xs = refl
-  mapped false x xs = refl
-
-  sifted : (b : Bool) (x : X) (xs : List X) → filter keeps (map key (cond b (x ∷ xs) xs)) ≡ cond (b && keeps (key x)) (key x ∷ filter keeps (map key xs)) (filter keeps (map key xs))
-  sifted true x xs = refl
-  sifted false x xs = refl
-
   pub chosen_after : (xs : List X) → map key (filter chosen (map change xs)) ≡ filter keeps (map key (filter chosen xs))
   chosen_after [] = refl
-  chosen_after (x ∷ xs) =
-      mapped (chosen (change x)) (change x) (filter chosen (map change xs)) ∙ (λ i. cond (one x i) (same x i ∷ chosen_after xs i) (chosen_after xs i))
-      ∙ sym (sifted (chosen x) x (filter chosen xs))
+  chosen_after (x ∷ xs) = grind (arith, one x, same x, chosen_after xs)
 
 listed : (k p : Key) (ps : List Key) (s : rows.Student) → is_empty (with_choice k (p ∷ ps) s).choice ≡ (is_empty s.choice && not (equals s.row.key k))
-listed k p ps s =
-    elim (equals s.row.key k) as (λ b. is_empty (cond b (record s { choice = p ∷ ps }) s).choice ≡ (is_empty s.choice && not b)) [
-      | true ↦ elim (is_empty s.choice) as (λ e. false ≡ (e && false)) [ true ↦ refl | false ↦ refl ]
-      | false ↦ elim (is_empty s.choice) as (λ e. e ≡ (e && true)) [ true ↦ refl | false ↦ refl ]
-    ]
+listed k p ps s = grind arith
 
 ranked : (wanted : Bool) (k : Key) (list : List Key) (l : rows.Lecturer) → (wanted && is_none (with_ranking k list l).ranking) ≡ ((wanted && is_none l.ranking) && not (equals l.row.key k))
-ranked wanted k list l =
-    elim (equals l.row.key k) as (λ b. (wanted && is_none (cond b (record l { ranking = Some list }) l).ranking) ≡ ((wanted && is_none l.ranking) && not b)) [
-      | true ↦ elim wanted as (λ v. (v && false) ≡ ((v && is_none l.ranking) && false)) [
-        | true ↦ elim (is_none l.ranking) as (λ e. false ≡ (e && false)) [ true ↦ refl | false ↦ refl ]
-        | false ↦ refl
-      ]
-      | false ↦ elim (wanted && is_none l.ranking) as (λ e. e ≡ (e && true)) [ true ↦ refl | false ↦ refl ]
-    ]
+ranked wanted k list l = grind arith
 
 still : (w : World) (k : Key) (list : List Key) (l : rows.Lecturer) → is_still_to_rank w (with_ranking k list l) ≡ (is_still_to_rank w l && not (equals l.row.key k))
 still w k list l = ap (λ (r : LecturerRow). not (is_empty (applicants_of w r.key)) && is_none (with_ranking k list l).ranking) (ranking_row k list l)
@@ -67,25 +46,17 @@ pairs_chosen w k list = go w.students
     pair : rows.Student → Option (Key × Key)
     pair s = option_map (λ p. (s.row.key, p)) (shown_placement w.phase s)
 
-    same : (s : rows.Student) → pair (with_choice k list s) ≡ pair s
-    same s = elim (equals s.row.key k) as (λ b. pair (cond b (record s { choice = list }) s) ≡ pair s) [ true ↦ refl | false ↦ refl ]
-
     go : (ss : List rows.Student) → filter_map pair (map (with_choice k list) ss) ≡ filter_map pair ss
     go [] = refl
-    go (s ∷ ss) = λ i. cons_option (same s i) (go ss i)
+    go (s ∷ ss) = grind (arith, go ss)
 
--- a list of some projects that is put while students choose takes the student from those without one, and changes nothing else
+-- a nonempty list, put while students choose, only takes the student from those without one
 pub choosing_seen : (w : World) (k : Key) (list : List Key) → w.phase ≡ Choosing → is_empty list ≡ false
     → office_sees (changed w (Choices k list)) ≡ record (office_sees w) { without_list = filter (λ x. not (equals x k)) (office_sees w).without_list }
 choosing_seen w k [] e some = cc
 choosing_seen w k (p ∷ ps) e some =
     let to : World = changed w (Choices k (p ∷ ps)) in
-    λ i. record {
-      round = w.round;
-      phase = w.phase;
-      office_code = w.office;
-      lecturers = map (λ l. l.row) w.lecturers;
-      projects = w.projects;
+    λ i. record (office_sees w) {
       students = map_same (λ (s : rows.Student). s.row) (with_choice k (p ∷ ps)) (choice_row k (p ∷ ps)) w.students i;
       catalogue = catalogue_chosen w k (p ∷ ps) i;
       without_list = ((λ j. map (λ (s : rows.Student). s.row.key) (filter (λ s. is_empty s.choice) (play_chosen w k (p ∷ ps) j).students))
@@ -95,23 +66,16 @@ choosing_seen w k (p ∷ ps) e some =
       pairs = pairs_chosen w k (p ∷ ps) i;
     }
 
--- a ranking that is put while lecturers rank takes the lecturer from those still to rank, and changes nothing else
+-- a ranking that is put while lecturers rank only takes the lecturer from those still to rank
 pub ranking_seen : (w : World) (k : Key) (list : List Key) → w.phase ≡ Ranking
     → office_sees (changed w (Ranks k list)) ≡ record (office_sees w) { still_to_rank = filter (λ x. not (equals x k)) (office_sees w).still_to_rank }
 ranking_seen w k list e =
     let to : World = changed w (Ranks k list) in
     let own : (ls : List rows.Lecturer) → List Key = λ ls. map (λ l. l.row.key) ls in
-    λ i. record {
-      round = w.round;
-      phase = w.phase;
-      office_code = w.office;
+    λ i. record (office_sees w) {
       lecturers = map_same (λ (l : rows.Lecturer). l.row) (with_ranking k list) (ranking_row k list) w.lecturers i;
-      projects = w.projects;
-      students = map (λ s. s.row) w.students;
       catalogue = catalogue_ranked w k list i;
-      without_list = map (λ s. s.row.key) (filter (λ s. is_empty s.choice) (in_play w).students);
       still_to_rank = ((λ j. cond (is_from_ranking (e j)) (own (filter (is_still_to_rank to) to.lecturers)) [])
           ∙ chosen_after (λ l. l.row.key) (is_still_to_rank w) (with_ranking k list) (λ x. not (equals x k)) (λ l. ap (λ r. r.key) (ranking_row k list l)) (still w k list) w.lecturers
           ∙ sym (λ j. filter (λ x. not (equals x k)) (cond (is_from_ranking (e j)) (own (filter (is_still_to_rank w) w.lecturers)) []))) i;
-      pairs = pairs_of w;
     }

@@ -1,7 +1,7 @@
 -- What the pairs of the first round's result leave is what the world's students leave.
-use Rattle.portal_core.proofs.Base.{◌≡◌, ℕ, suc, ◌-◌, Bool, true, false, cond, List, [], ◌∷◌, map, length, refl, sym, ◌∙◌, ap, filter, count_by, nat_lt, ◌&&◌, ◌||◌, Option, Some, None, option_map, list_any, filter_map, cons_option, length-filter, Key, equals, has, is_at, project_key, given_to, given_with, lowered_project, students_at, pairs_among, own_keys, LecturerRow, ProjectRow}
-use Rattle.portal_core.specs.World.{Student, pairs_with}
-use Rattle.portal_core.specs.inner.Room.{project_left, lecturer_left}
+use Rattle.portal_core.proofs.Base.{◌≡◌, ℕ, ◌-◌, Bool, false, cond, List, [], ◌∷◌, map, length, refl, sym, ◌∙◌, filter, count_by, nat_lt, ◌&&◌, Option, Some, None, option_map, list_any, filter_map, length-filter, Key, equals, has, is_at, project_key, given_to, given_with, lowered_project, students_at, pairs_among, own_keys, LecturerRow, ProjectRow, arith, pairs_with, project_left, lecturer_left}
+use Rattle.portal_core.specs.World.{Student}
+use Rattle.portal_core.proofs.InPlay.{given_none}
 use Rattle.portal_core.proofs.AllLaws.{any_map, filtered_any}
 
 -- the project passes, if there is one
@@ -12,31 +12,16 @@ passes q (Some k) = q k
 module _ (q : Key → Bool) (place : Student → Option Key) where
   as_many : (ss : List Student) → length (filter (λ (x : Key × Key). q x.1) (pairs_with place ss)) ≡ length (filter (λ s. passes q (place s)) ss)
   as_many [] = refl
-  as_many (s ∷ ss) = at (place s) (as_many ss)
-    where
-      here : (k : Key) (b : Bool) (among : List (Key × Key)) (others : List Student) → length among ≡ length others → length (cond b ((s.row.key, k) ∷ among) among) ≡ length (cond b (s ∷ others) others)
-      here k true among others rest = ap suc rest
-      here k false among others rest = rest
-
-      at : (o : Option Key) → length (filter (λ (x : Key × Key). q x.1) (pairs_with place ss)) ≡ length (filter (λ t. passes q (place t)) ss)
-          → length (filter (λ (x : Key × Key). q x.1) (cons_option (option_map (λ k. (s.row.key, k)) o) (pairs_with place ss)))
-          ≡ length (cond (passes q o) (s ∷ filter (λ t. passes q (place t)) ss) (filter (λ t. passes q (place t)) ss))
-      at None rest = rest
-      at (Some k) rest = here k (q k) (filter (λ (x : Key × Key). q x.1) (pairs_with place ss)) (filter (λ t. passes q (place t)) ss) rest
+  as_many (s ∷ ss) = grind (arith, as_many ss)
 
   counted : (ss : List Student) → count_by (λ (x : Key × Key). q x.1) (pairs_with place ss) ≡ count_by (λ s. passes q (place s)) ss
   counted ss = sym (length-filter (λ (x : Key × Key). q x.1) (pairs_with place ss)) ∙ as_many ss ∙ length-filter (λ s. passes q (place s)) ss
 
 at_it : (p : Key) (o : Option Key) → passes (λ k. equals k p) o ≡ is_at p o
-at_it p None = refl
-at_it p (Some k) = refl
-
-nobody : (l : Key) (ps : List ProjectRow) → false ≡ list_any (λ p. equals p.lecturer l && false) ps
-nobody l [] = refl
-nobody l (p ∷ ps) = elim (equals p.lecturer l) as (λ b. false ≡ ((b && false) || list_any (λ p. equals p.lecturer l && false) ps)) [ true ↦ nobody l ps | false ↦ nobody l ps ]
+at_it p o = grind arith
 
 at_one : (ps : List ProjectRow) (l : Key) (o : Option Key) → passes (has (own_keys ps l)) o ≡ list_any (λ p. equals p.lecturer l && is_at p.key o) ps
-at_one ps l None = nobody l ps
+at_one ps l None = sym (given_none ps l)
 at_one ps l (Some k) = any_map (equals k) project_key (filter (λ p. equals p.lecturer l) ps) ∙ filtered_any (λ p. equals k p.key) (λ p. equals p.lecturer l) ps
 
 module _ (ss : List Student) where
@@ -50,7 +35,7 @@ module _ (ss : List Student) where
   among_is ps l = counted (has (own_keys ps l)) (λ s. s.earlier_placement) ss ∙ (λ i. count_by (λ s. at_one ps l s.earlier_placement i) ss)
 
   room_case : {X : Type 0} (f : ℕ → X) (n : ℕ) → option_map f (cond (nat_lt 0 n) (Some n) None) ≡ cond (nat_lt 0 n) (Some (f n)) None
-  room_case {X} f n = elim (nat_lt 0 n) as (λ b. option_map f (cond b (Some n) None) ≡ cond b (Some (f n)) None) [ true ↦ refl | false ↦ refl ]
+  room_case f n = grind arith
 
   pub project_left_is : (p : ProjectRow) → project_left pairs p ≡ cond (nat_lt 0 (lowered_project ss p).capacity) (Some (lowered_project ss p)) None
   project_left_is p = room_case (λ n. record p { capacity = n }) (p.capacity - students_at pairs p.key) ∙ (λ i. cond (nat_lt 0 (p.capacity - to_is p.key i)) (Some (record p { capacity = p.capacity - to_is p.key i })) None)
@@ -64,8 +49,4 @@ module _ (ss : List Student) where
 -- what is left of each, where there is something left
 pub each_left : {X Y : Type 0} (h : X → Option Y) (q : Y → Bool) (f : X → Y) → ((x : X) → h x ≡ cond (q (f x)) (Some (f x)) None) → (xs : List X) → filter_map h xs ≡ filter q (map f xs)
 each_left h q f each [] = refl
-each_left {X} {Y} h q f each (x ∷ xs) = (λ i. cons_option (each x i) (each_left h q f each xs i)) ∙ at (q (f x))
-  where
-    at : (b : Bool) → cons_option (cond b (Some (f x)) None) (filter q (map f xs)) ≡ cond b (f x ∷ filter q (map f xs)) (filter q (map f xs))
-    at true = refl
-    at false = refl
+each_left h q f each (x ∷ xs) = grind (arith, each x, each_left h q f each xs)

@@ -1,9 +1,7 @@
--- Worlds that differ in the order within students' lists show the same, but for these lists, and stay so.
-use Rattle.portal_core.proofs.Base.{◌≡◌, Bool, true, false, cond, List, [], ◌∷◌, refl, sym, ◌∙◌, ap, subst, count_by, map, filter, Option, Some, None, option_map, not, ◌&&◌, is_none, list_any, find, filter_map, cons_option, AllZip, Key, equals, has, is_empty, is_before, put, put_all, World, lecturer_key, project_key, student_key, applicants_to, projects_of, applicants_of, placed_at, is_at, is_left, shown_placement, in_play, given_to, given_with, lowered_lecturer, lowered_project, lecturers_left, projects_left, students_left, lecturers_in, projects_in, students_in, pairs_of, is_still_to_rank, is_from_ranking, Round, First, Second, Phase, Published, ProjectRow, count_by-map, Change, Choices, Ranks, Lecturers, Projects, Students, To, Placements, Fill, SecondRound, changed, opened, ranked_before, placed_before, in_first, with_lecturers, with_projects, with_students, with_choice, with_ranking, with_place, with_fill, placement_in, new_lecturer, new_student, Person, Office, Lecturer, Student, OfficeCaller, caller_among, lecturer_with, student_with, sight_of, view, student_sees, lecturer_sees, office_sees, persons, listings, catalogue, Reordered, SameButPlaces}
+-- Worlds that differ in the order within students' lists show all but the lists alike, and stay so.
+use Rattle.portal_core.proofs.Base.{◌≡◌, Bool, true, false, cond, List, [], ◌∷◌, refl, sym, ◌∙◌, ap, subst, map, filter, Option, Some, None, option_map, not, ◌&&◌, is_none, list_any, find, filter_map, cons_option, AllZip, Key, equals, has, is_empty, put, put_all, World, lecturer_key, project_key, student_key, applicants_to, projects_of, applicants_of, placed_at, is_at, shown_placement, students_in, is_still_to_rank, is_from_ranking, Round, First, Second, Phase, Published, Change, Choices, Ranks, Lecturers, Projects, Students, To, Placements, Fill, SecondRound, changed, opened, ranked_before, placed_before, in_first, with_lecturers, with_projects, with_students, with_choice, with_ranking, with_place, with_fill, new_lecturer, new_student, Person, Office, Lecturer, Student, OfficeCaller, caller_among, lecturer_with, student_with, sight_of, view, student_sees, lecturer_sees, office_sees, persons, listings, catalogue, Reordered, SameButPlaces, arith, Sight, SameStudent}
 use Rattle.portal_core.specs.World as rows
-use Rattle.portal_core.specs.declared.view.View.{View as Sight}
-use Rattle.portal_core.specs.Places.{SameStudent}
-use Rattle.portal_core.proofs.InPlay.{lecturers_given, projects_given}
+use Rattle.portal_core.proofs.Zips.{zip_by, zip_same, zip_mapped, zip_in, zip_lecturers, zip_projects}
 use Rattle.portal_core.proofs.Kept.{empty_map}
 use Rattle.portal_core.proofs.Reorder.{any_reordered, empty_reordered, reordered_itself}
 
@@ -11,77 +9,25 @@ use Rattle.portal_core.proofs.Reorder.{any_reordered, empty_reordered, reordered
 
 pub zip_filter : {Y : Type 0} (f : rows.Student → Y) (p : rows.Student → Bool) → ((s t : rows.Student) → SameStudent s t → f s ≡ f t) → ((s t : rows.Student) → SameStudent s t → p s ≡ p t)
     → (ss ts : List rows.Student) → AllZip SameStudent ss ts → map f (filter p ss) ≡ map f (filter p ts)
-zip_filter f p same alike [] [] z = refl
-zip_filter f p same alike [] (t ∷ ts) z = absurd z
-zip_filter f p same alike (s ∷ ss) [] z = absurd z
-zip_filter f p same alike (s ∷ ss) (t ∷ ts) z =
-    subst (λ b. map f (cond (p s) (s ∷ filter p ss) (filter p ss)) ≡ map f (cond b (t ∷ filter p ts) (filter p ts))) (alike s t z.0)
-    (elim (p s) as (λ b. map f (cond b (s ∷ filter p ss) (filter p ss)) ≡ map f (cond b (t ∷ filter p ts) (filter p ts))) [
-      | true ↦ λ i. same s t z.0 i ∷ zip_filter f p same alike ss ts z.1 i
-      | false ↦ zip_filter f p same alike ss ts z.1
-    ])
-
-zip_map : {Y : Type 0} (f : rows.Student → Y) → ((s t : rows.Student) → SameStudent s t → f s ≡ f t) → (ss ts : List rows.Student) → AllZip SameStudent ss ts → map f ss ≡ map f ts
-zip_map f same [] [] z = refl
-zip_map f same [] (t ∷ ts) z = absurd z
-zip_map f same (s ∷ ss) [] z = absurd z
-zip_map f same (s ∷ ss) (t ∷ ts) z = λ i. same s t z.0 i ∷ zip_map f same ss ts z.1 i
+zip_filter f p same alike = zip_by SameStudent (λ ss ts. map f (filter p ss) ≡ map f (filter p ts)) refl (λ s t ss ts z e. grind (arith, same s t z, alike s t z, e))
 
 zip_some : {Y : Type 0} (f : rows.Student → Option Y) → ((s t : rows.Student) → SameStudent s t → f s ≡ f t) → (ss ts : List rows.Student) → AllZip SameStudent ss ts → filter_map f ss ≡ filter_map f ts
-zip_some f same [] [] z = refl
-zip_some f same [] (t ∷ ts) z = absurd z
-zip_some f same (s ∷ ss) [] z = absurd z
-zip_some f same (s ∷ ss) (t ∷ ts) z = λ i. cons_option (same s t z.0 i) (zip_some f same ss ts z.1 i)
+zip_some f same = zip_by SameStudent (λ ss ts. filter_map f ss ≡ filter_map f ts) refl (λ s t ss ts z e i. cons_option (same s t z i) (e i))
 
-zip_with : (f g : rows.Student → rows.Student) → ((s t : rows.Student) → SameStudent s t → SameStudent (f s) (g t)) → (ss ts : List rows.Student) → AllZip SameStudent ss ts → AllZip SameStudent (map f ss) (map g ts)
-zip_with f g same [] [] z = tt
-zip_with f g same [] (t ∷ ts) z = absurd z
-zip_with f g same (s ∷ ss) [] z = absurd z
-zip_with f g same (s ∷ ss) (t ∷ ts) z = (same s t z.0, zip_with f g same ss ts z.1)
+same_itself : (x : rows.Student) → SameStudent x x
+same_itself x = record { row = refl; choice = reordered_itself x.choice; placed = refl; earlier_choice = reordered_itself x.earlier_choice; earlier_placement = refl }
 
 zip_put : (x : rows.Student) (ss ts : List rows.Student) → AllZip SameStudent ss ts → AllZip SameStudent (put student_key x ss) (put student_key x ts)
-zip_put x [] [] z = (record { row = refl; choice = reordered_itself x.choice; placed = refl; earlier_choice = reordered_itself x.earlier_choice; earlier_placement = refl }, tt)
-zip_put x [] (t ∷ ts) z = absurd z
-zip_put x (s ∷ ss) [] z = absurd z
-zip_put x (s ∷ ss) (t ∷ ts) z =
-    subst (λ r. AllZip SameStudent (cond (is_before x.row.key s.row.key) (x ∷ s ∷ ss) (s ∷ put student_key x ss)) (cond (is_before x.row.key r.key) (x ∷ t ∷ ts) (t ∷ put student_key x ts))) z.0.row
-    (elim (is_before x.row.key s.row.key) as (λ b. AllZip SameStudent (cond b (x ∷ s ∷ ss) (s ∷ put student_key x ss)) (cond b (x ∷ t ∷ ts) (t ∷ put student_key x ts))) [
-      | true ↦ (record { row = refl; choice = reordered_itself x.choice; placed = refl; earlier_choice = reordered_itself x.earlier_choice; earlier_placement = refl }, z)
-      | false ↦ (z.0, zip_put x ss ts z.1)
-    ])
+zip_put x [] [] z = (same_itself x, tt)
+zip_put x (s ∷ ss) (t ∷ ts) z = grind (arith, z.0.row, same_itself x, zip_put x ss ts z.1)
+zip_put x ss ts z = grind arith
 
 zip_put_all : (xs ss ts : List rows.Student) → AllZip SameStudent ss ts → AllZip SameStudent (put_all student_key xs ss) (put_all student_key xs ts)
 zip_put_all [] ss ts z = z
 zip_put_all (x ∷ xs) ss ts z = zip_put_all xs (put student_key x ss) (put student_key x ts) (zip_put x ss ts z)
 
-zip_left : (ss ts : List rows.Student) → AllZip SameStudent ss ts → AllZip SameStudent (students_left ss) (students_left ts)
-zip_left [] [] z = tt
-zip_left [] (t ∷ ts) z = absurd z
-zip_left (s ∷ ss) [] z = absurd z
-zip_left (s ∷ ss) (t ∷ ts) z =
-    subst (λ o. AllZip SameStudent (cond (is_left s) (s ∷ students_left ss) (students_left ss)) (cond (is_none o) (t ∷ students_left ts) (students_left ts))) z.0.earlier_placement
-    (elim (is_left s) as (λ b. AllZip SameStudent (cond b (s ∷ students_left ss) (students_left ss)) (cond b (t ∷ students_left ts) (students_left ts))) [
-      | true ↦ (z.0, zip_left ss ts z.1)
-      | false ↦ zip_left ss ts z.1
-    ])
-
-zip_in : (r : Round) (ss ts : List rows.Student) → AllZip SameStudent ss ts → AllZip SameStudent (students_in r ss) (students_in r ts)
-zip_in First ss ts z = z
-zip_in Second ss ts z = zip_left ss ts z
-
 same_shown : (phase : Phase) (s t : rows.Student) → SameStudent s t → shown_placement phase s ≡ shown_placement phase t
 same_shown phase s t same = λ i. shown_placement phase (record s { placed = same.placed i; earlier_placement = same.earlier_placement i })
-
--- what is left depends on the earlier places alone
-module _ (ss ts : List rows.Student) (z : AllZip SameStudent ss ts) where
-  count_same : (q : Option Key → Bool) → count_by (λ (s : rows.Student). q s.earlier_placement) ss ≡ count_by (λ s. q s.earlier_placement) ts
-  count_same q = sym (count_by-map q (λ (s : rows.Student). s.earlier_placement) ss) ∙ ap (count_by q) (zip_map (λ s. s.earlier_placement) (λ s t same. same.earlier_placement) ss ts z) ∙ count_by-map q (λ (s : rows.Student). s.earlier_placement) ts
-
-  lecturers_same : (r : Round) (ls : List rows.Lecturer) (ps : List ProjectRow) → lecturers_in r ls ps ss ≡ lecturers_in r ls ps ts
-  lecturers_same = lecturers_given ss ts (λ p. count_same (is_at p)) (λ ps l. count_same (λ o. list_any (λ p. equals p.lecturer l && is_at p.key o) ps))
-
-  projects_same : (r : Round) (ls : List rows.Lecturer) (ps : List ProjectRow) → projects_in r ls ps ss ≡ projects_in r ls ps ts
-  projects_same = projects_given ss ts (λ p. count_same (is_at p)) (λ ps l. count_same (λ o. list_any (λ p. equals p.lecturer l && is_at p.key o) ps))
 
 -- whom a code names
 
@@ -91,15 +37,7 @@ SameFound (Some s) (Some t) = SameStudent s t
 SameFound _ _ = ⊥
 
 same_found : (c : Key) (ss ts : List rows.Student) → AllZip SameStudent ss ts → SameFound (find (λ s. equals s.row.code c) ss) (find (λ s. equals s.row.code c) ts)
-same_found c [] [] z = tt
-same_found c [] (t ∷ ts) z = absurd z
-same_found c (s ∷ ss) [] z = absurd z
-same_found c (s ∷ ss) (t ∷ ts) z =
-    subst (λ r. SameFound (cond (equals s.row.code c) (Some s) (find (λ s. equals s.row.code c) ss)) (cond (equals r.code c) (Some t) (find (λ s. equals s.row.code c) ts))) z.0.row
-    (elim (equals s.row.code c) as (λ b. SameFound (cond b (Some s) (find (λ s. equals s.row.code c) ss)) (cond b (Some t) (find (λ s. equals s.row.code c) ts))) [
-      | true ↦ z.0
-      | false ↦ same_found c ss ts z.1
-    ])
+same_found c = zip_by SameStudent (λ ss ts. SameFound (find (λ s. equals s.row.code c) ss) (find (λ s. equals s.row.code c) ts)) tt (λ s t ss ts z e. grind (arith, z.row, e))
 
 -- what is seen, but for the own list
 
@@ -120,8 +58,11 @@ module _ (w : World) (ss ts : List rows.Student) (z : AllZip SameStudent ss ts) 
   same_person : (s t : rows.Student) → SameStudent s t → person_of s ≡ person_of t
   same_person s t same = λ i. record { key = (same.row i).key; name = (same.row i).name }
 
+  left : (s t : rows.Student) → SameStudent s t → t.earlier_placement ≡ s.earlier_placement
+  left s t same = sym same.earlier_placement
+
   catalogue_same : catalogue one ≡ catalogue other
-  catalogue_same = λ i. listings (lecturers_same ss ts z w.round w.lecturers w.projects i) (projects_same ss ts z w.round w.lecturers w.projects i)
+  catalogue_same = λ i. listings (sym (zip_lecturers SameStudent left ss ts z w.round w.lecturers w.projects) i) (sym (zip_projects SameStudent left ss ts z w.round w.lecturers w.projects) i)
 
   applicants_same : (p : Key) → persons (applicants_to one p) ≡ persons (applicants_to other p)
   applicants_same p = zip_filter person_of (λ s. has s.choice p) same_person (λ s t same. any_reordered (equals p) s.choice t.choice same.choice) ss ts z
@@ -145,9 +86,9 @@ module _ (w : World) (ss ts : List rows.Student) (z : AllZip SameStudent ss ts) 
 
   office_same : office_sees one ≡ office_sees other
   office_same = λ i. record (office_sees one) {
-    students = zip_map (λ s. s.row) (λ s t same. same.row) ss ts z i;
+    students = sym (zip_same SameStudent (λ s. s.row) (λ s t same. sym same.row) ss ts z) i;
     catalogue = catalogue_same i;
-    without_list = zip_filter student_key (λ s. is_empty s.choice) (λ s t same. ap (λ r. r.key) same.row) (λ s t same. empty_reordered s.choice t.choice same.choice) (students_in w.round ss) (students_in w.round ts) (zip_in w.round ss ts z) i;
+    without_list = zip_filter student_key (λ s. is_empty s.choice) (λ s t same. ap (λ r. r.key) same.row) (λ s t same. empty_reordered s.choice t.choice same.choice) (students_in w.round ss) (students_in w.round ts) (zip_in SameStudent left w.round ss ts z) i;
     still_to_rank = cond (is_from_ranking w.phase) (map lecturer_key (filter (λ l. ranked_same l i) w.lecturers)) [];
     pairs = zip_some (λ s. option_map (λ p. (s.row.key, p)) (shown_placement w.phase s)) (λ s t same. λ j. option_map (λ p. ((same.row j).key, p)) (same_shown w.phase s t same j)) ss ts z i;
   }
@@ -171,8 +112,7 @@ module _ (w : World) (ss ts : List rows.Student) (z : AllZip SameStudent ss ts) 
   seen_same false (Some l) o p f = ap Lecturer (lecturer_same l)
   seen_same false None (Some s) (Some t) f = student_same s t f
   seen_same false None None None f = refl
-  seen_same false None (Some s) None f = absurd f
-  seen_same false None None (Some t) f = absurd f
+  seen_same b l o p f = grind arith
 
   pub view_same : (c : Key) → SameSight (view one c) (view other c)
   view_same c = seen_same (equals w.office c) (lecturer_with w c) (student_with one c) (student_with other c) (same_found c ss ts z)
@@ -187,15 +127,10 @@ same_view v w s c = subst (λ u. SameSight (view u c) (view w c)) (sym (but_stud
 -- a change of both
 
 pub both_choose : (v w : World) (k : Key) (ks ls : List Key) → Reordered ks ls → SameButPlaces v w → SameButPlaces (changed v (Choices k ks)) (changed w (Choices k ls))
-both_choose v w k ks ls r s = record { round = s.round; phase = s.phase; office = s.office; lecturers = s.lecturers; projects = s.projects; students = zip_with (with_choice k ks) (with_choice k ls) each v.students w.students s.students }
+both_choose v w k ks ls r s = record { round = s.round; phase = s.phase; office = s.office; lecturers = s.lecturers; projects = s.projects; students = zip_mapped SameStudent (with_choice k ks) (with_choice k ls) each v.students w.students s.students }
   where
     each : (s t : rows.Student) → SameStudent s t → SameStudent (with_choice k ks s) (with_choice k ls t)
-    each s t same =
-        subst (λ r. SameStudent (with_choice k ks s) (cond (equals r.key k) (record t { choice = ls }) t)) same.row
-        (elim (equals s.row.key k) as (λ b. SameStudent (cond b (record s { choice = ks }) s) (cond b (record t { choice = ls }) t)) [
-          | true ↦ record { row = same.row; choice = r; placed = same.placed; earlier_choice = same.earlier_choice; earlier_placement = same.earlier_placement }
-          | false ↦ same
-        ])
+    each s t same = grind (arith, same.row, same.choice, same.placed, same.earlier_choice, same.earlier_placement, r)
 
 -- new rows of both, in the first round
 both_first : (v w p q : World) → SameButPlaces v w → SameButPlaces p q → SameButPlaces (in_first v.round p v) (in_first w.round q w)
@@ -208,17 +143,10 @@ both_opened v w s =
     (subst (λ p. SameButPlaces (opened v.round v.phase v) (opened v.round p w)) s.phase (go v.round v.phase))
   where
     each : (s t : rows.Student) → SameStudent s t → SameStudent (placed_before s) (placed_before t)
-    each s t same =
-        record {
-          row = same.row;
-          choice = reordered_itself [];
-          placed = refl;
-          earlier_choice = same.choice;
-          earlier_placement = ap (λ o. (placed_before (record s { placed = o })).earlier_placement) same.placed;
-        }
+    each s t same = grind (arith, same.row, same.choice, same.placed, reordered_itself [])
 
     go : (r : Round) (p : Phase) → SameButPlaces (opened r p v) (opened r p w)
-    go First Published = record { round = refl; phase = refl; office = s.office; lecturers = ap (map ranked_before) s.lecturers; projects = s.projects; students = zip_with placed_before placed_before each v.students w.students s.students }
+    go First Published = record { round = refl; phase = refl; office = s.office; lecturers = ap (map ranked_before) s.lecturers; projects = s.projects; students = zip_mapped SameStudent placed_before placed_before each v.students w.students s.students }
     go First _ = s
     go Second _ = s
 
@@ -230,21 +158,10 @@ both_changed v w (Projects rows) s = both_first v w (with_projects v rows) (with
 both_changed v w (Students rows) s = both_first v w (with_students v rows) (with_students w rows) s (record { round = s.round; phase = s.phase; office = s.office; lecturers = s.lecturers; projects = s.projects; students = zip_put_all (map new_student rows) v.students w.students s.students })
 both_changed v w (To phase) s = record { round = s.round; phase = refl; office = s.office; lecturers = s.lecturers; projects = s.projects; students = s.students }
 both_changed v w Fill s =
-    record {
-      round = s.round;
-      phase = s.phase;
-      office = s.office;
-      lecturers = subst (λ u. map (with_fill u) u.lecturers ≡ map (with_fill w) w.lecturers) (sym (but_students v w s)) (fill_same w v.students w.students s.students);
-      projects = s.projects;
-      students = s.students;
-    }
+    let lecturers = subst (λ u. map (with_fill u) u.lecturers ≡ map (with_fill w) w.lecturers) (sym (but_students v w s)) (fill_same w v.students w.students s.students) in
+    assumption
 both_changed v w SecondRound s = both_opened v w s
-both_changed v w (Placements pairs) s = record { round = s.round; phase = refl; office = s.office; lecturers = s.lecturers; projects = s.projects; students = zip_with (with_place pairs) (with_place pairs) each v.students w.students s.students }
+both_changed v w (Placements pairs) s = record { round = s.round; phase = refl; office = s.office; lecturers = s.lecturers; projects = s.projects; students = zip_mapped SameStudent (with_place pairs) (with_place pairs) each v.students w.students s.students }
   where
     each : (s t : rows.Student) → SameStudent s t → SameStudent (with_place pairs s) (with_place pairs t)
-    each s t same =
-        subst (λ o. SameStudent (with_place pairs s) (cond (is_none o) (record t { placed = placement_in pairs t.row.key }) t)) same.earlier_placement
-        (elim (is_left s) as (λ b. SameStudent (cond b (record s { placed = placement_in pairs s.row.key }) s) (cond b (record t { placed = placement_in pairs t.row.key }) t)) [
-          | true ↦ record { row = same.row; choice = same.choice; placed = ap (λ r. placement_in pairs r.key) same.row; earlier_choice = same.earlier_choice; earlier_placement = same.earlier_placement }
-          | false ↦ same
-        ])
+    each s t same = grind (arith, same.row, same.choice, same.placed, same.earlier_choice, same.earlier_placement)

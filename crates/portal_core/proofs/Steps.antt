@@ -1,5 +1,5 @@
--- A step from a good world leads to a good world.
-use Rattle.portal_core.proofs.Base.{◌≡◌, true, false, refl, sym, ◌∙◌, ap, subst, Key, World, is_setup, is_ranking, is_published, is_from_ranking, is_second, Round, First, Second, Choices, Ranks, To, Placements, Fill, changed, opened, in_first, with_lecturers, with_projects, with_students, Phase, Setup, Choosing, Ranking, Published, Caller, NoCaller, OfficeCaller, LecturerCaller, StudentCaller, caller, sight_of, office_sees, lecturer_sees, student_sees, AbstractCall, Answer, Decision, is_open_to_rolls, refuses, decision, Good, IsRound, Sound, IsBest, instance, matching_of, StepLeaves, Step, HasForm}
+-- A step from a good world leads to a good world, and so does a run.
+use Rattle.portal_core.proofs.Base.{List, [], ◌∷◌, AllByRecursion, Request, Serves, Run, ◌≡◌, true, false, refl, sym, ◌∙◌, ap, subst, Key, World, is_setup, is_ranking, is_published, is_from_ranking, is_second, Round, First, Choices, Ranks, To, Placements, Fill, changed, opened, in_first, with_lecturers, with_projects, with_students, Phase, Choosing, Ranking, Published, Caller, NoCaller, OfficeCaller, LecturerCaller, StudentCaller, caller, sight_of, office_sees, lecturer_sees, student_sees, AbstractCall, Answer, Decision, is_open_to_rolls, refuses, decision, Good, IsRound, Sound, IsBest, instance, matching_of, StepLeaves, Step, HasForm, arith}
 use Rattle.portal_core.proofs.Cases.{by_student, by_lecturer, by_office}
 use Rattle.portal_core.proofs.Unseen.{choosing_open, student_found}
 use Rattle.portal_core.proofs.Kept.{not_published, to_choosing, to_ranking, to_published, all_ranked, choosing, ranking}
@@ -8,28 +8,17 @@ use Rattle.portal_core.proofs.Enrol.{open_phase, lecturers_added, projects_added
 use Rattle.portal_core.proofs.Opened.{opened_good, opens_to, first_chosen, first_ranked, first_filled, alone_left}
 
 pub ranking_open : (phase : Phase) → is_ranking phase ≡ true → is_published phase ≡ false
-ranking_open Setup e = refl
-ranking_open Choosing e = refl
-ranking_open Ranking e = refl
-ranking_open Published e = cc
+ranking_open phase e = grind arith
 
 rolls_first : (round : Round) (phase : Phase) → is_open_to_rolls round phase ≡ true → round ≡ First
-rolls_first First phase e = refl
-rolls_first Second phase e = cc
+rolls_first round phase e = grind arith
 
 pub rolls_early : (round : Round) (phase : Phase) → is_open_to_rolls round phase ≡ true → is_from_ranking phase ≡ false
-rolls_early First Setup e = refl
-rolls_early First Choosing e = refl
-rolls_early First Ranking e = cc
-rolls_early First Published e = cc
-rolls_early Second phase e = cc
+rolls_early round phase e = grind arith
 
 module _ (w v : World) (code : Key) (g : Good w) where
   none_before : {P : Type 0} → w.round ≡ First → is_second w.round ≡ true → P
-  none_before one h = let none : is_second w.round ≡ false = ap is_second one in let no' : false ≡ true = sym none ∙ h in cc
-
-  same : v ≡ w → Good v
-  same e = subst Good (sym e) g
+  none_before one h = cc
 
   becomes : (u : World) → Good u → v ≡ u → Good v
   becomes u h e = subst Good (sym e) h
@@ -39,7 +28,7 @@ module _ (w v : World) (code : Key) (g : Good w) where
   Leads ask d = HasForm ask → StepLeaves w d.act v → Good v
 
   idle : (ask : AbstractCall) (reply : Answer) → Leads ask (refuses reply)
-  idle ask reply form left = same left
+  idle ask reply form left = becomes w g left
 
   -- new rows, which the first round alone takes
   enrolled : (u : World) → is_open_to_rolls w.round w.phase ≡ true → (is_from_ranking w.phase ≡ false → w.round ≡ First → Sound u) → u.round ≡ w.round → u.phase ≡ w.phase → v ≡ in_first w.round u w → Good v
@@ -50,7 +39,7 @@ module _ (w v : World) (code : Key) (g : Good w) where
       (e ∙ ap (λ r. in_first r u w) one)
 
   pub step_case : (x : Caller) → caller w code ≡ x → (ask : AbstractCall) → Leads ask (decision (sight_of w x) ask)
-  step_case NoCaller is ask = λ form left. same left
+  step_case NoCaller is ask = λ form left. becomes w g left
   step_case (StudentCaller s) is ask =
       by_student Leads idle (student_sees w s)
       (λ list now left none form.
@@ -77,8 +66,21 @@ module _ (w v : World) (code : Key) (g : Good w) where
             left.1;
         opened = λ one at form left. becomes (opened First Published w) (opened_good w g one at) (left ∙ opens_to w one at);
         filled = λ now some form. becomes _ (not_published (changed w Fill) (filling w g.sound now) (ranking_open w.phase now) (λ h. subst IsRound (sym (first_filled w)) (g.before h)));
-        sheets = λ ask text sheet calm form left. same left;
+        sheets = λ ask text sheet calm form left. becomes w g left;
       }) ask
 
 pub step_good : (w v : World) (code : Key) (ask : AbstractCall) (reply : Answer) → Good w → Step w code ask reply v → Good v
 step_good w v code ask reply g s = step_case w v code g (caller w code) refl ask s.form s.left
+
+-- what each step keeps holds of each world that a run reaches, as that it is good
+module _ (P : World → Type 0) (step : (w v : World) (code : Key) (ask : AbstractCall) (reply : Answer) → P w → Step w code ask reply v → P v) where
+  served_keeps : (w v : World) (r : Request) (a : Answer) → P w → Serves w r a v → P v
+  served_keeps w v r a p s = grind (arith, step w v r.code)
+
+  pub run_keeps : (w : World) (asked : List Request) (told : List Answer) (after : List World) → P w → Run w asked told after → AllByRecursion P after
+  run_keeps w asked told [] p run = tt
+  run_keeps w (r ∷ rs) (a ∷ told) (v ∷ after) p run = let next : P v = served_keeps w v r a p run.0 in (next, run_keeps v rs told after next run.1)
+  run_keeps w asked told after p run = grind arith
+
+pub run_good : (w : World) (asked : List Request) (told : List Answer) (after : List World) → Good w → Run w asked told after → AllByRecursion Good after
+run_good = run_keeps Good step_good

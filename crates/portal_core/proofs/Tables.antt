@@ -1,44 +1,25 @@
 -- A table after one more text or row was put in.
-use Rattle.portal_core.proofs.Base.{◌≡◌, ℕ, ◌+◌, ◌<◌, Bool, true, false, cond, List, [], ◌∷◌, ◌++◌, map, reverse, length, take, get_or, Option, Some, None, refl, sym, ◌∙◌, ap, subst, append_assoc, append-nil, add-one, or-true, reverse-append, list_any_more, ◌||◌, not, option_map, IfSome, list_any, find, text_eq, Key, equals, has, Person, is_assigned, placement_in, HasTexts, HasRows, HasKeys}
-use Rattle.std.proofs.Common.{Bor}
-use Rattle.std.proofs.Math.Bool.{or-false, or_assoc}
+use Rattle.portal_core.proofs.Base.{◌≡◌, ℕ, ◌+◌, ◌<◌, Bool, true, List, [], ◌∷◌, ◌++◌, map, reverse, length, take, get_or, Option, Some, refl, sym, ◌∙◌, ap, subst, append_assoc, append-nil, add-one, reverse-append, list_any_more, ◌||◌, not, option_map, list_any, find, text_eq, Key, equals, has, Person, is_assigned, placement_in, HasTexts, HasRows, HasKeys, arith, Bor, or_assoc, map-append, is_some}
 use Rattle.std.proofs.Math.Seq.{take-suc, take-length}
-use Rattle.std.proofs.lemmas.List.{map-append}
-use Rattle.std.specs.Prelude.{is_some}
 use Rattle.std.specs.HashMap as hash
 use Rattle.std.specs.HashMap.{HashMap}
 use Rattle.std.specs.HashSet as set
 use Rattle.std.specs.HashSet.{HashSet}
 use Rattle.portal_core.proofs.Keys.{is_same}
-use Rattle.portal_core.proofs.AllLaws.{any_alike, is_sym, or_swap}
+use Rattle.portal_core.proofs.AllLaws.{any_alike, is_sym}
 
 any_between : {X : Type 0} (p : X → Bool) (front : List X) (x : X) (rest : List X) → list_any p (front ++ x ∷ rest) ≡ (p x || list_any p (front ++ rest))
 any_between p [] x rest = refl
-any_between p (y ∷ ys) x rest = ap (λ b. p y || b) (any_between p ys x rest) ∙ or_swap (p y) (p x) (list_any p (ys ++ rest))
-
-either : (b c : Bool) → cond b true c ≡ (b || c)
-either true c = refl
-either false c = refl
+any_between p (y ∷ ys) x rest = grind (arith, any_between p ys x rest)
 
 pub text_put : {S : Type 0} (front rest : List Key) (s t : HashSet (Bor Key) S) (k : Bor Key) (x : Key) → set.Updates text_eq s t k true → k.now ≡ x → HasTexts (front ++ rest) s → HasTexts (front ++ x ∷ rest) t
-text_put front rest s t k x updates is_x was = λ q.
-    updates.0 q ∙ either (equals k.now q.now) (set.contains text_eq s q)
-    ∙ ap (λ b. b || set.contains text_eq s q) (is_sym k.now q.now ∙ ap (equals q.now) is_x)
-    ∙ ap (λ b. equals q.now x || b) (was q)
-    ∙ sym (any_between (equals q.now) front x rest)
+text_put front rest s t k x updates is_x was = λ q. grind (arith, updates.0 q, was q, is_x, is_sym k.now q.now, any_between (equals q.now) front x rest)
 
 pub text_push : {S : Type 0} (texts : List Key) (s t : HashSet (Bor Key) S) (k : Bor Key) (x : Key) → set.Updates text_eq s t k true → k.now ≡ x → HasTexts texts s → HasTexts (texts ++ x ∷ []) t
 text_push texts s t k x updates is_x was = text_put texts [] s t k x updates is_x (subst (λ ts. HasTexts ts s) (sym (append-nil texts)) was)
 
-found : {X : Type 0} (b : Bool) (v : Bor X) (o : Option (Bor X)) → option_map (λ row. row.now) (cond b (Some v) o) ≡ cond b (Some v.now) (option_map (λ row. row.now) o)
-found true v o = refl
-found false v o = refl
-
 pub row_put : {X S : Type 0} (key : X → Key) (rows : List X) (s t : HashMap (Bor Key) (Bor X) S) (k : Bor Key) (v : Bor X) → hash.Updates text_eq s t k (Some v) → k.now ≡ key v.now → HasRows key rows s → HasRows key (v.now ∷ rows) t
-row_put key rows s t k v updates is_key was = λ q.
-    ap (option_map (λ row. row.now)) (updates.0 q) ∙ found (equals k.now q.now) v (hash.get text_eq s q)
-    ∙ ap (λ x. cond (equals x q.now) (Some v.now) (option_map (λ row. row.now) (hash.get text_eq s q))) is_key
-    ∙ ap (λ o. cond (equals (key v.now) q.now) (Some v.now) o) (was q)
+row_put key rows s t k v updates is_key was = λ q. grind (arith, updates.0 q, was q, is_key)
 
 -- the text of the next row was put in
 module _ {X : Type 0} (xs : List X) (text : X → Key) where
@@ -69,14 +50,10 @@ looked_up pairs table has_all q found got = ap (option_map (λ (x : Key × Key).
 -- whether a row has the key
 some_found : {X : Type 0} (p : X → Bool) (xs : List X) → is_some (find p xs) ≡ list_any p xs
 some_found p [] = refl
-some_found p (x ∷ xs) = elim (p x) as (λ b. is_some (cond b (Some x) (find p xs)) ≡ (b || list_any p xs)) [
-  | true ↦ refl
-  | false ↦ some_found p xs
-]
+some_found p (x ∷ xs) = grind (arith, some_found p xs)
 
 some_mapped : {X Y : Type 0} (f : X → Y) (o : Option X) → is_some o ≡ is_some (option_map f o)
-some_mapped f None = refl
-some_mapped f (Some x) = refl
+some_mapped f o = grind arith
 
 -- whether the pairs give the student a project
 pub is_placed : (pairs : List (Key × Key)) (k : Key) (project : Option (Bor Key)) → option_map (λ p. p.now) project ≡ placement_in pairs k → is_some project ≡ is_assigned pairs k
@@ -85,17 +62,7 @@ is_placed pairs k project given =
 
 -- the key of one more text was put in
 known_put : {S : Type 0} (known : Key → Bool) (s t : HashMap (Bor Key) (Bor Key) S) (k v : Bor Key) (x : Key) → hash.Updates text_eq s t k (Some v) → k.now ≡ x → v.now ≡ x → HasKeys known s → HasKeys (λ q. known q || equals x q) t
-known_put known s t k v x updates is_x is_v was = λ q. go q (equals k.now q.now) refl
-  where
-    go : (q : Bor Key) (b : Bool) → equals k.now q.now ≡ b → (is_some (hash.get text_eq t q) ≡ (known q.now || equals x q.now)) × IfSome (hash.get text_eq t q) (λ key. key.now ≡ q.now)
-    go q true e =
-        let now : hash.get text_eq t q ≡ Some v = updates.0 q ∙ ap (λ b. cond b (Some v) (hash.get text_eq s q)) e in
-        let here : equals x q.now ≡ true = ap (λ y. equals y q.now) (sym is_x) ∙ e in
-        (ap is_some now ∙ sym (ap (λ b. known q.now || b) here ∙ or-true (known q.now)), subst (λ o. IfSome o (λ key. key.now ≡ q.now)) (sym now) (is_v ∙ is_same x q.now here))
-    go q false e =
-        let now : hash.get text_eq t q ≡ hash.get text_eq s q = updates.0 q ∙ ap (λ b. cond b (Some v) (hash.get text_eq s q)) e in
-        let other : equals x q.now ≡ false = ap (λ y. equals y q.now) (sym is_x) ∙ e in
-        (ap is_some now ∙ (was q).0 ∙ sym (ap (λ b. known q.now || b) other ∙ or-false (known q.now)), subst (λ o. IfSome o (λ key. key.now ≡ q.now)) (sym now) (was q).1)
+known_put known s t k v x updates is_x is_v was = λ q. grind (arith, updates.0 q, was q, is_same x q.now, is_x, is_v)
 
 -- the same texts are known
 pub known_alike : {S : Type 0} (f g : Key → Bool) (t : HashMap (Bor Key) (Bor Key) S) → ((k : Key) → f k ≡ g k) → HasKeys f t → HasKeys g t

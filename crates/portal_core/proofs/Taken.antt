@@ -1,7 +1,6 @@
 -- What is legal is taken.
-use Rattle.portal_core.proofs.Base.{◌≡◌, ℕ, ◌+◌, ◌<◌, Bool, true, false, cond, List, [], ◌∷◌, ◌++◌, length, refl, sym, ◌∙◌, ap, subst, arith, append_assoc, append-nil, map, Some, None, not, ◌||◌, nat_le, codes, if◌then◌else◌, list_any, find, AllByRecursion, nat_tests, Key, equals, has, World, student_key, applicants_of, projects_of, is_from_ranking, Listing, Person, lecturer_sees, ListFault, fault_at, choice_fault, ranking_fault, is_applicant, lacks_one, Roll, Took, take_rows, IsChoice, IsRanking}
+use Rattle.portal_core.proofs.Base.{◌≡◌, ℕ, ◌+◌, ◌<◌, Bool, true, false, List, [], ◌∷◌, ◌++◌, length, refl, sym, ◌∙◌, ap, subst, arith, append_assoc, append-nil, map, Some, None, not, ◌||◌, nat_le, codes, if◌then◌else◌, list_any, find, AllByRecursion, nat_tests, Key, equals, has, World, student_key, applicants_of, projects_of, is_from_ranking, Listing, Person, lecturer_sees, fault_at, choice_fault, ranking_fault, lacks_one, Roll, Took, take_rows, IsChoice, IsRanking, AreFresh}
 use Rattle.portal_core.specs.World as rows
-use Rattle.portal_core.specs.Legal.{AreFresh}
 use Rattle.portal_core.proofs.AllLaws.{all_weaker, all_both, any_map, any_alike, is_sym, none_after, none_yet, not_first}
 use Rattle.portal_core.proofs.Kept.{Ranked, shown_sets, union_any}
 use Rattle.portal_core.proofs.Reorder.{taken}
@@ -22,20 +21,15 @@ choice_taken catalogue list c =
 
 ranking_fits : (ps : List (Key × List Person)) (at : ℕ) (earlier list : List Key) → Ranked ps earlier list → ranking_fault ps at earlier list ≡ None
 ranking_fits ps at earlier [] r = ap (λ b. if b then Some (fault_at 0 (codes "missing")) else None) (subst (λ ks. lacks_one ps ks ≡ false) (append-nil earlier) r.all)
-ranking_fits ps at earlier (k ∷ ks) r = step (is_applicant ps k) (has earlier k) r.only.0 r.new.0 _ _ (ranking_fits ps (at + 1) (earlier ++ k ∷ []) ks rest)
-  where
-    rest : Ranked ps (earlier ++ k ∷ []) ks
-    rest =
-        record {
-          only = r.only.1;
-          once = r.once.1;
-          new = all_weaker _ _ (λ l h. none_after earlier k l h.0 h.1) ks (all_both _ _ ks r.new.1 (not_first k ks r.once));
-          all = subst (λ xs. lacks_one ps xs ≡ false) (sym (append_assoc earlier (k ∷ []) ks)) r.all;
-        }
-
-    step : (known twice : Bool) → known ≡ true → twice ≡ false → (a b : ListFault) → ranking_fault ps (at + 1) (earlier ++ k ∷ []) ks ≡ None
-        → (if not known then Some a else if twice then Some b else ranking_fault ps (at + 1) (earlier ++ k ∷ []) ks) ≡ None
-    step known twice e t a b h = rw (e, t) h
+ranking_fits ps at earlier (k ∷ ks) r =
+    let rest : Ranked ps (earlier ++ k ∷ []) ks =
+    record {
+      only = r.only.1;
+      once = r.once.1;
+      new = all_weaker _ _ (λ l h. none_after earlier k l h.0 h.1) ks (all_both _ _ ks r.new.1 (not_first k ks r.once));
+      all = subst (λ xs. lacks_one ps xs ≡ false) (sym (append_assoc earlier (k ∷ []) ks)) r.all;
+    } in
+    rw (r.only.0, r.new.0) (ranking_fits ps (at + 1) (earlier ++ k ∷ []) ks rest)
 
 lacks_none : (list ks : List Key) → AllByRecursion (λ k. has list k ≡ true) ks → list_any (λ k. not (has list k)) ks ≡ false
 lacks_none list [] all = refl
@@ -59,11 +53,7 @@ ranking_taken w l list closed r =
 
 none_found : {X : Type 0} (p : X → Bool) (xs : List X) → list_any p xs ≡ false → find p xs ≡ None
 none_found p [] e = refl
-none_found {X} p (x ∷ xs) e =
-    (elim (p x) as (λ b. (b || list_any p xs) ≡ false → cond b (Some x) (find p xs) ≡ None) [
-      | true ↦ λ h. cc
-      | false ↦ λ h. none_found p xs h
-    ]) e
+none_found p (x ∷ xs) e = grind (arith, none_found p xs)
 
 has_room : (limit n : ℕ) → n < limit → nat_le limit n ≡ false
 has_room limit n h = grind (arith, nat_tests)

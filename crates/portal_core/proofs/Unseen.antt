@@ -1,9 +1,7 @@
 -- What others do is not seen.
-use Rattle.portal_core.proofs.Base.{◌≡◌, Bool, true, false, cond, List, [], ◌∷◌, ◌++◌, refl, sym, ◌∙◌, ap, subst, inl, inr, map, Option, Some, None, find, Key, equals, Rise, Choices, Ranks, changed, with_choice, with_ranking, World, is_choosing, is_ranking, is_published, is_from_ranking, has_result, shown_placement, is_at, lecturer_key, student_key, applicants_to, placed_at, projects_of, Phase, Setup, Choosing, Ranking, Published, Person, LecturerSees, Lecturer, Student, Caller, NoCaller, OfficeCaller, LecturerCaller, StudentCaller, caller_among, lecturer_with, student_with, caller, sight_of, view, student_sees, lecturer_sees, persons, AbstractCall, Answer, Act, Decision, Nothing, Apply, Publish, Render, refuses, decision, Good, StepLeaves, Step, Serves, Answers, Run, Request, Wish, Calls, Refused, end_of, replies_to}
+use Rattle.portal_core.proofs.Base.{◌≡◌, Bool, true, false, cond, List, [], ◌∷◌, ◌++◌, refl, sym, ◌∙◌, ap, subst, map, Option, Some, find, Key, equals, Rise, Choices, Ranks, changed, with_choice, with_ranking, World, is_choosing, is_published, is_from_ranking, shown_placement, is_at, lecturer_key, student_key, applicants_to, placed_at, projects_of, Phase, Person, LecturerSees, Lecturer, Student, Caller, NoCaller, OfficeCaller, LecturerCaller, StudentCaller, caller_among, lecturer_with, student_with, caller, sight_of, view, student_sees, lecturer_sees, persons, AbstractCall, Answer, Decision, refuses, decision, Good, StepLeaves, Step, Serves, Run, Request, end_of, replies_to, arith, IsMember, IsIdle}
 use Rattle.portal_core.specs.World as rows
-use Rattle.portal_core.specs.Heard.{IsMember, IsIdle, IsIdleAct, IsIdleWish}
 use Rattle.portal_core.proofs.Keys.{is_same, is_own, found_passes, one_row}
-use Rattle.portal_core.proofs.Cases.{by_student, by_lecturer}
 use Rattle.portal_core.proofs.Reranked.{re_called}
 use Rattle.portal_core.proofs.Acts.{caller_chosen, caller_ranked, re_chosen, choice_row, catalogue_chosen, catalogue_ranked}
 use Rattle.portal_core.proofs.AllLaws.{kept_filtered}
@@ -11,16 +9,10 @@ use Rattle.portal_core.proofs.AllLaws.{kept_filtered}
 -- whom a code names was found by that code
 
 among_lecturer : (w : World) (c : Key) (l : rows.Lecturer) (b : Bool) (o : Option rows.Lecturer) (s : Option rows.Student) → cond b OfficeCaller (caller_among o s) ≡ LecturerCaller l → o ≡ Some l
-among_lecturer w c l true o s e = cc
-among_lecturer w c l false (Some m) s e = let same : m ≡ l = cc in ap Some same
-among_lecturer w c l false None (Some s) e = cc
-among_lecturer w c l false None None e = cc
+among_lecturer w c l b o s e = grind arith
 
 among_student : (w : World) (c : Key) (t : rows.Student) (b : Bool) (o : Option rows.Lecturer) (s : Option rows.Student) → cond b OfficeCaller (caller_among o s) ≡ StudentCaller t → s ≡ Some t
-among_student w c t true o s e = cc
-among_student w c t false (Some m) s e = cc
-among_student w c t false None (Some s) e = let same : s ≡ t = cc in ap Some same
-among_student w c t false None None e = cc
+among_student w c t b o s e = grind arith
 
 pub lecturer_found : (w : World) (c : Key) (l : rows.Lecturer) → caller w c ≡ LecturerCaller l → lecturer_with w c ≡ Some l
 lecturer_found w c l e = among_lecturer w c l (equals w.office c) (lecturer_with w c) (student_with w c) e
@@ -32,15 +24,10 @@ student_found w c s e = among_student w c s (equals w.office c) (lecturer_with w
 apart : {X : Type 0} (key code : X → Key) (xs : List X) (c d : Key) (x y : X) → Rise (map key xs)
     → find (λ z. equals (code z) d) xs ≡ Some x → find (λ z. equals (code z) c) xs ≡ Some y → equals d c ≡ false → equals (key y) (key x) ≡ false
 apart key code xs c d x y rise ex ey other =
-    (elim (equals (key y) (key x)) as (λ b. equals (key y) (key x) ≡ b → b ≡ false) [
-      | true ↦ λ e.
-          let one : y ≡ x = one_row key _ _ xs y x rise ey ex (is_same _ _ e) in
-          let of_c : code y ≡ c = is_same _ _ (found_passes _ xs y ey) in
-          let of_d : code x ≡ d = is_same _ _ (found_passes _ xs x ex) in
-          let same : d ≡ c = sym of_d ∙ sym (ap code one) ∙ of_c in
-          let yes' : equals d c ≡ true = subst (λ k. equals d k ≡ true) same (is_own d) in cc
-      | false ↦ λ e. refl
-    ]) refl
+    let one : equals (key y) (key x) ≡ true → y ≡ x = λ e. one_row key _ _ xs y x rise ey ex (is_same _ _ e) in
+    let of_c : code y ≡ c = is_same _ _ (found_passes _ xs y ey) in
+    let of_d : code x ≡ d = is_same _ _ (found_passes _ xs x ex) in
+    grind (arith, one, is_own d)
 
 apart_lecturers : (w : World) (c d : Key) (l m : rows.Lecturer) → Good w → caller w d ≡ LecturerCaller l → caller w c ≡ LecturerCaller m → equals d c ≡ false → equals m.row.key l.row.key ≡ false
 apart_lecturers w c d l m good el em other = apart lecturer_key (λ l. l.row.code) w.lecturers c d l m good.sound.lecturers_rise (lecturer_found w d l el) (lecturer_found w c m em) other
@@ -51,10 +38,7 @@ apart_students w c d s t good es et other = apart student_key (λ s. s.row.code)
 -- while the lists are open a lecturer sees nothing of them
 
 pub choosing_open : (phase : Phase) → is_choosing phase ≡ true → (is_from_ranking phase ≡ false) × (is_published phase ≡ false)
-choosing_open Setup e = cc
-choosing_open Choosing e = (refl, refl)
-choosing_open Ranking e = cc
-choosing_open Published e = cc
+choosing_open phase e = grind arith
 
 abbrev pub person_of : rows.Student → Person
 person_of s = record { key = s.row.key; name = s.row.name }
@@ -86,12 +70,10 @@ pub ranking_other : (k : Key) (list : List Key) (l : rows.Lecturer) → equals l
 ranking_other k list l e = ap (λ b. cond b (record l { ranking = Some list }) l) e
 
 pub office_not : (w : World) (c : Key) → equals w.office c ≡ false → caller w c ≡ OfficeCaller → ⊥
-office_not w c no' e = none (lecturer_with w c) (student_with w c) (sym (ap (λ b. cond b OfficeCaller (caller_among (lecturer_with w c) (student_with w c))) no') ∙ e)
-  where
-    none : (o : Option rows.Lecturer) (s : Option rows.Student) → caller_among o s ≡ OfficeCaller → ⊥
-    none (Some l) s e = cc
-    none None (Some s) e = cc
-    none None None e = cc
+office_not w c no' e = grind arith
+
+pub is_office : (w : World) (c : Key) → caller w c ≡ OfficeCaller → w.office ≡ c
+is_office w c e = is_same w.office c (grind arith)
 
 -- a student's new list, seen by another
 chosen_unseen : (w : World) (c d : Key) (s : rows.Student) (list : List Key) → Good w → caller w d ≡ StudentCaller s → equals d c ≡ false → equals w.office c ≡ false → is_choosing w.phase ≡ true
@@ -130,47 +112,32 @@ module _ (w v : World) (c d : Key) (good : Good w) (other : equals d c ≡ false
   idle_case ask reply left = ap (λ u. view u c) left
 
   member_case : (x : Caller) → caller w d ≡ x → IsMember (sight_of w x) → (ask : AbstractCall) → Hides ask (decision (sight_of w x) ask)
-  member_case NoCaller e m ask = absurd m
-  member_case OfficeCaller e m ask = absurd m
   member_case (LecturerCaller l) e m ask =
-      by_lecturer Hides idle_case (lecturer_sees w l) (λ list now none left. ap (λ u. view u c) left ∙ ranked_unseen w c d l list good e other office (caller w c) refl) ask
+      let own : (list : List Key) → v ≡ changed w (Ranks l.row.key list) → view v c ≡ view w c = λ list left. ap (λ u. view u c) left ∙ ranked_unseen w c d l list good e other office (caller w c) refl in
+      grind (arith, idle_case ask, own)
   member_case (StudentCaller s) e m ask =
-      by_student Hides idle_case (student_sees w s) (λ list now free none left. ap (λ u. view u c) left ∙ chosen_unseen w c d s list good e other office now (caller w c) refl) ask
+      let own : (list : List Key) → is_choosing w.phase ≡ true → v ≡ changed w (Choices s.row.key list) → view v c ≡ view w c
+      = λ list now left. ap (λ u. view u c) left ∙ chosen_unseen w c d s list good e other office now (caller w c) refl in
+      grind (arith, idle_case ask, own)
+  member_case x e m ask = grind arith
 
 pub others : (w v : World) (c d : Key) (ask : AbstractCall) (reply : Answer) → Good w → Step w d ask reply v → IsMember (view w d) → equals d c ≡ false → equals w.office c ≡ false → view v c ≡ view w c
 others w v c d ask reply good step member other office = member_case w v c d good other office (caller w d) refl member ask step.left
 
 -- an idle request may be struck out
 
-idle_act : (w v : World) (act : Act) → IsIdleAct act → StepLeaves w act v → v ≡ w
-idle_act w v Nothing idle left = left
-idle_act w v (Render sheet) idle left = left
-idle_act w v (Apply change) idle left = absurd idle
-idle_act w v Publish idle left = absurd idle
-
-idle_wish : (w v : World) (r : Request) (a : Answer) (wish : Wish) → Answers w r wish a v → IsIdleWish w r.code wish → v ≡ w
-idle_wish w v r a (Calls ask) s idle = idle_act w v (decision (view w r.code) ask).act idle s.left
-idle_wish w v r a (Refused refusal) s idle = s.1
-
 idle_stays : (w v : World) (r : Request) (a : Answer) → Serves w r a v → IsIdle w r → v ≡ w
-idle_stays w v r a (inl s) idle = idle_wish w v r a r.wish s idle
-idle_stays w v r a (inr s) idle = s.1
+idle_stays w v r a s idle = grind arith
 
 joined : (w : World) (before rest : List Request) (told said : List Answer) (after later : List World) → Run w before told after → Run (end_of w after) rest said later → Run w (before ++ rest) (told ++ said) (after ++ later)
 joined w [] rest [] said [] later run next = next
 joined w (r ∷ rs) rest (a ∷ told) said (v ∷ after) later run next = (run.0, joined v rs rest told said after later run.1 next)
-joined w [] rest [] said (v ∷ after) later run next = absurd run
-joined w [] rest (a ∷ told) said after later run next = absurd run
-joined w (r ∷ rs) rest [] said after later run next = absurd run
-joined w (r ∷ rs) rest (a ∷ told) said [] later run next = absurd run
+joined w before rest told said after later run next = grind arith
 
 same_told : (c : Key) (w : World) (before : List Request) (r : Request) (rest : List Request) (told : List Answer) (a : Answer) (said : List Answer) (after : List World) → Run w before told after → equals r.code c ≡ false → replies_to c (before ++ rest) (told ++ said) ≡ replies_to c (before ++ r ∷ rest) (told ++ a ∷ said)
 same_told c w [] r rest [] a said [] run other = ap (λ b. cond b (a ∷ replies_to c rest said) (replies_to c rest said)) (sym other)
 same_told c w (q ∷ qs) r rest (b ∷ told) a said (v ∷ after) run other = ap (λ x. cond (equals q.code c) (b ∷ x) x) (same_told c v qs r rest told a said after run.1 other)
-same_told c w [] r rest [] a said (v ∷ after) run other = absurd run
-same_told c w [] r rest (b ∷ told) a said after run other = absurd run
-same_told c w (q ∷ qs) r rest [] a said after run other = absurd run
-same_told c w (q ∷ qs) r rest (b ∷ told) a said [] run other = absurd run
+same_told c w before r rest told a said after run other = grind arith
 
 pub struck : (c : Key) (w v : World) (before : List Request) (r : Request) (rest : List Request) (told : List Answer) (a : Answer) (said : List Answer) (after later : List World)
     → Run w before told after → Serves (end_of w after) r a v → Run v rest said later → equals r.code c ≡ false → IsIdle (end_of w after) r

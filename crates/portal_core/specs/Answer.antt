@@ -1,26 +1,16 @@
--- What is answered to a caller who sees this, and what is to be done. No world is in it.
+-- The reply to a call, and its act. Both depend only on the caller's view and the call.
+use Rattle.portal_core.specs.Base.{Data, string, Phase, Setup, Choosing, Ranking, Published, Round, First, Second}
 use Rattle.std.specs.Prelude.{◌≡◌, ℕ, Bool, false, not, if◌then◌else◌, codes, List, [], ◌∷◌, length, Option, Some, None, is_none}
-use Rattle.serde_json.specs.Data.{Data, string}
 use Rattle.serde_json.specs.Written.{has_float}
-use Rattle.portal_core.specs.declared.phase.Phase.{Phase}
-use Rattle.portal_core.specs.declared.phase.Phase.TheVariants.{Setup, Choosing, Ranking, Published}
-use Rattle.portal_core.specs.declared.phase.Round.{Round}
-use Rattle.portal_core.specs.declared.phase.Round.TheVariants.{First, Second}
 use Rattle.portal_core.specs.Words.{Key, is_empty}
-use Rattle.portal_core.specs.World.{is_choosing, is_ranking, is_from_ranking, has_result}
-use Rattle.portal_core.specs.Change.{Change, Choices, Ranks, Lecturers, Projects, Students, To, Fill, SecondRound}
-use Rattle.portal_core.specs.Sight.{StudentSees, LecturerSees, OfficeSees}
+use Rattle.portal_core.specs.World.{is_choosing, is_ranking, is_from_ranking, has_result, Change, Choices, Ranks, Lecturers, Projects, Students, To, Fill, SecondRound}
+use Rattle.portal_core.specs.Sight.{StudentSees, LecturerSees, OfficeSees, AbstractCall}
 use Rattle.portal_core.specs.declared.view.View.{View as Sight}
 use Rattle.portal_core.specs.declared.view.View.TheVariants.{Nobody, Office, Lecturer, Student}
 use Rattle.portal_core.specs.declared.decision.Sheet.{Sheet}
 use Rattle.portal_core.specs.declared.decision.Sheet.TheVariants as sheet
-use Rattle.portal_core.specs.AbstractCall.{AbstractCall}
-use Rattle.portal_core.specs.Json.{dictionary, texts, count}
-use Rattle.portal_core.specs.Bodies.{catalogue_body, projects_body, students_body, applicants_body, placed_body, project_body, phase_body, student_me}
-use Rattle.portal_core.specs.Bodies.{lecturer_me, office_me, roll_body, status_body, allocation_body, filled_body}
-use Rattle.portal_core.specs.Sheets.{csv_text, report_text}
-use Rattle.portal_core.specs.Faults.{ListFault, choice_fault, ranking_fault}
-use Rattle.portal_core.specs.Rolls.{Taken, Faulty, Took, take_rows, lecturer_roll, project_roll, student_roll}
+use Rattle.portal_core.specs.Bodies.{dictionary, texts, count, catalogue_body, projects_body, students_body, applicants_body, placed_body, project_body, phase_body, student_me, lecturer_me, office_me, roll_body, status_body, allocation_body, filled_body, csv_text, report_text}
+use Rattle.portal_core.specs.Faults.{ListFault, choice_fault, ranking_fault, Taken, Faulty, Took, take_rows, lecturer_roll, project_roll, student_roll}
 
 pub data Said : Type 0 where
   Json : Data → Said
@@ -28,13 +18,13 @@ pub data Said : Type 0 where
   Plain : List ℕ → Said
   Unavailable : Said
 
--- a reply; `allow` has the methods that a path has, where another was asked for
+-- a reply; if the path does not take the method, `allow` lists those that it takes
 pub record Answer : Type 0 where
   pub status : ℕ
   pub allow : List ℕ
   pub body : Said
 
--- a sheet shows the result and changes nothing
+-- what a call does; rendering a sheet of the result changes nothing
 pub data Act : Type 0 where
   Nothing : Act
   Apply : Change → Act
@@ -60,7 +50,7 @@ renders text sheet = record { reply = record { status = 200; allow = []; body = 
 abbrev pub refuses : Answer → Decision
 refuses answer = record { reply = answer; act = Nothing }
 
--- a refusal by a word alone
+-- a refusal whose body is only an error word
 abbrev pub by_word : ℕ → List ℕ → Answer
 by_word status word = answered status (dictionary ((codes "error", string word) ∷ []))
 
@@ -73,23 +63,23 @@ not_yours = refuses (by_word 403 (codes "not_yours"))
 abbrev pub wrong_phase : Decision
 wrong_phase = refuses (by_word 409 (codes "wrong_phase"))
 
--- a call that is open in some phases alone
+-- a call that only some phases allow
 abbrev pub open_where : Bool → Decision → Decision
 open_where now d = if now then d else wrong_phase
 
 abbrev pub bad_list : ListFault → Answer
 bad_list fault = answered 422 (dictionary ((codes "at", count fault.at) ∷ (codes "error", string (codes "bad_list")) ∷ (codes "fault", string fault.word) ∷ []))
 
--- a list that is taken where it has no fault
+-- a list is accepted if it has no fault
 abbrev pub unless_faulty : Option ListFault → Decision → Decision
 unless_faulty None d = d
 unless_faulty (Some fault) d = refuses (bad_list fault)
 
--- who has a project of the first round makes no list in the second
+-- a student with a project of the first round submits no list in the second
 abbrev pub already_placed : Decision
 already_placed = refuses (by_word 409 (codes "already_placed"))
 
--- a student
+-- replies to a student
 
 abbrev pub to_student : StudentSees → AbstractCall → Decision
 to_student v AbstractCall.Me = shows (student_me v)
@@ -101,7 +91,7 @@ to_student v (AbstractCall.SetChoices list) =
 to_student v AbstractCall.Result = open_where (has_result v.round v.phase) (shows (project_body v.result))
 to_student v _ = not_yours
 
--- a lecturer
+-- replies to a lecturer
 
 abbrev pub to_lecturer : LecturerSees → AbstractCall → Decision
 to_lecturer v AbstractCall.Me = shows (lecturer_me v)
@@ -113,9 +103,9 @@ to_lecturer v (AbstractCall.SetRanking list) =
 to_lecturer v AbstractCall.Result = open_where (has_result v.round v.phase) (shows (placed_body v.placed))
 to_lecturer v _ = not_yours
 
--- the office
+-- replies to the office
 
--- rolls are open before the first round's ranking
+-- rolls are open in the first round, before ranking
 abbrev pub is_open_to_rolls : Round → Phase → Bool
 is_open_to_rolls First phase = not (is_from_ranking phase)
 is_open_to_rolls Second phase = false
@@ -124,7 +114,7 @@ abbrev pub row_fault : ℕ → List ℕ → Option ℕ → Answer
 row_fault status word None = by_word status word
 row_fault status word (Some row) = answered status (dictionary ((codes "error", string word) ∷ (codes "row", count row) ∷ []))
 
--- where no row is new there is nothing to do
+-- if no row is new, there is nothing to do
 abbrev pub added : {X : Type 0} → (List X → Change) → Taken X → Decision
 added change (Faulty fault) = refuses (row_fault fault.status fault.word fault.row)
 added change (Took new same) =
@@ -136,13 +126,13 @@ added change (Took new same) =
 abbrev pub still_to_rank : List Key → Answer
 still_to_rank keys = answered 409 (dictionary ((codes "error", string (codes "still_to_rank")) ∷ (codes "lecturers", texts keys) ∷ []))
 
--- the reply is the same whatever the result will be
+-- the reply does not depend on the result that is published
 abbrev pub publishes : OfficeSees → Decision
 publishes v =
     if is_empty v.still_to_rank then record { reply = answered 200 (phase_body v.round Published); act = Publish }
     else refuses (still_to_rank v.still_to_rank)
 
--- to the round's next phase, or to the current one, which changes nothing
+-- moves to the round's next phase, or to the current one, which changes nothing
 abbrev pub moves_on : OfficeSees → Phase → Phase → Decision
 moves_on v Setup Setup = shows (phase_body v.round Setup)
 moves_on v Setup Choosing = applies (phase_body v.round Choosing) (To Choosing)
@@ -153,24 +143,24 @@ moves_on v Ranking Published = publishes v
 moves_on v Published Published = shows (phase_body v.round Published)
 moves_on v _ _ = wrong_phase
 
--- once the first round is published the second opens, with choosing
+-- the second round opens, with choosing, once the first is published
 abbrev pub opens : Phase → Phase → Decision
 opens Published Choosing = applies (phase_body Second Choosing) SecondRound
 opens _ _ = wrong_phase
 
--- a round that is named is the current one, or the second, which opens by its name alone
+-- a named round is the current one, or the second, which opens only by its name
 abbrev pub moves_in : OfficeSees → Round → Round → Phase → Decision
 moves_in v First First phase = moves_on v v.phase phase
 moves_in v Second Second phase = moves_on v v.phase phase
 moves_in v First Second phase = opens v.phase phase
 moves_in v Second First phase = wrong_phase
 
--- where no round is named, the current one is meant
+-- a move that names no round is one in the current round
 abbrev pub moves : OfficeSees → Phase → Option Round → Decision
 moves v phase None = moves_on v v.phase phase
 moves v phase (Some round) = moves_in v v.round round phase
 
--- each lecturer still to rank gets a ranking; where nobody is there is nothing to do
+-- each lecturer with a missing ranking gets one; if none is missing, there is nothing to do
 abbrev pub fills : OfficeSees → Decision
 fills v =
     record {
@@ -192,7 +182,7 @@ to_office v AbstractCall.Report = open_where (has_result v.round v.phase) (rende
 to_office v AbstractCall.FillRankings = open_where (is_ranking v.phase) (fills v)
 to_office v _ = not_yours
 
--- all callers
+-- replies to any caller
 
 abbrev pub decision : Sight → AbstractCall → Decision
 decision Nobody ask = no_caller
@@ -203,7 +193,7 @@ decision (Student v) ask = to_student v ask
 abbrev pub answer : Sight → AbstractCall → Answer
 answer v ask = (decision v ask).reply
 
--- a decision whose sheet is still to be written
+-- a decision before its sheet is written: the text is empty
 abbrev pub blank : Sheet → Said
 blank sheet.Csv = Csv []
 blank sheet.Report = Plain []
@@ -215,18 +205,18 @@ unwritten act text = text
 abbrev pub emptied : Decision → Decision
 emptied d = record d { reply = record d.reply { body = unwritten d.act d.reply.body } }
 
--- JSON with whole numbers, or a sheet
+-- a JSON body has whole numbers only
 abbrev pub HasWholeNumbers : Said → Type 0
 HasWholeNumbers (Json body) = has_float body ≡ false
 HasWholeNumbers _ = Unit {0}
 
--- the caller's own list, or the office's, in what the caller sees
+-- the view with the caller's own change in it
 abbrev pub with_own : Sight → Act → Sight
 with_own (Student v) (Apply (Choices k list)) = Student (record v { choices = list })
 with_own (Lecturer v) (Apply (Ranks k list)) = Lecturer (record v { ranking = Some list })
 with_own (Office v) (Apply Fill) = Office (record v { still_to_rank = [] })
 with_own v _ = v
 
--- what the caller sees after a call by which nothing else of it may change
+-- the caller's view after a call that changes nothing else in it
 abbrev pub own : Sight → AbstractCall → Sight
 own v ask = with_own v (decision v ask).act

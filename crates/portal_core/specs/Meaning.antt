@@ -1,10 +1,7 @@
--- What calls, changes, replies and decisions of the code stand for.
-use Rattle.std.specs.Prelude.{ℕ, List, Vec, map}
+-- The meaning of calls, changes, replies and decisions of the code, and how a keeper counts faults.
+use Rattle.std.specs.Prelude.{ℕ, List, Vec, map, ◌≡◌, ◌+◌, Result, Ok, Err}
 use Rattle.std.specs.declared.alloc.Global.{Global}
 use Rattle.serde_json.specs.View as json
-use Rattle.spa_rows.specs.declared.key.Key as kept
-use Rattle.portal_core.specs.Words.{Key}
-use Rattle.portal_core.specs.declared.rows.Person.{Person}
 use Rattle.portal_core.specs.declared.call.Call.{Call}
 use Rattle.portal_core.specs.declared.call.Call.TheVariants as call
 use Rattle.portal_core.specs.declared.decision.Body.{Body}
@@ -15,17 +12,15 @@ use Rattle.portal_core.specs.declared.decision.Change.TheVariants as change
 use Rattle.portal_core.specs.declared.decision.Act as done
 use Rattle.portal_core.specs.declared.decision.Act.TheVariants as act
 use Rattle.portal_core.specs.declared.decision.Decision as taken
-use Rattle.portal_core.specs.Change.{Change, Choices, Ranks, Lecturers, Projects, Students, To, Placements, Fill, SecondRound}
-use Rattle.portal_core.specs.AbstractCall.{AbstractCall}
+use Rattle.portal_core.specs.World.{Change, Choices, Ranks, Lecturers, Projects, Students, To, Placements, Fill, SecondRound}
+use Rattle.portal_core.specs.Sight.{AbstractCall}
 use Rattle.portal_core.specs.Answer.{Answer, Said, Json, Csv, Plain, Unavailable, Act, Nothing, Apply, Publish, Render, Decision}
+use Rattle.portal_core.specs.declared.keeper.KeepFault.{KeepFault}
+use Rattle.portal_core.specs.declared.keeper.KeepFault.TheVariants.{Memory, Store}
 
--- the texts of a list as it came
+-- the texts of a list as they were received
 abbrev pub texts_of : List (Vec ℕ Global) → List (List ℕ)
 texts_of list = map (λ t. t.items) list
-
--- the persons at each project
-abbrev pub by_project : List (kept.Key × Vec Person Global) → List (Key × List Person)
-by_project ps = map (λ p. (p.0, p.1.items)) ps
 
 abbrev pub call_model : Call → AbstractCall
 call_model call.Me = AbstractCall.Me
@@ -74,3 +69,13 @@ act_model (act.Render sheet) = Render sheet
 
 abbrev pub decision_model : taken.Decision → Decision
 decision_model d = record { reply = reply_model d.reply; act = act_model d.act }
+
+-- only a call that ends with a fault of the store is counted, once
+abbrev pub CountsFaults : {A : Type 0} → Result A KeepFault → ℕ → ℕ → Type 0
+CountsFaults (Ok answer) old new = new ≡ old
+CountsFaults (Err Memory) old new = new ≡ old
+CountsFaults (Err Store) old new = new ≡ old + 1
+
+-- a disk that is clean after a call was clean before it, and then a clean keeper stayed clean
+abbrev pub StaysClean : Type 0 → Type 0 → Type 0 → Type 0 → Type 0
+StaysClean disk_old disk_new clean_old clean_new = disk_new → disk_old × (clean_old → clean_new)

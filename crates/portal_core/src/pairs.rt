@@ -1,7 +1,7 @@
 //! The pairs of a result, as they are looked up by their students.
 
 ghost use Rattle.std.specs.Prelude.{◌≡◌, IfOk, option_map};
-ghost use Rattle.portal_core.specs.Change.{placement_in};
+ghost use Rattle.portal_core.specs.World.{placement_in};
 
 use crate::keyed::{row_at, rows_by_key};
 use spa_rows::Key;

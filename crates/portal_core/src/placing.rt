@@ -2,7 +2,7 @@
 
 ghost use Rattle.std.specs.Prelude.{◌≡◌, IfOk, option_map};
 ghost use Rattle.portal_core.specs.Bodies.{is_assigned};
-ghost use Rattle.portal_core.specs.Sheets as sheet;
+ghost use Rattle.portal_core.specs.Bodies as sheet;
 
 use crate::keyed::{row_at, rows_by_key};
 use crate::pairs::Pairs;

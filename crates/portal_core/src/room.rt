@@ -5,7 +5,7 @@ ghost use Rattle.std.specs.List.{list_any};
 ghost use Rattle.portal_core.specs.Words.{equals};
 ghost use Rattle.portal_core.specs.inner.Room as meant;
 ghost use Rattle.portal_core.specs.inner.Room.{own_keys, pairs_among, room_of};
-ghost use Rattle.portal_core.specs.Sheets.{students_at};
+ghost use Rattle.portal_core.specs.Bodies.{students_at};
 
 use crate::rows::{LecturerRow, ProjectRow};
 use spa_rows::Key;

@@ -2,8 +2,7 @@
 
 ghost use Rattle.std.specs.Prelude.{◌≡◌, OnOk, OnErr, IfSome, filter, not};
 ghost use Rattle.portal_core.specs.Words.{equals};
-ghost use Rattle.portal_core.specs.World.{World};
-ghost use Rattle.portal_core.specs.Change.{Choices, Ranks, Fill, changed};
+ghost use Rattle.portal_core.specs.World.{World, Choices, Ranks, Fill, changed};
 ghost use Rattle.portal_core.specs.Meaning.{change_model};
 ghost use Rattle.portal_core.specs.View.{office_sees};
 ghost use Rattle.portal_core.specs.inner.ViewCache.{IsCacheOf};

@@ -1,6 +1,5 @@
--- That the desk fails exactly where its keeper's faults rise, and what keeps a keeper clean over several calls.
-use Rattle.portal_desk.proofs.Base.{◌≡◌, ℕ, ◌+◌, Bool, true, false, refl, sym, ◌∙◌, ap, FailsByCount}
-use Rattle.portal_core.specs.Counting.{StaysClean}
+-- The desk fails exactly where its keeper's faults rise, and calls in turn keep a keeper clean.
+use Rattle.portal_desk.proofs.Base.{◌≡◌, ℕ, ◌+◌, Bool, true, false, refl, sym, ◌∙◌, ap, FailsByCount, StaysClean}
 
 -- what keeps a keeper clean, over one call after another
 pub lasts_then : (a b c d e f : Type 0) → StaysClean a b d e → StaysClean b c e f → StaysClean a c d f

@@ -1,15 +1,10 @@
 -- What a frame of the buffer says of the stream.
-use Rattle.portal_desk.proofs.Base.{◌≡◌, ℕ, ◌<◌, inl, inr, Bool, true, false, List, [], ◌++◌, length, take, drop, refl, sym, ap, ◌∙◌, subst, append-nil, arith, Option, Some, None, nat_le, if◌then◌else◌, Frame, Opens, whole, fault, seen, refused, Asked, is_head, ReadsMore, Heads, Follows, NoneWhole}
-use Rattle.std.specs.Prelude.{IsTrue, ◌≢◌, IfErr, Result, Ok, Err}
-use Rattle.std.proofs.lemmas.Bool.{leb-true}
+use Rattle.portal_desk.proofs.Base.{◌≡◌, ℕ, ◌<◌, inl, inr, Bool, true, false, List, [], ◌++◌, length, take, drop, refl, sym, ap, ◌∙◌, subst, append-nil, arith, Option, Some, None, nat_le, if◌then◌else◌, Frame, Opens, whole, fault, seen, refused, Asked, is_head, ReadsMore, Heads, Follows, NoneWhole, IsTrue, ◌≢◌, IfErr, Result, Ok, Err, leb-true, not_headless, Framed, IsWithinLimits, over, item_of, after_lines, asked_of, fields_of, body_length, bad_length, KeepsStream, IsWithin, HoldsNone}
 use Rattle.httparse.specs.Grammar.{RequestHead}
 use Rattle.httparse.proofs.GrammarLemmas.{request_unique}
-use Rattle.portal_wire.proofs.Exist.{not_headless}
 use Rattle.portal_desk.specs.declared.reading.FrameFault.{FrameFault}
 use Rattle.portal_desk.specs.declared.reading.FrameFault.TheVariants as fault
 use Rattle.portal_frame.specs.declared.types.Frame.TheVariants as frame
-use Rattle.portal_frame.specs.Stream.{Framed, IsWithinLimits, over, item_of, after_lines, asked_of, fields_of, body_length, bad_length}
-use Rattle.portal_desk.specs.inner.Reading.{KeepsStream, IsWithin, HoldsNone}
 
 heads : (stream after rest : List ℕ) (ended : Bool) (f : Frame) → after ++ rest ≡ stream → (IsTrue ended → rest ≡ [])
     → Framed after ended f → f ≢ frame.Need → Heads stream after rest f

@@ -1,15 +1,9 @@
 -- The bytes of the replies to one caller.
-use Rattle.portal_desk.proofs.Base.{◌≡◌, ℕ, inl, inr, Bool, true, false, List, [], ◌∷◌, ◌++◌, refl, sym, ap, ◌∙◌, subst, if◌then◌else◌, Option, Some, Key, World, view, Answer, Run, end_of, reply_text, Rest, Exchange, asked_in, told_in, text, exchange_text, KeeperState, Cause, Deals, Ended, Visit, AreVisits, exchanges_of, worlds_of, Session, IsSession, AreServed, AllTellOf}
-use Rattle.std.specs.List.{AllZip}
-use Rattle.portal_core.specs.Words.{equals}
-use Rattle.portal_core.specs.declared.view.View.{View as Sight}
-use Rattle.portal_core.specs.Heard.{HeardItem, Asked, Sees, own_item, SeenIf, Heard, replies_to}
-use Rattle.portal_core.specs.Places.{SameButPlaces, SameRequest, AlikeUntilPublished, has_places, moves_to_published}
+use Rattle.portal_desk.proofs.Base.{◌≡◌, ℕ, inl, inr, Bool, true, false, List, [], ◌∷◌, ◌++◌, refl, sym, ap, ◌∙◌, subst, if◌then◌else◌, Option, Some, Key, World, view, Answer, Run, end_of, reply_text, Rest, Exchange, asked_in, told_in, text, exchange_text, KeeperState, Cause, Deals, Ended, Visit, AreVisits, exchanges_of, worlds_of, Session, IsSession, AreServed, AllTellOf, AllZip, equals, Sight, Wrote, Finish, Stopped, Tells, ServesUntil, IsVisit, AreAnswered, Hears, texts_to, replies_in, AlikeTexts}
+use Rattle.portal_core.specs.Heard.{HeardItem, Asked, Sees, own_item, SeenIf, Heard, replies_to, SameButPlaces, SameRequest, AlikeUntilPublished, has_places, moves_to_published}
 use Rattle.portal_core.proofs.Hearing.{same_replies}
 use Rattle.portal_core.proofs.Disclosed.{places_unseen, unless_map}
 use Rattle.portal_desk.specs.declared.served.Cause.TheVariants as cause
-use Rattle.portal_desk.specs.Serving.{Wrote}
-use Rattle.portal_desk.specs.Visits.{Finish, Stopped, Tells, ServesUntil, IsVisit, AreAnswered, Hears, texts_to, replies_in, AlikeTexts}
 
 -- the marks of the caller's own requests
 marks : List HeardItem → List (Bool × Bool)

@@ -1,17 +1,10 @@
 -- What was decided in a good world may be done, and leaves a good world.
-use Rattle.portal_desk.proofs.Base.{◌≡◌, List, sym, ◌∙◌, ap, subst, Key, World, pairs_by, AbstractCall, Nothing, Apply, Decision, decision, Good, Step, view}
+use Rattle.portal_desk.proofs.Base.{◌≡◌, List, sym, ◌∙◌, ap, subst, Key, World, pairs_by, AbstractCall, Nothing, Apply, Decision, decision, Good, Step, view, is_setup, Placements, changed, instance, matching_of, CanPublish, Act, Publish, Render, HasForm, StepLeaves, CanDo, IsSolved}
 use Rattle.spa_model.specs.Spa.{Spa, IsBest}
-use Rattle.portal_core.specs.World.{is_setup}
-use Rattle.portal_core.specs.Change.{Placements, changed}
-use Rattle.portal_core.specs.Instance.{instance, matching_of}
-use Rattle.portal_core.specs.Answer.{Act, Publish, Render}
-use Rattle.portal_core.specs.Good.{CanPublish}
-use Rattle.portal_core.specs.Run.{HasForm, StepLeaves}
 use Rattle.portal_core.proofs.Kept.{to_published}
 use Rattle.portal_core.proofs.Play.{can_apply, can_publish}
 use Rattle.portal_core.proofs.Published.{pairs_place}
 use Rattle.portal_core.proofs.Steps.{step_good}
-use Rattle.portal_desk.specs.inner.Play.{CanDo, IsSolved}
 
 -- the solved pairs place the students as the best matching does
 pub solved_best : (w : World) (i : Spa) (pairs : List (Key × Key)) → Good w → i ≡ instance w → IsSolved i pairs → IsBest (instance w) (matching_of (changed w (Placements pairs)))

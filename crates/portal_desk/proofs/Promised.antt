@@ -1,14 +1,7 @@
 -- The main promise, from what each call of `serve` tells.
-use Rattle.portal_desk.proofs.Base.{Some, ◌≡◌, ℕ, ◌+◌, ◌<◌, length, take, map, get_or, add-one, inl, inr, true, false, List, [], ◌∷◌, ◌++◌, refl, sym, ap, ◌∙◌, subst, both_ways, Key, World, view, AbstractCall, Answer, Good, Request, Step, Run, Serves, AllAnswered, asked_in, told_in, KeeperState, ServesWhole, Ended, Visit, AreVisits, exchanges_of, worlds_of, Session, IsSession, AreServed, AllTellOf, ServesEach}
-use Rattle.std.proofs.Math.Seq.{take-suc}
-use Rattle.std.proofs.lemmas.List.{map-append}
-use Rattle.std.specs.List.{AllByRecursion}
-use Rattle.portal_core.specs.World.{is_published}
+use Rattle.portal_desk.proofs.Base.{Some, ◌≡◌, ℕ, ◌+◌, ◌<◌, length, take, map, get_or, add-one, inl, inr, true, false, List, [], ◌∷◌, ◌++◌, refl, sym, ap, ◌∙◌, subst, both_ways, Key, World, view, AbstractCall, Answer, Good, Request, Step, Run, Serves, AllAnswered, asked_in, told_in, KeeperState, ServesWhole, Ended, Visit, AreVisits, exchanges_of, worlds_of, Session, IsSession, AreServed, AllTellOf, ServesEach, take-suc, map-append, AllByRecursion, is_published, Wish, Calls, Refused, Answers, Last, AreServedOn, left_by, exchanges_in, IsServed, IsUnseen, AreUnseen, PublishesBest, IsUpheld, MainPromise, IsEnded, AreOf}
 use Rattle.portal_core.specs.Honest.{HasBest, ShowsBest}
-use Rattle.portal_core.specs.Run.{Wish, Calls, Refused, Answers}
 use Rattle.portal_core.proofs.Unseen.{others}
-use Rattle.portal_wire.specs.Conversation.{Last}
-use Rattle.portal_desk.specs.Headline.{AreServedOn, left_by, exchanges_in, IsServed, IsUnseen, AreUnseen, PublishesBest, IsUpheld, MainPromise, IsEnded, AreOf}
 use Rattle.portal_desk.proofs.Heeding.{session_done, are_visits, whole_run, same_bytes}
 use Rattle.portal_desk.proofs.Steps.{answered_apart}
 

@@ -1,7 +1,6 @@
 -- One exchange more.
-use Rattle.portal_desk.proofs.Base.{◌≡◌, ℕ, ◌+◌, ◌-◌, Bool, true, false, List, [], ◌∷◌, ◌++◌, length, refl, sym, ap, ◌∙◌, subst, arith, append-nil, append_assoc, World, Request, Run, Serves, AllAnswered, end_of, Asked, Opens, whole, request_of, closes_at, Rest, more, shut, Leads, Exchange, asked_in, told_in, text, exchange_text}
+use Rattle.portal_desk.proofs.Base.{◌≡◌, ℕ, ◌+◌, ◌-◌, Bool, true, false, List, [], ◌∷◌, ◌++◌, length, refl, sym, ap, ◌∙◌, subst, arith, append-nil, append_assoc, World, Request, Run, Serves, AllAnswered, end_of, Asked, Opens, whole, request_of, closes_at, Rest, more, shut, Leads, Exchange, asked_in, told_in, text, exchange_text, Reaches}
 use Rattle.std.specs.Bool.{MatchBool}
-use Rattle.portal_wire.specs.Conversation.{Reaches}
 
 pub text-snoc : (es : List Exchange) (e : Exchange) → text (es ++ e ∷ []) ≡ text es ++ exchange_text e
 text-snoc [] e = append-nil (exchange_text e)

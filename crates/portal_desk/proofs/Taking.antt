@@ -1,8 +1,5 @@
 -- How many bytes a reader gave.
-use Rattle.portal_desk.proofs.Base.{◌≡◌, ℕ, ◌+◌, ◌-◌, ◌<◌, ◌≤◌, List, ◌++◌, length, drop, sym, ap, ◌∙◌, subst, arith, Option, Some, None, length-append, Frame, Follows}
-use Rattle.std.proofs.Common.{◌*◌}
-use Rattle.std.proofs.lemmas.List.{length-drop}
-use Rattle.portal_desk.specs.Devices.{TakesAtMost}
+use Rattle.portal_desk.proofs.Base.{◌≡◌, ℕ, ◌+◌, ◌-◌, ◌<◌, ◌≤◌, List, ◌++◌, length, drop, sym, ap, ◌∙◌, subst, arith, Option, Some, None, length-append, Frame, Follows, ◌*◌, length-drop, TakesAtMost}
 
 -- the lengths of what stays one stream
 one_stream : (before after more rest : List ℕ) → after ++ rest ≡ before ++ more → length after + length rest ≡ length before + length more

@@ -1,19 +1,12 @@
 -- What is known at each exit of the serving loop.
-use Rattle.portal_desk.proofs.Base.{◌≡◌, ℕ, ◌+◌, ◌-◌, ◌<◌, inl, inr, Bool, true, false, List, [], ◌∷◌, ◌++◌, length, drop, take, refl, sym, ap, ◌∙◌, subst, arith, append-nil, Option, Some, None, nat_le, ◌||◌, Appends, length-append, both_ways, Answer, Frame, Asked, Opens, whole, fault, is_head, seen, refused, Cause, reply_text, Heads, Follows, request_of, closes_at, more, shut, Leads, Exchange, asked_in, text, exchange_text, Deals, ServesWhole, Partly, Broke, KeeperState}
-use Rattle.std.specs.Prelude.{IfSome}
-use Rattle.std.proofs.lemmas.Bool.{leb-false}
-use Rattle.portal_core.specs.Run.{Request as Wanted}
+use Rattle.portal_desk.proofs.Base.{◌≡◌, ℕ, ◌+◌, ◌-◌, ◌<◌, inl, inr, Bool, true, false, List, [], ◌∷◌, ◌++◌, length, drop, take, refl, sym, ap, ◌∙◌, subst, arith, append-nil, Option, Some, None, nat_le, ◌||◌, Appends, length-append, both_ways, Answer, Frame, Asked, Opens, whole, fault, is_head, seen, refused, Cause, reply_text, Heads, Follows, request_of, closes_at, more, shut, Leads, Exchange, asked_in, text, exchange_text, Deals, ServesWhole, Partly, Broke, KeeperState, IfSome, leb-false, Wanted, shut_ends, Stops, Kept, ServesPart, Acted, Replied}
 use Rattle.portal_frame.specs.declared.types.Frame.TheVariants as frame
 use Rattle.portal_frame.specs.declared.types.Refusal.{Refusal}
 use Rattle.portal_frame.specs.declared.types.Request.{Request}
 use Rattle.portal_desk.specs.declared.served.Cause.TheVariants as cause
-use Rattle.portal_wire.specs.Refusals.{answer_to}
+use Rattle.portal_wire.specs.Wish.{answer_to}
 use Rattle.portal_wire.specs.Conversation as talk
-use Rattle.portal_wire.specs.Conversation.{last_for}
-use Rattle.portal_wire.proofs.Exist.{shut_ends}
-use Rattle.portal_desk.specs.Serving.{Stops}
-use Rattle.portal_desk.specs.inner.Serving.{ServesPart, Acted, Replied}
-use Rattle.portal_desk.specs.Kept.{Kept}
+use Rattle.portal_wire.specs.inner.Calls.{last_for}
 use Rattle.portal_desk.proofs.Known.{Appends-append}
 use Rattle.portal_desk.proofs.Failing.{lasts_then}
 use Rattle.portal_desk.proofs.Steps.{text-snoc, Reaches-snoc, after_one, Leads-snoc, answered_apart}

@@ -1,31 +1,126 @@
--- The main promise: what each caller may learn of streams that desks serve, one after another, over
--- keepers of any kind.
-use Rattle.std.specs.Prelude.{◌≡◌, ℕ, true, false, List, [], ◌∷◌, ◌++◌}
-use Rattle.std.specs.List.{AllByRecursion}
+-- Streams served one after another, and the main promise: what a caller may learn from them, over
+-- any keeper.
+use Rattle.std.specs.Prelude.{◌≡◌, if◌then◌else◌, ℕ, Bool, List, [], ◌∷◌, ◌++◌, length, Option, Some, true, false}
 use Rattle.portal_core.specs.Words.{Key, equals}
 use Rattle.portal_core.specs.World.{World, is_published}
+use Rattle.portal_core.specs.Run.{Run, AllAnswered, end_of, Request}
+use Rattle.portal_core.specs.Heard.{HeardItem, Heard, Unless, has_places, moves_to_published, IsMember}
+use Rattle.portal_wire.specs.Conversation.{Rest, Leads, Last, Requests, Exchange, asked_in, told_in, text, exchange_text}
+use Rattle.portal_desk.specs.Kept.{KeeperState, Wrote, ServesBy, StopsBy}
+use Rattle.portal_desk.specs.declared.served.Cause.{Cause}
+use Rattle.std.specs.List.{AllByRecursion}
 use Rattle.portal_core.specs.View.{view}
 use Rattle.portal_core.specs.Good.{Good}
 use Rattle.portal_core.specs.Honest.{HasBest, ShowsBest}
-use Rattle.portal_core.specs.Run.{Request, AllAnswered, end_of}
-use Rattle.portal_core.specs.Heard.{HeardItem, IsMember}
-use Rattle.portal_wire.specs.Conversation.{Exchange, asked_in, told_in}
-use Rattle.portal_desk.specs.Kept.{KeeperState}
-use Rattle.portal_desk.specs.Visits.{Finish, Ended, Stopped, Visit, AreVisits, exchanges_of, worlds_of, Hears, replies_in, Session, IsSession, AllTellOf}
 
--- A keeper goes on from what an earlier one left: it is the same one, or what was kept was closed
--- and opened again. Where its disk has returned what was written, so had the earlier one's; and
--- what was clean is clean, with the same world.
+-- how `serve` ends: as the stream does, or stopped (cause, has the store failed, unread bytes)
+pub data Finish : Type 0 where
+  Ended : Last → Finish
+  Stopped : Cause → Bool → Option (List ℕ) → Finish
+
+-- a stream, what is written for it, how serving it ends, its exchanges, and the world after each
+pub record Visit : Type 0 where
+  pub bytes : List ℕ
+  pub written : List ℕ
+  pub finish : Finish
+  pub exchanges : List Exchange
+  pub worlds : List World
+
+-- the requests are the stream's; the text is all replies, or what the cause of a fault leaves
+abbrev pub Tells : Finish → List ℕ → List Exchange → List ℕ → Type 0
+Tells (Ended ending) bytes es written =
+    (closing : List ℕ) × Requests bytes (asked_in es) ending closing × (written ≡ text es ++ closing)
+Tells (Stopped why failed left) bytes es written =
+    (rest : Rest) × Leads 256 bytes (asked_in es) rest × Wrote why failed es rest left (Some []) (Some written)
+
+-- the visit is what a desk does for the stream in world w
+pub record IsVisit (w : World) (v : Visit) : Type 0 where
+  pub tells : Tells v.finish v.bytes v.exchanges v.written
+  pub run : Run w (asked_in v.exchanges) (told_in v.exchanges) v.worlds
+
+-- one visit after another, each from the world that the one before leaves
+abbrev pub AreVisits : World → List Visit → Type 0
+AreVisits w [] = Unit {0}
+AreVisits w (v ∷ vs) = IsVisit w v × AreVisits (end_of w v.worlds) vs
+
+abbrev pub exchanges_of : List Visit → List Exchange
+exchanges_of [] = []
+exchanges_of (v ∷ vs) = v.exchanges ++ exchanges_of vs
+
+abbrev pub worlds_of : List Visit → List World
+worlds_of [] = []
+worlds_of (v ∷ vs) = v.worlds ++ worlds_of vs
+
+-- no reply is 503
+abbrev pub AreAnswered : List Visit → Type 0
+AreAnswered vs = AllAnswered (told_in (exchanges_of vs))
+
+-- what one caller hears of the visits, in order
+abbrev pub Hears : Key → World → List Visit → List HeardItem → Type 0
+Hears c w vs items = Heard c w (asked_in (exchanges_of vs)) (worlds_of vs) items
+
+-- the texts of the replies to one caller, in order
+abbrev pub texts_to : Key → List Exchange → List (List ℕ)
+texts_to c [] = []
+texts_to c (e ∷ es) = if equals e.request.code c then exchange_text e ∷ texts_to c es else texts_to c es
+
+abbrev pub replies_in : Key → List Visit → List (List ℕ)
+replies_in c vs = texts_to c (exchanges_of vs)
+
+-- texts without a student's list are equal, up to and including the first move to published
+abbrev pub AlikeTexts : List Exchange → List Exchange → Type 0
+AlikeTexts (e ∷ es) (f ∷ fs) =
+    Unless (has_places e.request.wish) (exchange_text e ≡ exchange_text f) × Unless (moves_to_published e.request.wish e.reply) (AlikeTexts es fs)
+AlikeTexts _ _ = Unit {0}
+
+-- a call of `serve`; `before` and `after` are what the writer holds, `count` counts the requests
+pub record Session (K : Type 0) : Type 0 where
+  pub old : K
+  pub new : K
+  pub bytes : List ℕ
+  pub before : List ℕ
+  pub after : List ℕ
+  pub count : ℕ
+  pub finish : Finish
+  pub exchanges : List Exchange
+
+-- what `serve` promises for each ending
+abbrev pub ServesUntil : Finish → List Exchange → KeeperState → KeeperState → Option (List ℕ) → Option (List ℕ) → List ℕ → ℕ → Type 0
+ServesUntil (Ended ending) es old new before after bytes count = ServesBy es old new before after bytes count ending
+ServesUntil (Stopped why failed left) es old new before after bytes count = StopsBy es why failed old new left before after bytes count
+
+abbrev pub IsSession : {K : Type 0} → (K → KeeperState) → Session K → Type 0
+IsSession state s = ServesUntil s.finish s.exchanges (state s.old) (state s.new) (Some s.before) (Some s.after) s.bytes s.count
+
+-- sessions one after another, from the world of keeper k; each leaves its keeper clean
+abbrev pub AreServed : {K : Type 0} → (K → KeeperState) → K → List (Session K) → Type 0
+AreServed state k [] = Unit {0}
+AreServed state k (s ∷ ss) =
+    ((state s.old).world ≡ (state k).world) × (state s.new).clean × IsSession state s × AreServed state s.new ss
+
+-- the visit describes the call of `serve`
+pub record TellsOf {K : Type 0} (s : Session K) (v : Visit) : Type 0 where
+  pub bytes : v.bytes ≡ s.bytes
+  pub finish : v.finish ≡ s.finish
+  pub exchanges : v.exchanges ≡ s.exchanges
+  pub count : s.count ≡ length v.exchanges
+  pub written : s.after ≡ s.before ++ v.written
+
+abbrev pub AllTellOf : {K : Type 0} → List (Session K) → List Visit → Type 0
+AllTellOf [] [] = Unit {0}
+AllTellOf (s ∷ ss) (v ∷ vs) = TellsOf s v × AllTellOf ss vs
+AllTellOf _ _ = ⊥
+
+-- `new` goes on from `old`: it is the same keeper, or what it kept was closed and opened again
 abbrev pub Resumes : KeeperState → KeeperState → Type 0
 Resumes old new = new.disk → old.disk × (old.clean → new.clean × (new.world ≡ old.world))
 
--- the streams were served one after another, each over a keeper that goes on from what the one
--- before left
+-- sessions one after another, each over a keeper that goes on from the one before
 abbrev pub AreServedOn : {K : Type 0} → (K → KeeperState) → K → List (Session K) → Type 0
 AreServedOn state k [] = Unit {0}
 AreServedOn state k (s ∷ ss) = Resumes (state k) (state s.old) × IsSession state s × AreServedOn state s.new ss
 
--- the keeper that the last of them left
+-- the keeper after the last session
 abbrev pub left_by : {K : Type 0} → K → List (Session K) → K
 left_by k [] = k
 left_by k (s ∷ ss) = left_by s.new ss
@@ -34,8 +129,7 @@ abbrev pub exchanges_in : {K : Type 0} → List (Session K) → List Exchange
 exchanges_in [] = []
 exchanges_in (s ∷ ss) = s.exchanges ++ exchanges_in ss
 
--- the premises: the first keeper is clean and keeps a good world, no reply is 503, and the last
--- keeper's disk has returned what was written
+-- the premises: the first keeper is clean, its world good, no reply 503, and the last disk clean
 pub record IsServed {K : Type 0} (state : K → KeeperState) (k : K) (sessions : List (Session K)) : Type 0 where
   pub served : AreServedOn state k sessions
   pub clean : (state k).clean
@@ -43,7 +137,7 @@ pub record IsServed {K : Type 0} (state : K → KeeperState) (k : K) (sessions :
   pub answered : AllAnswered (told_in (exchanges_in sessions))
   pub disk : (state (left_by k sessions)).disk
 
--- what a request of a student or a lecturer shows to another caller, who is not the office: nothing
+-- a request of a student or a lecturer changes no view but the own one and the office's
 abbrev pub IsUnseen : Key → World → Request → World → Type 0
 IsUnseen c old r new = IsMember (view old r.code) → equals r.code c ≡ false → equals old.office c ≡ false → view new c ≡ view old c
 
@@ -51,12 +145,12 @@ abbrev pub AreUnseen : Key → World → List Request → List World → Type 0
 AreUnseen c w (r ∷ rs) (v ∷ vs) = IsUnseen c w r v × AreUnseen c v rs vs
 AreUnseen c w _ _ = Unit {0}
 
--- what is published on the way from one world to the next is the best for the students
+-- each step that publishes leaves the student-optimal result
 abbrev pub PublishesBest : World → List World → Type 0
 PublishesBest w [] = Unit {0}
 PublishesBest w (v ∷ vs) = (is_published w.phase ≡ false → is_published v.phase ≡ true → HasBest v) × PublishesBest v vs
 
--- what holds of visits from a good world
+-- what holds of all visits from a good world
 pub record IsUpheld (w : World) (visits : List Visit) : Type 0 where
   pub are : AreVisits w visits
   pub good : AllByRecursion Good (worlds_of visits)
@@ -64,20 +158,19 @@ pub record IsUpheld (w : World) (visits : List Visit) : Type 0 where
   pub published : PublishesBest w (worlds_of visits)
   pub best : ShowsBest w → AllByRecursion ShowsBest (worlds_of visits)
 
--- where a caller starts with the same view and hears the same in both, the replies to the caller
--- are the same bytes, and the last view is the same
+-- a caller who starts with the same view and hears the same gets the same reply bytes and last view
 abbrev pub AreEqual : World → World → List Visit → List Visit → Type 0
 AreEqual w v first second =
     (c : Key) (items : List HeardItem) → view w c ≡ view v c → Hears c w first items → Hears c v second items
     → (replies_in c first ≡ replies_in c second) × (view (end_of w (worlds_of first)) c ≡ view (end_of v (worlds_of second)) c)
 
--- there are visits that tell of these streams and of those, of which that holds
+-- visits describe the sessions of both lists, and the main promise holds of these visits
 abbrev pub MainPromise : {K L : Type 0} → World → World → List (Session K) → List (Session L) → Type 0
 MainPromise w v sessions others =
     (first second : List Visit) × AllTellOf sessions first × AllTellOf others second × IsUpheld w first × IsUpheld v second
     × AreEqual w v first second
 
--- these streams were served to their ends, and these texts written for them, each from nothing
+-- the sessions serve these streams to their ends, and write these texts, each to an empty writer
 abbrev pub IsEnded : Finish → Type 0
 IsEnded (Ended ending) = Unit {0}
 IsEnded (Stopped why failed left) = ⊥
@@ -87,7 +180,7 @@ AreOf [] [] [] = Unit {0}
 AreOf (s ∷ ss) (x ∷ xs) (t ∷ ts) = (s.bytes ≡ x) × (s.before ≡ []) × (s.after ≡ t) × IsEnded s.finish × AreOf ss xs ts
 AreOf _ _ _ = ⊥
 
--- they were served one after another, from the one keeper to the other
+-- from `old` to `new`, keepers serve the streams in turn and write these texts
 abbrev pub ServesEach : {K : Type 0} → (K → KeeperState) → K → K → List (List ℕ) → List (List ℕ) → Type 0
 ServesEach state old new streams texts =
     (sessions : List (Session _)) × AreServedOn state old sessions × (left_by old sessions ≡ new) × AreOf sessions streams texts

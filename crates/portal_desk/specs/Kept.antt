@@ -1,18 +1,28 @@
--- What a desk and a counted device hold, and what is known of a keeper at one time.
-use Rattle.std.specs.Prelude.{ℕ, Bool}
+-- What a desk, a metered device and a keeper hold, how they count failed calls, and what a desk did
+-- for a stream.
+use Rattle.std.specs.Prelude.{ℕ, Bool, ◌≡◌, ◌⊎◌, ◌+◌, ◌-◌, ◌^◌, ◌<◌, ◌≤◌, min, List, length, Option, Some, IfSome, Result, MatchResult, true, false, ◌||◌, [], ◌∷◌, ◌++◌, take}
 use Rattle.portal_core.specs.World.{World}
+use Rattle.portal_core.specs.Answer.{Said, Json, Unavailable}
+use Rattle.serde_json.specs.Written.{has_float}
+use Rattle.std.specs.Io.KnownBytes.{Appends}
+use Rattle.portal_core.specs.Meaning.{StaysClean}
+use Rattle.portal_core.specs.Run.{AllAnswered, unavailable}
+use Rattle.portal_frame.specs.Stream.{Asked, Opens, whole}
+use Rattle.portal_desk.specs.declared.served.Cause.{Cause}
+use Rattle.portal_desk.specs.declared.served.Cause.TheVariants as cause
+use Rattle.portal_wire.specs.Conversation.{reply_text, Rest, more, Leads, Last, Ends, Exchange, asked_in, told_in, text, Reaches}
 
--- what keeps the world, and whether the store failed
+-- a desk: what keeps the world, and whether the store has failed
 pub record Kept (K : Type 0) : Type 0 where
   pub keeper : K
   pub failed : Bool
 
--- a reader or a writer, and how many of its calls failed
+-- a reader or a writer, and how many of its calls have failed
 pub record Metered (T : Type 0) : Type 0 where
   pub inner : T
   pub failures : ℕ
 
--- of a keeper, whether its disk has returned what was written, whether it is clean, and the world that it keeps
+-- a keeper's world, whether its disk has returned what was written, and whether it is clean
 pub record KeeperState : Type 1 where
   pub disk : Type 0
   pub clean : Type 0
@@ -20,3 +30,92 @@ pub record KeeperState : Type 1 where
 
 abbrev pub state_of : {K : Type 0} → (K → Type 0) → (K → Type 0) → (K → World) → K → KeeperState
 state_of disk clean world k = record { disk = disk k; clean = clean k; world = world k }
+
+-- a call that failed counts once, up to the greatest number, and no other does
+abbrev pub Counts : {A E : Type 0} → Result A E → ℕ → ℕ → Type 0
+Counts r old new = MatchResult r (λ _. new ≡ old) (λ _. new ≡ min (old + 1) (2 ^ 64 - 1))
+
+-- the count has risen, or is at its maximum
+abbrev pub FailsAfter : ℕ → ℕ → Type 0
+FailsAfter old new = (old < new) ⊎ (new ≡ 2 ^ 64 - 1)
+
+-- a reader whose bytes are known has given at most n of them
+abbrev pub TakesAtMost : ℕ → Option (List ℕ) → Option (List ℕ) → Type 0
+TakesAtMost n old new = IfSome old (λ bytes. (left : List ℕ) × (new ≡ Some left) × (length bytes ≤ length left + n))
+
+-- a desk fails exactly if its keeper's fault count rises, by one; then it leaves the keeper alone
+abbrev pub FailsByCount : Bool → Bool → ℕ → ℕ → Type 0
+FailsByCount true after old new = (after ≡ true) × (new ≡ old)
+FailsByCount false false old new = new ≡ old
+FailsByCount false true old new = new ≡ old + 1
+
+-- the body of an answer other than 503; JSON has whole numbers only
+abbrev pub IsTold : Said → Type 0
+IsTold (Json body) = has_float body ≡ false
+IsTold Unavailable = ⊥
+IsTold _ = Unit {0}
+
+-- after the first requests, a clean keeper has their world; it stays clean if no reply is 503
+pub record Deals (old new : KeeperState) (bytes : List ℕ) (count : ℕ) (es : List Exchange) (rest : Rest) : Type 0 where
+  pub leads : Leads 256 bytes (asked_in es) rest
+  pub reaches : new.clean → Reaches old.world es new.world
+  pub lasts : AllAnswered (told_in es) → StaysClean old.disk new.disk old.clean new.clean
+  pub counted : count ≡ length es
+
+-- these exchanges serve the whole stream, and the text of all replies is written
+abbrev pub ServesBy : List Exchange → KeeperState → KeeperState → Option (List ℕ) → Option (List ℕ) → List ℕ → ℕ → Last → Type 0
+ServesBy es old new before after bytes count end =
+    (rest : Rest) × (closing : List ℕ) × Deals old new bytes count es rest × Ends rest end closing × Appends before after (text es ++ closing)
+
+abbrev pub ServesWhole : KeeperState → KeeperState → Option (List ℕ) → Option (List ℕ) → List ℕ → ℕ → Last → Type 0
+ServesWhole old new before after bytes count end = (es : List Exchange) × ServesBy es old new before after bytes count end
+
+-- all replies but the last, and a first part of the last, which closes after a fault of the store
+abbrev pub CutsLast : Bool → List Exchange → Option (List ℕ) → Option (List ℕ) → Type 0
+CutsLast failed es before after =
+    (front : List Exchange) × (e : Exchange) × (k : ℕ) × (es ≡ front ++ e ∷ [])
+    × Appends before after (text front ++ take k (reply_text e.reply e.request.head (e.request.closes || failed)))
+
+-- all replies but the last are written
+abbrev pub LacksLast : List Exchange → Option (List ℕ) → Option (List ℕ) → Type 0
+LacksLast es before after = (front : List Exchange) × (e : Exchange) × (es ≡ front ++ e ∷ []) × Appends before after (text front)
+
+-- all replies are written, and a first part of the refusal that follows
+abbrev pub CutsClosing : List Exchange → Rest → Option (List ℕ) → Option (List ℕ) → Type 0
+CutsClosing es rest before after =
+    (end : Last) × (closing : List ℕ) × (k : ℕ) × Ends rest end closing × Appends before after (text es ++ take k closing)
+
+-- the bytes that were read hold no further whole request, and the others are still unread
+abbrev pub AllSeen : Rest → Option (List ℕ) → Type 0
+AllSeen rest left =
+    (held unread : List ℕ) × (rest ≡ more (held ++ unread)) × (left ≡ Some unread)
+    × ((a : Asked) → (after : List ℕ) → ¬ (Opens held (whole a after)))
+
+-- what is written, by the cause of the fault
+abbrev pub Wrote : Cause → Bool → List Exchange → Rest → Option (List ℕ) → Option (List ℕ) → Option (List ℕ) → Type 0
+Wrote cause.Read failed es rest left before after = AllSeen rest left × Appends before after (text es)
+Wrote cause.Write failed es rest left before after = CutsLast failed es before after ⊎ CutsClosing es rest before after
+Wrote cause.Memory failed es rest left before after = LacksLast es before after ⊎ Appends before after (text es)
+Wrote cause.Store failed es rest left before after =
+    (failed ≡ true) × (front : List Exchange) × (e : Exchange) × (es ≡ front ++ e ∷ []) × (e.reply ≡ unavailable)
+    × Appends before after (text front ++ reply_text unavailable e.request.head true)
+
+-- these exchanges serve a first part of the stream
+abbrev pub StopsBy : List Exchange → Cause → Bool → KeeperState → KeeperState → Option (List ℕ) → Option (List ℕ) → Option (List ℕ) → List ℕ → ℕ → Type 0
+StopsBy es why failed old new left before after bytes count =
+    (rest : Rest) × Deals old new bytes count es rest × Wrote why failed es rest left before after
+
+abbrev pub Stops : Cause → Bool → KeeperState → KeeperState → Option (List ℕ) → Option (List ℕ) → Option (List ℕ) → List ℕ → ℕ → Type 0
+Stops why failed old new left before after bytes count = (es : List Exchange) × StopsBy es why failed old new left before after bytes count
+
+-- the blamed device has failed in this call
+abbrev pub Blames : Cause → ℕ → ℕ → ℕ → ℕ → Type 0
+Blames cause.Read source_old source_new sink_old sink_new = FailsAfter source_old source_new
+Blames cause.Write source_old source_new sink_old sink_new = FailsAfter sink_old sink_new
+Blames _ source_old source_new sink_old sink_new = Unit {0}
+
+-- the number of requests that an already failed desk takes: the first one ends the call
+abbrev pub AtFirst : Cause → ℕ → Type 0
+AtFirst cause.Read count = count ≡ 0
+AtFirst cause.Store count = count ≡ 1
+AtFirst _ count = count ≤ 1

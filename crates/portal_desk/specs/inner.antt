@@ -1,3 +1,3 @@
 pub mod Play
-pub mod Serving
+pub mod Turns
 pub mod Reading

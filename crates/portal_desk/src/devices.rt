@@ -3,7 +3,7 @@
 ghost use Rattle.std.specs.Prelude.{◌≡◌, ℕ, ◌<◌, List, Option, take, length, OnOk, OnErr, IfOk};
 ghost use Rattle.std.specs.Io.KnownBytes.{ReadConsumes, WriteAppends, Appends};
 ghost use Rattle.std.specs.Io.{ReadsAtMost, WritesAtMost};
-ghost use Rattle.portal_desk.specs.Devices.{Counts, FailsAfter};
+ghost use Rattle.portal_desk.specs.Kept.{Counts, FailsAfter};
 
 use crate::again::{read_again, write_again};
 use std::io::{Read, Write};

@@ -6,14 +6,12 @@ ghost use Rattle.portal_core.specs.Words.{Key};
 ghost use Rattle.portal_core.specs.World.{World};
 ghost use Rattle.portal_core.specs.View.{view};
 ghost use Rattle.portal_core.specs.Run.{end_of};
-ghost use Rattle.portal_core.specs.Heard.{HeardItem};
-ghost use Rattle.portal_core.specs.Places.{SameButPlaces, SameRequest};
+ghost use Rattle.portal_core.specs.Heard.{HeardItem, SameButPlaces, SameRequest};
 ghost use Rattle.portal_wire.specs.Conversation.{asked_in};
-ghost use Rattle.portal_desk.specs.Headline.{IsServed, MainPromise};
+ghost use Rattle.portal_desk.specs.Headline.{IsServed, MainPromise, Visit, AreVisits, AreAnswered};
+ghost use Rattle.portal_desk.specs.Headline.{exchanges_of, worlds_of, Hears, replies_in};
+ghost use Rattle.portal_desk.specs.Headline.{AlikeTexts, Session, AreServed, AllTellOf};
 ghost use Rattle.portal_desk.specs.Kept.{state_of};
-ghost use Rattle.portal_desk.specs.Visits.{Visit, AreVisits, AreAnswered, exchanges_of, worlds_of};
-ghost use Rattle.portal_desk.specs.Visits.{Hears, replies_in, AlikeTexts, Session, AreServed};
-ghost use Rattle.portal_desk.specs.Visits.{AllTellOf};
 
 use portal_core::Keeper;
 use portal_core::laws::{published_best, run_good};

@@ -3,16 +3,14 @@
 ghost use Rattle.std.specs.Prelude.{◌≡◌, IfOk, OnOk, OnErr};
 ghost use Rattle.spa_model.specs.Spa.{IsMatching};
 ghost use Rattle.portal_core.specs.Answer as answer;
-ghost use Rattle.portal_core.specs.Answer.{Publish};
-ghost use Rattle.portal_core.specs.Counting.{CountsFaults, StaysClean};
+ghost use Rattle.portal_core.specs.Answer.{Publish, HasWholeNumbers};
+ghost use Rattle.portal_core.specs.Meaning.{CountsFaults, StaysClean, call_model, decision_model};
+ghost use Rattle.portal_core.specs.Meaning.{act_model, reply_model, body_model};
 ghost use Rattle.portal_core.specs.Good.{Good, CanPublish};
-ghost use Rattle.portal_core.specs.Instance.{pairs_by};
-ghost use Rattle.portal_core.specs.Meaning.{call_model, decision_model, act_model, reply_model};
-ghost use Rattle.portal_core.specs.Meaning.{body_model};
+ghost use Rattle.portal_core.specs.inner.Room.{pairs_by};
 ghost use Rattle.portal_core.specs.Run.{HasForm, StepLeaves, Step};
 ghost use Rattle.portal_core.specs.View as seen;
-ghost use Rattle.portal_core.specs.Answer.{HasWholeNumbers};
-ghost use Rattle.portal_desk.specs.Outcome.{IsTold};
+ghost use Rattle.portal_desk.specs.Kept.{IsTold};
 ghost use Rattle.portal_desk.specs.inner.Play.{CanDo, IsSolved, sheet_text, with_sheet};
 
 use portal_core::{

@@ -2,7 +2,7 @@
 
 ghost use Rattle.std.specs.Prelude.{◌≡◌, ◌≢◌, ℕ, ◌+◌, ◌-◌, ◌<◌, ◌≤◌, List, length, drop, IfOk};
 ghost use Rattle.std.specs.Prelude.{OnErr, IfErr, OnOk, if◌then◌else◌};
-ghost use Rattle.portal_desk.specs.Devices.{FailsAfter, TakesAtMost};
+ghost use Rattle.portal_desk.specs.Kept.{FailsAfter, TakesAtMost};
 ghost use Rattle.portal_desk.specs.inner.Reading.{ReadsMore, Follows, IsWithin, KeepsStream};
 ghost use Rattle.portal_desk.specs.inner.Reading.{HoldsNone};
 ghost use Rattle.portal_desk.specs.declared.reading.FrameFault.TheVariants.{Memory as OutOfMemory};

@@ -4,11 +4,11 @@ ghost use Rattle.std.specs.Prelude.{◌≡◌, true, OnOk, IfErr, OnErr};
 ghost use Rattle.std.specs.Io.KnownBytes.{Appends};
 ghost use Rattle.portal_core.specs.Meaning.{reply_model, body_model};
 ghost use Rattle.portal_frame.specs.Stream.{refused};
-ghost use Rattle.portal_wire.specs.Refusals.{answer_to};
-ghost use Rattle.portal_wire.specs.Text.{reply_text};
+ghost use Rattle.portal_wire.specs.Wish.{answer_to};
+ghost use Rattle.portal_wire.specs.Conversation.{reply_text};
 ghost use Rattle.portal_core.specs.Answer.{HasWholeNumbers};
-ghost use Rattle.portal_desk.specs.Devices.{FailsAfter};
-ghost use Rattle.portal_desk.specs.inner.Serving.{Partly};
+ghost use Rattle.portal_desk.specs.Kept.{FailsAfter};
+ghost use Rattle.portal_desk.specs.inner.Turns.{Partly};
 ghost use Rattle.portal_desk.specs.declared.served.Cause.TheVariants.{Write as WriteFailed};
 
 use crate::devices::{Sink, write_whole};

@@ -1,16 +1,7 @@
 -- Heads at the front of a stream, cut and continued.
-use Rattle.portal_frame.proofs.Base.{◌≡◌, ℕ, ◌+◌, ◌-◌, ◌<◌, ◌≤◌, inl, inr, Bool, true, false, List, [], ◌∷◌, ◌++◌, length, take, drop, refl, sym, ap, ◌∙◌, arith, rules, append_assoc, subst, ◌==◌, ◌&&◌, if◌then◌else◌, Ok, Result, eqb-true, common_steps, take-append-drop, length-append, IsTrue, nat_lt, nat_le, RequestHead, IsRequestHead, HasNoRequest, print_request, LineEnd, lf, crlf, print_blank, print_version, is_token_byte, is_uri_byte, Field, IsField, RequestOverflows, Fault, body_length, bad_head, Asked, whole, fault, asked_of, fields_of, Opens, headless, is_blank, header_bytes, map}
-use Rattle.std.proofs.Common.{append-nil}
-use Rattle.std.specs.Prelude.{◌||◌, min}
+use Rattle.portal_frame.proofs.Base.{◌≡◌, ℕ, ◌+◌, ◌-◌, ◌<◌, ◌≤◌, inl, inr, Bool, true, false, List, [], ◌∷◌, ◌++◌, length, take, drop, refl, sym, ap, ◌∙◌, arith, rules, append_assoc, subst, ◌==◌, ◌&&◌, if◌then◌else◌, Ok, Result, eqb-true, common_steps, take-append-drop, length-append, IsTrue, nat_lt, nat_le, RequestHead, IsRequestHead, HasNoRequest, print_request, LineEnd, lf, crlf, print_blank, print_version, is_token_byte, is_uri_byte, Field, IsField, RequestOverflows, Fault, body_length, bad_head, Asked, whole, fault, asked_of, fields_of, Opens, headless, is_blank, header_bytes, map, append-nil, ◌||◌, min, le-leb, cases_lt, take-append-le, drop-append-le, drop-drop, length-take-le, length-take, length-map, take_all, All-cons, All-nil, ReadsRequest, ReadsRequest-append, print_request-append, Refuses, bad_length, Takes, HasNoHead, over, after_lines, is_head, IsHead, IsRequestAt, IsRequestWithin, name_and_value}
 use Rattle.std.proofs.Math.Seq.{take-append-add}
-use Rattle.std.proofs.lemmas.Bool.{le-leb, cases_lt}
-use Rattle.std.proofs.lemmas.List.{take-append-le, drop-append-le, drop-drop, length-take-le, length-take, length-map, take_all}
-use Rattle.std.proofs.lemmas.List.Elements.{All-cons, All-nil}
 use Rattle.std.specs.Char.{encode_utf8}
-use Rattle.httparse.specs.Grammar.{ReadsRequest}
-use Rattle.httparse.proofs.GrammarLemmas.{ReadsRequest-append, print_request-append}
-use Rattle.portal_frame.specs.Stream.{Refuses, bad_length, Takes, HasNoHead, over, after_lines, is_head, IsHead}
-use Rattle.httparse.specs.Spans.{IsRequestAt, IsRequestWithin, name_and_value}
 use Rattle.httparse.specs.declared.spans.HeaderSpan.{HeaderSpan}
 use Rattle.httparse.specs.declared.spans.RequestSpans.{RequestSpans}
 

@@ -1,10 +1,6 @@
 -- How long what is waited for can be.
-use Rattle.portal_frame.proofs.Base.{◌≡◌, ℕ, ◌+◌, ◌<◌, ◌≤◌, Bool, true, false, List, [], ◌∷◌, ◌++◌, length, refl, arith, Result, Ok, if◌then◌else◌, nat_lt, codes, digits_value, length-append, RequestHead, print_request, print_section, print_end, print_version, print_blank, Fault, values_of, body_length, fields_of}
-use Rattle.std.specs.Prelude.{Err}
-use Rattle.std.proofs.lemmas.Bool.{ltb-false}
+use Rattle.portal_frame.proofs.Base.{◌≡◌, ℕ, ◌+◌, ◌<◌, ◌≤◌, Bool, true, false, List, [], ◌∷◌, ◌++◌, length, refl, arith, Result, Ok, if◌then◌else◌, nat_lt, codes, digits_value, length-append, RequestHead, print_request, print_section, print_end, print_version, print_blank, Fault, values_of, body_length, fields_of, Err, ltb-false, is_length, has_bad_host, has_any, length_of}
 use Rattle.portal_frame.specs.declared.types.Fault.TheVariants as faults
-use Rattle.portal_frame.specs.Heads.{is_length, has_bad_host, has_any}
-use Rattle.portal_frame.specs.Stream.{length_of}
 
 ok_same : (d n : ℕ) → ◌≡◌ {A = Result ℕ Fault} (Ok d) (Ok n) → d ≡ n
 ok_same d n e = cc

@@ -1,13 +1,7 @@
 -- A head of at most 32 fields has an empty line among its first 34.
-use Rattle.portal_frame.proofs.Base.{◌≡◌, ℕ, ◌+◌, ◌<◌, ◌≤◌, Bool, true, false, List, [], ◌∷◌, ◌++◌, length, refl, sym, ap, ◌∙◌, subst, arith, rules, append_assoc, zero-add, if◌then◌else◌, ◌==◌, IsTrue, eqb-true, RequestHead, IsRequestHead, print_request, print_blank, print_end, print_version, print_section, LineEnd, crlf, lf, Field, IsField, is_token_byte, is_uri_byte, RequestOverflows, Opens, fault, bad_head, Leading, Fresh, Inside, lines_from, header_lines}
-use Rattle.std.specs.List.{All, flat_map, AllByRecursion}
-use Rattle.std.proofs.lemmas.Bool.{leb-true}
-use Rattle.std.proofs.lemmas.List.Elements.{All-head, All-tail}
-use Rattle.httparse.specs.Grammar.{print_field, AllPass, is_value_byte}
+use Rattle.portal_frame.proofs.Base.{◌≡◌, ℕ, ◌+◌, ◌<◌, ◌≤◌, Bool, true, false, List, [], ◌∷◌, ◌++◌, length, refl, sym, ap, ◌∙◌, subst, arith, rules, append_assoc, zero-add, if◌then◌else◌, ◌==◌, IsTrue, eqb-true, RequestHead, IsRequestHead, print_request, print_blank, print_end, print_version, print_section, LineEnd, crlf, lf, Field, IsField, is_token_byte, is_uri_byte, RequestOverflows, Opens, fault, bad_head, Leading, Fresh, Inside, lines_from, header_lines, All, flat_map, AllByRecursion, leb-true, All-head, All-tail, print_field, AllPass, is_value_byte, step, stops, counts, is_overlong}
 use Rattle.portal_frame.proofs.Heads.{opens_never}
 use Rattle.portal_frame.specs.declared.counting.At.{At}
-use Rattle.portal_frame.specs.inner.Counting.{step, stops, counts}
-use Rattle.portal_frame.specs.Lines.{is_overlong}
 use Rattle.portal_frame.proofs.HeadLines.{counted_is}
 
 pub lines-append : (at : At) (xs ys : List ℕ) → lines_from at xs ≤ lines_from at (xs ++ ys)

@@ -1,7 +1,5 @@
 -- A stream opens with one item, so its requests are one list.
-use Rattle.portal_frame.proofs.Base.{◌≡◌, ℕ, inl, inr, List, sym, ap, ◌∙◌, item_of, Opens}
-use Rattle.httparse.proofs.GrammarLemmas.{request_unique}
-use Rattle.portal_frame.specs.Stream.{Item}
+use Rattle.portal_frame.proofs.Base.{◌≡◌, ℕ, inl, inr, List, sym, ap, ◌∙◌, item_of, Opens, request_unique, Item}
 
 pub Opens-unique : (bytes : List ℕ) (i j : Item) → Opens bytes i → Opens bytes j → i ≡ j
 Opens-unique bytes i j (inl (h, rest, t, e)) (inl (k, after, u, f)) =

@@ -1,22 +1,108 @@
--- The requests of a stream.
-use Rattle.std.specs.Prelude.{◌≡◌, ℕ, ◌<◌, ◌≤◌, ◌⊎◌, Bool, true, false, ◌||◌, ◌&&◌, nat_lt, nat_le, ◌==◌, if◌then◌else◌, List, [], ◌∷◌, ◌++◌, length, map, take, drop, codes, Option, None, Result, Ok, Err, IsTrue, IsFalse, All}
+-- What the lines of a request's head say, and the requests of a stream.
+use Rattle.std.specs.Prelude.{ℕ, Bool, true, false, ◌&&◌, nat_lt, nat_le, ◌==◌, if◌then◌else◌, List, [], ◌∷◌, length, map, ◌||◌, codes, take, drop, ◌++◌, ◌≡◌, ◌<◌, ◌≤◌, ◌⊎◌, Option, None, Result, Ok, Err, IsTrue, IsFalse}
+use Rattle.std.specs.List.{filter, list_all, list_any}
+use Rattle.std.specs.Char.{to_ascii_lowercase, is_ascii_digit}
 use Rattle.std.specs.Str.{bytes_eq}
+use Rattle.httparse.specs.Grammar.{skip_ows, RequestHead, ReadsRequest, MayBecomeRequest, NeverHasRequest, print_request}
 use Rattle.std.specs.Str.Parse.{digits_value}
-use Rattle.httparse.specs.Grammar.{RequestHead, ReadsRequest, MayBecomeRequest, NeverHasRequest, print_request}
-use Rattle.httparse.specs.Spans.{RequestExceeds, name_and_value, span_bytes, header_bytes, IsWithin, IsHeaderWithin}
-use Rattle.httparse.specs.declared.spans.HeaderSpan.{HeaderSpan}
-use Rattle.httparse.specs.declared.spans.RequestSpans.{RequestSpans}
+use Rattle.httparse.specs.Spans.{RequestExceeds, name_and_value}
 use Rattle.portal_frame.specs.declared.types.Request.{Request}
 use Rattle.portal_frame.specs.declared.types.Refusal.{Refusal}
 use Rattle.portal_frame.specs.declared.types.Fault.{Fault}
 use Rattle.portal_frame.specs.declared.types.Fault.TheVariants.{BadHead, BadHost, CodedBody, BadLength, TooLarge}
 use Rattle.portal_frame.specs.declared.types.Frame.{Frame}
 use Rattle.portal_frame.specs.declared.types.Frame.TheVariants as frame
-use Rattle.portal_frame.specs.Heads.{values_of, only, has_any, has_bad_host, is_length, path_of}
-use Rattle.portal_frame.specs.Connection.{asks_close}
-use Rattle.portal_frame.specs.Lines.{is_overlong}
 
--- a request without where it lies in memory
+-- the names are equal, ignoring the case of ASCII letters
+abbrev pub same_name : List ℕ → List ℕ → Bool
+same_name a b = bytes_eq (map to_ascii_lowercase a) (map to_ascii_lowercase b)
+
+-- the values of the lines with this name, in order
+abbrev pub values_of : List ℕ → List (List ℕ × List ℕ) → List (List ℕ)
+values_of name lines = map (λ line. line.1) (filter (λ line. same_name line.0 name) lines)
+
+-- the value if there is exactly one, otherwise the empty text
+abbrev pub only : List (List ℕ) → List ℕ
+only [] = []
+only (value ∷ []) = value
+only (value ∷ other ∷ values) = []
+
+-- there is a value
+abbrev pub has_any : List (List ℕ) → Bool
+has_any [] = false
+has_any (value ∷ values) = true
+
+-- bad values of Host: none in HTTP/1.1, or more than one
+abbrev pub has_bad_host : ℕ → List (List ℕ) → Bool
+has_bad_host minor [] = minor == 1
+has_bad_host minor (value ∷ []) = false
+has_bad_host minor (value ∷ other ∷ values) = true
+
+-- 1 to 18 decimal digits
+abbrev pub is_length : List ℕ → Bool
+is_length value = nat_lt 0 (length value) && nat_le (length value) 18 && list_all is_ascii_digit value
+
+-- the target up to its first question mark
+abbrev pub path_of : List ℕ → List ℕ
+path_of [] = []
+path_of (b ∷ target) = if b == 63 then [] else b ∷ path_of target
+
+abbrev pub is_nothing : List ℕ → Bool
+is_nothing [] = true
+is_nothing (b ∷ bytes) = false
+
+-- the word `close` in any case, with blanks and tabs around it
+abbrev pub is_close : List ℕ → Bool
+is_close part = same_name (take 5 (skip_ows part)) (codes "close") && is_nothing (skip_ows (drop 5 (skip_ows part)))
+
+-- the value up to its first comma
+abbrev pub before_comma : List ℕ → List ℕ
+before_comma [] = []
+before_comma (b ∷ bytes) = if b == 44 then [] else b ∷ before_comma bytes
+
+-- some part after a comma is `close`
+abbrev pub later_close : List ℕ → Bool
+later_close [] = false
+later_close (b ∷ bytes) = (b == 44 && is_close (before_comma bytes)) || later_close bytes
+
+-- some part of the value, cut at commas, is `close`
+abbrev pub has_close : List ℕ → Bool
+has_close value = is_close (before_comma value) || later_close value
+
+-- some value of Connection asks to close
+abbrev pub asks_close : List (List ℕ) → Bool
+asks_close values = list_any has_close values
+
+-- the line is empty, or a CR alone
+abbrev pub is_empty_line : List ℕ → Bool
+is_empty_line [] = true
+is_empty_line (b ∷ []) = b == 13
+is_empty_line (b ∷ c ∷ line) = false
+
+-- the lines of `line` and then the bytes; an LF ends each line, and a rest without LF is no line
+abbrev pub lines_after : List ℕ → List ℕ → List (List ℕ)
+lines_after line [] = []
+lines_after line (b ∷ bytes) = if b == 10 then line ∷ lines_after [] bytes else lines_after (line ++ b ∷ []) bytes
+
+-- the lines without the empty ones in front
+abbrev pub without_leading : List (List ℕ) → List (List ℕ)
+without_leading [] = []
+without_leading (line ∷ lines) = if is_empty_line line then without_leading lines else line ∷ lines
+
+-- the lines before the first empty one, or all if none is empty
+abbrev pub before_empty : List (List ℕ) → List (List ℕ)
+before_empty [] = []
+before_empty (line ∷ lines) = if is_empty_line line then [] else line ∷ before_empty lines
+
+-- the lines of the head at the front, whether it is complete or not
+abbrev pub header_lines : List ℕ → List (List ℕ)
+header_lines bytes = before_empty (without_leading (lines_after [] bytes))
+
+-- 34 lines or more; a head has at most 33: the start line and 32 fields
+abbrev pub is_overlong : List ℕ → Bool
+is_overlong bytes = nat_le 34 (length (header_lines bytes))
+
+-- the content of a request, without its place in memory
 pub record Asked : Type 0 where
   pub method : List ℕ
   pub path : List ℕ
@@ -27,7 +113,7 @@ pub record Asked : Type 0 where
 abbrev pub seen : Request → Asked
 seen r = record { method = r.method.items; path = r.path.items; code = r.code.items; close = r.close; body = r.body.items }
 
--- a refusal by its texts alone
+-- the content of a refusal; `allow` lists the methods of the path for a wrong method
 pub record Refuses : Type 0 where
   pub status : ℕ
   pub word : List ℕ
@@ -37,7 +123,7 @@ pub record Refuses : Type 0 where
 abbrev pub refused : Refusal → Refuses
 refused r = record { status = r.status; word = r.word.now; allow = r.allow.now; row = r.row }
 
--- a refusal by a word alone
+-- a refusal with only a status and an error word
 abbrev pub plain : ℕ → List ℕ → Refuses
 plain status word = record { status = status; word = word; allow = []; row = None }
 
@@ -64,7 +150,7 @@ told CodedBody = coded_body
 told BadLength = bad_length
 told TooLarge = too_large
 
--- the length of the body that the values of Content-Length announce
+-- the body length by the values of Content-Length, at most 1,048,576 bytes
 abbrev pub length_of : List (List ℕ) → Result ℕ Fault
 length_of [] = Ok 0
 length_of (value ∷ []) =
@@ -72,7 +158,7 @@ length_of (value ∷ []) =
     else Err BadLength
 length_of (value ∷ other ∷ values) = Err BadLength
 
--- the first fault of the lines, or the length of the body
+-- the first fault of the header lines, or the body length
 abbrev pub body_length : ℕ → List (List ℕ × List ℕ) → Result ℕ Fault
 body_length minor lines =
     if has_bad_host minor (values_of (codes "host") lines) then Err BadHost
@@ -85,12 +171,11 @@ pub record Takes (bytes : List ℕ) (h : RequestHead) (rest : List ℕ) : Type 0
   pub few : length h.fields ≤ 32
   pub short : length (print_request h) ≤ 16384
 
--- no head within the limits stands at the front
+-- the bytes begin with no head within the limits
 abbrev pub HasNoHead : List ℕ → Type 0
 HasNoHead bytes = (h : RequestHead) (rest : List ℕ) → ¬ (Takes bytes h rest)
 
--- what stands at the front of the rest of a stream: a request and the bytes after it, a fault (and
--- whether the method is HEAD), or the end
+-- the front of a stream: a request and the bytes after it, a fault (true for HEAD), or the end
 pub data Item : Type 0 where
   whole : Asked → List ℕ → Item
   fault : Refuses → Bool → Item
@@ -102,7 +187,7 @@ fields_of h = map name_and_value h.fields
 abbrev pub is_head : List ℕ → Bool
 is_head method = bytes_eq method (codes "HEAD")
 
--- HTTP/1.0, or a Connection line asks for it
+-- the reply closes the connection: by HTTP/1.0, or as a Connection line asks
 abbrev pub closes_after : ℕ → List (List ℕ × List ℕ) → Bool
 closes_after minor lines = minor == 0 || asks_close (values_of (codes "connection") lines)
 
@@ -115,7 +200,7 @@ asked_of h body = record {
   body = body;
 }
 
--- a head whose lines announce this, and all the bytes after it
+-- the item for a head, its body length or fault, and all the bytes after the head
 abbrev pub after_lines : RequestHead → Result ℕ Fault → List ℕ → Item
 after_lines h (Err why) rest = fault (told why) (is_head h.method)
 after_lines h (Ok n) rest =
@@ -125,36 +210,36 @@ after_lines h (Ok n) rest =
 abbrev pub item_of : RequestHead → List ℕ → Item
 item_of h rest = after_lines h (body_length h.minor (fields_of h)) rest
 
--- empty lines alone, the last of which may lack its LF
+-- only empty lines, of which the last may lack its LF
 abbrev pub is_blank : List ℕ → Bool
 is_blank [] = true
 is_blank (b ∷ []) = b == 10 || b == 13
 is_blank (b ∷ c ∷ bytes) = if b == 10 then is_blank (c ∷ bytes) else (b == 13 && c == 10 && is_blank bytes)
 
--- what a stream is that has no head at its front
+-- the item of a stream without a head at its front
 abbrev pub headless : List ℕ → Item
 headless bytes = if is_blank bytes && nat_lt (length bytes) 16384 then over else fault bad_head false
 
--- what stands at the front of a whole rest
+-- a complete rest of a stream begins with this item
 abbrev pub Opens : List ℕ → Item → Type 0
 Opens bytes item =
     ((h : RequestHead) × (rest : List ℕ) × Takes bytes h rest × (item ≡ item_of h rest))
     ⊎ (HasNoHead bytes × (item ≡ headless bytes))
 
--- no head stands there yet, one may come for all that the parser tells, and no limit is passed
+-- no head is there yet, the parser does not rule one out, and no limit is passed
 pub record WaitsForHead (bytes : List ℕ) : Type 0 where
   pub none : HasNoHead bytes
   pub may : MayBecomeRequest bytes ⊎ RequestExceeds 32 bytes
   pub short : length bytes < 16384
   pub lines : is_overlong bytes ≡ false
 
--- a head stands there, and its body is not whole yet
+-- a head is there, but its body is not complete yet
 abbrev pub WaitsForBody : List ℕ → Type 0
 WaitsForBody bytes =
     (h : RequestHead) × (rest : List ℕ) × (n : ℕ) × Takes bytes h rest
     × (body_length h.minor (fields_of h) ≡ Ok n) × (length rest < n)
 
--- what is answered for the bytes so far; what is found stands there however the stream goes on
+-- the answer for the bytes so far; a request or fault that is found holds for any continuation
 abbrev pub Framed : List ℕ → Bool → Frame → Type 0
 Framed bytes ended frame.Need = IsFalse ended × (WaitsForHead bytes ⊎ WaitsForBody bytes)
 Framed bytes ended frame.End = IsTrue ended × Opens bytes over
@@ -163,8 +248,7 @@ Framed bytes ended (frame.Request request used) =
 Framed bytes ended (frame.Bad refusal head_only) =
     (more : List ℕ) → (IsTrue ended → more ≡ []) → Opens (bytes ++ more) (fault (refused refusal) head_only)
 
--- a refusal comes no sooner than its cause: the lines of a head, the end, a limit, or that no head
--- can come
+-- a refusal comes only after its cause: a head, the end, a limit, or that no head can come
 abbrev pub IsDue : List ℕ → Bool → Frame → Type 0
 IsDue bytes ended (frame.Bad refusal head_only) =
     ((h : RequestHead) × (rest : List ℕ) × Takes bytes h rest)
@@ -173,22 +257,9 @@ IsDue bytes ended frame.Need = Unit {0}
 IsDue bytes ended frame.End = Unit {0}
 IsDue bytes ended (frame.Request request used) = Unit {0}
 
--- what is held while more is asked for, and what a request takes, fit the longest head and body
+-- unfinished bytes and a request fit the longest head and body, 16,384 and 1,048,576 bytes
 abbrev pub IsWithinLimits : List ℕ → Frame → Type 0
 IsWithinLimits bytes frame.Need = length bytes < 1064960
 IsWithinLimits bytes (frame.Request request used) = (0 < used) × (used ≤ length bytes) × (used ≤ 1064960)
 IsWithinLimits bytes frame.End = length bytes < 16384
 IsWithinLimits bytes (frame.Bad refusal head_only) = Unit {0}
-
--- the spans are those of a head at the front of the bytes, whose text lies in the first of them
-pub record IsHead (bytes front : List ℕ) (spans : RequestSpans) (headers : List HeaderSpan) (h : RequestHead) : Type 0 where
-  pub takes : Takes bytes h (drop spans.len bytes)
-  pub len_fits : spans.len ≤ length bytes
-  pub len : spans.len ≡ length (print_request h)
-  pub method : span_bytes front spans.method ≡ h.method
-  pub path : span_bytes front spans.path ≡ h.target
-  pub version : spans.version ≡ h.minor
-  pub lines : map (header_bytes front) headers ≡ fields_of h
-  pub method_within : IsWithin (length front) spans.method
-  pub path_within : IsWithin (length front) spans.path
-  pub headers_within : All (IsHeaderWithin (length front)) headers

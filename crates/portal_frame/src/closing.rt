@@ -3,9 +3,8 @@
 ghost use Rattle.std.specs.Prelude.{◌≡◌, length, map, All, codes};
 ghost use Rattle.httparse.specs.Grammar.{skip_ows};
 ghost use Rattle.httparse.specs.Spans.{IsHeaderWithin, header_bytes};
-ghost use Rattle.portal_frame.specs.Heads.{same_name, values_of};
-ghost use Rattle.portal_frame.specs.Connection.{is_close, has_close, asks_close, before_comma};
-ghost use Rattle.portal_frame.specs.Stream.{closes_after};
+ghost use Rattle.portal_frame.specs.Stream.{same_name, values_of, is_close, has_close, asks_close};
+ghost use Rattle.portal_frame.specs.Stream.{before_comma, closes_after};
 
 use httparse::spans::HeaderSpan;
 

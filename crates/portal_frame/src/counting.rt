@@ -3,7 +3,7 @@
 ghost use Rattle.std.specs.Prelude.{◌≡◌, ◌≤◌};
 ghost use Rattle.portal_frame.specs.inner.Counting.{lines_from, step as step_of, stops as stops_at};
 ghost use Rattle.portal_frame.specs.inner.Counting.{counts as counted};
-ghost use Rattle.portal_frame.specs.Lines.{is_overlong};
+ghost use Rattle.portal_frame.specs.Stream.{is_overlong};
 
 /// A place in the lines of a head.
 #[derive(Clone, Copy, Debug, PartialEq, Eq, Drop)]

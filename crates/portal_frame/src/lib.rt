@@ -4,8 +4,8 @@
 ghost use Rattle.std.specs.Prelude.{◌≡◌, ℕ, ◌<◌, ◌≤◌, ◌⊎◌, List, ◌++◌, length, IfOk};
 ghost use Rattle.httparse.specs.Grammar.{MayBecomeRequest, RequestHead};
 ghost use Rattle.httparse.specs.Spans.{RequestExceeds};
-ghost use Rattle.portal_frame.specs.Stream.{Framed, IsDue, IsWithinLimits, HasNoHead, IsHead};
-ghost use Rattle.portal_frame.specs.Stream.{is_blank};
+ghost use Rattle.portal_frame.specs.Stream.{Framed, IsDue, IsWithinLimits, HasNoHead, is_blank};
+ghost use Rattle.portal_frame.specs.inner.Counting.{IsHead};
 
 mod closing;
 mod counting;

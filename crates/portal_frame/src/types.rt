@@ -50,7 +50,7 @@ pub(crate) enum Fault {
 }
 
 impl Fault {
-    /// The refusal of this fault.
+    /// The refusal of this fault of framing.
     #[tactic(auto, unfolding(crate::specs::Stream::bad_head, crate::specs::Stream::bad_host, crate::specs::Stream::coded_body, crate::specs::Stream::bad_length, crate::specs::Stream::too_large))]
     pub(crate) fn refusal(self) -> Refusal
         ensures { refused result ≡ told self }

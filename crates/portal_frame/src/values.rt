@@ -2,8 +2,9 @@
 
 ghost use Rattle.std.specs.Prelude.{◌≡◌, length, map, All, IfOk, codes, ◌∷◌, []};
 ghost use Rattle.httparse.specs.Spans.{IsHeaderWithin, header_bytes};
-ghost use Rattle.portal_frame.specs.Heads.{same_name, values_of, IsFound, only, path_of};
-ghost use Rattle.portal_frame.specs.Stream.{length_of, body_length};
+ghost use Rattle.portal_frame.specs.Stream.{same_name, values_of, only, path_of, length_of};
+ghost use Rattle.portal_frame.specs.Stream.{body_length};
+ghost use Rattle.portal_frame.specs.inner.Counting.{IsFound};
 
 use crate::types::Fault;
 use httparse::spans::HeaderSpan;

@@ -1,10 +1,6 @@
 -- The lines of a sound world in which nobody is still to rank have no fault.
-use Rattle.portal_list.proofs.Base.{◌≡◌, inl, inr, ℕ, ◌<◌, ◌≤◌, Bool, true, false, List, [], ◌∷◌, map, length, get_or, Any, refl, sym, ◌∙◌, subst, arith, Option, Some, None, is_none, unwrap_or, IfSome, not, ◌&&◌, list_any, AllByRecursion, length-map, Any-from_list_any, list_any-from_Any, BadAt, Rows, HasNoneBefore, IsEarlierKey, IsKeyOf, Repeats, Memory, any_map, any_unmap, Key, equals, has, is_empty, Rise, World, Student, student_key, projects_of, applicants_of, is_still_to_rank, lecturer_keys, project_keys, First, Sound, IsChoice, IsRanking, IsLecturer, IsProject, IsStudent, ProjectRow, is_same, is_own, first_plays, entries_in, instance_lecturer, instance_project, instance_student, instance_rows}
-use Rattle.std.proofs.lemmas.Bool.{and_parts, and_from}
-use Rattle.spa_rows.specs.Form.{is_key}
-use Rattle.spa_rows.specs.Faults.{IsRefusal, IsBadCapacity, NamesNone, FindsOne, IsApplicant, MissesOne}
+use Rattle.portal_list.proofs.Base.{◌≡◌, inl, inr, ℕ, ◌<◌, ◌≤◌, Bool, true, false, List, [], ◌∷◌, map, length, get_or, Any, refl, sym, ◌∙◌, subst, arith, Option, Some, None, is_none, unwrap_or, IfSome, not, ◌&&◌, list_any, AllByRecursion, length-map, Any-from_list_any, list_any-from_Any, BadAt, Rows, HasNoneBefore, IsEarlierKey, IsKeyOf, Repeats, Memory, any_map, any_unmap, Key, equals, has, is_empty, Rise, World, Student, student_key, projects_of, applicants_of, is_still_to_rank, lecturer_keys, project_keys, First, Sound, IsChoice, IsRanking, IsLecturer, IsProject, IsStudent, ProjectRow, is_same, is_own, first_plays, entries_in, instance_lecturer, instance_project, instance_student, instance_rows, and_parts, and_from, is_key, IsRefusal, IsBadCapacity, NamesNone, FindsOne, IsApplicant, MissesOne, TooMany, BadKey, KeyTwice, BadCapacity, NoSuchLecturer, NoSuchProject, RepeatInList, ListTooLong, NotApplicant, ApplicantMissing}
 use Rattle.spa_rows.specs.declared.faults.InstanceFault.{InstanceFault}
-use Rattle.spa_rows.specs.declared.faults.InstanceFault.TheVariants.{TooMany, BadKey, KeyTwice, BadCapacity, NoSuchLecturer, NoSuchProject, RepeatInList, ListTooLong, NotApplicant, ApplicantMissing}
 use Rattle.portal_core.proofs.AllLaws as laws
 use Rattle.portal_list.proofs.Rising.{map_map}
 use Rattle.portal_list.proofs.Members.{there, has_it, has_all, key_there, repeats_not, earlier_not, none_of}
@@ -120,14 +116,5 @@ module _ (w : World) where
 
 -- what is refused of rows without a fault is memory
 pub only_memory : (rows : Rows) (fault : InstanceFault) (r : ℕ) → HasNoneBefore rows Memory → (fault ≡ Memory → ⊥) → IsRefusal rows fault r → ⊥
-only_memory rows TooMany r none other first = none TooMany (omega arith) r first.here
-only_memory rows BadKey r none other first = none BadKey (omega arith) r first.here
-only_memory rows KeyTwice r none other first = none KeyTwice (omega arith) r first.here
-only_memory rows BadCapacity r none other first = none BadCapacity (omega arith) r first.here
-only_memory rows NoSuchLecturer r none other first = none NoSuchLecturer (omega arith) r first.here
-only_memory rows NoSuchProject r none other first = none NoSuchProject (omega arith) r first.here
-only_memory rows RepeatInList r none other first = none RepeatInList (omega arith) r first.here
-only_memory rows ListTooLong r none other first = none ListTooLong (omega arith) r first.here
-only_memory rows NotApplicant r none other first = none NotApplicant (omega arith) r first.here
-only_memory rows ApplicantMissing r none other first = none ApplicantMissing (omega arith) r first.here
 only_memory rows Memory r none other first = other refl
+only_memory rows fault r none other first = none fault (omega arith) r first.here

@@ -1,9 +1,6 @@
 -- Rows and entries that fit each other.
-use Rattle.portal_list.proofs.Base.{◌≡◌, Bool, true, false, cond, List, [], ◌∷◌, ◌++◌, map, refl, sym, ◌∙◌, ap, subst, Option, Some, None, option_map, ◌&&◌, filter_map, cons_option, AllByRecursion, LecturerRow, Key, equals, is_before, is_empty, Rise, Round, First, Second, Lecturer, Student, pairs_with, is_same, is_own, not_before_itself, HasNothingEarlier, lecturers_fitting, students_fitting}
+use Rattle.portal_list.proofs.Base.{◌≡◌, Bool, true, false, cond, List, [], ◌∷◌, ◌++◌, map, refl, sym, ◌∙◌, ap, subst, Option, Some, None, option_map, ◌&&◌, filter_map, cons_option, AllByRecursion, LecturerRow, Key, equals, is_before, is_empty, Rise, Round, First, Second, Lecturer, Student, pairs_with, is_same, is_own, not_before_itself, HasNothingEarlier, lecturers_fitting, students_fitting, rules, is_second, choices_in, earlier_choices_in, rankings_with, next_for, rest_for, earlier_for, earlier_rest, with_lists}
 use Rattle.portal_core.specs.declared.rows.StudentRow.{StudentRow}
-use Rattle.portal_core.specs.World.{is_second}
-use Rattle.portal_list.specs.Rows.{choices_in, earlier_choices_in, rankings_with}
-use Rattle.portal_list.specs.inner.Fit.{next_for, rest_for, earlier_for, earlier_rest, with_lists}
 
 pub next_map : {V W : Type 0} (f : V → W) (k : Key) (ps : List (Key × V)) → option_map f (next_for k ps) ≡ next_for k (map {B = Key × W} (λ (p : Key × V). (p.0, f p.1)) ps)
 next_map f k [] = refl
@@ -80,12 +77,7 @@ abbrev lecturer_made : LecturerRow → List (Key × List Key) → List (Key × L
 lecturer_made r ps qs = record { row = r; ranking = next_for r.key ps; earlier_ranking = next_for r.key qs }
 
 pub lecturers_rows : (rs : List LecturerRow) (ps qs : List (Key × List Key)) (ls : List Lecturer) → lecturers_fitting rs ps qs ≡ Some ls → RowsAre ls rs ps qs
-lecturers_rows [] ps qs ls e =
-    let all : (ps ≡ []) × (qs ≡ []) × ([] ≡ ls) = none_left ps qs [] ls e in (
-      ap (map (λ l. l.row)) (sym all.2),
-      ap (rankings_with (λ l. l.ranking)) (sym all.2) ∙ sym all.0,
-      ap (rankings_with (λ l. l.earlier_ranking)) (sym all.2) ∙ sym all.1,
-    )
+lecturers_rows [] ps qs ls e = search (rules, none_left)
 lecturers_rows (r ∷ rs) ps qs ls e = at (lecturers_fitting rs (rest_for r.key ps) (rest_for r.key qs)) (λ ms f. lecturers_rows rs (rest_for r.key ps) (rest_for r.key qs) ms f) e
   where
     at : (o : Option (List Lecturer)) → ((ms : List Lecturer) → o ≡ Some ms → RowsAre ms rs (rest_for r.key ps) (rest_for r.key qs)) → option_map (λ ms. lecturer_made r ps qs ∷ ms) o ≡ Some ls → RowsAre ls (r ∷ rs) ps qs
@@ -138,16 +130,12 @@ no_earlier Second = refl
 earlier_back : (round : Round) (s : Student) (ts : List Student) (es : List (Key × List Key)) → earlier_for round s.row.key es ≡ Some s.earlier_choice → earlier_choices_in round ts ≡ earlier_rest round s.row.key es
     → earlier_choices_in round (s ∷ ts) ≡ es
 earlier_back First s ts es taken left = left
-earlier_back Second s ts es taken left =
-    ap (λ xs. (s.row.key, s.earlier_choice) ∷ xs) left ∙ ap (λ o. cons_option (option_map (λ v. (s.row.key, v)) o) (rest_for s.row.key es)) (sym taken) ∙ put_back s.row.key es
+earlier_back Second s ts es taken left = search (rules, put_back)
 
 four_left : {W X Y Z V : Type 0} (cs : List W) (ps : List X) (es : List Y) (qs : List Z) (y z : V) → cond (is_empty cs && is_empty ps && is_empty es && is_empty qs) (Some y) None ≡ Some z
     → (cs ≡ []) × (ps ≡ []) × (es ≡ []) × (qs ≡ []) × (y ≡ z)
 four_left [] [] [] [] y z e = let same : y ≡ z = cc in (refl, refl, refl, refl, same)
-four_left [] [] [] (q ∷ qs) y z e = cc
-four_left [] [] (x ∷ es) qs y z e = cc
-four_left [] (p ∷ ps) es qs y z e = cc
-four_left (c ∷ cs) ps es qs y z e = cc
+four_left _ ps es qs y z e = cc
 
 -- what the rows of students are
 abbrev ListsAre : Round → List Student → List StudentRow → List (Key × List Key) → List (Key × Key) → List (Key × List Key) → List (Key × Key) → Type 0
@@ -156,15 +144,7 @@ ListsAre round ss rs cs ps es qs =
 
 pub students_rows : (round : Round) (rs : List StudentRow) (cs : List (Key × List Key)) (ps : List (Key × Key)) (es : List (Key × List Key)) (qs : List (Key × Key)) (ss : List Student)
     → students_fitting round rs cs ps es qs ≡ Some ss → ListsAre round ss rs cs ps es qs
-students_rows round [] cs ps es qs ss e =
-    let all : (cs ≡ []) × (ps ≡ []) × (es ≡ []) × (qs ≡ []) × ([] ≡ ss) = four_left cs ps es qs [] ss e in
-    let nobody : ss ≡ [] = sym all.4 in (
-      ap (map (λ s. s.row)) nobody,
-      ap choices_in nobody ∙ sym all.0,
-      ap (pairs_with (λ s. s.placed)) nobody ∙ sym all.1,
-      ap (earlier_choices_in round) nobody ∙ no_earlier round ∙ sym all.2,
-      ap (pairs_with (λ s. s.earlier_placement)) nobody ∙ sym all.3,
-    )
+students_rows round [] cs ps es qs ss e = search (rules, four_left, no_earlier)
 students_rows round (r ∷ rs) cs ps es qs ss e =
     at (next_for r.key cs) (earlier_for round r.key es) (students_fitting round rs (rest_for r.key cs) (rest_for r.key ps) (earlier_rest round r.key es) (rest_for r.key qs)) refl refl
     (λ ts f. students_rows round rs (rest_for r.key cs) (rest_for r.key ps) (earlier_rest round r.key es) (rest_for r.key qs) ts f) e

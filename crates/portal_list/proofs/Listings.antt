@@ -1,7 +1,5 @@
 -- The catalogue of lecturers is that of their rows.
-use Rattle.portal_list.proofs.Base.{◌≡◌, Option, Some, None, option_map, List, map, refl, ap, ◌∙◌, find, filter_map, LecturerRow, ProjectRow, Key, equals, Lecturer, name_of, offered}
-use Rattle.portal_core.specs.View.{name_in, listing_with, listings}
-use Rattle.portal_core.proofs.Keys.{find_map}
+use Rattle.portal_list.proofs.Base.{◌≡◌, Option, Some, None, option_map, List, map, refl, ap, ◌∙◌, find, filter_map, LecturerRow, ProjectRow, Key, equals, Lecturer, name_of, offered, name_in, listing_with, listings, find_map}
 
 abbrev pub row_of : Lecturer → LecturerRow
 row_of l = l.row

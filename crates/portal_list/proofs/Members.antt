@@ -1,7 +1,5 @@
 -- What stands in a list, in a list made of it, and in a part of it.
-use Rattle.portal_list.proofs.Base.{◌≡◌, ℕ, zero, suc, ◌<◌, true, List, [], ◌∷◌, map, length, get_or, Any, Less, sym, ◌∙◌, subst, arith, AllByRecursion, nat_cmp, slice_cmp, get_or_default, get_or-take, length-take, length-map, Any-from_list_any, list_any-from_Any, BadAt, IsEarlierKey, IsKeyOf, Repeats, at_place, map_at, any_map, any_unmap, Key, equals, has, Rise, AreDistinct, is_same, is_own, all_at}
-use Rattle.std.proofs.lemmas.List.Folds.{list_any_at}
-use Rattle.spa_model.proofs.Rising.{never_itself}
+use Rattle.portal_list.proofs.Base.{◌≡◌, ℕ, zero, suc, ◌<◌, true, List, [], ◌∷◌, map, length, get_or, Any, Less, sym, ◌∙◌, subst, arith, AllByRecursion, nat_cmp, slice_cmp, get_or_default, get_or-take, length-take, length-map, Any-from_list_any, list_any-from_Any, BadAt, IsEarlierKey, IsKeyOf, Repeats, at_place, map_at, any_map, any_unmap, Key, equals, has, Rise, AreDistinct, is_same, is_own, all_at, rules, list_any_at, never_itself}
 use Rattle.portal_list.proofs.Rising.{pairs_rise}
 
 pub there : (ks : List Key) (k : Key) → has ks k ≡ true → Any (λ x. x ≡ k) ks
@@ -22,16 +20,11 @@ key_there f key xs k h =
 pub distinct_apart : (list : List Key) (i j : ℕ) (d : Key) → AreDistinct list → i < j → j < length list → get_or list i d ≡ get_or list j d → ⊥
 distinct_apart [] i j d once less low same = absurd (omega arith)
 distinct_apart (k ∷ ks) i zero d once less low same = absurd (omega arith)
-distinct_apart (k ∷ ks) zero (suc j) d once less low same =
-    let found : has ks k ≡ true = list_any_at (equals k) ks j d (omega arith) (subst (λ y. equals k y ≡ true) same (is_own k)) in
-    cc
+distinct_apart (k ∷ ks) zero (suc j) d once less low same = search (rules, list_any_at, is_own)
 distinct_apart (k ∷ ks) (suc i) (suc j) d once less low same = distinct_apart ks i j d once.1 (omega arith) (omega arith) same
 
 pub repeats_not : (list : List Key) → AreDistinct list → Repeats list → ⊥
-repeats_not list once (j, text, low, at, (i, x, less, is_x, same)) =
-    let before : i < j = omega (arith, length-take j list) in
-    let x_at : get_or list i text ≡ text = get_or_default list i text x (omega arith) ∙ sym (get_or-take j list i x before) ∙ is_x ∙ same in
-    distinct_apart list i j text once before low (x_at ∙ sym at)
+repeats_not list once (j, text, low, at, (i, x, less, is_x, same)) = search (rules, length-take, get_or_default, get_or-take, distinct_apart)
 
 pub earlier_not : {X : Type 0} (key : X → Key) (lines : List X) (j : ℕ) (x : X) → Rise (map key lines) → j < length lines → get_or lines j x ≡ x → IsEarlierKey lines key j (key x) → ⊥
 earlier_not key lines j x rise low at (i, y, less, is_y, same) =

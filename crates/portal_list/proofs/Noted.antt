@@ -1,14 +1,8 @@
 -- Places noted at projects, and marked.
-use Rattle.portal_list.proofs.Base.{◌≡◌, ℕ, zero, suc, ◌+◌, ◌<◌, ◌≤◌, Bool, true, false, cond, List, [], ◌∷◌, ◌++◌, map, take, length, get_or, Bor, Vec, Global, Option, Some, None, refl, sym, ◌∙◌, ap, arith, inl, inr, ◌==◌, ◌||◌, ◌&&◌, slice_set, unwrap_or, list_any, or-true, or-false, length-take, map_push, text_eq, Key, equals, has, Student, is_same, passes_at, is_among, is_noted_in, is_noted, IsIndexOf}
-use Rattle.std.proofs.Common.{replicate}
+use Rattle.portal_list.proofs.Base.{◌≡◌, ℕ, zero, suc, ◌+◌, ◌<◌, ◌≤◌, Bool, true, false, cond, List, [], ◌∷◌, ◌++◌, map, take, length, get_or, Bor, Vec, Global, Option, Some, None, refl, sym, ◌∙◌, ap, arith, ◌==◌, ◌||◌, ◌&&◌, slice_set, unwrap_or, list_any, or-true, or-false, length-take, map_push, text_eq, Key, equals, has, Student, is_same, passes_at, is_among, is_noted_in, is_noted, IsIndexOf, rules, replicate, eq-eqb, ne_eqb, or_assoc, and-true, and-false, get_or-set_same, get_or-set_other, list_any_more, list_any-append, is_sym}
 use Rattle.std.specs.HashMap as hash
 use Rattle.std.specs.HashMap.{HashMap}
 use lib.Dec.{eqb-zero-suc, eqb-suc-zero, eqb-suc-suc}
-use Rattle.std.proofs.lemmas.Bool.{cases_eq, eq-eqb, ne_eqb}
-use Rattle.std.proofs.Math.Bool.{or_assoc, and-true, and-false}
-use Rattle.std.proofs.lemmas.List.{get_or-set_same, get_or-set_other}
-use Rattle.std.proofs.lemmas.List.Folds.{list_any_more, list_any-append}
-use Rattle.portal_core.proofs.AllLaws.{is_sym}
 use Rattle.portal_list.proofs.Steps.{grown}
 
 among_push : (ns : List ℕ) (n i : ℕ) → is_among (ns ++ n ∷ []) i ≡ (is_among ns i || (n == i))
@@ -95,10 +89,7 @@ module _ {X : Type 0} where
 
 -- a place was marked
 pub marked : (xs : List Bool) (k i : ℕ) → k < length xs → get_or (slice_set xs k true) i false ≡ (get_or xs i false || (k == i))
-marked xs k i low = elim (cases_eq i k) [
-  | inl same ↦ ap (λ n. get_or (slice_set xs k true) n false) same ∙ get_or-set_same xs k true false low ∙ sym (ap (λ b. get_or xs i false || b) (eq-eqb k i (sym same)) ∙ or-true (get_or xs i false))
-  | inr other ↦ get_or-set_other xs k i true false other ∙ sym (ap (λ b. get_or xs i false || b) (ne_eqb k i (λ e. other (sym e))) ∙ or-false (get_or xs i false))
-]
+marked xs k i low = search (rules, get_or-set_same, eq-eqb, or-true, get_or-set_other, ne_eqb, or-false)
 
 -- a place beyond the marks was not
 pub unmarked : (xs : List Bool) (k i : ℕ) → length xs ≤ k → i < length xs → get_or xs i false ≡ (get_or xs i false || (k == i))

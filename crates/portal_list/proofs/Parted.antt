@@ -1,10 +1,6 @@
 -- A world is sound exactly where its parts fit, and its rows say which world it is.
-use Rattle.portal_list.proofs.Base.{◌≡◌, true, false, List, [], ◌∷◌, ◌++◌, map, refl, sym, ◌∙◌, ap, subst, arith, Option, Some, None, is_none, option_map, not, ◌&&◌, filter, AllByRecursion, length-map, Key, has, is_empty, Rise, AreDistinct, World, Lecturer, Student, project_key, student_key, projects_of, applicants_of, is_still_to_rank, is_published, first_published, first_placed, Sound, IsLecturer, IsStudent, lecturer_keys, student_keys, all_unmap, IsFitted, lecturers_fitting, students_fitting, applicant_keys, HasRanking, RollsOf, ListsOf}
-use Rattle.portal_core.specs.World.{first}
-use Rattle.portal_core.specs.Good.{codes_of}
+use Rattle.portal_list.proofs.Base.{◌≡◌, true, false, List, [], ◌∷◌, ◌++◌, map, refl, sym, ◌∙◌, ap, subst, arith, Option, Some, None, is_none, option_map, not, ◌&&◌, filter, AllByRecursion, length-map, Key, has, is_empty, Rise, AreDistinct, World, Lecturer, Student, project_key, student_key, projects_of, applicants_of, is_still_to_rank, is_published, Sound, IsLecturer, IsStudent, lecturer_keys, student_keys, all_unmap, IsFitted, lecturers_fitting, students_fitting, applicant_keys, HasRanking, RollsOf, ListsOf, rules, first, codes_of, RowsOfWorld, world_rows, codes_in, lecturer_row_keys, student_row_keys, RollsFit}
 use Rattle.portal_core.proofs.AllLaws as laws
-use Rattle.portal_list.specs.Rows.{RowsOfWorld, world_rows}
-use Rattle.portal_list.specs.inner.Parts.{codes_in, lecturer_row_keys, student_row_keys, RollsFit}
 use Rattle.portal_list.proofs.Rising.{map_map}
 use Rattle.portal_list.proofs.Fitting.{lecturers_back, lecturers_rows, students_back, students_rows}
 
@@ -64,12 +60,7 @@ module _ (w : World) where
       (laws.all_both _ (λ l. is_published w.phase ≡ true → is_still_to_rank w l ≡ false) w.lecturers sound.rankings (all_under (λ l. is_still_to_rank w l ≡ false) w.lecturers sound.all_ranked))
 
   pub lists_of : Sound w → ListsOf w
-  lists_of sound = record {
-    phase_fits = record { no_choices_yet = sound.no_choices_yet; no_rankings_yet = sound.no_rankings_yet; no_result_yet = sound.no_result_yet };
-    round_fits = record { no_earlier_lists = sound.no_earlier_lists; no_earlier_rankings = sound.no_earlier_rankings; no_second_setup = sound.no_second_setup; only_left = sound.only_left };
-    choices = sound.choices;
-    rankings = ranked sound;
-  }
+  lists_of sound = search (rules, ranked)
 
   meant : (l : Lecturer) → HasRanking (is_published w.phase) (applicant_keys w.projects w.students l.row.key) l.ranking → HasRanking (is_published w.phase) (map student_key (applicants_of w l.row.key)) l.ranking
   meant l h = subst (λ keys. HasRanking (is_published w.phase) keys l.ranking) (applicants_are w l.row.key) h
@@ -102,9 +93,7 @@ module _ (w : World) where
 
   -- the rolls of the first round are the same
   pub rolls_first : Sound w → RollsOf (first w)
-  rolls_first sound =
-      subst (λ ls. RollsFit w.office ls w.projects (map (λ s. s.row) (first w).students)) (sym (map_map (λ l. l.row) first_published w.lecturers))
-      (subst (λ ss. RollsFit w.office (map (λ l. l.row) w.lecturers) w.projects ss) (sym (map_map (λ s. s.row) first_placed w.students)) (rolls_of sound))
+  rolls_first sound = search (rules, map_map, rolls_of)
 
 module _ (rows : RowsOfWorld) where
   abbrev lecturers_from : Option (List Lecturer)
@@ -118,8 +107,7 @@ module _ (rows : RowsOfWorld) where
   lecturers_of_sound w e sound = ap (λ r. lecturers_fitting r.lecturers r.rankings r.earlier_rankings) e ∙ lecturers_back w.lecturers sound.lecturers_rise
 
   pub students_of_sound : (w : World) → rows ≡ world_rows w → Sound w → students_from ≡ Some w.students
-  students_of_sound w e sound =
-      ap (λ r. students_fitting r.round r.students r.choices r.pairs r.earlier_choices r.earlier_pairs) e ∙ students_back w.round w.students sound.students_rise sound.no_earlier_lists
+  students_of_sound w e sound = search (rules, students_back)
 
   module _ (ls : List Lecturer) (ss : List Student) (lecturers : lecturers_from ≡ Some ls) (students : students_from ≡ Some ss) where
     module _ (w : World) (e : rows ≡ world_rows w) (sound : Sound w) where
@@ -130,22 +118,7 @@ module _ (rows : RowsOfWorld) where
       same_students = let s : Some w.students ≡ Some ss = sym (students_of_sound w e sound) ∙ students in cc
 
     pub fitted_rows : IsFitted rows (record { round = rows.round; phase = rows.phase; office = rows.office; lecturers = ls; projects = rows.projects; students = ss })
-    fitted_rows =
-        let l = lecturers_rows rows.lecturers rows.rankings rows.earlier_rankings ls lecturers in
-        let s = students_rows rows.round rows.students rows.choices rows.pairs rows.earlier_choices rows.earlier_pairs ss students in
-        record {
-          rows_are = sym (λ i. record rows {
-            lecturers = l.0 i;
-            rankings = l.1 i;
-            earlier_rankings = l.2 i;
-            students = s.0 i;
-            choices = s.1 i;
-            pairs = s.2 i;
-            earlier_choices = s.3 i;
-            earlier_pairs = s.4 i;
-          });
-          once = λ v e sound i. record { round = (e i).round; phase = (e i).phase; office = (e i).office; lecturers = sym (same_lecturers v e sound) i; projects = (e i).projects; students = sym (same_students v e sound) i };
-        }
+    fitted_rows = search (rules, lecturers_rows, students_rows, same_lecturers, same_students)
 
   -- no sound world has rows whose rolls, or whose lists, don't fit
   pub rolls_tell : (RollsFit rows.office rows.lecturers rows.projects rows.students → ⊥) → (w : World) → rows ≡ world_rows w → Sound w → ⊥

@@ -1,7 +1,5 @@
 -- Lists without repeats that hold the same keys are as long as each other.
-use Rattle.portal_list.proofs.Base.{◌≡◌, suc, ◌+◌, ◌≤◌, Bool, true, false, cond, List, [], ◌∷◌, length, refl, sym, ◌∙◌, subst, arith, ◌||◌, AllByRecursion, or-true, Key, equals, has, Rise, AreDistinct, IsRanking, is_same, is_own, all_weaker}
-use Rattle.portal_core.proofs.AllLaws.{all_both, none_of}
-use Rattle.portal_core.proofs.Fills.{rise_distinct}
+use Rattle.portal_list.proofs.Base.{◌≡◌, suc, ◌+◌, ◌≤◌, Bool, true, false, cond, List, [], ◌∷◌, length, refl, sym, ◌∙◌, subst, arith, ◌||◌, AllByRecursion, or-true, Key, equals, has, Rise, AreDistinct, IsRanking, is_same, is_own, all_weaker, all_both, none_of, rise_distinct}
 
 -- the keys without the first that is k
 without : Key → List Key → List Key

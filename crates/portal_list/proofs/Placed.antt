@@ -1,6 +1,5 @@
 -- Places given to rows one by one.
-use Rattle.portal_list.proofs.Base.{◌≡◌, ℕ, suc, zero, ◌+◌, ◌<◌, List, [], ◌∷◌, ◌++◌, length, get_or, take, drop, refl, ◌∙◌, ap, arith, map}
-use Rattle.std.proofs.Common.{add-one}
+use Rattle.portal_list.proofs.Base.{◌≡◌, ℕ, suc, zero, ◌+◌, ◌<◌, List, [], ◌∷◌, ◌++◌, length, get_or, take, drop, refl, ◌∙◌, ap, arith, map, add-one}
 use Rattle.std.proofs.Math.Seq.{drop-cons}
 
 -- the first of what is left, and the rest

@@ -1,6 +1,5 @@
 -- Who takes part in the second round, from the rows and the pairs of the first round's result.
-use Rattle.portal_list.proofs.Base.{◌≡◌, Bool, true, false, cond, List, [], ◌∷◌, map, refl, sym, ◌∙◌, ap, subst, filter, nat_lt, ◌&&◌, Option, Some, None, option_map, filter_map, Round, First, Second, LecturerRow, ProjectRow, Key, equals, has, Rise, Lecturer, Student, lecturer_key, project_key, pairs_with, lowered_lecturer, lecturers_left, projects_left, alone_lecturer, map_same, rise_kept, lecturer_played, project_played, takes_part}
-use Rattle.portal_core.specs.World.{lowered_project, students_in}
+use Rattle.portal_list.proofs.Base.{◌≡◌, Bool, true, false, cond, List, [], ◌∷◌, map, refl, sym, ◌∙◌, ap, filter, nat_lt, ◌&&◌, Option, Some, None, option_map, filter_map, Round, First, Second, ProjectRow, Key, has, Rise, Lecturer, Student, lecturer_key, project_key, pairs_with, lowered_lecturer, lecturers_left, projects_left, alone_lecturer, map_same, rise_kept, lecturer_played, project_played, takes_part, rules, lowered_project, students_in}
 use Rattle.portal_core.proofs.AllLaws.{any_map}
 use Rattle.portal_core.proofs.InPlay.{filter_kept}
 use Rattle.portal_core.proofs.Rooms.{project_left_is, lecturer_left_is, each_left}
@@ -24,9 +23,7 @@ module _ (ls : List Lecturer) (ps : List ProjectRow) (ss : List Student) where
   has_room l = nat_lt 0 l.row.capacity
 
   lecturer_is : (l : Lecturer) → lecturer_played ps pairs l ≡ cond (has_room (lowered_lecturer ps ss l)) (Some (alone_lecturer (lowered_lecturer ps ss l))) None
-  lecturer_is l =
-      let made : LecturerRow → Lecturer = λ row. record { row = row; ranking = l.ranking; earlier_ranking = None } in
-      ap (option_map made) (lecturer_left_is ss ps l.row) ∙ mapped_case made (lowered_lecturer ps ss l).row (has_room (lowered_lecturer ps ss l))
+  lecturer_is l = search (rules, lecturer_left_is, mapped_case)
 
   pub lecturers_are : filter_map (lecturer_played ps pairs) ls ≡ map alone_lecturer (lecturers_left ls ps ss)
   lecturers_are =
@@ -36,20 +33,13 @@ module _ (ls : List Lecturer) (ps : List ProjectRow) (ss : List Student) where
 
   project_is : (left : List Lecturer) (p : ProjectRow) → project_played left pairs p
       ≡ cond (nat_lt 0 (lowered_project ss p).capacity && has (map lecturer_key left) p.lecturer) (Some (lowered_project ss p)) None
-  project_is left p =
-      (λ i. cond {A = Option ProjectRow} (sym (any_map (equals p.lecturer) lecturer_key left) i) (project_left_is ss p i) None)
-      ∙ both_case (lowered_project ss p) (nat_lt 0 (lowered_project ss p).capacity) (has (map lecturer_key left) p.lecturer)
+  project_is left p = search (rules, any_map, project_left_is, both_case)
 
   pub projects_are : (left : List Lecturer) → left ≡ map alone_lecturer (lecturers_left ls ps ss) → filter_map (project_played left pairs) ps ≡ projects_left ls ps ss
-  projects_are left same =
-      let keys : map lecturer_key left ≡ map lecturer_key (lecturers_left ls ps ss) = ap (map lecturer_key) same ∙ map_same lecturer_key alone_lecturer (λ l. refl) (lecturers_left ls ps ss) in
-      each_left (project_played left pairs) (λ p. nat_lt 0 p.capacity && has (map lecturer_key left) p.lecturer) (lowered_project ss) (project_is left) ps
-      ∙ (λ i. filter (λ p. nat_lt 0 p.capacity && has (keys i) p.lecturer) (map (lowered_project ss) ps))
+  projects_are left same = search (rules, map_same, each_left, project_is)
 
   pub left_rise : Rise (map project_key ps) → Rise (map project_key (projects_left ls ps ss))
-  left_rise rise =
-      rise_kept project_key (λ p. nat_lt 0 p.capacity && has (map lecturer_key (lecturers_left ls ps ss)) p.lecturer) (map (lowered_project ss) ps)
-      (subst Rise (sym (map_same project_key (lowered_project ss) (λ p. refl) ps)) rise)
+  left_rise rise = search (rules, rise_kept, map_same)
 
 -- the students who take part
 filter_true : {X : Type 0} (xs : List X) → filter (λ (x : X). true) xs ≡ xs

@@ -1,13 +1,9 @@
 -- The only lawful instance that stands for rows whose keys rise.
-use Rattle.portal_list.proofs.Base.{◌≡◌, ℕ, ◌<◌, [], map, length, get_or, sym, ◌∙◌, ap, arith, length-map, Rows, at_place, map_at, Spa, IsLawful, StandsFor, number_in}
-use Rattle.std.proofs.lemmas.List.{ext_get_or}
-use Rattle.spa_rows.specs.Lines.{Lecturer, Project, Student}
-use Rattle.spa_model.specs.Spa.{Rise, choices_of, lecturer_of, capacity_of, ranking_of, limit_of}
-use Rattle.spa_model.specs.Built.{HasKey, keys_at, StandsStudent, StandsProject, StandsLecturer}
+use Rattle.portal_list.proofs.Base.{◌≡◌, ℕ, ◌<◌, List, [], map, length, get_or, sym, ◌∙◌, ap, subst, arith, length-map, Rows, at_place, map_at, Spa, IsLawful, StandsFor, number_in, Contains, ext_get_or, Text, Project, choices_of, lecturer_of, capacity_of, ranking_of, limit_of, keys_at, own_number, numbers_back, choices_below, ranking_below, keys_one, student_there, project_there, lecturer_there, student_says, project_says, lecturer_says}
+use Rattle.spa_rows.specs.Lines.{Lecturer, Student}
+use Rattle.spa_model.specs.Spa.{Rise}
 use Rattle.spa_model.specs.inner.Numbers.{student_keys, project_keys, lecturer_keys}
-use Rattle.spa_model.proofs.Keys.{one_number}
-use Rattle.spa_model.proofs.Rising
-use Rattle.spa_model.proofs.OneInstance.{own_number, numbers_back, choices_below, ranking_below}
+use Rattle.spa_model.proofs.Keys.{key_number}
 
 -- the instance of these rows, whose keys rise: a text becomes its place
 abbrev pub spa_of_rows : Rows → Spa
@@ -23,86 +19,58 @@ spa_of_rows rows =
       limits = map (λ (x : Lecturer). x.capacity) rows.lecturers;
     }
 
+-- keys that rise, as many as the lines, among which each line's key stands, are those of the lines
+keys_are : {X : Type 0} (key : X → Text) (lines : List X) (keys : List Text) → Rise keys → Rise (map key lines) → length keys ≡ length lines → ((k : ℕ) (x : X) → k < length lines → get_or lines k x ≡ x → Contains keys (key x)) → keys ≡ map key lines
+keys_are key lines keys up rise long there = keys_one keys (map key lines) up rise (long ∙ sym (length-map lines key)) (λ text (k, h, at).
+    let low : k < length lines = omega (arith, length-map lines key) in
+    let x = at_place lines k low in
+    subst (Contains keys) (sym (map_at key lines k x.0 text low x.1) ∙ at) (there k x.0 low x.1))
+
+-- a column that has at each place what f makes of the line there
+column_is : {X Y : Type 0} (f : X → Y) (d : Y) (lines : List X) (ys : List Y) → length ys ≡ length lines → ((k : ℕ) (x : X) → k < length lines → get_or lines k x ≡ x → get_or ys k d ≡ f x) → ys ≡ map f lines
+column_is f d lines ys long at = ext_get_or d ys (map f lines) (long ∙ sym (length-map lines f)) (λ k h.
+    let low : k < length lines = omega (arith, long) in
+    let x = at_place lines k low in
+    at k x.0 low x.1 ∙ sym (map_at f lines k x.0 d low x.1))
+
 module _ (rows : Rows) (i : Spa) (lawful : IsLawful i) (for : StandsFor rows i)
     (students_rise : Rise (student_keys rows.students)) (projects_rise : Rise (project_keys rows.projects)) (lecturers_rise : Rise (lecturer_keys rows.lecturers)) where
   same_students : i.student_keys ≡ student_keys rows.students
-  same_students = Rising.same_keys i.student_keys (student_keys rows.students) lawful.student_keys_rise students_rise (for.student_count ∙ sym (length-map rows.students (λ x. x.key))) (λ k h.
-      let low : k < length rows.students = omega (arith, length-map rows.students (λ x. x.key)) in
-      let x = at_place rows.students k low in
-      let stands : StandsStudent i x.0 = rw x.1 at (for.students k x.0 low) in
-      (stands.0, stands.1.0, stands.1.1 ∙ sym (map_at (λ y. y.key) rows.students k x.0 [] low x.1)))
+  same_students = keys_are (λ x. x.key) rows.students i.student_keys lawful.student_keys_rise students_rise for.student_count (student_there rows i lawful for)
 
   same_projects : i.project_keys ≡ project_keys rows.projects
-  same_projects = Rising.same_keys i.project_keys (project_keys rows.projects) lawful.project_keys_rise projects_rise (for.project_count ∙ sym (length-map rows.projects (λ x. x.key))) (λ k h.
-      let low : k < length rows.projects = omega (arith, length-map rows.projects (λ x. x.key)) in
-      let x = at_place rows.projects k low in
-      let stands : StandsProject i x.0 = rw x.1 at (for.projects k x.0 low) in
-      (stands.0, stands.1.0, stands.1.1 ∙ sym (map_at (λ y. y.key) rows.projects k x.0 [] low x.1)))
+  same_projects = keys_are (λ x. x.key) rows.projects i.project_keys lawful.project_keys_rise projects_rise for.project_count (project_there rows i lawful for)
 
   same_lecturers : i.lecturer_keys ≡ lecturer_keys rows.lecturers
-  same_lecturers = Rising.same_keys i.lecturer_keys (lecturer_keys rows.lecturers) lawful.lecturer_keys_rise lecturers_rise (for.lecturer_count ∙ sym (length-map rows.lecturers (λ x. x.key))) (λ k h.
-      let low : k < length rows.lecturers = omega (arith, length-map rows.lecturers (λ x. x.key)) in
-      let x = at_place rows.lecturers k low in
-      let stands : StandsLecturer i x.0 = rw x.1 at (for.lecturers k x.0 low) in
-      (stands.0, stands.1.0, stands.1.1 ∙ sym (map_at (λ y. y.key) rows.lecturers k x.0 [] low x.1)))
+  same_lecturers = keys_are (λ x. x.key) rows.lecturers i.lecturer_keys lawful.lecturer_keys_rise lecturers_rise for.lecturer_count (lecturer_there rows i lawful for)
 
   -- a line stands at its place
-  student_at : (k : ℕ) (x : Student) → k < length rows.students → get_or rows.students k x ≡ x → keys_at i.project_keys (choices_of i k) ≡ x.list
-  student_at k x low at =
-      let stands : StandsStudent i x = rw at at (for.students k x low) in
-      let own : HasKey i.student_keys k x.key = (omega (arith, for.student_count), rw same_students (map_at (λ y. y.key) rows.students k x [] low at)) in
-      let one : stands.0 ≡ k = one_number i.student_keys stands.0 k x.key lawful.student_keys_rise stands.1 own in
-      rw one at stands.2
-
   project_at : (k : ℕ) (x : Project) → k < length rows.projects → get_or rows.projects k x ≡ x → (capacity_of i k ≡ x.capacity) × (get_or i.lecturer_keys (lecturer_of i k) [] ≡ x.lecturer)
-  project_at k x low at =
-      let stands : StandsProject i x = rw at at (for.projects k x low) in
-      let own : HasKey i.project_keys k x.key = (omega (arith, for.project_count), rw same_projects (map_at (λ y. y.key) rows.projects k x [] low at)) in
-      let one : stands.0 ≡ k = one_number i.project_keys stands.0 k x.key lawful.project_keys_rise stands.1 own in
-      (rw one at stands.2, rw one at stands.3)
+  project_at k x low at = project_says rows i lawful for k x k low at (rw same_projects (key_number (λ y. y.key) rows.projects k x low at))
 
   lecturer_at : (k : ℕ) (x : Lecturer) → k < length rows.lecturers → get_or rows.lecturers k x ≡ x → (limit_of i k ≡ x.capacity) × (keys_at i.student_keys (ranking_of i k) ≡ x.list)
-  lecturer_at k x low at =
-      let stands : StandsLecturer i x = rw at at (for.lecturers k x low) in
-      let own : HasKey i.lecturer_keys k x.key = (omega (arith, for.lecturer_count), rw same_lecturers (map_at (λ y. y.key) rows.lecturers k x [] low at)) in
-      let one : stands.0 ≡ k = one_number i.lecturer_keys stands.0 k x.key lawful.lecturer_keys_rise stands.1 own in
-      (rw one at stands.2, rw one at stands.3)
+  lecturer_at k x low at = lecturer_says rows i lawful for k x k low at (rw same_lecturers (key_number (λ y. y.key) rows.lecturers k x low at))
 
   same_choices : i.choices ≡ map (λ (x : Student). map (number_in i.project_keys) x.list) rows.students
-  same_choices = ext_get_or [] i.choices (map (λ (x : Student). map (number_in i.project_keys) x.list) rows.students) (sym lawful.student_rows ∙ for.student_count ∙ sym (length-map rows.students (λ (x : Student). map (number_in i.project_keys) x.list))) (λ k h.
-      let low : k < length rows.students = omega (arith, lawful.student_rows, for.student_count) in
-      let x = at_place rows.students k low in
+  same_choices = column_is (λ (x : Student). map (number_in i.project_keys) x.list) [] rows.students i.choices (sym lawful.student_rows ∙ for.student_count) (λ k x low at.
       sym (numbers_back i.project_keys (choices_of i k) lawful.project_keys_rise (choices_below i lawful k))
-      ∙ ap (map (number_in i.project_keys)) (student_at k x.0 low x.1)
-      ∙ sym (map_at (λ (y : Student). map (number_in i.project_keys) y.list) rows.students k x.0 [] low x.1))
+      ∙ ap (map (number_in i.project_keys)) (student_says rows i lawful for k x k low at (rw same_students (key_number (λ y. y.key) rows.students k x low at))))
 
   same_offers : i.lecturers ≡ map (λ (x : Project). number_in i.lecturer_keys x.lecturer) rows.projects
-  same_offers = ext_get_or 0 i.lecturers (map (λ (x : Project). number_in i.lecturer_keys x.lecturer) rows.projects) (sym lawful.project_key_rows ∙ for.project_count ∙ sym (length-map rows.projects (λ (x : Project). number_in i.lecturer_keys x.lecturer))) (λ k h.
-      let low : k < length rows.projects = omega (arith, lawful.project_key_rows, for.project_count) in
-      let x = at_place rows.projects k low in
-      sym (own_number i.lecturer_keys (lecturer_of i k) lawful.lecturer_keys_rise (omega (arith, lawful.offered k h, lawful.lecturer_key_rows)))
-      ∙ ap (number_in i.lecturer_keys) (project_at k x.0 low x.1).1
-      ∙ sym (map_at (λ (y : Project). number_in i.lecturer_keys y.lecturer) rows.projects k x.0 0 low x.1))
+  same_offers = column_is (λ (x : Project). number_in i.lecturer_keys x.lecturer) 0 rows.projects i.lecturers (sym lawful.project_key_rows ∙ for.project_count) (λ k x low at.
+      sym (own_number i.lecturer_keys (lecturer_of i k) lawful.lecturer_keys_rise (omega (arith, lawful.offered k (omega (arith, lawful.project_key_rows, for.project_count)), lawful.lecturer_key_rows)))
+      ∙ ap (number_in i.lecturer_keys) (project_at k x low at).1)
 
   same_capacities : i.capacities ≡ map (λ (x : Project). x.capacity) rows.projects
-  same_capacities = ext_get_or 0 i.capacities (map (λ (x : Project). x.capacity) rows.projects) (lawful.project_rows ∙ sym lawful.project_key_rows ∙ for.project_count ∙ sym (length-map rows.projects (λ (x : Project). x.capacity))) (λ k h.
-      let low : k < length rows.projects = omega (arith, lawful.project_rows, lawful.project_key_rows, for.project_count) in
-      let x = at_place rows.projects k low in
-      (project_at k x.0 low x.1).0 ∙ sym (map_at (λ (y : Project). y.capacity) rows.projects k x.0 0 low x.1))
+  same_capacities = column_is (λ (x : Project). x.capacity) 0 rows.projects i.capacities (lawful.project_rows ∙ sym lawful.project_key_rows ∙ for.project_count) (λ k x low at. (project_at k x low at).0)
 
   same_rankings : i.rankings ≡ map (λ (x : Lecturer). map (number_in i.student_keys) x.list) rows.lecturers
-  same_rankings = ext_get_or [] i.rankings (map (λ (x : Lecturer). map (number_in i.student_keys) x.list) rows.lecturers) (sym lawful.lecturer_key_rows ∙ for.lecturer_count ∙ sym (length-map rows.lecturers (λ (x : Lecturer). map (number_in i.student_keys) x.list))) (λ k h.
-      let low : k < length rows.lecturers = omega (arith, lawful.lecturer_key_rows, for.lecturer_count) in
-      let x = at_place rows.lecturers k low in
+  same_rankings = column_is (λ (x : Lecturer). map (number_in i.student_keys) x.list) [] rows.lecturers i.rankings (sym lawful.lecturer_key_rows ∙ for.lecturer_count) (λ k x low at.
       sym (numbers_back i.student_keys (ranking_of i k) lawful.student_keys_rise (ranking_below i lawful k))
-      ∙ ap (map (number_in i.student_keys)) (lecturer_at k x.0 low x.1).1
-      ∙ sym (map_at (λ (y : Lecturer). map (number_in i.student_keys) y.list) rows.lecturers k x.0 [] low x.1))
+      ∙ ap (map (number_in i.student_keys)) (lecturer_at k x low at).1)
 
   same_limits : i.limits ≡ map (λ (x : Lecturer). x.capacity) rows.lecturers
-  same_limits = ext_get_or 0 i.limits (map (λ (x : Lecturer). x.capacity) rows.lecturers) (lawful.lecturer_rows ∙ sym lawful.lecturer_key_rows ∙ for.lecturer_count ∙ sym (length-map rows.lecturers (λ (x : Lecturer). x.capacity))) (λ k h.
-      let low : k < length rows.lecturers = omega (arith, lawful.lecturer_rows, lawful.lecturer_key_rows, for.lecturer_count) in
-      let x = at_place rows.lecturers k low in
-      (lecturer_at k x.0 low x.1).0 ∙ sym (map_at (λ (y : Lecturer). y.capacity) rows.lecturers k x.0 0 low x.1))
+  same_limits = column_is (λ (x : Lecturer). x.capacity) 0 rows.lecturers i.limits (lawful.lecturer_rows ∙ sym lawful.lecturer_key_rows ∙ for.lecturer_count) (λ k x low at. (lecturer_at k x low at).0)
 
   pub only_instance : i ≡ spa_of_rows rows
   only_instance = λ j. record {

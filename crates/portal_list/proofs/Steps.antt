@@ -1,7 +1,5 @@
 -- Steps of loops over lists.
-use Rattle.portal_list.proofs.Base.{◌≡◌, ℕ, ◌+◌, ◌<◌, Bool, true, false, cond, List, [], ◌∷◌, ◌++◌, map, take, length, get_or, append-nil, refl, sym, ◌∙◌, ap, subst, filter, Option, Some, None, AllByRecursion, filter_map, cons_option, filter_map-append}
-use Rattle.std.proofs.lemmas.List.{take_more}
-use Rattle.portal_core.proofs.AllLaws.{all_append}
+use Rattle.portal_list.proofs.Base.{◌≡◌, ℕ, ◌+◌, ◌<◌, Bool, true, false, cond, List, [], ◌∷◌, ◌++◌, map, take, length, get_or, append-nil, refl, sym, ◌∙◌, ap, subst, filter, Option, Some, None, AllByRecursion, filter_map, cons_option, filter_map-append, take_more, all_append}
 
 -- one more element
 pub grown : {X : Type 0} (xs : List X) (i : ℕ) (x : X) → i < length xs → get_or xs i x ≡ x → take (i + 1) xs ≡ take i xs ++ x ∷ []

@@ -1,15 +1,28 @@
--- The rows of a world, as tables keep them.
+-- A world as entries (the rows of the rolls with their owners' lists) and as the rows of tables.
 use Rattle.std.specs.Prelude.{◌≡◌, List, [], map, Option, option_map}
+use Rattle.portal_core.specs.World.{World, Lecturer, Student, pairs_with}
+use Rattle.portal_core.specs.declared.phase.Round.{Round}
+use Rattle.portal_core.specs.declared.rows.ProjectRow.{ProjectRow}
 use Rattle.std.specs.List.{filter_map}
 use Rattle.portal_core.specs.declared.phase.Phase.{Phase}
-use Rattle.portal_core.specs.declared.phase.Round.{Round}
 use Rattle.portal_core.specs.declared.phase.Round.TheVariants.{First, Second}
 use Rattle.portal_core.specs.declared.rows.LecturerRow.{LecturerRow}
-use Rattle.portal_core.specs.declared.rows.ProjectRow.{ProjectRow}
 use Rattle.portal_core.specs.declared.rows.StudentRow.{StudentRow}
 use Rattle.portal_core.specs.Words.{Key}
-use Rattle.portal_core.specs.World.{World, Lecturer, Student, pairs_with}
-use Rattle.portal_core.specs.Good.{Sound}
+
+pub record AllEntries : Type 0 where
+  pub round : Round
+  pub lecturers : List Lecturer
+  pub projects : List ProjectRow
+  pub students : List Student
+
+-- the entries of this world
+abbrev pub entries_in : World → AllEntries
+entries_in w = record { round = w.round; lecturers = w.lecturers; projects = w.projects; students = w.students }
+
+-- the world has these entries
+pub record HasEntries (entries : AllEntries) (w : World) : Type 0 where
+  pub there : entries_in w ≡ entries
 
 pub record RowsOfWorld : Type 0 where
   pub round : Round
@@ -18,11 +31,11 @@ pub record RowsOfWorld : Type 0 where
   pub lecturers : List LecturerRow
   pub projects : List ProjectRow
   pub students : List StudentRow
-  -- each student's list, by student
+  -- each student's list, in the order of students
   pub choices : List (Key × List Key)
-  -- the rankings that are there, by lecturer
+  -- the rankings that are there, in the order of lecturers
   pub rankings : List (Key × List Key)
-  -- the result, by student
+  -- the result, in the order of students
   pub pairs : List (Key × Key)
   -- in the second round, the lists, the rankings and the result of the first
   pub earlier_choices : List (Key × List Key)
@@ -55,8 +68,3 @@ world_rows w =
       earlier_rankings = rankings_with (λ l. l.earlier_ranking) w.lecturers;
       earlier_pairs = pairs_with (λ s. s.earlier_placement) w.students;
     }
-
--- these are the rows of the world, and of no other that is sound
-pub record IsFitted (rows : RowsOfWorld) (w : World) : Type 0 where
-  pub rows_are : rows ≡ world_rows w
-  pub once : (v : World) → rows ≡ world_rows v → Sound v → w ≡ v

@@ -2,8 +2,7 @@
 
 ghost use Rattle.std.specs.Prelude.{◌≡◌, OnOk, OnErr, map};
 ghost use Rattle.portal_core.specs.Words.{Rise};
-ghost use Rattle.portal_core.specs.World.{student_key, lecturer_key};
-ghost use Rattle.portal_core.specs.Change.{with_choice, with_ranking};
+ghost use Rattle.portal_core.specs.World.{student_key, lecturer_key, with_choice, with_ranking};
 
 mod fill;
 mod new_rows;

@@ -47,7 +47,7 @@ pub(crate) fn ranking_copy(
     }
 }
 
-/// The same rows again.
+/// A copy of rows of projects.
 pub(crate) fn project_rows_of(
     alloc: Global,
     rows: &[ProjectRow],

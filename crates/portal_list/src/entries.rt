@@ -2,11 +2,11 @@
 //! change.
 
 ghost use Rattle.std.specs.Prelude.{◌≡◌, true, false, Ok, IfOk, OnOk, OnErr, map};
-ghost use Rattle.portal_core.specs.World.{World};
-ghost use Rattle.portal_core.specs.Change.{changed, with_place};
+ghost use Rattle.portal_core.specs.World.{World, changed, with_place};
 ghost use Rattle.portal_core.specs.Good.{Sound};
 ghost use Rattle.portal_core.specs.Meaning.{change_model};
-ghost use Rattle.portal_list.specs.Entries.{HasEntries, is_followed};
+ghost use Rattle.portal_list.specs.Rows.{HasEntries};
+ghost use Rattle.portal_list.specs.inner.Played.{is_followed};
 
 use crate::changes::{fill_rankings, place_all, replace_choice, replace_ranking};
 use portal_core::{Change, LecturerRow, ProjectRow, Round, StudentRow};
@@ -71,7 +71,7 @@ pub struct Entries {
 }
 
 impl Model for Entries {
-    ghost use Rattle.portal_list.specs.Entries.{AllEntries};
+    ghost use Rattle.portal_list.specs.Rows.{AllEntries};
 
     ghost Value = { AllEntries };
 

@@ -3,7 +3,7 @@
 ghost use Rattle.std.specs.Prelude.{◌≡◌, IfOk, List, map};
 ghost use Rattle.portal_core.specs.Words as words;
 ghost use Rattle.portal_core.specs.World.{World};
-ghost use Rattle.portal_list.specs.Entries.{HasEntries};
+ghost use Rattle.portal_list.specs.Rows.{HasEntries};
 ghost use Rattle.portal_list.specs.inner.Parts.{applicant_keys};
 ghost use Rattle.portal_list.specs.inner.Fill.{fill_missing};
 

@@ -3,9 +3,9 @@
 ghost use Rattle.std.specs.Prelude.{◌≡◌, ◌↔◌, Err, IfOk, IsTrue, MatchOption};
 ghost use Rattle.portal_core.specs.World.{World};
 ghost use Rattle.portal_core.specs.Good.{Sound};
-ghost use Rattle.portal_list.specs.Entries.{HasEntries};
+ghost use Rattle.portal_list.specs.Rows.{HasEntries, world_rows};
 ghost use Rattle.portal_list.specs.inner.Parts.{RollsFit};
-ghost use Rattle.portal_list.specs.Rows.{world_rows, IsFitted};
+ghost use Rattle.portal_list.specs.inner.Fit.{IsFitted};
 ghost use Rattle.portal_list.specs.declared.from_rows.RowsFault.TheVariants.{Memory};
 
 use crate::entries::Entries;

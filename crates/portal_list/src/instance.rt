@@ -5,8 +5,8 @@ ghost use Rattle.std.specs.List.{AllByRecursion};
 ghost use Rattle.portal_core.specs.World.{World, is_still_to_rank};
 ghost use Rattle.portal_core.specs.declared.phase.Round.TheVariants.{First};
 ghost use Rattle.portal_core.specs.Good.{Sound};
-ghost use Rattle.portal_core.specs.Instance as meant_by;
-ghost use Rattle.portal_list.specs.Entries.{HasEntries};
+ghost use Rattle.portal_core.specs.Good as meant_by;
+ghost use Rattle.portal_list.specs.Rows.{HasEntries};
 ghost use Rattle.portal_list.specs.inner.Lines.{instance_lecturer, instance_project};
 ghost use Rattle.portal_list.specs.inner.Lines.{instance_student, instance_rows};
 

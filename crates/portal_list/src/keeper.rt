@@ -3,11 +3,11 @@
 ghost use Rattle.std.specs.Prelude.{◌≡◌, true, [], IfOk, IfErr, OnOk, OnErr};
 ghost use Rattle.portal_core.specs.View as seen;
 ghost use Rattle.portal_core.specs.Good.{Good, Sound, CanPublish};
-ghost use Rattle.portal_core.specs.Instance as meant_by;
-ghost use Rattle.portal_core.specs.Change.{changed, Lecturers, Projects, Students, Placements};
-ghost use Rattle.portal_core.specs.Change.{SecondRound};
+ghost use Rattle.portal_core.specs.Good as meant_by;
+ghost use Rattle.portal_core.specs.World.{changed, Lecturers, Projects, Students, Placements};
+ghost use Rattle.portal_core.specs.World.{SecondRound};
 ghost use Rattle.portal_core.specs.Meaning.{change_model};
-ghost use Rattle.portal_list.specs.Entries.{is_followed};
+ghost use Rattle.portal_list.specs.inner.Played.{is_followed};
 
 use crate::changes::{add_rows, lay_by_lists, lay_by_rankings, new_lecturers, new_students};
 use crate::copies::project_rows_of;
@@ -39,7 +39,7 @@ pub struct ListKeeper {
 impl Model for ListKeeper {
     ghost use Rattle.std.specs.Prelude.{◌≡◌, IfSome};
     ghost use Rattle.portal_core.specs.World.{World};
-    ghost use Rattle.portal_list.specs.Entries.{world_with};
+    ghost use Rattle.portal_list.specs.inner.Played.{world_with};
     ghost use Rattle.portal_list.specs.inner.Shown.{catalogue_in};
 
     ghost Value = { World };

@@ -1,6 +1,6 @@
 -- A key is short.
 use Rattle.portal_reports.proofs.Base.{◌≡◌, ℕ, Bool, true, false, List, [], ◌∷◌, length, refl, ap, ◌∙◌, arith, rules, IsTrue, ◌&&◌, nat_lt, nat_le, list_all, and_parts, common_steps, is_short}
-use Rattle.spa_rows.specs.Form.{is_key, is_key_byte}
+use Rattle.spa_rows.specs.Lines.{is_key, is_key_byte}
 
 low : (b : ℕ) → is_key_byte b ≡ true → nat_lt b 128 ≡ true
 low b e = grind (arith, common_steps, e)

@@ -1,11 +1,7 @@
 -- What std writes for a place of a width is the padding of the definition.
-use Rattle.portal_reports.proofs.Base.{◌≡◌, ℕ, ◌<◌, Bool, true, false, List, [], ◌∷◌, ◌++◌, length, refl, ap, ◌∙◌, arith, rules, IsTrue, decimal, ◌&&◌, nat_lt, nat_le, list_all, styled_text, styled_decimal, and_parts, common_steps, padded_left, padded_right, is_short}
-use Rattle.std.proofs.Common.{zero, suc, ◌+◌, ◌-◌, ◌≤◌, replicate, append-nil}
-use Rattle.std.specs.Prelude.{if◌then◌else◌, ◌||◌, ◌==◌}
-use Rattle.std.specs.List.{repeat}
+use Rattle.portal_reports.proofs.Base.{◌≡◌, ℕ, ◌<◌, Bool, true, false, List, [], ◌∷◌, ◌++◌, length, refl, ap, ◌∙◌, arith, rules, IsTrue, decimal, ◌&&◌, nat_lt, nat_le, list_all, styled_text, styled_decimal, and_parts, common_steps, padded_left, padded_right, is_short, zero, suc, ◌+◌, ◌-◌, ◌≤◌, replicate, append-nil, if◌then◌else◌, ◌||◌, ◌==◌, repeat, format_spec, is_char_start, leb-true}
 use Rattle.std.specs.Char.{encode_utf8}
-use Rattle.std.specs.Fmt.{padded, padded_integral, format_spec, take_chars, char_count, is_char_start}
-use Rattle.std.proofs.lemmas.Bool.{leb-true}
+use Rattle.std.specs.Fmt.{padded, padded_integral, take_chars, char_count}
 
 blank : encode_utf8 32 ≡ 32 ∷ []
 unfolding encode_utf8

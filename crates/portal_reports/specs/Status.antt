@@ -1,16 +1,11 @@
--- The state of the round as a text.
-use Rattle.std.specs.Prelude.{ℕ, Bool, ◌&&◌, nat_lt, nat_le, if◌then◌else◌, codes, decimal, List, [], ◌++◌, length}
-use Rattle.std.specs.List.{list_all}
+-- The state of the round as text.
+use Rattle.std.specs.Prelude.{ℕ, if◌then◌else◌, codes, decimal, List, [], ◌++◌, length}
 use Rattle.portal_core.specs.declared.phase.Phase.{Phase}
 use Rattle.portal_core.specs.declared.phase.Round.{Round}
 use Rattle.portal_core.specs.declared.phase.Round.TheVariants.{First, Second}
 use Rattle.portal_core.specs.World.{phase_word, has_result}
 use Rattle.portal_core.specs.Sight.{OfficeSees}
-use Rattle.portal_core.specs.Sheets.{padded_left, padded_right, line_feed}
-
--- at most 16 bytes of ASCII
-abbrev pub is_short : List ℕ → Bool
-is_short text = nat_le (length text) 16 && list_all (λ b. nat_lt b 128) text
+use Rattle.portal_core.specs.Bodies.{padded_left, padded_right, line_feed}
 
 unfoldable pub number_line : List ℕ → ℕ → List ℕ
 number_line label number = padded_left 16 label ++ padded_right 6 (decimal number) ++ line_feed
@@ -18,12 +13,12 @@ number_line label number = padded_left 16 label ++ padded_right 6 (decimal numbe
 unfoldable pub phase_line : Phase → List ℕ
 phase_line phase = padded_left 16 (codes "phase") ++ phase_word phase ++ line_feed
 
--- the round, in the second alone
+-- only the second round has a line for the round
 abbrev pub round_lines : Round → List ℕ
 round_lines First = []
 round_lines Second = number_line (codes "round") 2
 
--- how many have a project, once a result is there
+-- the number of students with a project, once there is a result
 abbrev pub assigned_number : OfficeSees → List ℕ
 assigned_number v = if has_result v.round v.phase then number_line (codes "assigned") (length v.pairs) else []
 

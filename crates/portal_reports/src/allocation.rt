@@ -2,7 +2,7 @@
 
 ghost use Rattle.std.specs.Prelude.{◌≡◌, ◌++◌, IfOk, OnOk, string_bytes};
 ghost use Rattle.std.specs.List.{flat_map};
-ghost use Rattle.portal_core.specs.Sheets as sheet;
+ghost use Rattle.portal_core.specs.Bodies as sheet;
 
 use crate::lines::{assigned_line, placed_line, project_line, unplaced_line};
 use portal_core::{OfficeView, Placings, StudentRow};

@@ -2,8 +2,9 @@
 
 ghost use Rattle.std.specs.Prelude.{◌≡◌, ◌++◌, IfOk, IsTrue, Some, None, codes, decimal};
 ghost use Rattle.std.specs.Prelude.{string_bytes};
-ghost use Rattle.portal_core.specs.Sheets as sheet;
+ghost use Rattle.portal_core.specs.Bodies as sheet;
 ghost use Rattle.portal_reports.specs.Status as spec;
+ghost use Rattle.portal_reports.specs.inner.Labels as form;
 
 use portal_core::{Phase, ProjectRow};
 use spa_rows::Key;
@@ -12,7 +13,7 @@ use std::alloc::{AllocError, Global};
 /// The text of a key, which is short.
 fn short(key: &Key) -> &str
     ensures text { result.now ≡ key.now }
-    ensures short { IsTrue (spec.is_short key.now) }
+    ensures short { IsTrue (form.is_short key.now) }
 {
     let _form = key.as_bytes();
     key.as_str()
@@ -20,7 +21,7 @@ fn short(key: &Key) -> &str
 
 /// A label, and a number.
 pub(crate) fn number_line(alloc: Global, label: &str, number: usize) -> Result<String, AllocError>
-    requires { IsTrue (spec.is_short label.now) }
+    requires { IsTrue (form.is_short label.now) }
     ensures { IfOk result (λ line. string_bytes line ≡ spec.number_line label.now number) }
 {
     format!(in alloc; "{label:<16}{number:>6}\n")

@@ -2,6 +2,7 @@
 
 ghost use Rattle.std.specs.Prelude.{◌≡◌, ◌++◌, IfOk, OnOk, IsTrue, codes, length};
 ghost use Rattle.portal_reports.specs.Status as spec;
+ghost use Rattle.portal_reports.specs.inner.Labels as form;
 
 use crate::lines::{number_line, phase_line};
 use portal_core::{OfficeView, Round};
@@ -14,7 +15,7 @@ fn put_number(
     label: &str,
     number: usize,
 ) -> Result<(), AllocError>
-    requires { IsTrue (spec.is_short label.now) }
+    requires { IsTrue (form.is_short label.now) }
     ensures { OnOk result (text.new.items ≡ text.old.items ++ spec.number_line label.now number) }
 {
     let line = number_line(alloc, label, number)?;

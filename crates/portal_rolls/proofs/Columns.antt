@@ -1,6 +1,5 @@
 -- A row of four columns whose fourth is bad.
-use Rattle.portal_rolls.proofs.Base.{◌≡◌, ℕ, Bool, true, false, not, [], ◌∷◌, Result, Ok, Err, position_from, Text, digits_value, is_capacity, unless_bad, Fails, unless, RollFault}
-use Rattle.portal_rolls.specs.Fields.{by_columns, formed, limited}
+use Rattle.portal_rolls.proofs.Base.{◌≡◌, ℕ, Bool, true, false, not, [], ◌∷◌, Result, Ok, Err, position_from, Text, digits_value, is_capacity, unless_bad, Fails, unless, RollFault, by_columns, formed, limited}
 use Rattle.portal_rolls.specs.declared.fault.RollFault.TheVariants as fault
 
 -- what is an error fails so

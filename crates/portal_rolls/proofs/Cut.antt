@@ -1,18 +1,12 @@
 -- Cutting a list field byte by byte, and adding a line at the end of its kind.
-use Rattle.portal_rolls.proofs.Base.{Bor, add-one, ◌≡◌, ◌≢◌, ◌∙◌, ◌+◌, ◌*◌, ◌^◌, ◌<◌, ◌≤◌, ℕ, zero, suc, Bool, true, false, cond, List, [], ◌∷◌, ◌++◌, length, drop, get_or, Some, None, Result, Ok, Err, refl, sym, ap, arith, append_assoc, inl, inr, is_utf8, list_all, nat_tests, eqb-true, le-leb, append-nil, drop_all, field_at, Text, digits_value, Record}
-use Rattle.std.proofs.Common.{eqb}
-use Rattle.std.specs.Prelude.{MatchResult, IsUtf8}
-use Rattle.std.specs.Result.{is_ok}
+use Rattle.portal_rolls.proofs.Base.{Bor, add-one, ◌≡◌, ◌≢◌, ◌∙◌, ◌+◌, ◌*◌, ◌^◌, ◌<◌, ◌≤◌, ℕ, zero, suc, Bool, true, false, cond, List, [], ◌∷◌, ◌++◌, length, drop, get_or, Some, None, Result, Ok, Err, refl, sym, ap, arith, append_assoc, inl, inr, is_utf8, list_all, nat_tests, eqb-true, le-leb, append-nil, drop_all, field_at, Text, digits_value, Record, rules, eqb, MatchResult, IsUtf8, is_ok, cases_Bool, File, file_of, cut_at_blanks, with_front, list_of, capacity_in}
 use Rattle.std.proofs.Math.Seq.{drop-cons}
 use Rattle.std.specs.Char.{is_ascii_digit}
 use Rattle.std.proofs.Math.Nat.{pow-suc}
-use Rattle.std.proofs.lemmas.Bool.{cases_Bool}
 use Rattle.std.proofs.lemmas.Str.{IsUtf8-from_is_utf8, is_utf8-from_IsUtf8}
 use Rattle.std.proofs.lemmas.List.Elements.{filter_map-append}
 use Rattle.portal_rolls.specs.declared.line.Line.{Line}
 use Rattle.portal_rolls.specs.declared.line.Line.TheVariants as variant
-use Rattle.portal_rolls.specs.Lines.{File, file_of}
-use Rattle.portal_rolls.specs.Fields.{cut_at_blanks, with_front, list_of, capacity_in}
 
 -- these bytes before the first piece
 abbrev pub before : Text → List Text → List Text
@@ -44,22 +38,15 @@ before_other piece b text e = rw e (go (cut_at_blanks text))
 pub four_is : (r : Record) (a b c d : Text) → length r ≡ 4 → Some a ≡ field_at r 0 → Some b ≡ field_at r 1 → Some c ≡ field_at r 2 → Some d ≡ field_at r 3
     → r ≡ a ∷ b ∷ c ∷ d ∷ []
 unfolding field_at
-four_is [] a b c d len p q s t = absurd (omega arith)
-four_is (x ∷ []) a b c d len p q s t = absurd (omega arith)
-four_is (x ∷ y ∷ []) a b c d len p q s t = absurd (omega arith)
-four_is (x ∷ y ∷ z ∷ []) a b c d len p q s t = absurd (omega arith)
 four_is (x ∷ y ∷ z ∷ w ∷ []) a b c d len p q s t = cc
-four_is (x ∷ y ∷ z ∷ w ∷ v ∷ r) a b c d len p q s t = absurd (omega arith)
+four_is r a b c d len p q s t = absurd (omega arith)
 
 -- the three fields of a record of three
 pub three_is : (r : Record) (a b c : Text) → length r ≡ 3 → Some a ≡ field_at r 0 → Some b ≡ field_at r 1 → Some c ≡ field_at r 2
     → r ≡ a ∷ b ∷ c ∷ []
 unfolding field_at
-three_is [] a b c len p q s = absurd (omega arith)
-three_is (x ∷ []) a b c len p q s = absurd (omega arith)
-three_is (x ∷ y ∷ []) a b c len p q s = absurd (omega arith)
 three_is (x ∷ y ∷ z ∷ []) a b c len p q s = cc
-three_is (x ∷ y ∷ z ∷ w ∷ r) a b c len p q s = absurd (omega arith)
+three_is r a b c len p q s = absurd (omega arith)
 
 -- a field that is not there
 pub field_there : (r : Record) (i : ℕ) → i < length r → None ≡ field_at r i → ⊥
@@ -85,20 +72,12 @@ put f (variant.Pair x) = record f { pairs = f.pairs ++ x ∷ [] }
 
 pub put_last : (lines : List Line) (l : Line) → put (file_of lines) l ≡ file_of (lines ++ l ∷ [])
 put_last lines (variant.Lecturer x) = simp (filter_map-append, append-nil)
-put_last lines (variant.Project x) = simp (filter_map-append, append-nil)
-put_last lines (variant.Student x) = simp (filter_map-append, append-nil)
-put_last lines (variant.Pair x) = simp (filter_map-append, append-nil)
+put_last lines l = simp (filter_map-append, append-nil)
 
 -- the bound on the value of some digits
 pub ten_pow : (i : ℕ) → i ≤ 6 → 10 ^ i ≤ 1000000
-ten_pow zero h = omega arith
-ten_pow (suc zero) h = omega arith
-ten_pow (suc (suc zero)) h = omega arith
-ten_pow (suc (suc (suc zero))) h = omega arith
-ten_pow (suc (suc (suc (suc zero)))) h = omega arith
-ten_pow (suc (suc (suc (suc (suc zero))))) h = omega arith
-ten_pow (suc (suc (suc (suc (suc (suc zero)))))) h = omega arith
 ten_pow (suc (suc (suc (suc (suc (suc (suc i))))))) h = absurd (omega arith)
+ten_pow _ h = omega arith
 
 pub ten_more : (i : ℕ) → 10 ^ (i + 1) ≡ 10 ^ i * 10
 ten_more i = ap (λ (k : ℕ). 10 ^ k) (add-one i) ∙ pow-suc 10 i
@@ -109,23 +88,14 @@ module _ (front : List Text) (piece s : Text) (i : ℕ) (total : List Text) (lt 
   here = drop-cons s i 0 lt ∙ ap (λ (k : ℕ). get_or s i 0 ∷ drop k s) (sym (add-one i))
 
   pub step_blank : get_or s i 0 ≡ 32 → (front ++ piece ∷ []) ++ before [] (cut_at_blanks (drop (i + 1) s)) ≡ total
-  step_blank is =
-      let blank : eqb (get_or s i 0) 32 ≡ true = ap (λ (b : ℕ). eqb b 32) is in
-      let next = ap (λ (t : Text). before piece (cut_at_blanks t)) here ∙ before_blank piece (get_or s i 0) (drop (i + 1) s) blank in
-      rw (before_nil (drop (i + 1) s), append_assoc front (piece ∷ []) (cut_at_blanks (drop (i + 1) s))) (ap (λ (ts : List Text). front ++ ts) (sym next) ∙ so_far)
+  step_blank is = search (rules, here, before_blank, before_nil, append_assoc)
 
   pub step_other : get_or s i 0 ≢ 32 → front ++ before (piece ++ get_or s i 0 ∷ []) (cut_at_blanks (drop (i + 1) s)) ≡ total
-  step_other isnt =
-      let other : eqb (get_or s i 0) 32 ≡ false = elim (cases_Bool (eqb (get_or s i 0) 32)) [ inl t ↦ absurd (isnt (eqb-true _ _ t)) | inr f ↦ f ] in
-      let next = ap (λ (t : Text). before piece (cut_at_blanks t)) here ∙ before_other piece (get_or s i 0) (drop (i + 1) s) other in
-      ap (λ (ts : List Text). front ++ ts) (sym next) ∙ so_far
+  step_other isnt = search (rules, eqb-true, here, before_other)
 
 -- at the end the last piece is whole
 pub last_piece : (front : List Text) (piece s : Text) (i : ℕ) (total : List Text) → length s ≤ i → front ++ before piece (cut_at_blanks (drop i s)) ≡ total → front ++ piece ∷ [] ≡ total
-last_piece front piece s i total le so_far =
-    let none : drop i s ≡ [] = drop_all i s le in
-    let e : before piece (cut_at_blanks (drop i s)) ≡ piece ∷ [] = rw none (rw (append-nil piece) refl) in
-    ap (λ (ts : List Text). front ++ ts) (sym e) ∙ so_far
+last_piece front piece s i total le so_far = search (rules, drop_all, append-nil)
 
 -- a field with a byte is cut
 pub list_is_cut : (s : Text) → eqb (length s) 0 ≡ false → cut_at_blanks s ≡ list_of s
@@ -134,6 +104,4 @@ list_is_cut (b ∷ s) e = refl
 
 -- what passes the three tests
 pub capacity_is : (s : Text) (n : ℕ) → eqb (length s) 0 ≡ false → length s ≤ 7 → list_all is_ascii_digit s ≡ true → n ≡ digits_value s → Some n ≡ capacity_in s
-capacity_is s n nonempty le digits e =
-    let one : 1 ≤ length s = grind (arith, nat_tests) in
-    rw (le-leb 1 (length s) one, le-leb (length s) 7 le, digits) (ap (λ (k : ℕ). Some k) e)
+capacity_is s n nonempty le digits e = search (rules, nat_tests, le-leb)

@@ -1,13 +1,7 @@
 -- What is read of a roll has its form.
-use Rattle.portal_rolls.proofs.Base.{◌≡◌, ◌==◌, ◌+◌, ◌≤◌, ◌&&◌, ℕ, Bool, true, false, not, List, [], ◌∷◌, length, map, Result, Ok, Err, IfOk, refl, arith, cons_option, enumerate_from, filter_map, list_all, position_from, result_err, result_ok, is_utf8, nat_tests, is_code, is_name, ProjectRow, StudentRow, is_key, Text, digits_value, is_capacity, unless_bad, Format, first_or, line_of, lines_of, reading, same_record, unless, Record, RollFault}
-use Rattle.std.proofs.Common.{nat_le}
-use Rattle.std.specs.List.{AllByRecursion}
+use Rattle.portal_rolls.proofs.Base.{◌≡◌, ◌==◌, ◌+◌, ◌≤◌, ◌&&◌, ℕ, Bool, true, false, not, List, [], ◌∷◌, length, map, Result, Ok, Err, IfOk, refl, arith, cons_option, enumerate_from, filter_map, list_all, position_from, result_ok, is_utf8, nat_tests, is_code, is_name, ProjectRow, StudentRow, is_key, Text, digits_value, is_capacity, unless_bad, Format, first_or, line_of, lines_of, reading, unless, Record, RollFault, rules, nat_le, AllByRecursion, is_number, lecturer, project, student, Gives}
 use Rattle.portal_core.specs.Good.{IsLecturer, IsProject, IsStudent}
 use Rattle.portal_core.specs.declared.rows.LecturerRow.{LecturerRow}
-use Rattle.portal_rolls.specs.Fields.{is_number}
-use Rattle.portal_rolls.specs.Gives.{Gives}
-use Rattle.portal_rolls.specs.Reading.{all_or_first, readings}
-use Rattle.portal_rolls.specs.Rolls.{lecturer, project, student}
 use Rattle.portal_rolls.specs.declared.fault.RollFault.TheVariants as fault
 
 passed : {A : Type 0} (b : Bool) (e : RollFault) (r : Result A RollFault) (x : A) → unless b e r ≡ Ok x → r ≡ Ok x
@@ -33,10 +27,7 @@ module _ {X : Type 0} (format : Format X) (P : X → Type 0) (each : (row : ℕ)
 
   pub all_read : (rows : List Record) (xs : List X) → lines_of format rows ≡ Ok xs → AllByRecursion P xs
   all_read [] xs e = absurd (cc e)
-  all_read (r ∷ rows) xs e =
-      let is : filter_map result_ok (readings format rows) ≡ xs =
-      no_fault (filter_map result_err (readings format rows)) (filter_map result_ok (readings format rows)) xs (passed (same_record format.header r) fault.BadHeader (all_or_first (readings format rows)) xs e) in
-      rw (← is) (all_from 1 rows)
+  all_read (r ∷ rows) xs e = search (rules, no_fault, passed, all_from)
 
 abbrev AreTrue : List Bool → Type 0
 AreTrue [] = Unit {0}
@@ -58,9 +49,7 @@ capacity_form field e = go (is_number field) (nat_le 1 (digits_value field)) (na
     go false low high p q h = absurd (cc h)
 
 pub student_form : (row : ℕ) (r : Record) (x : StudentRow) → student row r ≡ Ok x → IsStudent x
-student_form row (key ∷ name ∷ code ∷ []) x e =
-    let (forms, is) = columns_form row 1 (is_key key ∷ is_name name ∷ is_code code ∷ []) (record { key = key; name = name; code = code }) x e in
-    rw (← is) (record { key = forms.0; name = forms.1.0; code = forms.1.1.0 })
+student_form row (key ∷ name ∷ code ∷ []) x e = search (rules, columns_form)
 student_form row _ x e = absurd (cc e)
 
 pub lecturer_form : (row : ℕ) (r : Record) (x : LecturerRow) → lecturer row r ≡ Ok x → IsLecturer x

@@ -1,6 +1,5 @@
 -- A record beside the names of the columns, and the test that all fields are text.
-use Rattle.portal_rolls.proofs.Base.{Bor, ◌≡◌, ◌+◌, ◌<◌, ◌≤◌, ℕ, zero, suc, Bool, true, false, not, ◌&&◌, List, [], ◌∷◌, length, map, drop, get_or, Some, refl, ap, add-one, arith, drop_all, list_all, is_utf8, field_at, Record, same_record}
-use Rattle.std.specs.Str.{bytes_eq}
+use Rattle.portal_rolls.proofs.Base.{Bor, ◌≡◌, ◌+◌, ◌<◌, ◌≤◌, ℕ, zero, suc, Bool, true, false, not, ◌&&◌, List, [], ◌∷◌, length, map, drop, get_or, Some, refl, ap, add-one, arith, drop_all, list_all, is_utf8, field_at, Record, same_record, bytes_eq}
 
 -- another count of fields
 pub other_count : (a b : Record) → (length a ≡ length b → ⊥) → false ≡ same_record a b

@@ -1,12 +1,9 @@
 -- The text of a record by the default writer is the text of the definition.
-use Rattle.portal_rolls.proofs.Base.{arith, ◌≤◌, length, ◌≡◌, ℕ, Bool, true, false, List, [], ◌∷◌, ◌++◌, refl, sym, ap, ◌∙◌, subst, Some, None, ◌≢◌, ◌==◌, Option, flat_map, eqb-true, default_writer, row_text, csv_record}
-use Rattle.std.specs.Prelude.{◌||◌, if◌then◌else◌, codes}
-use Rattle.std.specs.List.{list_any}
+use Rattle.portal_rolls.proofs.Base.{arith, ◌≤◌, length, ◌≡◌, ℕ, Bool, true, false, List, [], ◌∷◌, ◌++◌, refl, sym, ap, ◌∙◌, subst, Some, None, ◌≢◌, ◌==◌, Option, flat_map, eqb-true, default_writer, row_text, csv_record, ◌||◌, if◌then◌else◌, codes, list_any, needs_byte, field_text, needs_quotes, doubled, csv_field}
 use Rattle.std.specs.Io.KnownBytes.{Appends}
-use Rattle.csv.specs.Writing.{needs_byte, escaped, field_text, fields_text, is_blank}
+use Rattle.csv.specs.Writing.{escaped, fields_text, is_blank}
 use Rattle.csv.specs.declared.writer.WriterBuilder.{WriterBuilder}
 use Rattle.csv.specs.declared.writer.QuoteStyle.TheVariants as style
-use Rattle.portal_core.specs.Sheets.{needs_quotes, doubled, csv_field}
 
 regrouped : (p q r s : Bool) → ((((p || q) || (r || s)) || false) || false) ≡ (((p || q) || r) || s)
 regrouped true q r s = refl

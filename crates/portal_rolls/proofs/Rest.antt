@@ -1,12 +1,10 @@
 -- The records that are left, and what one read does to them.
-use Rattle.portal_rolls.proofs.Base.{Bor, ◌≡◌, ◌∙◌, ◌+◌, ◌<◌, ℕ, zero, suc, Bool, true, false, cond, List, [], ◌∷◌, ◌++◌, length, Option, Some, None, refl, sym, ap, inl, inr, arith, add-one, Reader, Record, Has, TakesRecord}
-use Rattle.std.proofs.Common.{◌⊎◌, ap₂}
+use Rattle.portal_rolls.proofs.Base.{Bor, ◌≡◌, ◌∙◌, ◌+◌, ◌<◌, ℕ, zero, suc, Bool, true, false, cond, List, [], ◌∷◌, ◌++◌, length, Option, Some, None, refl, sym, ap, inl, inr, arith, add-one, Reader, Record, Has, TakesRecord, rules, ◌⊎◌, ap₂, rest_of}
 use Rattle.csv.specs.Machine.{Read, ends_at_end, fields_after, field_after, is_end, next_record, step}
-use Rattle.csv.specs.Reading.{NextIs, ReadRecord, ReadsNext, default_config, pending_of, reader_state, records_from, records_next, source_of}
+use Rattle.csv.specs.Reading.{NextIs, ReadRecord, ReadsNext, default_config, reader_state, records_from, records_next, source_of}
 use Rattle.csv.specs.declared.parser.State.{State}
 use Rattle.csv.specs.declared.parser.State.TheVariants as st
 use Rattle.csv.specs.declared.parser.Config.{Config}
-use Rattle.portal_rolls.specs.Records.{rest_of}
 
 -- a record takes a byte at least, or ends the text
 abbrev Shrinks : List ℕ → Read → Type 0
@@ -37,10 +35,7 @@ read_shrinks cfg s fields field (c ∷ rest) q e =
         let at : rest ≡ q.2 = ap (λ (r : Read). r.2) p in
         inl (omega (arith, ap length at))
     go false more h =
-        elim (more h) [
-          | inl lt ↦ inl (omega arith)
-          | inr end ↦ inl (omega (arith, ap length end.2))
-        ]
+        grind arith
 
 -- at the end of a text no record is left
 nothing_left : (cfg : Config) (n : ℕ) → records_from cfg n st.StartRecord [] ≡ []
@@ -84,8 +79,7 @@ known s = Some s.now
 took : (o : Option Read) (rows : List Record) (found : Bool) (fields : Record) (rdr : Reader (Bor (List ℕ))) (z : List ℕ)
     → rows ≡ records_next rest_of o → source_of known rdr ≡ Some z → NextIs o found fields (reader_state rdr) z → TakesRecord rows found fields rdr
 took None rows found fields rdr z e source r = rw e r
-took (Some p) rows found fields rdr z e source r =
-    rw e (r.0, r.1, record { left = z; source = source; rows_are = ap₂ rest_of (sym r.2) (sym r.3) })
+took (Some p) rows found fields rdr z e source r = search (rules, ap₂)
 
 took_known : (s : State) (xs : List ℕ) (rows : List Record) (found : Bool) (fields : Record) (rdr : Reader (Bor (List ℕ))) (k : Option (List ℕ))
     → rows ≡ records_next rest_of (next_record default_config s [] [] xs) → source_of known rdr ≡ k
@@ -96,5 +90,4 @@ took_known s xs rows found fields rdr (Some z) e source r = took (next_record de
 -- what one read does
 pub takes_next : (old new : Reader (Bor (List ℕ))) (rows : List Record) (found : Bool) (fields : Record) → Has old rows → old.config ≡ default_config
     → ReadRecord known old new found fields → TakesRecord rows found fields new
-takes_next old new rows found fields h cfg r =
-    took_known old.state h.left rows found fields new (pending_of (known new.rdr) new) (h.rows_are ∙ rest_is_next old.state h.left) (rw r.1 refl) (rw (cfg, h.source) at r.0)
+takes_next old new rows found fields h cfg r = search (rules, took_known, rest_is_next)

@@ -1,6 +1,5 @@
 -- How far the lines of a file were read.
-use Rattle.portal_rolls.proofs.Base.{Bor, ◌≡◌, ◌∙◌, ◌+◌, ◌<◌, ◌≤◌, ℕ, true, false, List, [], ◌∷◌, ◌++◌, map, Result, Ok, Err, refl, sym, ap, subst, append_assoc, cons_option, enumerate_from, filter_map, result_err, result_ok, le-leb, append-nil, Reader, Fails, Format, first_or, line_of, lines_of, reading, same_record, Record, Has, TakesRecord, RollFault}
-use Rattle.std.proofs.lemmas.Bool.{lt-leb}
+use Rattle.portal_rolls.proofs.Base.{Bor, ◌≡◌, ◌∙◌, ◌+◌, ◌<◌, ◌≤◌, ℕ, true, false, List, [], ◌∷◌, ◌++◌, map, Result, Ok, Err, refl, sym, ap, subst, append_assoc, cons_option, enumerate_from, filter_map, result_err, result_ok, le-leb, append-nil, Reader, Fails, Format, first_or, line_of, lines_of, reading, same_record, Record, Has, TakesRecord, RollFault, lt-leb}
 use Rattle.portal_rolls.specs.declared.fault.RollFault.TheVariants as fault
 
 module _ {X : Type 0} (format : Format X) where
@@ -26,12 +25,7 @@ module _ {X : Type 0} (faults : List RollFault) (lines later : List X) where
 
   one_fault : (read : Result X RollFault) (e : RollFault) → Fails e read → Fails e (first_or (cons_option (result_err read) faults) (lines ++ cons_option (result_ok read) later))
   one_fault read fault.Memory h = tt
-  one_fault read fault.NoHeader h = rw h refl
-  one_fault read fault.BadHeader h = rw h refl
-  one_fault read (fault.FieldCount row) h = rw h refl
-  one_fault read (fault.NotText row) h = rw h refl
-  one_fault read (fault.BadField row column) h = rw h refl
-  one_fault read fault.TooMany h = rw h refl
+  one_fault read e h = rw h refl
 
 module _ {X : Type 0} (format : Format X) where
   -- no record was there

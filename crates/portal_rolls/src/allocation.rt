@@ -1,7 +1,7 @@
 //! The result as CSV.
 
 ghost use Rattle.std.specs.Prelude.{◌≡◌, ◌++◌, ℕ, List, map, IfOk, OnOk};
-ghost use Rattle.portal_core.specs.Sheets as sheet;
+ghost use Rattle.portal_core.specs.Bodies as sheet;
 ghost use Rattle.portal_rolls.specs.inner.Written.{HasWritten};
 
 use csv::Writer;

@@ -5,12 +5,12 @@ ghost use Rattle.std.specs.Char.{is_ascii_digit};
 ghost use Rattle.std.specs.List.{list_all};
 ghost use Rattle.std.specs.Str.{is_utf8};
 ghost use Rattle.csv.specs.Records.{field_at, fields_of};
-ghost use Rattle.spa_rows.specs.Form.{is_key};
-ghost use Rattle.portal_core.specs.Form.{is_code, is_name};
-ghost use Rattle.portal_rolls.specs.Fields as spec;
-ghost use Rattle.portal_rolls.specs.Gives.{Gives};
+ghost use Rattle.spa_rows.specs.Lines.{is_key};
+ghost use Rattle.portal_core.specs.Words.{is_code, is_name};
+ghost use Rattle.portal_rolls.specs.Lines as spec;
+ghost use Rattle.portal_rolls.specs.Views.{Gives};
 ghost use Rattle.portal_rolls.specs.Reading.{same_record};
-ghost use Rattle.portal_rolls.specs.Views as view;
+ghost use Rattle.portal_rolls.specs.inner.AsRead as form;
 
 use crate::fault::RollFault;
 use csv::ByteRecord;
@@ -51,7 +51,7 @@ fn field(row: &ByteRecord, at: usize) -> &[u8]
 /// The fields of a record of four.
 pub(crate) fn four(row: &ByteRecord) -> FourFields<'_>
     requires { length (fields_of row.now) ≡ 4 }
-    ensures { fields_of row.now ≡ view.four result }
+    ensures { fields_of row.now ≡ form.four result }
 {
     FourFields {
         first: field(row, 0),
@@ -64,7 +64,7 @@ pub(crate) fn four(row: &ByteRecord) -> FourFields<'_>
 /// The fields of a record of three.
 pub(crate) fn three(row: &ByteRecord) -> ThreeFields<'_>
     requires { length (fields_of row.now) ≡ 3 }
-    ensures { fields_of row.now ≡ view.three result }
+    ensures { fields_of row.now ≡ form.three result }
 {
     ThreeFields {
         first: field(row, 0),
@@ -116,7 +116,7 @@ fn is_digits(field: &[u8]) -> bool
 
 /// The number that 1 to 7 digits spell.
 pub(crate) fn capacity_of(field: &[u8]) -> Option<u32>
-    ensures { result ≡ spec.capacity_in field.now }
+    ensures { result ≡ form.capacity_in field.now }
 {
     if field.is_empty() || field.len() > 7 || !is_digits(field) {
         return None;
@@ -130,7 +130,7 @@ pub(crate) fn capacity_of(field: &[u8]) -> Option<u32>
 
 /// The capacity, from 1 to 200, in a column of a record.
 pub(crate) fn limited(row: u32, column: u32, field: &[u8]) -> Result<u32, RollFault>
-    ensures { result ≡ spec.limited row column field.now }
+    ensures { result ≡ form.limited row column field.now }
 {
     match capacity_of(field) {
         Some(n) if is_capacity(n) => Ok(n),
@@ -140,7 +140,7 @@ pub(crate) fn limited(row: u32, column: u32, field: &[u8]) -> Result<u32, RollFa
 
 /// The key in a column of a record.
 pub(crate) fn key_at(alloc: Global, row: u32, column: u32, field: &[u8]) -> Result<Key, RollFault>
-    ensures { Gives view.same result (spec.formed is_key row column field.now) }
+    ensures { Gives form.same result (form.formed is_key row column field.now) }
 {
     match Key::parse(alloc, field) {
         Ok(key) => Ok(key),
@@ -151,7 +151,7 @@ pub(crate) fn key_at(alloc: Global, row: u32, column: u32, field: &[u8]) -> Resu
 
 /// The name in a column of a record.
 pub(crate) fn name_at(alloc: Global, row: u32, column: u32, field: &[u8]) -> Result<Name, RollFault>
-    ensures { Gives view.same result (spec.formed is_name row column field.now) }
+    ensures { Gives form.same result (form.formed is_name row column field.now) }
 {
     match Name::parse(alloc, field) {
         Ok(name) => Ok(name),
@@ -162,7 +162,7 @@ pub(crate) fn name_at(alloc: Global, row: u32, column: u32, field: &[u8]) -> Res
 
 /// The code in a column of a record.
 pub(crate) fn code_at(alloc: Global, row: u32, column: u32, field: &[u8]) -> Result<Code, RollFault>
-    ensures { Gives view.same result (spec.formed is_code row column field.now) }
+    ensures { Gives form.same result (form.formed is_code row column field.now) }
 {
     match Code::parse(alloc, field) {
         Ok(code) => Ok(code),
@@ -173,7 +173,7 @@ pub(crate) fn code_at(alloc: Global, row: u32, column: u32, field: &[u8]) -> Res
 
 /// The keys of a list, which stand between single blanks.
 pub(crate) fn list_of(alloc: Global, field: &[u8]) -> Result<Vec<Vec<u8>>, AllocError>
-    ensures { IfOk result (λ v. view.text_views v.items ≡ spec.list_of field.now) }
+    ensures { IfOk result (λ v. form.text_views v.items ≡ spec.list_of field.now) }
 {
     let mut list = Vec::new(alloc);
     if field.is_empty() {

@@ -2,9 +2,10 @@
 
 ghost use Rattle.std.specs.Prelude.{◌≡◌, IfOk, IfErr};
 ghost use Rattle.csv.specs.Records.{fields_of};
-ghost use Rattle.portal_rolls.specs.Gives.{Gives};
+ghost use Rattle.portal_rolls.specs.Views.{Gives};
 ghost use Rattle.portal_rolls.specs.Lines as spec;
 ghost use Rattle.portal_rolls.specs.Views as view;
+ghost use Rattle.portal_rolls.specs.inner.AsRead as form;
 
 use crate::fault::RollFault;
 use crate::fields::{FourFields, capacity_of, four, list_of};
@@ -43,7 +44,7 @@ fn line_at(
     number: u32,
     fields: FourFields<'_>,
 ) -> Result<Line, RollFault>
-    ensures { Gives view.same result
+    ensures { Gives form.same result
         (spec.line_at (Some mark) number
         fields.entry.second.now fields.entry.third.now fields.entry.fourth.now) }
 {
@@ -125,7 +126,7 @@ impl Kind for InstanceFile {
 
 /// The lines of a file, each put to its kind.
 fn file_of(alloc: Global, lines: Vec<Line>) -> Result<File, RollFault>
-    ensures ok { IfOk result (λ file. view.file file ≡ spec.file_of lines.items) }
+    ensures ok { IfOk result (λ file. form.file file ≡ spec.file_of lines.items) }
     ensures fault { IfErr result (λ e. e ≡ RollFault.Memory) }
 {
     let mut file = File::new(alloc);

@@ -3,6 +3,7 @@
 ghost use Rattle.std.specs.Prelude.{◌≡◌, ◌++◌, ◌∷◌, [], List, OnOk, IfErr};
 ghost use Rattle.portal_rolls.specs.Lines as spec;
 ghost use Rattle.portal_rolls.specs.Views as view;
+ghost use Rattle.portal_rolls.specs.inner.AsRead as form;
 ghost use Rattle.portal_rolls.specs.declared.line.Line as declared;
 
 use crate::fault::RollFault;
@@ -30,7 +31,7 @@ pub(crate) struct File {
 impl File {
     /// A file with no line.
     pub(crate) fn new(alloc: Global) -> File
-        ensures { view.file result ≡ spec.file_of [] }
+        ensures { form.file result ≡ spec.file_of [] }
     {
         File {
             lecturers: Vec::new(alloc),
@@ -43,8 +44,8 @@ impl File {
     /// Adds a line at the end of its kind.
     pub(crate) fn put(&mut self, line: Line) -> Result<(), RollFault>
         ensures ok { OnOk result ((lines : List declared.Line)
-            → view.file self.old ≡ spec.file_of lines
-            → view.file self.new ≡ spec.file_of (lines ++ line ∷ [])) }
+            → form.file self.old ≡ spec.file_of lines
+            → form.file self.new ≡ spec.file_of (lines ++ line ∷ [])) }
         ensures fault { IfErr result (λ e. e ≡ RollFault.Memory) }
     {
         match line {
@@ -58,7 +59,7 @@ impl File {
 
     /// The rows of the instance, and the pairs of the matching.
     pub(crate) fn into_parts(self) -> (InstanceRows, Vec<PairLine>)
-        ensures { view.parts result ≡ view.file self }
+        ensures { view.parts result ≡ form.file self }
     {
         let File {
             lecturers,

@@ -2,10 +2,12 @@
 
 ghost use Rattle.std.specs.Prelude.{◌≡◌, ◌<◌, List, length, map};
 ghost use Rattle.csv.specs.Records.{fields_of};
-ghost use Rattle.portal_rolls.specs.Gives.{Gives};
+ghost use Rattle.portal_rolls.specs.Views.{Gives};
 ghost use Rattle.portal_rolls.specs.Reading.{Format, same_record, line_of as line_in, lines_of};
-ghost use Rattle.portal_rolls.specs.Records.{Record, Has, IsSetUp, records_of};
+ghost use Rattle.portal_rolls.specs.Reading.{Record, records_of};
+ghost use Rattle.portal_rolls.specs.inner.Records.{Has, IsSetUp};
 ghost use Rattle.portal_rolls.specs.Views as view;
+ghost use Rattle.portal_rolls.specs.inner.AsRead as form;
 
 use crate::fault::RollFault;
 use crate::fields::{has_names, is_all_text};
@@ -34,12 +36,12 @@ pub(crate) trait Kind {
     /// What a record of as many fields as the header says, where each field is text.
     fn says(alloc: Global, number: u32, row: &ByteRecord) -> Result<Self::Line, RollFault>
         requires { length (fields_of row.now) ≡ length format.header }
-        ensures { Gives view.same result (format.says number (fields_of row.now)) };
+        ensures { Gives form.same result (format.says number (fields_of row.now)) };
 }
 
 /// What a record says.
 fn line_of<K: Kind>(alloc: Global, number: u32, row: &ByteRecord) -> Result<K::Line, RollFault>
-    ensures { Gives view.same result (line_in K.format number (fields_of row.now)) }
+    ensures { Gives form.same result (line_in K.format number (fields_of row.now)) }
 {
     if row.len() != K::names().len() {
         return Err(RollFault::FieldCount(number));

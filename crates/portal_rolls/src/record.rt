@@ -2,7 +2,8 @@
 
 ghost use Rattle.std.specs.Prelude.{◌≡◌, List, OnOk, IfOk, IfErr};
 ghost use Rattle.csv.specs.Records.{fields_of};
-ghost use Rattle.portal_rolls.specs.Records.{Record, Has, IsSetUp, TakesRecord};
+ghost use Rattle.portal_rolls.specs.Reading.{Record};
+ghost use Rattle.portal_rolls.specs.inner.Records.{Has, IsSetUp, TakesRecord};
 
 use crate::fault::RollFault;
 use csv::{ByteRecord, ErrorKind, Reader};

@@ -4,8 +4,8 @@ ghost use Rattle.std.specs.Prelude.{◌≡◌, IfOk};
 ghost use Rattle.std.specs.List.{AllByRecursion};
 ghost use Rattle.csv.specs.Records.{fields_of};
 ghost use Rattle.portal_core.specs.Good.{IsLecturer, IsProject, IsStudent};
-ghost use Rattle.portal_rolls.specs.Gives.{Gives};
-ghost use Rattle.portal_rolls.specs.Rolls as spec;
+ghost use Rattle.portal_rolls.specs.Views.{Gives};
+ghost use Rattle.portal_rolls.specs.Lines as spec;
 ghost use Rattle.portal_rolls.specs.Views as view;
 
 use crate::fault::RollFault;

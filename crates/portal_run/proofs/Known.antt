@@ -1,12 +1,5 @@
 -- What is known of an input that is longer than a file may be, and of one that is not.
-use Rattle.std.proofs.Common.{◌≡◌, ◌≢◌, ◌⊎◌, ◌<◌, ◌≤◌, ℕ, Bool, true, length, Option, Some, None, take, subst, inl, inr, arith}
-use Rattle.std.specs.Prelude.{IfSome}
-use Rattle.std.specs.Io.KnownBytes.{Appends}
-use Rattle.std.proofs.lemmas.Bool.{cases_lt, lt-ltb}
-use Rattle.std.proofs.lemmas.List.{length-take, take_all}
-use Rattle.portal_answer.specs.Told.{Text, Told}
-use Rattle.portal_answer.specs.Answer.{IfLonger, IsAnswer}
-use Rattle.portal_run.specs.Run.{WritesAnswer, AnswersSome}
+use Rattle.portal_run.proofs.Base.{◌≡◌, ◌≢◌, ◌⊎◌, ◌<◌, ◌≤◌, ℕ, Bool, true, length, Option, Some, None, take, subst, inl, inr, arith, IfSome, Appends, cases_lt, lt-ltb, length-take, take_all, Text, Told, IfLonger, IsAnswer, WritesAnswer, AnswersSome}
 use Rattle.portal_answer.specs.declared.answer.Task.{Task}
 
 -- of a longer file nothing is read

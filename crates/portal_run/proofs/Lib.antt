@@ -1,3 +1,4 @@
+pub mod Base
 pub mod Known
 pub mod Taken
 pub mod Upgraded

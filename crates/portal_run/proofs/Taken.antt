@@ -1,13 +1,7 @@
 -- What was taken from a reader.
-use Rattle.std.proofs.Common.{◌≡◌, ◌∙◌, ◌<◌, ◌≤◌, ◌+◌, ◌++◌, ℕ, [], length, Option, Some, None, take, refl, sym, ap, subst, inl, inr, arith, length-append}
-use Rattle.std.specs.Prelude.{IfSome}
-use Rattle.std.specs.Io.KnownBytes.{Consumes, IsAtEnd}
+use Rattle.portal_run.proofs.Base.{◌≡◌, ◌∙◌, ◌<◌, ◌≤◌, ◌+◌, ◌++◌, ℕ, [], length, Option, Some, None, take, refl, sym, ap, subst, inl, inr, arith, length-append, IfSome, Consumes, IsAtEnd, cases_lt, take_all, take-append-le, append-nil, Text, ConsumesAtMost, TakesMore}
 use Rattle.std.proofs.KnownBytes.{Consumes-trans}
-use Rattle.std.proofs.lemmas.Bool.{cases_lt}
-use Rattle.std.proofs.lemmas.List.{take_all, take-append-le, append-nil}
-use Rattle.portal_desk.specs.Devices.{TakesAtMost as TakesFew}
-use Rattle.portal_answer.specs.Told.{Text}
-use Rattle.portal_run.specs.Taken.{ConsumesAtMost, TakesMore}
+use Rattle.portal_desk.specs.Kept.{TakesAtMost as TakesFew}
 
 -- what was taken first, and then
 pub more_taken : (n most : ℕ) (a b c : Option Text) (before : Text) → Consumes a b before → length before ≤ n → most + length before ≤ n → ConsumesAtMost most b c → ConsumesAtMost n a c

@@ -1,10 +1,7 @@
 -- What is said where no file was opened.
-use Rattle.std.proofs.Common.{◌≡◌, ◌⊎◌, ◌<◌, ℕ, Option, inl, inr, arith}
+use Rattle.portal_run.proofs.Base.{◌≡◌, ◌⊎◌, ◌<◌, ℕ, Option, inl, inr, arith, Text, SaysUpgrade, Says, refusal_line, status_of}
 use Rattle.sqlite.specs.Store.{Ghosts}
-use Rattle.portal_answer.specs.Told.{Text}
 use Rattle.portal_run.proofs.Known.{said_status}
-use Rattle.portal_run.specs.Upgrading.{SaysUpgrade}
-use Rattle.portal_run.specs.inner.Lines.{Says, refusal_line, status_of}
 use Rattle.portal_run.specs.declared.refusal.Refusal.{Refusal}
 use Rattle.portal_run.specs.declared.refusal.Refusal.TheVariants.{NotPortal}
 

@@ -1,4 +1,2 @@
-pub mod Taken
 pub mod Run
-pub mod Upgrading
 pub mod inner

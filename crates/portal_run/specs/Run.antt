@@ -1,22 +1,35 @@
--- What one run of the program does, over an input and an output that are known.
-use Rattle.std.specs.Prelude.{◌≡◌, ℕ, Option, Some, None, IfSome}
-use Rattle.std.specs.Io.KnownBytes.{Appends}
-use Rattle.portal_answer.specs.Told.{Text, Told}
-use Rattle.portal_answer.specs.Answer.{IsAnswer}
+-- What one run of the program does, with known input and output, and what an upgrade prints.
+use Rattle.std.specs.Prelude.{◌≤◌, ℕ, Option, length, ◌≡◌, Some, None, IfSome, ◌⊎◌, false, IsTrue, codes}
+use Rattle.std.specs.Io.KnownBytes.{Consumes, Appends}
+use Rattle.portal_answer.specs.Answer.{Text, Told, IsAnswer}
 use Rattle.portal_answer.specs.declared.answer.Task.{Task}
 use Rattle.portal_answer.specs.declared.answer.Task.TheVariants as task
 use Rattle.portal_words.specs.declared.command.Command.{Command}
 use Rattle.portal_words.specs.declared.command.Command.TheVariants as command
+use Rattle.sqlite.specs.State.{HasCleanDisk}
+use Rattle.sqlite.specs.Store.{Ghosts}
+use Rattle.sqlite.specs.Held.{Held, state}
+use Rattle.portal_tables.specs.Tables.{IsFirstSchema}
+use Rattle.portal_tables.specs.Making.{Upgrades, has_names}
+use Rattle.portal_tables.specs.declared.names.Names.TheVariants.{OfSecond}
+use Rattle.portal_tables.specs.Steps.{Commits, Stays}
+use Rattle.portal_store.specs.Crash.{Bars}
+use Rattle.portal_store.specs.declared.store.UpgradeFault.{UpgradeFault}
+use Rattle.portal_store.specs.declared.store.UpgradeFault.TheVariants.{NotPortal, OtherVersion, Damaged, Exists, Store, Memory}
 
--- an answer to the whole input was written, and its status is given
+-- at most so many bytes of the input are read
+abbrev pub ConsumesAtMost : ℕ → Option Text → Option Text → Type 0
+ConsumesAtMost most old new = (taken : Text) × (length taken ≤ most) × Consumes old new taken
+
+-- the answer to the whole input is written, and `status` is its exit status
 abbrev pub WritesAnswer : Task → Option Text → ℕ → Option Text → Option Text → Type 0
 WritesAnswer task input status old new = IfSome input (λ bytes. (told : Told) × IsAnswer task bytes told × (status ≡ told.status) × Appends old new told.text)
 
--- an answer to some bytes, by this task, was written, and its status is given
+-- the same for some bytes, since those of a named file are not known here
 abbrev pub AnswersSome : Task → ℕ → Option Text → Option Text → Type 0
 AnswersSome task status old new = (bytes : Text) × (told : Told) × IsAnswer task bytes told × (status ≡ told.status) × Appends old new told.text
 
--- the task of a command on an instance file, named or the standard input
+-- the task of a command that reads an instance file, from a name or the standard input
 abbrev pub task_of : Command → Option Task
 task_of (command.Check file) = Some task.Check
 task_of (command.Solve file) = Some task.Solve
@@ -28,7 +41,51 @@ IsOfFile (command.Check file) = Unit {0}
 IsOfFile (command.Solve file) = Unit {0}
 IsOfFile _ = ⊥
 
--- the command brings a database to version 2
+-- the command upgrades a database to schema version 2
 abbrev pub IsUpgrade : Command → Type 0
 IsUpgrade (command.Upgrade database) = Unit {0}
 IsUpgrade _ = ⊥
+
+-- the line that an upgrade prints, for success or a fault
+abbrev pub upgrade_line : Option UpgradeFault → Text
+upgrade_line None = codes "upgraded\n"
+upgrade_line (Some NotPortal) = codes "refused not_portal\n"
+upgrade_line (Some OtherVersion) = codes "refused other_version\n"
+upgrade_line (Some Damaged) = codes "refused damaged\n"
+upgrade_line (Some Exists) = codes "refused exists\n"
+upgrade_line (Some Store) = codes "fault store\n"
+upgrade_line (Some Memory) = codes "fault memory\n"
+
+-- the exit status of an upgrade
+abbrev pub upgrade_status : Option UpgradeFault → ℕ
+upgrade_status None = 0
+upgrade_status (Some Store) = 3
+upgrade_status (Some Memory) = 3
+upgrade_status (Some _) = 2
+
+module _ {S : Type 0} (g : Ghosts S) where
+  -- the store's promise for a connection that it upgrades; `left` is the connection afterwards
+  pub record IsUpgraded (conn left : Held S) : Type 0 where
+    pub made : IsFirstSchema conn.schema → HasCleanDisk (state g left) → Commits Upgrades (state g conn) (state g left)
+    pub free : has_names OfSecond conn.schema ≡ false
+
+  -- the same if it refuses the upgrade
+  pub record IsRefused (fault : UpgradeFault) (conn left : Held S) : Type 0 where
+    pub barred : IsFirstSchema conn.schema → HasCleanDisk (state g left) → Bars fault (state g conn).now.trees
+    pub taken : fault ≡ Exists → IsTrue (has_names OfSecond conn.schema)
+    pub stays : IsFirstSchema conn.schema → HasCleanDisk (state g left) → IsTrue (state g left).is_open → Stays (state g conn) (state g left)
+
+  -- the store's answer for a connection: success, or a fault
+  abbrev pub Answers : Option UpgradeFault → Held S → Held S → Type 0
+  Answers None conn left = IsUpgraded conn left
+  Answers (Some fault) conn left = IsRefused fault conn left
+
+  -- line and status report the store's answer for the connection
+  abbrev pub SaysAnswer : Held S → ℕ → Option Text → Option Text → Type 0
+  SaysAnswer conn status old new =
+      (left : Held S) × (answer : Option UpgradeFault) × Answers answer conn left × (status ≡ upgrade_status answer) × Appends old new (upgrade_line answer)
+
+  -- line and status report the store's answer for a connection, or that there is no file
+  abbrev pub SaysUpgrade : ℕ → Option Text → Option Text → Type 0
+  SaysUpgrade status old new =
+      ((status ≡ 2) × Appends old new (codes "refused not_portal\n")) ⊎ ((conn : Held S) × SaysAnswer conn status old new)

@@ -5,9 +5,8 @@ ghost use Rattle.std.specs.Prelude.{IfSome, IfOk, IsErr, IsTrue};
 ghost use Rattle.clap.specs.Words.{Text};
 ghost use Rattle.portal_words.specs.Line.{is_file_word};
 ghost use Rattle.portal_run.specs.Run.{WritesAnswer, AnswersSome, IsOfFile, IsUpgrade, task_of};
-ghost use Rattle.portal_desk.specs.Devices.{TakesAtMost as TakesFew};
-ghost use Rattle.portal_run.specs.Taken.{ConsumesAtMost};
-ghost use Rattle.portal_run.specs.Upgrading.{SaysUpgrade};
+ghost use Rattle.portal_run.specs.Run.{ConsumesAtMost, SaysUpgrade};
+ghost use Rattle.portal_desk.specs.Kept.{TakesAtMost as TakesFew};
 
 use crate::init::{init, upgrade_database};
 use crate::input::{InputFault, bytes_of};

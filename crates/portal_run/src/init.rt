@@ -2,8 +2,7 @@
 
 ghost use Rattle.std.specs.Prelude.{◌<◌, ◌≡◌, ◌≤◌, false};
 ghost use Rattle.sqlite.specs.Files.{over_files};
-ghost use Rattle.portal_run.specs.Taken.{ConsumesAtMost};
-ghost use Rattle.portal_run.specs.Upgrading.{SaysAnswer, SaysUpgrade};
+ghost use Rattle.portal_run.specs.Run.{ConsumesAtMost, SaysAnswer, SaysUpgrade};
 
 use crate::database::{close, connect, connect_there};
 use crate::input::{InputFault, first_bytes};

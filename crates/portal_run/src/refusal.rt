@@ -1,7 +1,7 @@
 //! Why a command did nothing with a database, and what is said then.
 
 ghost use Rattle.std.specs.Prelude.{◌≡◌, ◌↔◌, IfErr, IfOk, Some};
-ghost use Rattle.portal_run.specs.Upgrading.{upgrade_line, upgrade_status};
+ghost use Rattle.portal_run.specs.Run.{upgrade_line, upgrade_status};
 ghost use Rattle.portal_run.specs.inner.Lines.{Says, refusal_line, status_of};
 
 use crate::output::{say, say_memory, say_store};

@@ -1,7 +1,7 @@
 //! What a year's database is worked on with: connections, one connection, and the report.
 
 ghost use Rattle.std.specs.Prelude.{◌≡◌, ◌*◌, ◌≤◌};
-ghost use Rattle.portal_desk.specs.Devices.{TakesAtMost as TakesFew};
+ghost use Rattle.portal_desk.specs.Kept.{TakesAtMost as TakesFew};
 
 use crate::database::{FileDesk, close, open};
 use crate::output::{say, say_memory, say_read, say_store, say_write};

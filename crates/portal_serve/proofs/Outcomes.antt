@@ -1,5 +1,5 @@
 -- What is told of connections, one after another.
-use Rattle.std.proofs.Common.{◌≡◌, ◌∙◌, ◌⊎◌, ◌+◌, ◌≤◌, Bool, true, false, if◌then◌else◌, ℕ, List, [], ◌∷◌, ◌++◌, length, length-append, Option, Some, None, Result, Ok, Err, refl, sym, ap, subst, arith}
+use Rattle.portal_serve.proofs.Base.{◌≡◌, ◌∙◌, ◌⊎◌, ◌+◌, ◌≤◌, Bool, true, false, if◌then◌else◌, ℕ, List, [], ◌∷◌, ◌++◌, length, length-append, Option, Some, None, Result, Ok, Err, refl, sym, ap, subst, arith, is_own_fault, is_store, is_store_fault, Adds, Settles, SettlesBy, EndsBy, Stands, Tells, is_faulty}
 use Rattle.std.specs.Prelude.{All, count_by}
 use Rattle.std.proofs.lemmas.List.{append_assoc}
 use Rattle.std.proofs.lemmas.List.Elements.{All-push}
@@ -8,12 +8,10 @@ use Rattle.portal_desk.specs.declared.served.Cause.{Cause}
 use Rattle.portal_desk.specs.declared.served.Cause.TheVariants.{Read, Write, Memory, Store}
 use Rattle.portal_desk.specs.declared.served.Served.{Served}
 use Rattle.portal_desk.specs.declared.served.ServeFault.{ServeFault}
-use Rattle.portal_serve.specs.Ends.{is_own_fault, is_store, is_store_fault}
 use Rattle.portal_serve.specs.declared.hall.Hall.{Hall}
 use Rattle.portal_serve.specs.declared.hall.Ended.{Ended}
 use Rattle.portal_serve.specs.declared.hall.Ended.TheVariants.{StoreFault}
 use Rattle.portal_serve.specs.declared.hall.Outcome.{Outcome}
-use Rattle.portal_serve.specs.Hall.{Adds, Settles, SettlesBy, EndsBy, Stands, Tells, is_faulty}
 
 -- so many connections were accepted, so many of them faulty, and the desk stands after each
 pub record Passed (old new : Option (List Outcome)) (accepted faults : ℕ) : Type 0 where

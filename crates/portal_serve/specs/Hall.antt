@@ -1,27 +1,44 @@
--- What came of the connections that were accepted, one after another.
-use Rattle.std.specs.Prelude.{◌≡◌, Bool, true, false, List, [], ◌∷◌, ◌++◌, length, count_by, All, Option, Some, IfSome, Result, Ok, Err}
+-- The outcomes of the accepted connections, in order, and the report to the office.
+use Rattle.std.specs.Prelude.{Bool, true, false, not, Result, Ok, Err, ◌≡◌, List, [], ◌∷◌, ◌++◌, length, count_by, All, Option, Some, IfSome, ℕ, if◌then◌else◌}
 use Rattle.portal_desk.specs.declared.served.Cause.{Cause}
 use Rattle.portal_desk.specs.declared.served.Cause.TheVariants.{Read, Store}
 use Rattle.portal_desk.specs.declared.served.Served.{Served}
 use Rattle.portal_desk.specs.declared.served.ServeFault.{ServeFault}
-use Rattle.portal_serve.specs.Ends.{is_own_fault, is_store_fault}
 use Rattle.portal_serve.specs.declared.hall.Outcome.{Outcome}
 use Rattle.portal_serve.specs.declared.hall.Hall.{Hall}
 use Rattle.portal_serve.specs.declared.hall.Ended.{Ended}
 use Rattle.portal_serve.specs.declared.hall.Ended.TheVariants.{StoreFault}
+use Rattle.portal_core.specs.Sight.{OfficeSees}
+use Rattle.portal_core.specs.World.{has_result}
+use Rattle.portal_core.specs.Bodies.{report_text, line_feed}
+use Rattle.portal_core.specs.declared.view.View.{View as Sight}
+use Rattle.portal_core.specs.declared.view.View.TheVariants.{Nobody, Office, Lecturer, Student}
+use Rattle.portal_reports.specs.Status.{status_text}
 
--- the outcomes that are told grow by these
+abbrev pub is_store : Cause → Bool
+is_store Store = true
+is_store _ = false
+
+-- the cause is a fault of the connection or of memory, not of the store
+abbrev pub is_own_fault : Result Served ServeFault → Bool
+is_own_fault (Ok served) = false
+is_own_fault (Err fault) = not (is_store fault.cause)
+
+abbrev pub is_store_fault : Result Served ServeFault → Bool
+is_store_fault (Ok served) = false
+is_store_fault (Err fault) = is_store fault.cause
+
+-- if the outcomes are recorded, these are appended
 abbrev pub Adds : Option (List Outcome) → Option (List Outcome) → List Outcome → Type 0
 Adds old new more = IfSome old (λ outcomes. new ≡ Some (outcomes ++ more))
 
--- whether the desk had failed before and has, by the cause of a fault: a failed read leaves it, a
--- fault of the store has failed it
+-- the desk's failure flag around a fault: a read fault keeps it, a fault of the store sets it
 abbrev pub SettlesBy : Cause → Bool → Bool → Type 0
 SettlesBy Read old new = new ≡ old
 SettlesBy Store old new = new ≡ true
 SettlesBy _ old new = Unit {0}
 
--- the same, by how a connection ended
+-- the same for either end of a connection
 abbrev pub Settles : Result Served ServeFault → Bool → Bool → Type 0
 Settles (Ok served) old new = new ≡ old
 Settles (Err fault) old new = SettlesBy fault.cause old new
@@ -30,20 +47,35 @@ Settles (Err fault) old new = SettlesBy fault.cause old new
 abbrev pub is_faulty : Outcome → Bool
 is_faulty outcome = is_own_fault outcome.ended
 
--- the desk had not failed when the connection ended
+-- the desk has not failed by the end of the connection
 pub record Stands (outcome : Outcome) : Type 0 where
   pub working : outcome.failed ≡ false
   pub sound : is_store_fault outcome.ended ≡ false
 
--- after a fault of the store the desk had failed at the last outcome, and at no earlier one;
--- otherwise it had failed at none
+-- after a fault of the store the desk has failed at the last outcome alone, otherwise at none
 abbrev pub EndsBy : Ended → List Outcome → Type 0
 EndsBy StoreFault outcomes =
     (before : List Outcome) × (last : Outcome) × (outcomes ≡ before ++ last ∷ []) × All Stands before × (last.failed ≡ true)
 EndsBy _ outcomes = All Stands outcomes
 
--- one outcome for each accepted connection
+-- the hall counts one outcome for each accepted connection, and those with a fault of their own
 pub record Tells (hall : Hall) (outcomes : List Outcome) : Type 0 where
   pub accepted : hall.accepted ≡ length outcomes
   pub faults : hall.faults ≡ count_by is_faulty outcomes
   pub ends : EndsBy hall.ended outcomes
+
+-- the report: the state of the round and, once there is a result, an empty line and the result
+abbrev pub told_of : OfficeSees → List ℕ
+told_of v = status_text v ++ (if has_result v.round v.phase then line_feed ++ report_text v else [])
+
+-- the office sees this, and the text is its report
+abbrev pub IsOfficeReport : Sight → List ℕ → Type 0
+IsOfficeReport Nobody text = ⊥
+IsOfficeReport (Office v) text = text ≡ told_of v
+IsOfficeReport (Lecturer v) text = ⊥
+IsOfficeReport (Student v) text = ⊥
+
+-- the office does not see this
+abbrev pub IsOther : Sight → Type 0
+IsOther (Office v) = ⊥
+IsOther _ = Unit {0}

@@ -1,3 +1,1 @@
-pub mod Report
-pub mod Ends
 pub mod Hall

@@ -3,9 +3,8 @@
 ghost use Rattle.std.specs.Prelude.{◌≡◌, ◌≢◌, ◌+◌, ◌-◌, ◌^◌, ◌<◌, ◌≤◌, true, if◌then◌else◌, List};
 ghost use Rattle.std.specs.Prelude.{Option, None, IfSome};
 ghost use Rattle.std.specs.Option.{option_to_list};
-ghost use Rattle.portal_desk.specs.Outcome.{FailsByCount};
-ghost use Rattle.portal_serve.specs.Ends.{is_own_fault};
-ghost use Rattle.portal_serve.specs.Hall.{Adds, Settles, Tells};
+ghost use Rattle.portal_desk.specs.Kept.{FailsByCount};
+ghost use Rattle.portal_serve.specs.Hall.{is_own_fault, Adds, Settles, Tells};
 ghost use Rattle.portal_serve.specs.declared.hall.Outcome.{Outcome};
 
 use portal_core::Keeper;

@@ -1,8 +1,7 @@
 //! Serves the connections of a socket.
 
 ghost use Rattle.std.specs.Prelude.{◌≡◌, ◌≢◌, ◌≤◌, true, List, IfOk, IfErr};
-ghost use Rattle.portal_desk.specs.Outcome.{FailsByCount};
-ghost use Rattle.portal_desk.specs.Serving.{AtFirst};
+ghost use Rattle.portal_desk.specs.Kept.{FailsByCount, AtFirst};
 ghost use Rattle.portal_serve.specs.Hall.{Settles, Tells};
 ghost use Rattle.portal_serve.specs.declared.hall.Outcome.{Outcome};
 

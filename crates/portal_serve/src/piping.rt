@@ -1,12 +1,10 @@
 //! Serves the one connection of a reader and a writer.
 
 ghost use Rattle.std.specs.Prelude.{◌≡◌, ◌*◌, true, IfOk, OnOk, IfErr, IfSome};
-ghost use Rattle.portal_desk.specs.Serving.{ServesWhole, Stops, AtFirst};
-ghost use Rattle.portal_desk.specs.Kept.{state_of};
-ghost use Rattle.portal_desk.specs.Outcome.{FailsByCount};
+ghost use Rattle.portal_desk.specs.Kept.{ServesWhole, Stops, AtFirst, state_of, FailsByCount};
+ghost use Rattle.portal_desk.specs.Kept.{TakesAtMost};
 ghost use Rattle.portal_desk.specs.declared.served.Cause.TheVariants.{Read as ReadFailed};
 ghost use Rattle.portal_desk.specs.declared.served.Cause.TheVariants.{Store as StoreFailed};
-ghost use Rattle.portal_desk.specs.Devices.{TakesAtMost};
 ghost use Rattle.portal_wire.specs.Conversation.{last};
 
 use crate::borrowed::Borrowed;

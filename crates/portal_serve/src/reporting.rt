@@ -3,7 +3,7 @@
 ghost use Rattle.std.specs.Prelude.{◌≡◌, ◌+◌, Err, IfOk};
 ghost use Rattle.portal_core.specs.Good.{Good};
 ghost use Rattle.portal_core.specs.View.{office_sees};
-ghost use Rattle.portal_serve.specs.Report.{told_of, IsOfficeReport, IsOther};
+ghost use Rattle.portal_serve.specs.Hall.{told_of, IsOfficeReport, IsOther};
 
 use portal_core::{Code, KeepFault, Keeper, OfficeView, View};
 use portal_reports::{allocation_text, status_text};

@@ -1,7 +1,5 @@
--- Whether a lecturer is on the roll, as a query tells; without the lecturer a ranking changes nothing.
-use Rattle.portal_store.proofs.Base.{◌≡◌, ◌≢◌, ℕ, Bool, true, false, ◌||◌, cond, List, [], ◌∷◌, map, filter, length, refl, sym, ap, ◌∙◌, or-true, AllByRecursion, length_permutation, Row, bytes, Database, Round, Key, equals, has, put_all, Lecturer, lecturer_key, Ranks, with_ranking, is_own, lecturer_tree, has_text, row_key, ListsBy, columns, ranking_elsewhere, world_in, lecturer_stored, IsTransitionIn, TurnsThere, put_all_map, map_twice, IsLecturerRow, lecturer_rows_formed, all_map_on}
-use Rattle.std.proofs.lemmas.List.{length-map}
-use Rattle.portal_tables.proofs.Parents.{text_there}
+-- A query tells whether a lecturer is on the roll; a ranking by one who is not changes nothing.
+use Rattle.portal_store.proofs.Base.{◌≡◌, ◌≢◌, ℕ, Bool, true, false, ◌||◌, cond, List, [], ◌∷◌, map, filter, length, refl, sym, ap, ◌∙◌, or-true, AllByRecursion, length_permutation, Row, bytes, Database, Round, Key, equals, has, put_all, Lecturer, lecturer_key, Ranks, with_ranking, is_own, lecturer_tree, has_text, row_key, ListsBy, columns, ranking_elsewhere, world_in, lecturer_stored, IsTransitionIn, TurnsThere, put_all_map, map_twice, IsLecturerRow, lecturer_rows_formed, all_map_on, length-map, text_there}
 use Rattle.portal_store.proofs.RankTurns.{key_test, same_key}
 use Rattle.portal_store.proofs.Rounds.{key_in}
 

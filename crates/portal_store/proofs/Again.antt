@@ -1,9 +1,5 @@
--- What a crash leaves stands for a good world, and the schema that is found over it is the portal's own.
-use Rattle.portal_store.proofs.Base.{◌≡◌, inl, inr, refl, sym, ap, subst, ◌∙◌, Trees, Database, IsDatabase, Good, first_version, IsFirstSchema, IsCurrentSchema, world_in, world_of, HasGoodWorld, HasGoodFirst, IsConsistent, OpenFault, First}
-use Rattle.std.proofs.Common.{◌⊎◌}
-use Rattle.portal_tables.proofs.Owned.{own_again}
-use Rattle.portal_store.specs.Asked.{Refutes, Bars}
-use Rattle.portal_store.specs.Crash.{Reopens, OpensAgain, OpensFresh, UpgradesAgain}
+-- A crash leaves what stands for a good world, and the schema found over it is the portal's own.
+use Rattle.portal_store.proofs.Base.{◌≡◌, inl, inr, refl, sym, ap, subst, ◌∙◌, Trees, Database, IsDatabase, Good, first_version, IsFirstSchema, IsCurrentSchema, world_in, world_of, HasGoodWorld, HasGoodFirst, IsConsistent, OpenFault, First, ◌⊎◌, own_again, Refutes, Bars, Reopens, OpensAgain, OpensFresh, UpgradesAgain}
 use Rattle.portal_store.specs.declared.store.OpenFault.TheVariants as opening
 use Rattle.portal_store.specs.declared.store.UpgradeFault.{UpgradeFault}
 use Rattle.portal_store.specs.declared.store.UpgradeFault.TheVariants as upgrading

@@ -1,14 +1,9 @@
 -- What `open` makes of what was read.
-use Rattle.portal_store.proofs.Base.{List, [], ◌∷◌, pos, ◌≡◌, ◌≢◌, ℕ, Bool, true, false, not, IsTrue, Ok, Err, Result, map, length, filter, slice_index_or, refl, sym, ap, subst, ◌∙◌, IsPermutation, length_permutation, Int, Row, column, Trees, IsUnchanged, Ghosts, Held, state, Round, First, Second, portal_tree, second_tree, choice2_tree, ranked2_tree, ranking2_tree, assigned2_tree, first_trees, own_trees, version, IsCurrentSchema, RowNumbersDiffer, portal_row, second_row, ListsBy, every, columns, HasOffice, number_of_phase, is_empty, AllNumbersDiffer, HasSecond, IsUnopened, IsConsistent, IsConsistentIn, later_trees, IsKept, early_trees, apart_one, current_own, Denies, AdmitsAs, Admits, TableFault, OpenFault}
-use Rattle.std.proofs.Common.{IfErr}
-use Rattle.sqlite.specs.State.{IsLive}
+use Rattle.portal_store.proofs.Base.{List, [], ◌∷◌, pos, ◌≡◌, ◌≢◌, ℕ, Bool, true, false, not, IsTrue, Ok, Err, Result, map, length, filter, slice_index_or, refl, sym, ap, subst, ◌∙◌, IsPermutation, length_permutation, Int, Row, column, Trees, IsUnchanged, Ghosts, Held, state, Round, First, Second, portal_tree, second_tree, choice2_tree, ranked2_tree, ranking2_tree, assigned2_tree, first_trees, own_trees, version, IsCurrentSchema, RowNumbersDiffer, portal_row, second_row, ListsBy, every, columns, HasOffice, number_of_phase, is_empty, AllNumbersDiffer, HasSecond, IsUnopened, IsConsistent, IsConsistentIn, later_trees, IsKept, early_trees, apart_one, current_own, Denies, AdmitsAs, Admits, TableFault, OpenFault, IfErr, IsLive, apart_none, HasVersion, RefusalSays, NumbersDiffer, SaysNothing}
 use Rattle.sqlite.proofs.Callers.{one_permutation}
 use Rattle.portal_tables.specs.inner.Decoding.{FindsAny}
 use Rattle.portal_tables.specs.inner.Queries.{selection, Shows}
 use Rattle.portal_tables.specs.declared.select.Query.{Query}
-use Rattle.portal_tables.proofs.Keeping.{apart_none}
-use Rattle.portal_store.specs.Asked.{HasVersion, RefusalSays}
-use Rattle.portal_store.specs.inner.Asked.{NumbersDiffer, SaysNothing}
 use Rattle.portal_tables.specs.declared.fault.TableFault.TheVariants as told
 use Rattle.portal_store.specs.declared.store.OpenFault.TheVariants.{NotPortal, OtherVersion, Damaged, Store, Memory}
 

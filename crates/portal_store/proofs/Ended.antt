@@ -1,31 +1,29 @@
 -- How a call ends that makes a change: of one transaction, after a query or with none.
-use Rattle.portal_store.proofs.Base.{◌≡◌, subst, inl, inr, false, IsTrue, Ok, Err, Result, OnOk, OnErr, sym, ap, ◌∙◌, IsErr, on_ok_weaker, on_err_weaker, Database, Trees, State, HasCleanDisk, IsUnchanged, Survives, survives_weaker, survives_then, IsCurrentSchema, has_round, Round, RunsQueryIn, Commits, IsAfter, IsUnchangedOrUndone, Stays, commits_asked, clean_before, CommitsChange}
-use Rattle.portal_tables.specs.Steps.{LeavesOnly}
-use Rattle.portal_tables.proofs.Asking.{IsSettled, commits_none}
+use Rattle.portal_store.proofs.Base.{◌∙◌, ◌≡◌, Anyhow, Commits, CommitsChange, Database, Err, HasCleanDisk, IsAfter, IsCurrentSchema, IsErr, IsTrue, IsUnchanged, IsUnchangedOrUndone, Ok, OnErr, OnOk, Reading, Result, Round, State, Stays, Survives, Trees, ap, clean_before, commits_asked, false, has_round, inl, inr, on_err_weaker, on_ok_weaker, subst, survives_then, survives_weaker, sym, LeavesOnly, IsSettled, commits_none}
 
 -- the tables are read, and then the change is made, or not
-pub ends_then : {round : Round} {U F V E : Type 0} (C D : Database → Database → Type 0) (u : U) (r : Result V E) (old mid new : State) → RunsQueryIn round {V = U} {E = F} (Ok u) old mid → CommitsChange C r mid new
+pub ends_then : {round : Round} {Right : Database → Type 0} {U F V E : Type 0} {Told : Database → Result U F → Type 0} {C D : Database → Database → Type 0} {u : U} {r : Result V E} {old mid new : State} → Reading round Anyhow Right Told (Ok u) old mid → CommitsChange C r mid new
     → (IsCurrentSchema old.now.schema → HasCleanDisk mid → (after : Database) → C old.now after → D old.now after) → CommitsChange D r old new
-ends_then {round} C D u r old mid new asks then more =
+ends_then {round} {C = C} {D = D} {r = r} {old} {mid} {new} reads then more =
     let before : HasCleanDisk new → HasCleanDisk mid = clean_before mid new _ then.crash in
-    let same = λ (own : IsCurrentSchema old.now.schema). asks.same (has_round round old.now.schema own) in
+    let same = λ (own : IsCurrentSchema old.now.schema) (clean : HasCleanDisk mid). reads.same (has_round round old.now.schema own) clean tt in
     let mine : IsUnchanged old mid → IsCurrentSchema old.now.schema → IsCurrentSchema mid.now.schema = λ m own. subst (λ (d : Database). IsCurrentSchema d.schema) (sym m.0.now_is) own in
     record {
       ok = λ own clean. let m = same own (before clean) in on_ok_weaker r (commits_asked old mid new C D (more own) (before clean) m) (then.ok (mine m own) clean);
       err = λ own clean on. let m = same own (before clean) in on_err_weaker r (λ s. (m.0.was_open, s.1 ∙ m.0.now_is, s.2 ∙ m.0.committed_is)) (then.err (mine m own) clean on);
-      mode = λ idle. then.mode (asks.mode idle);
+      mode = λ idle. then.mode (reads.mode idle);
       durable = λ own clean. then.durable (mine (same own (before clean)) own) clean;
-      crash = survives_then old mid new _ _ (λ db. IsCurrentSchema old.now.schema → IsAfter D old db) (λ clean db no own. absurd (no (has_round round old.now.schema own)))
+      crash = survives_then old mid new _ _ (λ db. IsCurrentSchema old.now.schema → IsAfter D old db) (λ clean db no own. absurd (no (has_round round old.now.schema own) tt))
           (λ clean db left own.
           let m = same own (before clean) in
           let l = left (mine m own) in
           (l.0, more own (before clean) l.0 (subst (λ d. C d l.0) m.0.now_is l.1), l.2))
-          asks.crash then.crash;
+          reads.crash then.crash;
     }
 
 -- the same of what the change makes more
-pub ends_more : {V E : Type 0} (C D : Database → Database → Type 0) (r : Result V E) (old new : State) → CommitsChange C r old new → ((after : Database) → C old.now after → D old.now after) → CommitsChange D r old new
-ends_more C D r old new h more = record {
+pub ends_more : {V E : Type 0} {C D : Database → Database → Type 0} {r : Result V E} {old new : State} → CommitsChange C r old new → ((after : Database) → C old.now after → D old.now after) → CommitsChange D r old new
+ends_more {r = r} {old} {new} h more = record {
   ok = λ own clean. on_ok_weaker r (λ d. record { was_open = d.was_open; is_open = d.is_open; settled = d.settled; changed = more new.now d.changed }) (h.ok own clean);
   err = h.err;
   mode = h.mode;
@@ -41,16 +39,18 @@ ends_by D r old new idle ok err durable crash = record { ok = λ own. ok; err = 
 -- the tables are read, and one transaction makes the change
 module _
     {V E : Type 0}
-    (C D : Database → Database → Type 0)
-    (r : Result V E)
-    (old mid new : State)
+    (C : Database → Database → Type 0)
+    {D : Database → Database → Type 0}
+    {r : Result V E}
+    {old mid new : State}
     (idle : new.in_transaction ≡ false)
     (ok : HasCleanDisk new → OnOk r (Commits C mid new))
     (err : HasCleanDisk new → IsTrue new.is_open → OnErr r (Stays mid new))
     (durable : HasCleanDisk new → OnOk r (LeavesOnly new))
     (crash : Survives mid new (IsAfter C mid)) where
-  pub ends_asked : {round : Round} {U F : Type 0} (u : U) → RunsQueryIn round {V = U} {E = F} (Ok u) old mid → (IsCurrentSchema old.now.schema → HasCleanDisk mid → (after : Database) → C old.now after → D old.now after) → CommitsChange D r old new
-  ends_asked u asks more = ends_then C D u r old mid new asks (ends_by C r mid new idle ok err durable crash) more
+  pub ends_asked : {round : Round} {Right : Database → Type 0} {U F : Type 0} {Told : Database → Result U F → Type 0} {u : U} → Reading round Anyhow Right Told (Ok u) old mid
+      → (IsCurrentSchema old.now.schema → HasCleanDisk mid → (after : Database) → C old.now after → D old.now after) → CommitsChange D r old new
+  ends_asked reads more = ends_then reads (ends_by C r mid new idle ok err durable crash) more
 
 -- what at most undoes a transaction that is not there changes nothing
 pub stays_left : (old new : State) → IsSettled old → IsUnchangedOrUndone old new → IsTrue new.is_open → Stays old new
@@ -61,14 +61,14 @@ stays_left old new settled (inr undone) on =
     (first, was.0 ∙ sym (settled first), was.1)
 
 -- the tables are read, and that or what comes of it is refused
-pub ends_refused : {round : Round} {U F V E : Type 0} (D : Database → Database → Type 0) (x : Result U F) (r : Result V E) (old new : State) → IsErr r → IsSettled old → RunsQueryIn round x old new → CommitsChange D r old new
-ends_refused D x (Ok v) old new is settled asks = absurd (cc)
-ends_refused {round} {U} {F} D x (Err e) old new is settled asks = record {
+pub ends_refused : {round : Round} {Right : Database → Type 0} {U F V E : Type 0} {Told : Database → Result U F → Type 0} {D : Database → Database → Type 0} {x : Result U F} {r : Result V E} {old new : State} → IsErr r → IsSettled old → Reading round Anyhow Right Told x old new → CommitsChange D r old new
+ends_refused {r = Ok v} is settled reads = absurd (cc)
+ends_refused {round} {U = U} {F} {x = x} {r = Err e} {old} {new} is settled reads = record {
   ok = λ own clean. tt;
-  err = λ own clean on. stays_left old new settled (either x (asks.same (has_round round old.now.schema own) clean) (asks.err (has_round round old.now.schema own) clean)) on;
-  mode = asks.mode;
+  err = λ own clean on. stays_left old new settled (let mine = has_round round old.now.schema own in either x (reads.same mine clean tt) (reads.err mine clean tt)) on;
+  mode = reads.mode;
   durable = λ own clean. tt;
-  crash = survives_weaker old new _ _ (λ clean db no own. absurd (no (has_round round old.now.schema own))) asks.crash;
+  crash = survives_weaker old new _ _ (λ clean db no own. absurd (no (has_round round old.now.schema own) tt)) reads.crash;
 }
   where
     either : (x : Result U F) → OnOk x (IsUnchanged old new) → OnErr x (IsUnchangedOrUndone old new) → IsUnchangedOrUndone old new
@@ -76,18 +76,18 @@ ends_refused {round} {U} {F} D x (Err e) old new is settled asks = record {
     either (Err d) same err = err
 
 -- the tables are read, and there is nothing to do: what is open leaves what is committed alone
-pub ends_none : {round : Round} {U F V E : Type 0} (D : Database → Database → Type 0) (u : U) (v : V) (old new : State) → IsSettled old → ((db : Trees) → IsTrue new.is_open → new.may_leave db → db ≡ new.committed.trees)
-    → RunsQueryIn round {V = U} {E = F} (Ok u) old new → (IsCurrentSchema old.now.schema → HasCleanDisk new → D old.now old.now) → CommitsChange {V = V} {E = E} D (Ok v) old new
-ends_none {round} D u v old new settled law asks done = record {
-  ok = λ own clean. commits_none old new D settled (asks.same (has_round round old.now.schema own) clean) (done own clean);
+pub ends_none : {round : Round} {Right : Database → Type 0} {U F V E : Type 0} {Told : Database → Result U F → Type 0} {D : Database → Database → Type 0} {u : U} {v : V} {old new : State} → IsSettled old → ((db : Trees) → IsTrue new.is_open → new.may_leave db → db ≡ new.committed.trees)
+    → Reading round Anyhow Right Told (Ok u) old new → (IsCurrentSchema old.now.schema → HasCleanDisk new → D old.now old.now) → CommitsChange {V = V} {E = E} D (Ok v) old new
+ends_none {round} {D = D} {old = old} {new} settled law reads done = record {
+  ok = λ own clean. commits_none old new D settled (reads.same (has_round round old.now.schema own) clean tt) (done own clean);
   err = λ own clean on. tt;
-  mode = asks.mode;
+  mode = reads.mode;
   durable = λ own clean db leaves.
-      let same = asks.same (has_round round old.now.schema own) clean in
+      let same = reads.same (has_round round old.now.schema own) clean tt in
       law db same.0.is_open leaves ∙ ap (λ (d : Database). d.trees) (same.0.committed_is ∙ sym (settled same.0.was_open) ∙ sym same.0.now_is);
-  crash = survives_weaker old new _ _ (λ clean db no own. absurd (no (has_round round old.now.schema own))) asks.crash;
+  crash = survives_weaker old new _ _ (λ clean db no own. absurd (no (has_round round old.now.schema own) tt)) reads.crash;
 }
 
 -- the same, with another error
-pub ends_err : {V U E F : Type 0} (D : Database → Database → Type 0) (d : F) (e : E) (old new : State) → CommitsChange {V = U} {E = F} D (Err d) old new → CommitsChange {V = V} {E = E} D (Err e) old new
-ends_err D d e old new h = record { ok = λ own clean. tt; err = h.err; mode = h.mode; durable = λ own clean. tt; crash = h.crash }
+pub ends_err : {V U E F : Type 0} {D : Database → Database → Type 0} {d : F} {e : E} {old new : State} → CommitsChange {V = U} {E = F} D (Err d) old new → CommitsChange {V = V} {E = E} D (Err e) old new
+ends_err h = record { ok = λ own clean. tt; err = h.err; mode = h.mode; durable = λ own clean. tt; crash = h.crash }

@@ -1,6 +1,5 @@
--- The world with rankings put one after the other; those that a fill would put make the filled world.
-use Rattle.portal_store.proofs.Base.{◌≡◌, inl, inr, Bool, true, false, ◌||◌, cond, Some, List, [], ◌∷◌, ◌++◌, map, filter, refl, sym, ap, subst, ◌∙◌, or-true, AllByRecursion, IsDistinct, Has, Key, equals, has, Rise, World, Lecturer, lecturer_key, student_key, applicants_of, is_still_to_rank, changed, Ranks, Fill, with_ranking, is_own, is_sym, map_same, fill_missing, ranking_elsewhere, ranking_here, with_rankings, map_twice, map_alike_on, rise_distinct}
-use Rattle.portal_core.specs.Change.{with_fill}
+-- The world with rankings put in turn; those that a fill would put make the filled world.
+use Rattle.portal_store.proofs.Base.{◌≡◌, inl, inr, Bool, true, false, ◌||◌, cond, Some, List, [], ◌∷◌, ◌++◌, map, filter, refl, sym, ap, subst, ◌∙◌, or-true, AllByRecursion, IsDistinct, Has, Key, equals, has, Rise, World, Lecturer, lecturer_key, student_key, applicants_of, is_still_to_rank, changed, Ranks, Fill, with_ranking, is_own, is_sym, map_same, fill_missing, ranking_elsewhere, ranking_here, with_rankings, map_twice, map_alike_on, rise_distinct, with_fill}
 use Rattle.portal_store.proofs.RankTurns.{same_key}
 
 -- one ranking more

@@ -1,24 +1,14 @@
 -- Tables that stand for a good world are fine to read.
-use Rattle.portal_store.proofs.Base.{◌≡◌, inl, inr, ℕ, ◌<◌, ◌+◌, Bool, true, false, not, cond, ◌||◌, IfSome, Option, Some, None, option_map, List, [], ◌∷◌, map, filter, length, get_or, arith, refl, sym, ap, subst, ◌∙◌, ◌==◌, slice_index_or, AllByRecursion, or-true, cases_Bool, nat_tests, Row, column, bytes, Trees, is_code, Good, ProjectRow, Key, equals, has, Rise, World, Lecturer, Student, alone, alone_student, first_placed, is_left, is_second, students_in, lecturer_key, project_key, student_key, applicants_of, is_published, Published, all_weaker, all_map, is_same, is_own, all_unmap, first_plays, Round, First, Second, lecturer_tree, project_tree, student_tree, assigned2_tree, version, tree_of, row_key, by_key, RollsRise, lecturers_shown, projects_shown, students_shown, lecturer_columns, roll_columns, world_in, phase_in, choice_table, ranking_table, is_ranked, lecturer_stored, student_stored, lecturer_row, student_row, project_row, of_key, chosen, list_in_order, IsWhole, HasGoodFirst, HasGoodWorldIn, Whole, shown_lecturer, shown_project, shown_student, AreFine, all_permuted, all_two, permutes, map-map}
-use Rattle.std.proofs.Common.{suc, ◌≤◌}
-use Rattle.std.proofs.lemmas.List.{get_or-map}
+use Rattle.portal_store.proofs.Base.{◌≡◌, inl, inr, ℕ, ◌<◌, ◌+◌, Bool, true, false, not, cond, ◌||◌, IfSome, Option, Some, None, option_map, List, [], ◌∷◌, map, filter, length, get_or, arith, refl, sym, ap, subst, ◌∙◌, ◌==◌, slice_index_or, AllByRecursion, or-true, cases_Bool, nat_tests, Row, column, bytes, Trees, is_code, Good, ProjectRow, Key, equals, has, Rise, World, Lecturer, Student, alone, alone_student, first_placed, is_left, is_second, students_in, lecturer_key, project_key, student_key, applicants_of, is_published, Published, all_weaker, all_map, is_same, is_own, all_unmap, first_plays, Round, First, Second, lecturer_tree, project_tree, student_tree, assigned2_tree, version, tree_of, row_key, by_key, RollsRise, lecturers_shown, projects_shown, students_shown, lecturer_columns, roll_columns, world_in, phase_in, choice_table, ranking_table, is_ranked, lecturer_stored, student_stored, lecturer_row, student_row, project_row, of_key, chosen, list_in_order, IsWhole, HasGoodFirst, HasGoodWorldIn, Whole, shown_lecturer, shown_project, shown_student, AreFine, all_permuted, all_two, permutes, map-map, suc, ◌≤◌, get_or-map, IsLecturer, IsProject, IsStudent, IsChoice, IsRanking, instance_of, places_of, project_keys, first, first_published, in_play, all_both, ranking_in, choice_in, placement_in_round, HasPlacement, IsFine, all-filter}
 use Rattle.std.proofs.lemmas.List.Elements.{recursion_from_All}
 use Rattle.std.specs.Str.{bytes_eq}
-use Rattle.spa_rows.specs.Form.{is_key}
+use Rattle.spa_rows.specs.Lines.{is_key}
 use Rattle.spa_model.specs.Pairs.{number_in}
 use Rattle.spa_model.specs.Spa.{IsStable, IsOn, place}
 use Rattle.spa_model.proofs.Numbers.{number_is}
-use Rattle.portal_core.specs.Good.{IsLecturer, IsProject, IsStudent, IsChoice, IsRanking}
-use Rattle.portal_core.specs.Instance.{instance_of, places_of, project_keys}
-use Rattle.portal_core.specs.World.{first, first_published, in_play}
 use Rattle.portal_core.proofs.Alone.{played_alone}
-use Rattle.portal_core.proofs.AllLaws.{all_both}
 use Rattle.portal_core.proofs.Only.{on_roll}
-use Rattle.portal_store.specs.World.{ranking_in, choice_in, placement_in_round}
-use Rattle.portal_tables.specs.inner.Placements.{HasPlacement}
-use Rattle.portal_tables.specs.inner.Owners.{IsFine}
 use Rattle.portal_store.proofs.Loaded.{has_choice, has_ranked, lecturers_by_key, projects_by_key, students_by_key}
-use Rattle.sqlite_trees.proofs.ListLemmas.{all-filter}
 
 abbrev IsKey : Key → Type 0
 IsKey k = is_key k ≡ true

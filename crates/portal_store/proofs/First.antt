@@ -1,11 +1,7 @@
 -- The tables as `create` makes them stand for the empty world in setup.
-use Rattle.portal_store.proofs.Base.{◌≡◌, ◌≢◌, ℕ, Bool, IsTrue, List, [], ◌∷◌, true, false, not, eqb, refl, slice_index_or, map, sym, subst, ◌∙◌, AllByRecursion, list_all, Row, column, bytes, Database, Ghosts, Held, state, number_in, Setup, First, is_code, Key, put_all, lecturer_key, project_key, student_key, Good, portal_tree, second_tree, IsFresh, Commits, others_are, parts_of, current_own, world_in, world_of, phase_numbered, project_row, IsConsistent, IsConsistentIn, later_trees, IsKept, early_trees}
-use Rattle.portal_tables.specs.Tables.{no_schema}
-use Rattle.portal_tables.specs.Making.{Creates}
-use Rattle.portal_tables.proofs.Owned.{own_made}
+use Rattle.portal_store.proofs.Base.{◌≡◌, ◌≢◌, ℕ, Bool, IsTrue, List, [], ◌∷◌, true, false, not, eqb, refl, slice_index_or, map, sym, subst, ◌∙◌, AllByRecursion, list_all, Row, column, bytes, Database, Ghosts, Held, state, number_in, Setup, First, is_code, Key, put_all, lecturer_key, project_key, student_key, Good, portal_tree, second_tree, IsFresh, Commits, others_are, parts_of, current_own, world_in, world_of, phase_numbered, project_row, IsConsistent, IsConsistentIn, later_trees, IsKept, early_trees, no_schema, Creates, own_made, first_world}
 use Rattle.portal_tables.proofs.Fresh.{fresh_apart}
 use Rattle.portal_list.proofs.Fresh.{fresh_good}
-use Rattle.portal_store.specs.World.{first_world}
 use Rattle.portal_store.proofs.FirstRows.{lecturer_of, student_of}
 use Rattle.portal_store.proofs.Rounds.{world_told}
 

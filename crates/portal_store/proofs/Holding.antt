@@ -1,9 +1,7 @@
 -- What the store keeps of its tables, where some of them are as they were.
-use Rattle.portal_store.proofs.Base.{◌≡◌, pos, false, [], refl, sym, ap, ◌∙◌, slice_index_or, column, bytes, Database, number_in, Phase, Round, First, Second, is_setup, To, portal_tree, second_tree, version, portal_row, second_row, MovesTo, MovesSecond, apart_one, IsConsistentIn, HasChangedIn, IsTransitionIn, number_of_phase, world_in, phase_numbered}
-use Rattle.portal_views.specs.inner.Lines.{HasTables}
+use Rattle.portal_store.proofs.Base.{◌≡◌, pos, false, [], refl, sym, ap, ◌∙◌, slice_index_or, column, bytes, Database, number_in, Phase, Round, First, Second, is_setup, To, portal_tree, second_tree, version, portal_row, second_row, MovesTo, MovesSecond, apart_one, IsConsistentIn, HasChangedIn, IsTransitionIn, number_of_phase, world_in, phase_numbered, HasTables, office_row}
 use Rattle.portal_store.proofs.Rounds.{phase_back}
 use Rattle.portal_store.proofs.Still.{holds_after, holds_there, world_after}
-use Rattle.portal_store.specs.World.{office_row}
 
 pub has_tables : {round : Round} (db : Database) → IsConsistentIn round db → HasTables db
 has_tables db holds = record { own = holds.own; current = holds.current; sound = holds.sound; apart = holds.apart }

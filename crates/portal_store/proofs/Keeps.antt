@@ -1,11 +1,6 @@
 -- What a change that was committed, or left all as it was, is to the store: whatever the change.
-use Rattle.std.specs.Prelude.{◌↔◌}
-use Rattle.portal_store.proofs.Base.{inl, inr, ◌≡◌, ℕ, Bool, IsTrue, Ok, Err, Result, Option, IfOk, OnOk, OnErr, true, false, refl, sym, ap, subst, ◌∙◌, arith, Database, HasCleanDisk, IsUnchanged, Survives, Trees, Ghosts, Held, state, Change, changed, Second, World, Good, Sound, IsCurrentSchema, clean_if_open, Reading, Anyhow, Commits, Stays, IsUnchangedOrUndone, IsAfter, IsCacheOf, world_of, IsConsistent, HasChanged, IsTransition, Seen, IsCleanStore, kept_world, AreEntries, IsKept, CommitsChange}
+use Rattle.portal_store.proofs.Base.{inl, inr, ◌≡◌, ℕ, Bool, IsTrue, Ok, Err, Result, Option, IfOk, OnOk, OnErr, true, false, refl, sym, ap, subst, ◌∙◌, arith, Database, HasCleanDisk, IsUnchanged, Survives, Trees, Ghosts, Held, state, Change, changed, Second, World, Good, Sound, IsCurrentSchema, clean_if_open, Reading, Anyhow, Commits, Stays, IsUnchangedOrUndone, IsAfter, IsCacheOf, world_of, IsConsistent, HasChanged, IsTransition, Seen, IsCleanStore, kept_world, AreEntries, IsKept, CommitsChange, ◌↔◌, AllEntries, HasDisk, DiskInMemory, KeepsClean, Lasts, LastsInMemory, IsLeft, KeepsEntries}
 use Rattle.portal_core.specs.declared.view_cache.ViewCache.{ViewCache}
-use Rattle.portal_list.specs.Entries.{AllEntries}
-use Rattle.portal_store.specs.Kept.{HasDisk, DiskInMemory, KeepsClean, Lasts, LastsInMemory}
-use Rattle.portal_store.specs.Crash.{IsLeft}
-use Rattle.portal_store.specs.inner.Reading.{KeepsEntries}
 
 -- nothing is changed
 pub still : {S : Type 0} (g : Ghosts S) (old new : Held S) (own : Bool) → IsKept g old own → new.in_transaction ≡ false
@@ -18,7 +13,7 @@ still g old new own kept idle stays = record {
       record { settled = same.2 ∙ was.settled ∙ sym same.1; holds = subst IsConsistent (sym same.1) was.holds };
 }
 
--- after an answer the disk had returned what was written before, if it has now, and then a clean store stayed clean
+-- if a disk is clean after an answer, it was so before, and a clean store then stays clean
 lasts_by : {S V E : Type 0} (g : Ghosts S) (old new : Held S) (own : Bool) (few : ℕ) (before : Seen S) (P : Trees → Type 0) → ◌≡◌ {A = Seen S} (record { conn = old; own = own; faults = few }) before → Survives (state g old) (state g new) P
     → (r : Result V E) (Q : Type 0) → (HasCleanDisk (state g new) → IsTrue own → OnOk r Q) → (Q → IsTrue (state g new).is_open)
     → OnOk r (KeepsClean g before (record { conn = new; own = own; faults = few }))
@@ -54,7 +49,7 @@ module _
       let was = kept.ready mine done.was_open in
       done.changed was.holds (subst (λ s. IsCleanStore g s → Good (kept_world g s)) (sym is) good (mine, done.was_open)) (subst (λ s. IsCleanStore g s → Good (changed (kept_world g s) change)) (sym is) leaves (mine, done.was_open))
 
-  -- what a crash leaves, as the caller sees the tables before: an open store leaves what is committed alone
+  -- what a crash leaves, by the tables seen before: an open store leaves only what is committed
   pub change_left : ((db : Trees) → IsTrue (state g old).is_open → (state g old).may_leave db → db ≡ (state g old).committed.trees)
       → Survives (state g old) (state g new) (λ db. IsCurrentSchema old.schema → IsAfter (IsTransition change) (state g old) db)
       → IsCleanStore g before → HasCleanDisk (state g new) → (db : Trees) → (state g new).may_leave db → IsLeft change (state g before.conn).now db
@@ -113,7 +108,7 @@ module _
     shown_by m n was (Err e) follows stayed did same on =
         subst (λ k. IsCacheOf k (world_of (state g new).now.trees)) (sym stayed) (subst (IsCacheOf m) (sym (same_by (Err e) same on)) (was (clean_by (Err e) did same on)))
 
-    -- what is remembered is right: after a change that was made what follows, and otherwise what it was
+    -- the cache is right: what follows after a change that was made, and otherwise what it was
     pub change_shown : (m n : ViewCache) → (IsCleanStore g seen → IsCacheOf m (kept_world g seen)) → OnOk r ((w : World) → IsCacheOf m w → IsCacheOf n (changed w change)) → OnErr r (n ≡ m)
         → IsCleanStore g (record { conn = new; own = own; faults = few }) → IsCacheOf n (world_of (state g new).now.trees)
     change_shown m n was follows stayed = shown_by m n was r follows stayed done stays
@@ -133,7 +128,7 @@ module _
         subst (λ k. AreEntries k (world_of (state g new).now.trees)) (sym stayed)
         (subst (AreEntries m) (sym (same_by (Err e) same on)) (keeps (kept.ready on.0 s.0).holds fine (law on.1) (was (on.0, s.0))))
 
-    -- the entries are the world's: after a change that was made what follows, and otherwise those at hand
+    -- the entries are the world's: what a change that was made gives, or else those at hand
     pub change_told : (before m n : Option AllEntries) → (IsCleanStore g seen → AreEntries before (kept_world g seen)) → (IsCurrentSchema old.schema → KeepsEntries before m (state g old) (state g new))
         → OnOk r ((w : World) → Sound w → AreEntries m w → AreEntries n (changed w change)) → OnErr r (n ≡ m)
         → IsCleanStore g (record { conn = new; own = own; faults = few }) → AreEntries n (world_of (state g new).now.trees)
@@ -176,7 +171,7 @@ module _
     (law : IsTrue (state g new).is_open → HasCleanDisk (state g new))
     {r : Result V E}
     {Right : Database → Type 0}
-    {Told : Trees → Result V E → Type 0}
+    {Told : Database → Result V E → Type 0}
     (reads : Reading Second Anyhow Right Told r (state g old) (state g new)) where
   own_known : IsTrue own → IsCurrentSchema old.schema
   own_known = subst (λ (s : Seen S). IsTrue s.own → IsCurrentSchema s.conn.schema) (sym is) is_own
@@ -204,7 +199,7 @@ module _
   read_lasts = lasts_by g old new own few before _ is reads.crash r _ (λ clean mine. reads.same (own_known mine) clean tt) (λ unchanged. unchanged.0.is_open)
 
   -- what is told, where a call may rely on what is kept
-  pub read_told : (IsConsistent (state g old).now → IsCleanStore g (record { conn = old; own = own; faults = few }) → Right (state g old).now) → IsCleanStore g later → Told (state g old).now.trees r
+  pub read_told : (IsConsistent (state g old).now → IsCleanStore g (record { conn = old; own = own; faults = few }) → Right (state g old).now) → IsCleanStore g later → Told (state g old).now r
   read_told right on =
       let was = (rest on.0 on.1).0 in
       reads.told (own_known on.0) (right (kept.ready on.0 was).holds (on.0, was)) (law on.1)

@@ -19,7 +19,6 @@ pub mod OfficeSeen
 pub mod Opened
 pub mod Placements
 pub mod Queried
-pub mod Readings
 pub mod RankTurns
 pub mod Rounds
 pub mod RowsOnce

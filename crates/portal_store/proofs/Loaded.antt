@@ -1,16 +1,7 @@
 -- From what was read to the world.
-use Rattle.portal_store.proofs.Base.{◌≡◌, ℕ, pos, Bool, true, false, cond, Option, Some, None, option_map, List, [], ◌∷◌, map, refl, sym, ap, subst, ◌∙◌, slice_index_or, AllByRecursion, filter_map, cons_option, IsPermutation-sym, Row, column, bytes, Trees, number_in, map-map, all_of, Phase, Round, First, Second, Key, put_all, World, Lecturer, Student, pairs_with, is_second, alone, alone_student, lecturer_key, project_key, student_key, all_weaker, all_map, all_unmap, RowsOfWorld, world_rows, portal_tree, lecturer_tree, project_tree, student_tree, second_tree, version, portal_row, second_row, row_key, tree_of, number_of_phase, by_key, lecturers_shown, projects_shown, students_shown, lecturer_columns, roll_columns, round_in, world_in, phase_numbered, choice_table, ranking_table, is_ranked, lecturer_stored, student_stored, project_row, of_key, chosen, IsWhole, Whole, LoadsIn, shown_lecturer, shown_project, shown_student, pair_shown, has_list, AllRows, AreRead, rows_from, all_permuted, map_alike, permutes, put_all_map}
-use Rattle.portal_core.specs.World.{alone_lecturer}
-use Rattle.portal_list.specs.Rows.{choices_in, rankings_with}
-use Rattle.portal_store.specs.World.{second_phase}
-use Rattle.portal_store.specs.inner.Loads.{Loads, after_first}
-use Rattle.portal_tables.specs.inner.Owners.{entry, IsRead}
+use Rattle.portal_store.proofs.Base.{◌∙◌, ◌∷◌, ◌≡◌, AllByRecursion, AllRows, AreRead, Bool, First, HasRead, IsPermutation-sym, IsWhole, Key, Lecturer, List, LoadsIn, None, Option, Phase, Round, Row, RowsOfWorld, Second, Some, Student, Trees, Whole, World, [], all_map, all_of, all_permuted, all_unmap, all_weaker, alone, alone_student, ap, by_key, bytes, choice_table, chosen, column, cond, cons_option, false, filter_map, has_list, is_ranked, is_second, lecturer_columns, lecturer_key, lecturer_stored, lecturer_tree, lecturers_shown, map, map-map, map_alike, number_in, number_of_phase, of_key, option_map, pair_shown, pairs_with, permutes, phase_numbered, portal_row, portal_tree, pos, project_key, project_row, project_tree, projects_shown, put_all, put_all_map, ranking_table, refl, roll_columns, row_key, rows_from, second_row, second_tree, shown_lecturer, shown_project, shown_student, slice_index_or, student_key, student_stored, student_tree, students_shown, subst, sym, tree_of, true, version, world_in, world_rows, ℕ, alone_lecturer, choices_in, rankings_with, second_phase, Loads, after_first, entry, IsRead}
 use Rattle.portal_store.proofs.Rounds.{phase_back}
 use Rattle.portal_store.proofs.RowsOnce.{HasNothingBefore, nothing_before}
-
--- these are the rows of the rolls and lists of a round in the tables, as they are read
-abbrev pub HasRead : Round → AllRows → Trees → Type 0
-HasRead round rows db = (rows ≡ rows_from round db (lecturers_shown db) (projects_shown db) (students_shown db)) × AreRead round db (lecturers_shown db) (students_shown db)
 
 -- the rows of a world: that of the office, and the others
 abbrev pub with_office : Phase → Key → AllRows → RowsOfWorld
@@ -215,7 +206,7 @@ module _ (db : Trees) where
         earlier_pairs = sym earlier_pairs i;
       }
 
-  pub loads : (of : ℕ) (phase : Phase) (code : Key) → db portal_tree ≡ portal_row (pos of) (pos (number_of_phase phase)) code ∷ [] → (rows : AllRows) → HasRead First rows db → Loads of db (with_office phase code rows)
+  pub loads : (of : ℕ) (phase : Phase) (code : Key) → db portal_tree ≡ portal_row (pos of) (pos (number_of_phase phase)) code ∷ [] → (rows : AllRows) → HasRead First rows db → Loads of First db (with_office phase code rows)
   loads of phase code office rows read = record {
     office = record { phase = phase; office = code; is = office };
     whole = whole_is First db read.1;
@@ -247,7 +238,7 @@ module _ (db : Trees) where
         earlier_pairs = pairs i;
       }
 
-  pub loads_after : (first : RowsOfWorld) (phase : Phase) → Loads version db first → db second_tree ≡ second_row (pos (number_of_phase phase)) ∷ [] → (rows : AllRows) → HasRead Second rows db → LoadsIn Second db (after_first first phase rows)
+  pub loads_after : (first : RowsOfWorld) (phase : Phase) → Loads version First db first → db second_tree ≡ second_row (pos (number_of_phase phase)) ∷ [] → (rows : AllRows) → HasRead Second rows db → LoadsIn Second db (after_first first phase rows)
   loads_after first phase loads row rows read = record {
     office = loads.office;
     whole = (loads.whole, whole_is Second db read.1);
@@ -259,7 +250,3 @@ pub nothing_earlier : (round : Round) (db : Trees) → is_second (world_in round
 unfolding world_in
 nothing_earlier First db e = nothing_before (world_in First db) (world_alone db)
 nothing_earlier Second db e = absurd (cc)
-
--- the rows of the round of the tables
-pub loads_first : (db : Trees) (rows : RowsOfWorld) → round_in db ≡ First → Loads version db rows → LoadsIn (round_in db) db rows
-loads_first db rows is loads = subst (λ r. LoadsIn r db rows) (sym is) (record { office = loads.office; whole = loads.whole; rows_are = loads.rows_are })

@@ -1,9 +1,5 @@
 -- The second round opens by one UPDATE of one row.
-use Rattle.portal_store.proofs.Base.{◌≡◌, Result, ℕ, pos, true, false, not, ◌&&◌, eqb, List, [], ◌∷◌, map, slice_index_or, refl, sym, ap, subst, ◌∙◌, AllByRecursion, list_any, Row, column, bytes, Database, State, number_in, Phase, Setup, Choosing, Ranking, Published, Round, First, Second, put_all, World, is_published, is_second, lecturer_key, project_key, student_key, Change, Choices, Ranks, Lecturers, Projects, Students, To, Placements, Fill, SecondRound, HasFirstSchema, IsCurrentSchema, of_key, IsWhole, HasOffice, row_key, second_row, MovesSecond, portal_tree, lecturer_tree, project_tree, student_tree, choice_tree, ranking_tree, second_tree, choice2_tree, ranked2_tree, ranking2_tree, assigned2_tree, own_trees, version, apart_one, put_all_map, map_alike, map_twice, phase_numbered, phase_in, lecturer_stored, project_row, student_stored, world_in, IsConsistentIn, Whole, IsTransitionFrom, IsTransitionIn, OpensSecondRound, CommitsChange}
-use Rattle.portal_core.specs.Change.{opened, ranked_before, placed_before}
-use Rattle.portal_tables.specs.inner.Changes.{Becomes}
-use Rattle.portal_store.specs.inner.Kept.{HasChangedFrom}
-use Rattle.portal_store.specs.inner.Opening.{is_opening}
+use Rattle.portal_store.proofs.Base.{◌≡◌, Result, ℕ, pos, true, false, not, ◌&&◌, eqb, List, [], ◌∷◌, map, slice_index_or, refl, sym, ap, subst, ◌∙◌, AllByRecursion, list_any, Row, column, bytes, Database, State, number_in, Phase, Setup, Choosing, Ranking, Published, Round, First, Second, put_all, World, is_published, is_second, lecturer_key, project_key, student_key, Change, Choices, Ranks, Lecturers, Projects, Students, To, Placements, Fill, SecondRound, HasFirstSchema, IsCurrentSchema, of_key, IsWhole, HasOffice, row_key, second_row, MovesSecond, portal_tree, lecturer_tree, project_tree, student_tree, choice_tree, ranking_tree, second_tree, choice2_tree, ranked2_tree, ranking2_tree, assigned2_tree, own_trees, version, apart_one, put_all_map, map_alike, map_twice, phase_numbered, phase_in, lecturer_stored, project_row, student_stored, world_in, IsConsistentIn, Whole, IsTransitionFrom, IsTransitionIn, OpensSecondRound, CommitsChange, opened, ranked_before, placed_before, Becomes, HasChangedFrom, is_opening}
 use Rattle.portal_store.proofs.Ended.{ends_more}
 use Rattle.portal_store.proofs.Rounds.{from_in, world_told}
 use Rattle.portal_store.proofs.SecondRows.{lecturer_after, student_after}
@@ -133,11 +129,11 @@ opens_none Second phase db e is holds good better = record { holds = (Second, ho
 pub ends_any : {V E : Type 0} (round : Round) (change : Change) (r : Result V E) (old new : State) → (is_opening change ≡ false → CommitsChange (IsTransitionIn round change) r old new) → (change ≡ SecondRound → CommitsChange (IsTransitionFrom round SecondRound) r old new)
     → CommitsChange (IsTransitionFrom round change) r old new
 ends_any round SecondRound r old new stay begins = begins refl
-ends_any round (Choices k list) r old new stay begins = ends_more _ _ r old new (stay refl) (λ after. from_in round (Choices k list) old.now after)
-ends_any round (Ranks k list) r old new stay begins = ends_more _ _ r old new (stay refl) (λ after. from_in round (Ranks k list) old.now after)
-ends_any round (Lecturers rows) r old new stay begins = ends_more _ _ r old new (stay refl) (λ after. from_in round (Lecturers rows) old.now after)
-ends_any round (Projects rows) r old new stay begins = ends_more _ _ r old new (stay refl) (λ after. from_in round (Projects rows) old.now after)
-ends_any round (Students rows) r old new stay begins = ends_more _ _ r old new (stay refl) (λ after. from_in round (Students rows) old.now after)
-ends_any round (To phase) r old new stay begins = ends_more _ _ r old new (stay refl) (λ after. from_in round (To phase) old.now after)
-ends_any round (Placements pairs) r old new stay begins = ends_more _ _ r old new (stay refl) (λ after. from_in round (Placements pairs) old.now after)
-ends_any round Fill r old new stay begins = ends_more _ _ r old new (stay refl) (λ after. from_in round Fill old.now after)
+ends_any round (Choices k list) r old new stay begins = ends_more (stay refl) (λ after. from_in round (Choices k list) old.now after)
+ends_any round (Ranks k list) r old new stay begins = ends_more (stay refl) (λ after. from_in round (Ranks k list) old.now after)
+ends_any round (Lecturers rows) r old new stay begins = ends_more (stay refl) (λ after. from_in round (Lecturers rows) old.now after)
+ends_any round (Projects rows) r old new stay begins = ends_more (stay refl) (λ after. from_in round (Projects rows) old.now after)
+ends_any round (Students rows) r old new stay begins = ends_more (stay refl) (λ after. from_in round (Students rows) old.now after)
+ends_any round (To phase) r old new stay begins = ends_more (stay refl) (λ after. from_in round (To phase) old.now after)
+ends_any round (Placements pairs) r old new stay begins = ends_more (stay refl) (λ after. from_in round (Placements pairs) old.now after)
+ends_any round Fill r old new stay begins = ends_more (stay refl) (λ after. from_in round Fill old.now after)

@@ -1,8 +1,5 @@
 -- From what queries show of one caller to what the world says.
-use Rattle.portal_store.proofs.Base.{◌≡◌, Option, option_map, List, [], ◌∷◌, refl, sym, ap, ◌∙◌, find, Row, column, bytes, Trees, Database, Listing, Key, equals, Lecturer, Student, Phase, catalogue, lecturer_with, student_with, all_weaker, Round, First, Second, lecturer_tree, student_tree, has_text, ListsBy, columns, IsConsistentIn, lecturer_columns, roll_columns, world_in, lecturer_stored, student_stored, student_shown, lecturer_from, student_from, IsLecturerRow, IsStudentRow, has_text_of, lecturer_rows_formed, student_rows_formed}
-use Rattle.portal_core.specs.View.{student_sees}
-use Rattle.portal_tables.specs.inner.Shown.{as_list}
-use Rattle.portal_tables.proofs.OneFound.{found}
+use Rattle.portal_store.proofs.Base.{◌≡◌, Option, option_map, List, [], ◌∷◌, refl, sym, ap, ◌∙◌, find, Row, column, bytes, Trees, Database, Listing, Key, equals, Lecturer, Student, Phase, catalogue, lecturer_with, student_with, all_weaker, Round, First, Second, lecturer_tree, student_tree, has_text, ListsBy, columns, IsConsistentIn, lecturer_columns, roll_columns, world_in, lecturer_stored, student_stored, student_shown, lecturer_from, student_from, IsLecturerRow, IsStudentRow, has_text_of, lecturer_rows_formed, student_rows_formed, student_sees, as_list, found}
 use Rattle.portal_store.proofs.Loaded.{lecturers_by_key, students_by_key}
 
 -- a row of a roll, and as it is shown, stand for one lecturer or student

@@ -1,6 +1,5 @@
--- The rows of a sound world are those of no other world; of the first round, of none that has nothing earlier.
-use Rattle.portal_store.proofs.Base.{◌≡◌, false, map, refl, sym, ◌∙◌, ap, subst, Some, None, [], AllByRecursion, LecturerRow, StudentRow, Rise, World, Lecturer, Student, alone, alone_student, is_second, Sound, all_map, RowsOfWorld, world_rows, map-map}
-use Rattle.portal_core.proofs.Capacities.{each_one}
+-- A sound world's rows are no other world's; in the first round, none's that has nothing earlier.
+use Rattle.portal_store.proofs.Base.{◌≡◌, false, map, refl, sym, ◌∙◌, ap, subst, Some, None, [], AllByRecursion, LecturerRow, StudentRow, Rise, World, Lecturer, Student, alone, alone_student, is_second, Sound, all_map, RowsOfWorld, world_rows, map-map, each_one}
 use Rattle.portal_list.specs.inner.Fit.{lecturers_fitting, students_fitting}
 use Rattle.portal_list.proofs.Fitting.{lecturers_back, students_back}
 

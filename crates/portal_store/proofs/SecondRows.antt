@@ -1,4 +1,4 @@
--- What the rows of the rolls stand for in the second round, by the rows of the lists and places of both.
+-- What the rolls' rows stand for in the second round, by the rows of both rounds' lists and places.
 use Rattle.portal_store.proofs.Base.{if◌then◌else◌, List, map, Some, None, option_map, find, Row, column, bytes, equals, has, Lecturer, Student, chosen, row_key, text_or_none, lecturer_row, student_row}
 use Rattle.portal_store.proofs.FirstRows.{has_ranking}
 

@@ -1,10 +1,6 @@
 -- What stays where one or two tables have changed.
-use Rattle.portal_store.proofs.Base.{◌≡◌, ◌≢◌, inl, inr, ℕ, Bool, true, false, not, ◌||◌, cond, eqb, if◌then◌else◌, List, [], ◌∷◌, slice_index_or, refl, sym, ap, subst, ◌∙◌, AllByRecursion, list_all, list_any, column, Database, IsDatabase, number_in, with_tree, Round, First, Second, all_weaker, HasFirstSchema, IsCurrentSchema, RowNumbersDiffer, row_key, Keeps, HasOffice, tree_of, of_key, IsWhole, portal_tree, lecturer_tree, student_tree, second_tree, first_trees, own_trees, version, others_are, parts_of, all_two, choice_table, ranking_table, is_ranked, phase_numbered, world_in, AllNumbersDiffer, IsUnopened, IsConsistentIn, Whole}
-use Rattle.std.proofs.lemmas.Bool.{eqb-false}
-use Rattle.std.proofs.lemmas.Bool.Decides.{eqb_tells}
+use Rattle.portal_store.proofs.Base.{◌≡◌, ◌≢◌, inl, inr, ℕ, Bool, true, false, not, ◌||◌, cond, eqb, if◌then◌else◌, List, [], ◌∷◌, slice_index_or, refl, sym, ap, subst, ◌∙◌, AllByRecursion, list_all, list_any, column, Database, IsDatabase, number_in, with_tree, Round, First, Second, all_weaker, HasFirstSchema, IsCurrentSchema, RowNumbersDiffer, row_key, Keeps, HasOffice, tree_of, of_key, IsWhole, portal_tree, lecturer_tree, student_tree, second_tree, first_trees, own_trees, version, others_are, parts_of, all_two, choice_table, ranking_table, is_ranked, phase_numbered, world_in, AllNumbersDiffer, IsUnopened, IsConsistentIn, Whole, eqb-false, eqb_tells, second_trees, IsOpened}
 use Rattle.sqlite_trees.specs.Tree.{Trees}
-use Rattle.portal_tables.specs.Tables.{second_trees}
-use Rattle.portal_store.specs.Kept.{IsOpened}
 
 -- numbers of rows differ, where they do in the one table that has changed
 pub apart_among : (trees : List ℕ) (tree : ℕ) (old new : Trees) → AllByRecursion (λ t. t ≢ tree → new t ≡ old t) trees → RowNumbersDiffer (new tree) → AllNumbersDiffer trees old → AllNumbersDiffer trees new
@@ -29,7 +25,7 @@ one_of P (x ∷ trees) all t h = elim (eqb_tells x t) [
 pub kept_at : (tree : ℕ) (old new : Database) → Keeps tree old new → (t : ℕ) → list_any (λ x. eqb x t) own_trees ≡ true → eqb t tree ≡ false → new.trees t ≡ old.trees t
 kept_at tree old new keeps t there other = one_of (λ x. x ≢ tree → new.trees x ≡ old.trees x) own_trees keeps t there (eqb-false t tree other)
 
--- Tables are compared by those of some trees alone: what reads no others reads the same of both, by computation.
+-- Tables are compared by some trees alone: what reads no others reads the same, by computation.
 
 abbrev among : List ℕ → Trees → Trees
 among trees db t = if list_any (λ x. eqb x t) trees then db t else []

@@ -1,14 +1,9 @@
 -- Tables of version 1 that were upgraded stand for the world that they stood for.
-use Rattle.portal_store.proofs.Base.{◌≡◌, pos, Bool, false, ◌||◌, IsTrue, List, [], ◌∷◌, slice_index_or, refl, sym, ap, subst, ◌∙◌, AllByRecursion, list_any, column, bytes, Database, Ghosts, Held, state, number_in, with_tree, First, Good, portal_tree, first_trees, version, first_version, IsFirstSchema, Upgrades, has_names, OfSecond, HasOffice, number_of_phase, portal_row, Commits, apart_one, current_own, world_in, world_of, phase_numbered, IsConsistentIn, IsUnopened, HasGoodWorld, HasGoodFirst, IsKept, AdmitsAs}
-use Rattle.std.specs.List.{AllZip}
+use Rattle.portal_store.proofs.Base.{◌≡◌, pos, Bool, false, ◌||◌, IsTrue, List, [], ◌∷◌, slice_index_or, refl, sym, ap, subst, ◌∙◌, AllByRecursion, list_any, column, bytes, Database, Ghosts, Held, state, number_in, with_tree, First, Good, portal_tree, first_trees, version, first_version, IsFirstSchema, Upgrades, has_names, OfSecond, HasOffice, number_of_phase, portal_row, Commits, apart_one, current_own, world_in, world_of, phase_numbered, IsConsistentIn, IsUnopened, HasGoodWorld, HasGoodFirst, IsKept, AdmitsAs, AllZip, first_schema, SameTable, Upgraded, has_name, is_named_table, is_named_view}
 use Rattle.sqlite_trees.specs.Tree.{Trees}
 use Rattle.sqlite.specs.Table.{Table}
 use Rattle.sqlite.specs.Schema.{Schema}
 use Rattle.sqlite_tied.specs.Compute.{everything}
-use Rattle.portal_tables.specs.Tables.{first_schema}
-use Rattle.portal_tables.specs.Schema.{SameTable}
-use Rattle.portal_tables.specs.Making.{Upgraded}
-use Rattle.portal_tables.specs.Names.{has_name, is_named_table, is_named_view}
 use Rattle.portal_tables.specs.declared.names.Names.{Names}
 use Rattle.portal_store.proofs.Asked.{apart_all}
 use Rattle.portal_store.proofs.Rounds.{world_told}

@@ -1,52 +1,72 @@
--- What a crash leaves, and that it can be opened again.
-use Rattle.std.specs.Prelude.{◌≡◌, ◌⊎◌, IsTrue}
-use Rattle.sqlite.specs.Tree.{Trees}
-use Rattle.sqlite.specs.Effect.{Database, IsDatabase}
-use Rattle.portal_core.specs.declared.phase.Round.TheVariants.{First}
-use Rattle.portal_core.specs.Form.{is_code}
-use Rattle.portal_core.specs.Words.{Key}
-use Rattle.portal_core.specs.Change.{Change, changed}
-use Rattle.portal_core.specs.Good.{Good}
-use Rattle.portal_tables.specs.Tables.{first_version}
-use Rattle.portal_tables.specs.Schema.{IsFirstSchema, IsCurrentSchema}
-use Rattle.portal_tables.specs.Making.{IsFresh, Upgrades}
-use Rattle.portal_store.specs.World.{world_in, world_of, first_world}
+-- What a refusal to open or upgrade says of the tables, and what can be opened after a crash.
+use Rattle.portal_store.specs.Base.{Row, column, Trees, portal_tree, version, first_version, IsFirstSchema, IsCurrentSchema, Database, IsDatabase, First, is_code, Key, Change, changed, Good}
+use Rattle.std.specs.Prelude.{◌≡◌, ◌≢◌, ℕ, [], ◌∷◌, pos, ◌⊎◌, IsTrue}
+use Rattle.sqlite.specs.declared.types.Value.TheVariants.{Int}
 use Rattle.portal_store.specs.Kept.{HasGoodWorld, HasGoodFirst, IsConsistent, HasChanged}
-use Rattle.portal_store.specs.Asked.{Refutes, Bars}
 use Rattle.portal_store.specs.declared.store.OpenFault.{OpenFault}
 use Rattle.portal_store.specs.declared.store.OpenFault.TheVariants as opening
 use Rattle.portal_store.specs.declared.store.UpgradeFault.{UpgradeFault}
 use Rattle.portal_store.specs.declared.store.UpgradeFault.TheVariants as upgrading
+use Rattle.portal_tables.specs.Making.{IsFresh, Upgrades}
+use Rattle.portal_store.specs.World.{world_in, world_of, first_world}
 
--- the tables before the change, or tables that have turned to the changed world
+-- `portal` has a row; if it has only one, that row has this schema version
+pub record HasVersion (of : ℕ) (db : Trees) : Type 0 where
+  pub there : db portal_tree ≢ []
+  pub version_is : (row : Row) → db portal_tree ≡ row ∷ [] → column row 2 ≡ Int (pos of)
+
+-- `portal` has a row; if it has only one, that row has another schema version
+pub record HasOther (of : ℕ) (db : Trees) : Type 0 where
+  pub there : db portal_tree ≢ []
+  pub other : (row : Row) → db portal_tree ≡ row ∷ [] → column row 2 ≢ Int (pos of)
+
+-- what a refusal says of tables that should have the schema version `of` and satisfy `so`
+abbrev pub RefusalSays : OpenFault → ℕ → Type 0 → Trees → Type 0
+RefusalSays opening.NotPortal of so db = db portal_tree ≡ []
+RefusalSays opening.OtherVersion of so db = HasOther of db
+RefusalSays opening.Damaged of so db = HasVersion of db × (so → ⊥)
+RefusalSays opening.Store of so db = Unit {0}
+RefusalSays opening.Memory of so db = Unit {0}
+
+-- what a refusal to open says; `Damaged` means that the tables hold no good world
+abbrev pub Refutes : OpenFault → Trees → Type 0
+Refutes fault db = RefusalSays fault version (HasGoodWorld db) db
+
+-- the same of an upgrade, by the rules of version 1; its tables alone give no cause for `Exists`
+abbrev pub Bars : UpgradeFault → Trees → Type 0
+Bars upgrading.NotPortal db = db portal_tree ≡ []
+Bars upgrading.OtherVersion db = HasOther first_version db
+Bars upgrading.Damaged db = HasVersion first_version db × (HasGoodFirst first_version db → ⊥)
+Bars upgrading.Store db = Unit {0}
+Bars upgrading.Memory db = Unit {0}
+Bars upgrading.Exists db = ⊥
+
+-- what a crash may leave: the tables before the change, or those of the changed world
 abbrev pub IsLeft : Change → Database → Trees → Type 0
 IsLeft change old db = (db ≡ old.trees) ⊎ ((after : Database) × HasChanged change old after × (db ≡ after.trees))
 
--- an opening finds the portal's own tables and a good world, so that it is refused for the store or
--- want of memory alone
+-- own tables with a good world; an opening fails only for a fault of the store or want of memory
 pub record Reopens (found : Database) : Type 0 where
   pub current : IsCurrentSchema found.schema
   pub stands : HasGoodWorld found.trees
   pub faults : (fault : OpenFault) → Refutes fault found.trees → (fault ≡ opening.Store) ⊎ (fault ≡ opening.Memory)
 
--- an upgrade finds the tables of version 1 and a good world, so that it is refused for the store or
--- want of memory alone
+-- version 1 with a good world; an upgrade fails only for a fault of the store or want of memory
 pub record UpgradesYet (found : Database) : Type 0 where
   pub first : IsFirstSchema found.schema
   pub stands : HasGoodFirst first_version found.trees
   pub faults : (fault : UpgradeFault) → Bars fault found.trees → (fault ≡ upgrading.Store) ⊎ (fault ≡ upgrading.Memory)
 
--- what a crash of a change left opens with the world before or the world after
+-- after a crash in a change, the store opens with the world before or after it
 abbrev pub OpensAgain : Type 0
 OpensAgain = (change : Change) (old found : Database) → IsConsistent old → Good (world_of old.trees) → Good (changed (world_of old.trees) change) → IsLeft change old found.trees → IsDatabase found
     → Reopens found × ((world_of found.trees ≡ world_of old.trees) ⊎ (world_of found.trees ≡ changed (world_of old.trees) change))
 
--- what `create` made opens with the empty world in setup
+-- what `create` makes opens with the empty world in setup
 abbrev pub OpensFresh : Type 0
 OpensFresh = (office : Key) (made found : Database) → IsTrue (is_code office) → IsFresh office made → found.trees ≡ made.trees → IsDatabase found → Reopens found × (world_of found.trees ≡ first_world office)
 
--- what a crash of an upgrade left can be upgraded, where it is what was there before, or opened,
--- where the upgrade was made: with the same world
+-- after a crash in an upgrade, the old tables can be upgraded or the new ones opened: same world
 abbrev pub UpgradesAgain : Type 0
 UpgradesAgain = (old found : Database) → IsFirstSchema old.schema → IsDatabase old → HasGoodFirst first_version old.trees → IsDatabase found
     → (found.trees ≡ old.trees → UpgradesYet found × (world_in First found.trees ≡ world_in First old.trees))

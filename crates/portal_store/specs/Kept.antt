@@ -1,30 +1,16 @@
--- What a store keeps true between two calls, and what a change of the world is to the tables.
+-- What a store keeps true between calls, and what a change of the world does to the tables.
+use Rattle.portal_store.specs.Base.{Trees, Database, IsDatabase, Phase, Published, Round, First, Second, World, is_setup, Change, changed, Good, tree_of, portal_tree, lecturer_tree, student_tree, second_tree, choice2_tree, ranked2_tree, ranking2_tree, assigned2_tree, own_trees, version, HasFirstSchema, IsCurrentSchema, RowNumbersDiffer, row_key, second_row, HasOffice, number_of_phase, of_key, IsWhole, choice_table, ranking_table}
 use Rattle.std.specs.Prelude.{◌≡◌, ◌⊎◌, ℕ, pos, ◌+◌, ◌-◌, ◌^◌, ◌≤◌, min, Bool, false, List, [], ◌∷◌, IsTrue}
 use Rattle.std.specs.List.{AllByRecursion}
-use Rattle.sqlite.specs.Tree.{Trees}
-use Rattle.sqlite.specs.Effect.{Database, IsDatabase}
 use Rattle.sqlite.specs.State.{State, HasCleanDisk}
 use Rattle.sqlite.specs.Store.{Ghosts}
 use Rattle.sqlite.specs.Held.{Held, state}
 use Rattle.sqlite.specs.Steps.{over_memory}
 use Rattle.sqlite_trees.specs.declared.memory.MemStore.{MemStore}
-use Rattle.portal_core.specs.declared.phase.Phase.{Phase}
-use Rattle.portal_core.specs.declared.phase.Phase.TheVariants.{Published}
-use Rattle.portal_core.specs.declared.phase.Round.{Round}
-use Rattle.portal_core.specs.declared.phase.Round.TheVariants.{First, Second}
-use Rattle.portal_core.specs.World.{World, is_setup}
-use Rattle.portal_core.specs.Change.{Change, changed}
-use Rattle.portal_core.specs.Counting.{StaysClean}
-use Rattle.portal_core.specs.Good.{Good}
-use Rattle.portal_tables.specs.ListTables.{tree_of}
-use Rattle.portal_tables.specs.Tables.{portal_tree, lecturer_tree, student_tree, second_tree, choice2_tree, ranked2_tree, ranking2_tree, assigned2_tree, own_trees, version}
-use Rattle.portal_tables.specs.Schema.{HasFirstSchema, IsCurrentSchema}
-use Rattle.portal_tables.specs.Rows.{RowNumbersDiffer, row_key, second_row}
-use Rattle.portal_tables.specs.Lists.{of_key, IsWhole}
-use Rattle.portal_tables.specs.Office.{HasOffice, number_of_phase}
-use Rattle.portal_store.specs.World.{world_in, world_of, choice_table, ranking_table, is_ranked, phase_in}
+use Rattle.portal_core.specs.Meaning.{StaysClean}
+use Rattle.portal_store.specs.World.{world_in, world_of, is_ranked, phase_in}
 
--- of a round: no list has a gap, and who has no ranking has no row of one
+-- in a round no list has a gap, and a lecturer without a ranking has no rows of one
 pub record Whole (round : Round) (db : Trees) : Type 0 where
   pub choices : AllByRecursion (λ r. IsWhole (of_key (row_key r) (db (tree_of (choice_table round))))) (db student_tree)
   pub rankings : AllByRecursion (λ r. IsWhole (of_key (row_key r) (db (tree_of (ranking_table round))))) (db lecturer_tree)
@@ -33,20 +19,20 @@ pub record Whole (round : Round) (db : Trees) : Type 0 where
 abbrev pub later_trees : List ℕ
 later_trees = choice2_tree ∷ ranked2_tree ∷ ranking2_tree ∷ assigned2_tree ∷ []
 
--- there is no list and no place of a second round
+-- there are no lists, rankings or placements of a second round
 abbrev pub AreEmpty : Trees → Type 0
 AreEmpty db = AllByRecursion (λ t. db t ≡ []) later_trees
 
--- row numbers of these tables differ
+-- the row numbers differ within each of these tables
 abbrev pub AllNumbersDiffer : List ℕ → Trees → Type 0
 AllNumbersDiffer trees db = AllByRecursion (λ t. RowNumbersDiffer (db t)) trees
 
--- the one row of `second` tells that there is no second round, and nothing of one is there
+-- the row of `second` says that there is no second round, and nothing of one is there
 pub record IsUnopened (db : Trees) : Type 0 where
   pub is : db second_tree ≡ second_row (pos 0) ∷ []
   pub says : AreEmpty db
 
--- the one row of `second` tells the phase of a second round, and the first is published
+-- the row of `second` has the phase of a second round, and the first round is published
 pub record IsOpened (db : Trees) : Type 0 where
   pub phase : Phase
   pub is : db second_tree ≡ second_row (pos (number_of_phase phase)) ∷ []
@@ -57,12 +43,12 @@ abbrev pub HasSecond : Round → Trees → Type 0
 HasSecond First db = IsUnopened db
 HasSecond Second db = IsOpened db
 
--- the lists of the rounds that there are
+-- no list of the rounds so far has a gap
 abbrev pub AreWhole : Round → Trees → Type 0
 AreWhole First db = Whole First db
 AreWhole Second db = Whole First db × Whole Second db
 
--- the tables of the first round are of this version and stand for a good world
+-- the first round's tables have this schema version and stand for a good world
 pub record HasGoodFirst (of : ℕ) (db : Trees) : Type 0 where
   pub office : HasOffice of (db portal_tree)
   pub whole : Whole First db
@@ -75,11 +61,11 @@ pub record HasGoodWorldIn (round : Round) (db : Trees) : Type 0 where
   pub whole : AreWhole round db
   pub good : Good (world_in round db)
 
--- of either round
+-- the tables stand for a good world of either round
 abbrev pub HasGoodWorld : Trees → Type 0
 HasGoodWorld db = (round : Round) × HasGoodWorldIn round db
 
--- what every change of a round may rely on
+-- what each change in a round may rely on
 pub record IsConsistentIn (round : Round) (db : Database) : Type 0 where
   pub current : IsCurrentSchema db.schema
   pub own : HasFirstSchema db.schema
@@ -89,43 +75,41 @@ pub record IsConsistentIn (round : Round) (db : Database) : Type 0 where
   pub second : HasSecond round db.trees
   pub whole : AreWhole round db.trees
 
--- what every change may rely on, and leaves
+-- what each change may rely on, and leaves true
 abbrev pub IsConsistent : Database → Type 0
 IsConsistent db = (round : Round) × IsConsistentIn round db
 
--- the tables have turned to the changed world
+-- the tables now stand for the changed world
 pub record HasChanged (change : Change) (old new : Database) : Type 0 where
   pub holds : IsConsistent new
   pub world : world_of new.trees ≡ changed (world_of old.trees) change
 
--- the change that is made of the tables, where they stand for a good world and the changed one is
--- good
+-- the tables change as the world does, if the worlds before and after are good
 abbrev pub IsTransition : Change → Database → Database → Type 0
 IsTransition change old new = IsConsistent old → Good (world_of old.trees) → Good (changed (world_of old.trees) change) → HasChanged change old new
 
--- what can be seen of a store: its connection, whether the tables are those that the portal makes,
--- and how many calls were answered with its fault
+-- the state of a store; `own` says that the tables are the portal's, `faults` counts store faults
 pub record Seen (S : Type 0) : Type 0 where
   pub conn : Held S
   pub own : Bool
   pub faults : ℕ
 
--- the tables are the portal's own, and the connection is open: what it shows is what the disk has
+-- the tables are the portal's own, and the connection is open, so that it shows what the disk has
 abbrev pub IsCleanStore : {S : Type 0} → Ghosts S → Seen S → Type 0
 IsCleanStore g s = IsTrue s.own × IsTrue (state g s.conn).is_open
 
--- the disk has failed once more, unless the count of its failures is at the top of a `u64`
+-- the disk has failed once more; the count of its failures stops at the greatest `u64`
 abbrev pub HasFailed : State → State → Type 0
 HasFailed old new = min (old.faults + 1) (2 ^ 64 - 1) ≤ new.faults
 
--- a clean store stays clean, where the disk returns what was written and does not fail
+-- a clean store stays clean, if the disk returns what was written and does not fail
 abbrev pub Lasts : {S : Type 0} → Ghosts S → Seen S → Seen S → Type 0
 Lasts g old new = HasCleanDisk (state g new.conn) → IsCleanStore g old → IsCleanStore g new ⊎ HasFailed (state g old.conn) (state g new.conn)
 
 abbrev pub kept_world : {S : Type 0} → Ghosts S → Seen S → World
 kept_world g s = world_of (state g s.conn).now.trees
 
--- a clean store in memory stays clean: there is no disk that could fail
+-- a clean store in memory stays clean, since there is no disk that could fail
 abbrev pub LastsInMemory : Type 0
 LastsInMemory = (old new : Seen MemStore) → Lasts over_memory old new → IsCleanStore over_memory old → IsCleanStore over_memory new
 
@@ -133,10 +117,10 @@ LastsInMemory = (old new : Seen MemStore) → Lasts over_memory old new → IsCl
 abbrev pub HasDisk : {S : Type 0} → Ghosts S → Seen S → Type 0
 HasDisk g s = HasCleanDisk (state g s.conn)
 
--- where it has, it had before, and then a clean store stayed clean
+-- if the disk is clean after a call, it was before, and then a clean store stayed clean
 abbrev pub KeepsClean : {S : Type 0} → Ghosts S → Seen S → Seen S → Type 0
 KeepsClean g old new = StaysClean (HasDisk g old) (HasDisk g new) (IsCleanStore g old) (IsCleanStore g new)
 
--- the disk of a store in memory always has: there is none
+-- the disk of a store in memory is always clean, since there is none
 abbrev pub DiskInMemory : Type 0
 DiskInMemory = (s : Seen MemStore) → HasDisk over_memory s

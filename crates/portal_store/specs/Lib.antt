@@ -1,4 +1,4 @@
-pub mod Asked
+pub mod Base
 pub mod Crash
 pub mod Kept
 pub mod World

@@ -1,23 +1,10 @@
 -- The world that the eleven tables stand for.
+use Rattle.portal_store.specs.Base.{Row, column, bytes, Trees, Phase, Round, First, Second, Key, has, put_all, World, Lecturer, Student, lecturer_key, project_key, student_key, choice_table, ranking_table, phase_numbered, tree_of, portal_tree, lecturer_tree, project_tree, student_tree, second_tree, ranked2_tree, second_placement, chosen, row_key, text_or_none, Setup}
 use Rattle.std.specs.Prelude.{ℕ, Bool, if◌then◌else◌, ◌==◌, List, [], map, slice_index_or, Option, Some, None}
-use Rattle.sqlite.specs.Order.{Row, column, bytes}
-use Rattle.sqlite.specs.Tree.{Trees}
 use Rattle.sqlite_trees.specs.Objects.{number_in}
-use Rattle.portal_core.specs.declared.phase.Phase.{Phase}
-use Rattle.portal_core.specs.declared.phase.Round.{Round}
-use Rattle.portal_core.specs.declared.phase.Round.TheVariants.{First, Second}
 use Rattle.portal_core.specs.declared.rows.LecturerRow.{LecturerRow}
 use Rattle.portal_core.specs.declared.rows.ProjectRow.{ProjectRow}
 use Rattle.portal_core.specs.declared.rows.StudentRow.{StudentRow}
-use Rattle.portal_core.specs.Words.{Key, has, put_all}
-use Rattle.portal_core.specs.World.{World, Lecturer, Student, lecturer_key, project_key, student_key}
-pub use Rattle.portal_tables.specs.ListTables.{choice_table, ranking_table}
-pub use Rattle.portal_tables.specs.Office.{phase_numbered}
-use Rattle.portal_tables.specs.ListTables.{tree_of}
-use Rattle.portal_tables.specs.Lists.{second_placement, chosen}
-use Rattle.portal_tables.specs.Tables.{portal_tree, lecturer_tree, project_tree, student_tree, second_tree, ranked2_tree}
-use Rattle.portal_tables.specs.Rows.{row_key, text_or_none}
-use Rattle.portal_core.specs.declared.phase.Phase.TheVariants.{Setup}
 
 abbrev pub lecturer_row : Row → LecturerRow
 lecturer_row r = record { key = row_key r; name = bytes (column r 2); code = bytes (column r 3); capacity = number_in (column r 4) }
@@ -31,7 +18,7 @@ student_row r = record { key = row_key r; name = bytes (column r 2); code = byte
 abbrev pub office_row : Trees → Row
 office_row db = slice_index_or (db portal_tree) 0 []
 
--- the round, by the phase of a second one that `second` tells
+-- the round is the second if the phase in `second` is not 0
 
 abbrev pub second_phase : Trees → ℕ
 second_phase db = number_in (column (slice_index_or (db second_tree) 0 []) 2)
@@ -48,7 +35,7 @@ abbrev pub phase_in : Round → Trees → Phase
 phase_in First db = phase_numbered (number_in (column (office_row db) 3))
 phase_in Second db = phase_numbered (second_phase db)
 
--- a ranking is there
+-- the lecturer has a ranking in this round
 abbrev pub is_ranked : Round → Trees → Row → Bool
 is_ranked First db r = number_in (column r 5) == 1
 is_ranked Second db r = has (map row_key (db ranked2_tree)) (row_key r)
@@ -63,24 +50,16 @@ abbrev pub placement_in_round : Round → Trees → Row → Option Key
 placement_in_round First db r = text_or_none (column r 4)
 placement_in_round Second db r = second_placement db (row_key r)
 
--- what the tables hold of the round before: nothing in the first
+-- what the tables hold of the round before; the first round has none
 
-abbrev pub earlier_ranking : Round → Trees → Row → Option (List Key)
-earlier_ranking First db r = None
-earlier_ranking Second db r = ranking_in First db r
+abbrev pub earlier : {X : Type 0} → Round → X → X → X
+earlier First none before = none
+earlier Second none before = before
 
-abbrev pub earlier_choice : Round → Trees → Row → List Key
-earlier_choice First db r = []
-earlier_choice Second db r = choice_in First db r
-
-abbrev pub earlier_placement : Round → Trees → Row → Option Key
-earlier_placement First db r = None
-earlier_placement Second db r = placement_in_round First db r
-
--- the world in a round
+-- the world that the tables hold in a round
 
 abbrev pub lecturer_stored : Round → Trees → Row → Lecturer
-lecturer_stored round db r = record { row = lecturer_row r; ranking = ranking_in round db r; earlier_ranking = earlier_ranking round db r }
+lecturer_stored round db r = record { row = lecturer_row r; ranking = ranking_in round db r; earlier_ranking = earlier round None (ranking_in First db r) }
 
 abbrev pub student_stored : Round → Trees → Row → Student
 student_stored round db r =
@@ -88,8 +67,8 @@ student_stored round db r =
       row = student_row r;
       choice = choice_in round db r;
       placed = placement_in_round round db r;
-      earlier_choice = earlier_choice round db r;
-      earlier_placement = earlier_placement round db r;
+      earlier_choice = earlier round [] (choice_in First db r);
+      earlier_placement = earlier round None (placement_in_round First db r);
     }
 
 unfoldable pub world_in : Round → Trees → World
@@ -106,6 +85,6 @@ world_in round db =
 unfoldable pub world_of : Trees → World
 world_of db = world_in (round_in db) db
 
--- the world that `create` makes: the empty one in setup
+-- the world that `create` makes: empty, in setup
 abbrev pub first_world : Key → World
 first_world office = record { round = First; phase = Setup; office = office; lecturers = []; projects = []; students = [] }

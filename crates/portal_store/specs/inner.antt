@@ -2,7 +2,7 @@ pub mod Adding
 pub mod Asked
 pub mod Ending
 pub mod Found
-pub mod Kept
+pub mod Keeping
 pub mod Loads
 pub mod Opening
 pub mod Placing

@@ -2,13 +2,12 @@
 
 ghost use Rattle.std.specs.Prelude.{◌≡◌, false};
 ghost use Rattle.sqlite.specs.Held.{state};
-ghost use Rattle.portal_core.specs.Counting.{CountsFaults};
-ghost use Rattle.portal_core.specs.Change.{SecondRound};
-ghost use Rattle.portal_core.specs.Meaning.{change_model};
+ghost use Rattle.portal_core.specs.Meaning.{CountsFaults, change_model};
+ghost use Rattle.portal_core.specs.World.{SecondRound};
 ghost use Rattle.portal_store.specs.inner.Opening.{is_opening};
-ghost use Rattle.portal_tables.specs.Schema.{IsCurrentSchema};
+ghost use Rattle.portal_tables.specs.Tables.{IsCurrentSchema};
 ghost use Rattle.portal_store.specs.Kept.{IsTransition};
-ghost use Rattle.portal_store.specs.inner.Kept.{IsTransitionFrom, IsTransitionIn};
+ghost use Rattle.portal_store.specs.inner.Keeping.{IsTransitionFrom, IsTransitionIn};
 ghost use Rattle.portal_store.specs.inner.Ending.{CommitsChange};
 ghost use Rattle.portal_store.specs.inner.Reading.{KeepsEntries};
 

@@ -8,7 +8,7 @@ ghost use Rattle.sqlite_trees.specs.declared.error.StoreError.{StoreError};
 ghost use Rattle.sqlite_resolve.specs.declared.error.CompileError.{CompileError};
 ghost use Rattle.portal_tables.specs.Tables.{first_version};
 ghost use Rattle.portal_store.specs.Kept.{HasGoodFirst};
-ghost use Rattle.portal_store.specs.Asked.{RefusalSays, Bars};
+ghost use Rattle.portal_store.specs.Crash.{RefusalSays, Bars};
 ghost use Rattle.portal_store.specs.inner.Asked.{SaysNothing};
 
 use crate::store::{CreateFault, OpenFault, UpgradeFault};

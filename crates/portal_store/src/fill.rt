@@ -3,9 +3,9 @@
 ghost use Rattle.std.specs.Prelude.{◌≡◌, false, List, map};
 ghost use Rattle.sqlite.specs.Held.{state};
 ghost use Rattle.portal_core.specs.Words as words;
-ghost use Rattle.portal_core.specs.Change.{Fill};
-ghost use Rattle.portal_tables.specs.Schema.{IsCurrentSchema};
-ghost use Rattle.portal_store.specs.inner.Kept.{IsTransitionIn};
+ghost use Rattle.portal_core.specs.World.{Fill};
+ghost use Rattle.portal_tables.specs.Tables.{IsCurrentSchema};
+ghost use Rattle.portal_store.specs.inner.Keeping.{IsTransitionIn};
 ghost use Rattle.portal_store.specs.inner.Ending.{CommitsChange};
 ghost use Rattle.portal_store.specs.inner.Putting.{TurnsAll};
 ghost use Rattle.portal_store.specs.inner.Reading.{KeepsEntries};

@@ -1,12 +1,11 @@
 //! What becomes of the entries that a store remembers, after a change.
 
 ghost use Rattle.std.specs.Prelude.{◌≡◌, OnOk, OnErr};
-ghost use Rattle.portal_core.specs.Change.{changed};
+ghost use Rattle.portal_core.specs.World.{changed, World};
 ghost use Rattle.portal_core.specs.Good.{Sound};
 ghost use Rattle.portal_core.specs.Meaning.{change_model};
-ghost use Rattle.portal_core.specs.World.{World};
-ghost use Rattle.portal_list.specs.Entries.{HasEntries};
-ghost use Rattle.portal_store.specs.inner.Kept.{AreEntries};
+ghost use Rattle.portal_list.specs.Rows.{HasEntries};
+ghost use Rattle.portal_store.specs.inner.Keeping.{AreEntries};
 
 use portal_core::{Change, KeepFault};
 use portal_list::Entries;

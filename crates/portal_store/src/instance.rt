@@ -3,12 +3,12 @@
 ghost use Rattle.std.specs.Prelude.{◌≡◌, IfOk};
 ghost use Rattle.sqlite.specs.Effect.{IsDatabase};
 ghost use Rattle.portal_core.specs.World.{World};
-ghost use Rattle.portal_core.specs.Counting.{CountsFaults};
+ghost use Rattle.portal_core.specs.Meaning.{CountsFaults};
 ghost use Rattle.portal_core.specs.Good.{Sound};
 ghost use Rattle.portal_core.specs.declared.phase.Round.TheVariants.{Second};
-ghost use Rattle.portal_core.specs.Instance as meant_by;
-ghost use Rattle.portal_list.specs.Entries.{HasEntries};
-ghost use Rattle.portal_tables.specs.Reads.{Reads, Gives};
+ghost use Rattle.portal_core.specs.Good as meant_by;
+ghost use Rattle.portal_list.specs.Rows.{HasEntries};
+ghost use Rattle.portal_tables.specs.Steps.{Reads, Gives};
 ghost use Rattle.portal_store.specs.World.{world_of};
 
 use crate::fault::{rows_fault_of, told};
@@ -44,7 +44,7 @@ pub(crate) fn instance_in<S: Alter>(
     faults: &mut u64,
 ) -> Result<Instance, KeepFault>
     ensures reads { Reads Second S.Store IsDatabase
-        (Gives (λ db i. Sound (world_of db) → i ≡ meant_by.instance (world_of db)))
+        (Gives (λ db i. Sound (world_of db.trees) → i ≡ meant_by.instance (world_of db.trees)))
         result conn.old conn.new }
     ensures counts { CountsFaults result faults.old faults.new }
 {

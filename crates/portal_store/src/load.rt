@@ -4,10 +4,11 @@ ghost use Rattle.std.specs.Prelude.{◌≡◌};
 ghost use Rattle.sqlite.specs.Effect.{IsDatabase};
 ghost use Rattle.portal_core.specs.Good.{Sound};
 ghost use Rattle.portal_core.specs.declared.phase.Round.TheVariants.{Second, First};
-ghost use Rattle.portal_list.specs.Entries.{HasEntries};
+ghost use Rattle.portal_list.specs.Rows.{HasEntries};
 ghost use Rattle.portal_views.specs.inner.Contents.{rows_held};
-ghost use Rattle.portal_tables.specs.Reads.{Reads, Answers, Gives};
-ghost use Rattle.portal_store.specs.inner.Asked.{Blames, NumbersDiffer};
+ghost use Rattle.portal_tables.specs.Steps.{Reads, Gives};
+ghost use Rattle.portal_tables.specs.inner.Reads.{Answers, Blames};
+ghost use Rattle.portal_store.specs.inner.Asked.{NumbersDiffer};
 ghost use Rattle.portal_store.specs.Kept.{HasGoodWorld, HasGoodFirst, HasGoodWorldIn};
 ghost use Rattle.portal_store.specs.inner.Loads as meant_by;
 ghost use Rattle.portal_store.specs.inner.Loads.{Loads, LoadsIn};
@@ -29,7 +30,8 @@ pub(crate) fn load_first<S: Alter>(
     version: u32,
 ) -> Result<WorldRows, TableFault>
     ensures { Reads First S.Store IsDatabase
-        (Answers (Loads version) (λ db fault. Blames fault (HasGoodFirst version db)))
+        (Answers (λ db. Loads version First db.trees)
+        (λ db fault. Blames fault (HasGoodFirst version db.trees)))
         result conn.old conn.new }
 {
     let office = office_in(alloc, conn, version)?;
@@ -73,8 +75,8 @@ fn after_first(first: WorldRows, phase: Phase, contents: Contents) -> WorldRows
 /// The rows of the world of the second round that the tables stand for.
 fn load_second<S: Alter>(alloc: Global, conn: &mut Connection<S>) -> Result<WorldRows, TableFault>
     ensures { Reads Second S.Store IsDatabase
-        (Answers (LoadsIn Second)
-        (λ db fault. NumbersDiffer db → Blames fault (HasGoodWorldIn Second db)))
+        (Answers (λ db. LoadsIn Second db.trees)
+        (λ db fault. NumbersDiffer db.trees → Blames fault (HasGoodWorldIn Second db.trees)))
         result conn.old conn.new }
 {
     let phase = second_in(alloc, conn)?;
@@ -89,8 +91,8 @@ pub(crate) fn load<S: Alter>(
     conn: &mut Connection<S>,
 ) -> Result<WorldRows, TableFault>
     ensures { Reads Second S.Store IsDatabase
-        (Answers (λ db. LoadsIn (round_in db) db)
-        (λ db fault. NumbersDiffer db → Blames fault (HasGoodWorld db)))
+        (Answers (λ db. LoadsIn (round_in db.trees) db.trees)
+        (λ db fault. NumbersDiffer db.trees → Blames fault (HasGoodWorld db.trees)))
         result conn.old conn.new }
 {
     match round_in(alloc, conn)? {
@@ -106,7 +108,7 @@ pub(crate) fn load_entries<S: Alter>(
     conn: &mut Connection<S>,
 ) -> Result<Entries, TableFault>
     ensures { Reads Second S.Store IsDatabase
-        (Gives (λ db e. Sound (world_of db) → HasEntries e (world_of db)))
+        (Gives (λ db e. Sound (world_of db.trees) → HasEntries e (world_of db.trees)))
         result conn.old conn.new }
 {
     let rows = load(alloc, conn)?;

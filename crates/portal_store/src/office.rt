@@ -2,9 +2,9 @@
 
 ghost use Rattle.std.specs.Prelude.{◌≡◌};
 ghost use Rattle.sqlite.specs.Effect.{IsDatabase};
-ghost use Rattle.portal_core.specs.Counting.{CountsFaults};
+ghost use Rattle.portal_core.specs.Meaning.{CountsFaults};
 ghost use Rattle.portal_core.specs.declared.phase.Round.TheVariants.{First};
-ghost use Rattle.portal_tables.specs.Reads.{Reads, Gives};
+ghost use Rattle.portal_tables.specs.Steps.{Reads, Gives};
 ghost use Rattle.portal_store.specs.World.{world_of};
 
 use crate::fault::told;
@@ -19,8 +19,8 @@ pub(crate) fn office_code<S: Alter>(
     conn: &mut Connection<S>,
     faults: &mut u64,
 ) -> Result<Code, KeepFault>
-    ensures reads { Reads First S.Store IsDatabase (Gives (λ db code. code ≡ (world_of db).office))
-        result conn.old conn.new }
+    ensures reads { Reads First S.Store IsDatabase
+        (Gives (λ db code. code ≡ (world_of db.trees).office)) result conn.old conn.new }
     ensures counts { CountsFaults result faults.old faults.new }
 {
     match office_in(alloc, conn, VERSION) {

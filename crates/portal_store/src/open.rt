@@ -7,15 +7,15 @@ ghost use Rattle.sqlite.specs.Held.{state};
 ghost use Rattle.portal_core.specs.Good.{Good};
 ghost use Rattle.portal_core.specs.declared.phase.Round.TheVariants.{First, Second};
 ghost use Rattle.portal_core.specs.declared.phase.Phase.TheVariants.{Published};
-ghost use Rattle.portal_tables.specs.Schema.{IsCurrentSchema};
+ghost use Rattle.portal_tables.specs.Tables.{IsCurrentSchema};
 ghost use Rattle.portal_tables.specs.inner.Queries.{round_asked};
-ghost use Rattle.portal_tables.specs.Reads.{Reads, Always, Answers, Gives};
-ghost use Rattle.portal_tables.specs.Steps.{Stays};
-ghost use Rattle.portal_list.specs.Entries.{HasEntries};
+ghost use Rattle.portal_tables.specs.Steps.{Reads, Gives, Stays};
+ghost use Rattle.portal_tables.specs.inner.Reads.{Always, Answers};
+ghost use Rattle.portal_list.specs.Rows.{HasEntries};
 ghost use Rattle.portal_store.specs.Kept.{AllNumbersDiffer, AreEmpty, HasSecond, HasGoodWorld};
 ghost use Rattle.portal_store.specs.Kept.{HasGoodWorldIn, IsCleanStore, kept_world, later_trees};
 ghost use Rattle.portal_store.specs.World.{phase_in, round_in, world_of};
-ghost use Rattle.portal_store.specs.Asked.{Refutes};
+ghost use Rattle.portal_store.specs.Crash.{Refutes};
 ghost use Rattle.portal_store.specs.inner.Asked.{NumbersDiffer, Denies, IsJudged, SaysNothing};
 ghost use Rattle.portal_store.specs.inner.Asked.{Admits};
 ghost use Rattle.portal_store.specs.inner.Reading.{ReadsAll, IsSoundIfOpen, queried_rows};
@@ -57,8 +57,8 @@ fn see_second_tables<S: Alter>(conn: &mut Connection<S>, own: bool) -> Result<()
 /// Whether a query of a whole table shows no row.
 fn see_none<S: Alter>(conn: &mut Connection<S>, query: Query<'_>) -> Result<(), OpenFault>
     ensures { Reads (round_asked query.entry) S.Store (λ _. ReadsAll query.entry)
-        (Answers (λ db _. queried_rows query.entry db ≡ [])
-        (λ db fault. Denies fault (queried_rows query.entry db ≡ [])))
+        (Answers (λ db _. queried_rows query.entry db.trees ≡ [])
+        (λ db fault. Denies fault (queried_rows query.entry db.trees ≡ [])))
         result conn.old conn.new }
 {
     match finds_any(conn, query) {
@@ -71,7 +71,7 @@ fn see_none<S: Alter>(conn: &mut Connection<S>, query: Query<'_>) -> Result<(), 
 /// Whether nothing of a second round is there.
 fn see_nothing<S: Alter>(conn: &mut Connection<S>) -> Result<(), OpenFault>
     ensures { Reads Second S.Store Always
-        (Answers (λ db _. AreEmpty db) (λ db fault. Denies fault (AreEmpty db)))
+        (Answers (λ db _. AreEmpty db.trees) (λ db fault. Denies fault (AreEmpty db.trees)))
         result conn.old conn.new }
 {
     see_none(conn, Query::AllLists(Lists::SecondChoices))?;
@@ -83,8 +83,8 @@ fn see_nothing<S: Alter>(conn: &mut Connection<S>) -> Result<(), OpenFault>
 /// Whether the first round is published.
 fn see_published<S: Alter>(alloc: Global, conn: &mut Connection<S>) -> Result<(), OpenFault>
     ensures { Reads First S.Store IsDatabase
-        (Answers (λ db _. phase_in First db ≡ Published)
-        (λ db fault. Denies fault (HasGoodWorldIn Second db)))
+        (Answers (λ db _. phase_in First db.trees ≡ Published)
+        (λ db fault. Denies fault (HasGoodWorldIn Second db.trees)))
         result conn.old conn.new }
 {
     match first_phase(alloc, conn) {
@@ -98,8 +98,8 @@ fn see_published<S: Alter>(alloc: Global, conn: &mut Connection<S>) -> Result<()
 /// published before it.
 fn see_second<S: Alter>(alloc: Global, conn: &mut Connection<S>) -> Result<(), OpenFault>
     ensures { Reads Second S.Store IsDatabase
-        (Answers (λ db _. HasSecond (round_in db) db)
-        (λ db fault. Denies fault (HasGoodWorld db)))
+        (Answers (λ db _. HasSecond (round_in db.trees) db.trees)
+        (λ db fault. Denies fault (HasGoodWorld db.trees)))
         result conn.old conn.new }
 {
     let phase = match second_in(alloc, conn) {
@@ -117,7 +117,7 @@ fn see_second<S: Alter>(alloc: Global, conn: &mut Connection<S>) -> Result<(), O
 fn see_second_numbers<S: Alter>(conn: &mut Connection<S>) -> Result<(), OpenFault>
     ensures refused { IfErr result SaysNothing }
     ensures reads { Reads Second S.Store Always
-        (Gives (λ db _. AllNumbersDiffer later_trees db)) result conn.old conn.new }
+        (Gives (λ db _. AllNumbersDiffer later_trees db.trees)) result conn.old conn.new }
 {
     see_row_numbers(conn, Table::OfLists(Lists::SecondChoices))?;
     see_row_numbers(conn, Table::OfRanked)?;
@@ -128,7 +128,7 @@ fn see_second_numbers<S: Alter>(conn: &mut Connection<S>) -> Result<(), OpenFaul
 /// Whether the rows of all tables have numbers of their own.
 fn see_numbers<S: Alter>(conn: &mut Connection<S>) -> Result<(), OpenFault>
     ensures refused { IfErr result SaysNothing }
-    ensures reads { Reads Second S.Store Always (Gives (λ db _. NumbersDiffer db))
+    ensures reads { Reads Second S.Store Always (Gives (λ db _. NumbersDiffer db.trees))
         result conn.old conn.new }
 {
     see_first_numbers(conn)?;
@@ -138,8 +138,8 @@ fn see_numbers<S: Alter>(conn: &mut Connection<S>) -> Result<(), OpenFault>
 /// The entries of the world that the rows stand for, where it is good.
 fn see_world<S: Alter>(alloc: Global, conn: &mut Connection<S>) -> Result<Entries, OpenFault>
     ensures { Reads Second S.Store IsDatabase
-        (Answers (λ db e. IsJudged db × HasEntries e (world_of db))
-        (λ db fault. NumbersDiffer db → Denies fault (HasGoodWorld db)))
+        (Answers (λ db e. IsJudged db.trees × HasEntries e (world_of db.trees))
+        (λ db fault. NumbersDiffer db.trees → Denies fault (HasGoodWorld db.trees)))
         result conn.old conn.new }
 {
     match load_keeper(alloc, conn) {
@@ -155,8 +155,8 @@ fn see_world<S: Alter>(alloc: Global, conn: &mut Connection<S>) -> Result<Entrie
 /// tells, and the world, whose entries come.
 fn judge_both<S: Alter>(alloc: Global, conn: &mut Connection<S>) -> Result<Entries, OpenFault>
     ensures { Reads Second S.Store (IsSoundIfOpen S.Store conn.old)
-        (Answers (λ db e. Admits db × HasEntries e (world_of db))
-        (λ db fault. Denies fault (HasGoodWorld db)))
+        (Answers (λ db e. Admits db.trees × HasEntries e (world_of db.trees))
+        (λ db fault. Denies fault (HasGoodWorld db.trees)))
         result conn.old conn.new }
 {
     see_numbers(conn)?;
@@ -175,7 +175,8 @@ fn examine<S: Alter>(
     ensures idle { conn.old.in_transaction ≡ false → conn.new.in_transaction ≡ false }
     ensures disk { HasCleanDisk (state S.Store conn.new) → HasCleanDisk (state S.Store conn.old) }
     ensures reads { IsTrue own → Reads Second S.Store (IsSoundIfOpen S.Store conn.old)
-        (Answers (λ db e. Admits db × HasEntries e (world_of db)) (λ db fault. Refutes fault db))
+        (Answers (λ db e. Admits db.trees × HasEntries e (world_of db.trees))
+        (λ db fault. Refutes fault db.trees))
         result conn.old conn.new }
 {
     see_first(conn, own, VERSION)?;

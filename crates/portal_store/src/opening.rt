@@ -2,9 +2,8 @@
 
 ghost use Rattle.std.specs.Prelude.{◌≡◌, ◌&&◌, false, not};
 ghost use Rattle.sqlite.specs.Held.{state};
-ghost use Rattle.portal_core.specs.Change.{SecondRound};
-ghost use Rattle.portal_core.specs.World.{is_published, is_second};
-ghost use Rattle.portal_store.specs.inner.Kept.{IsTransitionFrom};
+ghost use Rattle.portal_core.specs.World.{SecondRound, is_published, is_second};
+ghost use Rattle.portal_store.specs.inner.Keeping.{IsTransitionFrom};
 ghost use Rattle.portal_store.specs.inner.Ending.{CommitsChange};
 ghost use Rattle.portal_store.specs.inner.Opening.{OpensSecondRound};
 

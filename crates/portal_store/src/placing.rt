@@ -3,8 +3,8 @@
 ghost use Rattle.std.specs.Prelude.{◌≡◌, false, map, IfOk, is_none, option_map};
 ghost use Rattle.std.specs.List.{filter_map};
 ghost use Rattle.sqlite.specs.Held.{state};
-ghost use Rattle.portal_core.specs.Change.{Placements, placement_in};
-ghost use Rattle.portal_store.specs.inner.Kept.{IsTransitionIn};
+ghost use Rattle.portal_core.specs.World.{Placements, placement_in};
+ghost use Rattle.portal_store.specs.inner.Keeping.{IsTransitionIn};
 ghost use Rattle.portal_store.specs.inner.Ending.{CommitsChange};
 ghost use Rattle.portal_store.specs.inner.Placing.{TurnsShown, TurnsLeft, assigned_of, pair_left};
 ghost use Rattle.sqlite.specs.Order.{column};

@@ -1,13 +1,14 @@
 //! What a caller sees, by queries of what that caller may see.
 
 ghost use Rattle.std.specs.Prelude.{◌≡◌, false, None};
-ghost use Rattle.portal_core.specs.Counting.{CountsFaults};
+ghost use Rattle.portal_core.specs.Meaning.{CountsFaults};
 ghost use Rattle.portal_core.specs.Good.{Good};
 ghost use Rattle.portal_core.specs.View as seen;
 ghost use Rattle.portal_core.specs.Words.{equals};
 ghost use Rattle.portal_core.specs.declared.phase.Round.TheVariants.{Second};
 ghost use Rattle.portal_core.specs.View.{sight_of, caller_among, student_with, OfficeCaller};
-ghost use Rattle.portal_tables.specs.Reads.{Reads, MayRead, Gives};
+ghost use Rattle.portal_tables.specs.Steps.{Reads, Gives};
+ghost use Rattle.portal_tables.specs.inner.Reads.{MayRead};
 ghost use Rattle.portal_store.specs.World.{world_in, world_of};
 ghost use Rattle.portal_store.specs.Kept.{IsConsistent};
 ghost use Rattle.portal_store.specs.inner.Reading.{IsNow, Remembers, RemembersIn, Shows, ShowsIn};
@@ -156,7 +157,8 @@ pub fn view<S: Alter>(
     code: &[u8],
 ) -> Result<View, KeepFault>
     ensures { Reads Second S.Store IsConsistent
-        (Gives (λ db view. Good (world_of db) → view ≡ seen.view (world_of db) code.now))
+        (Gives (λ db view. Good (world_of db.trees)
+        → view ≡ seen.view (world_of db.trees) code.now))
         result conn.old conn.new }
 {
     let mut cache = ViewCache::nothing();

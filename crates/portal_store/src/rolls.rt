@@ -4,7 +4,7 @@ ghost use Rattle.std.specs.Prelude.{◌≡◌, false};
 ghost use Rattle.sqlite.specs.Held.{state};
 ghost use Rattle.portal_store.specs.inner.Adding.{with_rows_added};
 ghost use Rattle.portal_store.specs.inner.Ending.{CommitsChange};
-ghost use Rattle.portal_store.specs.inner.Kept.{IsTransitionIn};
+ghost use Rattle.portal_store.specs.inner.Keeping.{IsTransitionIn};
 
 use crate::settled::settled;
 use portal_core::{LecturerRow, ProjectRow, Round, StudentRow};

@@ -5,9 +5,9 @@ ghost use Rattle.sqlite.specs.Effect.{IsDatabase};
 ghost use Rattle.portal_core.specs.declared.phase.Round.{Round as ThatRound};
 ghost use Rattle.portal_core.specs.declared.phase.Round.TheVariants.{First, Second};
 ghost use Rattle.portal_core.specs.World.{is_setup};
-ghost use Rattle.portal_tables.specs.Reads.{Reads, Answers, Gives};
+ghost use Rattle.portal_tables.specs.Steps.{Reads, Gives};
+ghost use Rattle.portal_tables.specs.inner.Reads.{Answers, Blames};
 ghost use Rattle.portal_store.specs.World as meant_by;
-ghost use Rattle.portal_store.specs.inner.Asked.{Blames};
 ghost use Rattle.portal_store.specs.inner.Reading.{IsNow};
 ghost use Rattle.portal_store.specs.Kept.{HasSecond, HasGoodWorldIn};
 
@@ -22,8 +22,8 @@ pub(crate) fn round_in<S: Alter>(
     conn: &mut Connection<S>,
 ) -> Result<Round, TableFault>
     ensures { Reads Second S.Store IsDatabase
-        (Answers (λ db round. meant_by.round_in db ≡ round)
-        (λ db fault. (round : ThatRound) → Blames fault (HasSecond round db)))
+        (Answers (λ db round. meant_by.round_in db.trees ≡ round)
+        (λ db fault. (round : ThatRound) → Blames fault (HasSecond round db.trees)))
         result conn.old conn.new }
 {
     if second_in(alloc, conn)?.is_setup() {
@@ -57,7 +57,8 @@ pub(crate) fn current_round<S: Alter>(
     conn: &mut Connection<S>,
 ) -> Result<(Round, Office), TableFault>
     ensures { Reads Second S.Store IsDatabase
-        (Gives (λ db now. IsNow (meant_by.world_of db) now.0 now.1)) result conn.old conn.new }
+        (Gives (λ db now. IsNow (meant_by.world_of db.trees) now.0 now.1))
+        result conn.old conn.new }
 {
     let second = second_in(alloc, conn)?;
     let office = office_in(alloc, conn, VERSION)?;
@@ -70,8 +71,8 @@ pub(crate) fn first_phase<S: Alter>(
     conn: &mut Connection<S>,
 ) -> Result<Phase, TableFault>
     ensures { Reads First S.Store IsDatabase
-        (Answers (λ db phase. meant_by.phase_in First db ≡ phase)
-        (λ db fault. (round : ThatRound) → Blames fault (HasGoodWorldIn round db)))
+        (Answers (λ db phase. meant_by.phase_in First db.trees ≡ phase)
+        (λ db fault. (round : ThatRound) → Blames fault (HasGoodWorldIn round db.trees)))
         result conn.old conn.new }
 {
     let office = office_in(alloc, conn, VERSION)?;

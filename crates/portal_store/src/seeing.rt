@@ -1,8 +1,8 @@
 //! Looks at tables before a store is opened over them: that each can be queried, the version, the
 //! numbers of rows, and the world.
 
-ghost use Rattle.std.specs.Prelude.{◌≡◌, ◌≢◌, ◌↔◌, ◌⊎◌, false, [], ◌∷◌, pos, Err, List};
-ghost use Rattle.std.specs.Prelude.{IfErr, OnOk, IsTrue};
+ghost use Rattle.std.specs.Prelude.{◌≡◌, ◌≢◌, ◌↔◌, ◌⊎◌, false, [], ◌∷◌, pos, Err, List, IfErr};
+ghost use Rattle.std.specs.Prelude.{OnOk, IsTrue};
 ghost use Rattle.sqlite.specs.declared.types.Value.TheVariants.{Int};
 ghost use Rattle.sqlite.specs.Order.{Row as Cells, column};
 ghost use Rattle.sqlite.specs.Effect.{IsDatabase};
@@ -14,12 +14,13 @@ ghost use Rattle.portal_tables.specs.Tables.{lecturer_tree, project_tree, studen
 ghost use Rattle.portal_tables.specs.Tables.{choice_tree, ranking_tree};
 ghost use Rattle.portal_tables.specs.Rows.{RowNumbersDiffer};
 ghost use Rattle.portal_tables.specs.inner.Queries.{table_tree, table_round};
-ghost use Rattle.portal_tables.specs.Reads.{Reads, Always, Answers, Gives};
-ghost use Rattle.portal_list.specs.Entries.{HasEntries};
+ghost use Rattle.portal_tables.specs.Steps.{Reads, Gives};
+ghost use Rattle.portal_tables.specs.inner.Reads.{Always, Answers};
+ghost use Rattle.portal_list.specs.Rows.{HasEntries};
 ghost use Rattle.portal_store.specs.Kept.{AllNumbersDiffer, HasGoodFirst};
-ghost use Rattle.portal_store.specs.inner.Kept.{early_trees};
+ghost use Rattle.portal_store.specs.inner.Keeping.{early_trees};
 ghost use Rattle.portal_store.specs.World.{world_in};
-ghost use Rattle.portal_store.specs.Asked.{HasVersion, RefusalSays};
+ghost use Rattle.portal_store.specs.Crash.{HasVersion, RefusalSays};
 ghost use Rattle.portal_store.specs.inner.Asked.{Denies, SaysNothing, AdmitsAs};
 ghost use Rattle.portal_store.specs.inner.Reading.{IsSoundIfOpen};
 
@@ -95,8 +96,8 @@ fn judge_office(rows: &[Row], version: u32) -> Result<(), OpenFault>
 /// Whether `portal` has a row, of this version.
 fn see_office<S: Alter>(conn: &mut Connection<S>, version: u32) -> Result<(), OpenFault>
     ensures { Reads First S.Store Always
-        (Answers (λ db _. HasVersion version db)
-        (λ db fault. RefusalSays fault version (Unit {0}) db))
+        (Answers (λ db _. HasVersion version db.trees)
+        (λ db fault. RefusalSays fault version (Unit {0}) db.trees))
         result conn.old conn.new }
 {
     match read(conn, Query::Office) {
@@ -115,8 +116,8 @@ pub(crate) fn see_first<S: Alter>(
     ensures idle { conn.old.in_transaction ≡ false → conn.new.in_transaction ≡ false }
     ensures disk { HasCleanDisk (state S.Store conn.new) → HasCleanDisk (state S.Store conn.old) }
     ensures reads { IsTrue own → Reads First S.Store Always
-        (Answers (λ db _. HasVersion version db)
-        (λ db fault. RefusalSays fault version (Unit {0}) db))
+        (Answers (λ db _. HasVersion version db.trees)
+        (λ db fault. RefusalSays fault version (Unit {0}) db.trees))
         result conn.old conn.new }
 {
     see_tables(conn, own)?;
@@ -131,7 +132,7 @@ pub(crate) fn see_row_numbers<S: Alter>(
 ) -> Result<(), OpenFault>
     ensures refused { IfErr result SaysNothing }
     ensures reads { Reads (table_round table) S.Store Always
-        (Gives (λ db _. RowNumbersDiffer (db (table_tree table)))) result conn.old conn.new }
+        (Gives (λ db _. RowNumbersDiffer (db.trees (table_tree table)))) result conn.old conn.new }
 {
     match row_numbers_differ(conn, table) {
         Ok(true) => Ok(()),
@@ -144,7 +145,8 @@ pub(crate) fn see_row_numbers<S: Alter>(
 fn see_rolls_numbers<S: Alter>(conn: &mut Connection<S>) -> Result<(), OpenFault>
     ensures refused { IfErr result SaysNothing }
     ensures reads { Reads First S.Store Always
-        (Gives (λ db _. AllNumbersDiffer (lecturer_tree ∷ project_tree ∷ student_tree ∷ []) db))
+        (Gives (λ db _.
+        AllNumbersDiffer (lecturer_tree ∷ project_tree ∷ student_tree ∷ []) db.trees))
         result conn.old conn.new }
 {
     see_row_numbers(conn, Table::OfRoll(Roll::Lecturers))?;
@@ -156,7 +158,7 @@ fn see_rolls_numbers<S: Alter>(conn: &mut Connection<S>) -> Result<(), OpenFault
 fn see_lists_numbers<S: Alter>(conn: &mut Connection<S>) -> Result<(), OpenFault>
     ensures refused { IfErr result SaysNothing }
     ensures reads { Reads First S.Store Always
-        (Gives (λ db _. AllNumbersDiffer (choice_tree ∷ ranking_tree ∷ []) db))
+        (Gives (λ db _. AllNumbersDiffer (choice_tree ∷ ranking_tree ∷ []) db.trees))
         result conn.old conn.new }
 {
     see_row_numbers(conn, Table::OfLists(Lists::Choices))?;
@@ -185,8 +187,8 @@ fn see_first_world<S: Alter>(
     version: u32,
 ) -> Result<Entries, OpenFault>
     ensures { Reads First S.Store IsDatabase
-        (Answers (λ db e. HasGoodFirst version db × HasEntries e (world_in First db))
-        (λ db fault. Denies fault (HasGoodFirst version db)))
+        (Answers (λ db e. HasGoodFirst version db.trees × HasEntries e (world_in First db.trees))
+        (λ db fault. Denies fault (HasGoodFirst version db.trees)))
         result conn.old conn.new }
 {
     match first_keeper(alloc, conn, version) {
@@ -202,7 +204,7 @@ fn see_first_world<S: Alter>(
 pub(crate) fn see_first_numbers<S: Alter>(conn: &mut Connection<S>) -> Result<(), OpenFault>
     ensures refused { IfErr result SaysNothing }
     ensures reads { Reads First S.Store Always
-        (Gives (λ db _. AllNumbersDiffer early_trees db)) result conn.old conn.new }
+        (Gives (λ db _. AllNumbersDiffer early_trees db.trees)) result conn.old conn.new }
 {
     see_rolls_numbers(conn)?;
     see_lists_numbers(conn)
@@ -216,8 +218,8 @@ pub(crate) fn judge_first<S: Alter>(
     version: u32,
 ) -> Result<Entries, OpenFault>
     ensures { Reads First S.Store (IsSoundIfOpen S.Store conn.old)
-        (Answers (λ db e. AdmitsAs version db × HasEntries e (world_in First db))
-        (λ db fault. Denies fault (HasGoodFirst version db)))
+        (Answers (λ db e. AdmitsAs version db.trees × HasEntries e (world_in First db.trees))
+        (λ db fault. Denies fault (HasGoodFirst version db.trees)))
         result conn.old conn.new }
 {
     see_first_numbers(conn)?;

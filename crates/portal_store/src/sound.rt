@@ -4,11 +4,12 @@ ghost use Rattle.std.specs.Prelude.{IfOk};
 ghost use Rattle.sqlite.specs.Effect.{IsDatabase};
 ghost use Rattle.portal_core.specs.Good.{Sound};
 ghost use Rattle.portal_core.specs.declared.phase.Round.TheVariants.{Second, First};
-ghost use Rattle.portal_tables.specs.Reads.{Reads, Answers};
-ghost use Rattle.portal_store.specs.inner.Asked.{Blames, NumbersDiffer};
+ghost use Rattle.portal_tables.specs.Steps.{Reads};
+ghost use Rattle.portal_tables.specs.inner.Reads.{Answers, Blames};
+ghost use Rattle.portal_store.specs.inner.Asked.{NumbersDiffer};
 ghost use Rattle.portal_store.specs.Kept.{HasGoodWorld, HasGoodFirst};
 ghost use Rattle.portal_store.specs.World.{round_in};
-ghost use Rattle.portal_store.specs.inner.Found.{ShowsWorld, FindsIn};
+ghost use Rattle.portal_store.specs.inner.Found.{FindsWorld, FindsIn};
 
 use crate::fault::rows_fault_of;
 use crate::load::{load, load_first};
@@ -26,8 +27,8 @@ pub(crate) fn first_keeper<S: Alter>(
 ) -> Result<ListKeeper, TableFault>
     ensures sound { IfOk result (λ keeper. Sound keeper) }
     ensures reads { Reads First S.Store IsDatabase
-        (Answers (λ db keeper. ShowsWorld version db keeper)
-        (λ db fault. Blames fault (HasGoodFirst version db)))
+        (Answers (λ db keeper. FindsWorld version First db.trees keeper)
+        (λ db fault. Blames fault (HasGoodFirst version db.trees)))
         result conn.old conn.new }
 {
     let rows = load_first(alloc, conn, version)?;
@@ -44,8 +45,8 @@ pub(crate) fn load_keeper<S: Alter>(
 ) -> Result<ListKeeper, TableFault>
     ensures sound { IfOk result (λ keeper. Sound keeper) }
     ensures reads { Reads Second S.Store IsDatabase
-        (Answers (λ db keeper. FindsIn (round_in db) db keeper)
-        (λ db fault. NumbersDiffer db → Blames fault (HasGoodWorld db)))
+        (Answers (λ db keeper. FindsIn (round_in db.trees) db.trees keeper)
+        (λ db fault. NumbersDiffer db.trees → Blames fault (HasGoodWorld db.trees)))
         result conn.old conn.new }
 {
     let rows = load(alloc, conn)?;

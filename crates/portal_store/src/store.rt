@@ -29,7 +29,7 @@ pub struct Store<S: Alter> {
 
 impl<S: Alter> Model for Store<S> {
     ghost use Rattle.portal_store.specs.Kept.{Seen};
-    ghost use Rattle.portal_store.specs.inner.Kept.{seen_code, IsAtRest};
+    ghost use Rattle.portal_store.specs.inner.Keeping.{seen_code, IsAtRest};
 
     ghost Value = { Seen S };
 

@@ -5,17 +5,15 @@ ghost use Rattle.sqlite.specs.State.{HasCleanDisk, Survives};
 ghost use Rattle.sqlite.specs.Held.{state};
 ghost use Rattle.portal_core.specs.Good.{Good};
 ghost use Rattle.portal_core.specs.declared.phase.Round.TheVariants.{First};
-ghost use Rattle.portal_tables.specs.Tables.{first_version};
-ghost use Rattle.portal_tables.specs.Schema.{IsFirstSchema, HasFirstSchema};
-ghost use Rattle.portal_tables.specs.Making.{Upgrades};
-ghost use Rattle.portal_tables.specs.Names.{has_names};
+ghost use Rattle.portal_tables.specs.Tables.{first_version, IsFirstSchema, HasFirstSchema};
+ghost use Rattle.portal_tables.specs.Making.{Upgrades, has_names};
 ghost use Rattle.portal_tables.specs.declared.names.Names.TheVariants.{OfSecond};
-ghost use Rattle.portal_tables.specs.Reads.{Reads, Answers};
-ghost use Rattle.portal_tables.specs.Steps.{Commits, IsAfter, LeavesOnly, Stays};
-ghost use Rattle.portal_list.specs.Entries.{HasEntries};
+ghost use Rattle.portal_tables.specs.Steps.{Reads, Commits, IsAfter, LeavesOnly, Stays};
+ghost use Rattle.portal_tables.specs.inner.Reads.{Answers};
+ghost use Rattle.portal_list.specs.Rows.{HasEntries};
 ghost use Rattle.portal_store.specs.Kept.{HasGoodFirst, IsCleanStore, kept_world};
 ghost use Rattle.portal_store.specs.World.{world_in};
-ghost use Rattle.portal_store.specs.Asked.{RefusalSays, Bars};
+ghost use Rattle.portal_store.specs.Crash.{RefusalSays, Bars};
 ghost use Rattle.portal_store.specs.inner.Asked.{AdmitsAs};
 ghost use Rattle.portal_store.specs.inner.Reading.{IsSoundIfOpen, OverLive};
 
@@ -40,8 +38,9 @@ fn examine_first<S: Alter>(
 ) -> Result<Entries, OpenFault>
     ensures idle { conn.old.in_transaction ≡ false → conn.new.in_transaction ≡ false }
     ensures reads { IsTrue own → Reads First S.Store (IsSoundIfOpen S.Store conn.old)
-        (Answers (λ db e. AdmitsAs first_version db × HasEntries e (world_in First db))
-        (λ db fault. RefusalSays fault first_version (HasGoodFirst first_version db) db))
+        (Answers (λ db e. AdmitsAs first_version db.trees
+        × HasEntries e (world_in First db.trees))
+        (λ db fault. RefusalSays fault first_version (HasGoodFirst first_version db.trees) db.trees))
         result conn.old conn.new }
 {
     see_first(conn, own, FIRST_VERSION)?;

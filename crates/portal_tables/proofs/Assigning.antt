@@ -1,5 +1,6 @@
 -- The UPDATEs of the projects of students.
-use Rattle.portal_tables.proofs.Base.{◌≡◌, ◌+◌, ◌∷◌, ◌++◌, ◌<◌, ◌==◌, ℕ, ℤ, Bool, true, false, not, cond, List, [], map, filter, length, take, get_or, codes, Option, Some, None, refl, sym, ap, ap₂, subst, subst₂, ◌∙◌, AllByRecursion, flat_map, filter_map, IsPermutation, map-append, take_more, IsPermutation-refl, IsPermutation-trans, IsPermutation-map, IsPermutation-filter_both, Value, Int, Text, Row, column, cast_row, Table, Term, col, State, Database, everything, understood, works, work_by, deed_for, pairs, parent_key, Enforced, bound_value, all-filter, all_map, all_weaker, student_schema, student_tree, has_text, Second, IsCurrentSchema, Assigned, text_cell, student_columns, assigned_by, with_assigned, Assigns, Ran, Made}
+use Rattle.portal_tables.proofs.Base.{◌≡◌, ◌+◌, ◌∷◌, ◌++◌, ◌<◌, ℕ, ℤ, Bool, true, not, cond, List, [], map, filter, length, take, get_or, codes, Option, Some, None, refl, sym, ap, ap₂, subst, subst₂, ◌∙◌, AllByRecursion, all_from, all_has, has_filtered, IsPermutation, map-append, IsPermutation-refl, IsPermutation-trans, IsPermutation-map, IsPermutation-filter_both, Value, Int, Text, Row, column, cast_row, Term, col, State, Database, everything, understood, bound_value, all-filter, all_map, all_weaker, student_schema, student_tree, has_text, Second, IsCurrentSchema, Assigned, text_cell, student_columns, assigned_by, with_assigned, Assigns, Ran, Made}
+use Rattle.portal_tables.proofs.InTurn.{next_item}
 use Rattle.portal_tables.proofs.Keeping.{keeps_then, keeps_all}
 use Rattle.portal_tables.proofs.Listed.{all_map_on}
 use Rattle.portal_tables.proofs.Lists.{not_true}
@@ -7,17 +8,10 @@ use Rattle.portal_tables.proofs.Owned.{current_own}
 use Rattle.portal_tables.proofs.Query.{passes, shown_as}
 use Rattle.portal_tables.proofs.Shapes.{IsStudentRow, student_rows_formed}
 use Rattle.portal_tables.proofs.Sorted.{map_twice, map_alike}
-use Rattle.portal_tables.proofs.Statements.{Updates}
+use Rattle.portal_tables.proofs.Statements.{Updates, no_acts}
 use Rattle.portal_tables.proofs.Tests.{param, has_key, same_key_of}
 use Rattle.portal_tables.proofs.Weak.{portal_with, own_is}
 use Rattle.portal_tables.proofs.Writes.{HasNumber, AltersIn, altered, cast_int}
-
--- no foreign keys act where students change
-no_acts : (checks terms : ℕ → List Term) (olds news : List Row) → works (portal_with checks terms) Enforced 0 6 olds news ≡ []
-no_acts checks terms olds news =
-    let s = portal_with checks terms in
-    elim (length news == 0) as (λ gone. flat_map (λ (child : Table). filter_map (λ ref. work_by 0 6 (pairs olds news) child ref (deed_for Enforced gone ref) (parent_key s.tables ref)) child.references) s.tables ≡ [])
-    [ true ↦ refl | false ↦ refl ]
 
 abbrev pub update_one : List ℕ
 update_one = codes "UPDATE student SET assigned = ?2 WHERE key = ?1"
@@ -36,12 +30,7 @@ assigned_bound (Some t) = refl
 
 -- what passes a test keeps what was known of it
 sifted : {X : Type 0} (P : X → Type 0) (p : X → Bool) (xs : List X) → AllByRecursion P xs → AllByRecursion (λ x. P x × (p x ≡ true)) (filter p xs)
-sifted P p [] all = tt
-sifted P p (x ∷ xs) all =
-    (elim (p x) as (λ b. p x ≡ b → AllByRecursion (λ y. P y × (p y ≡ true)) (cond b (x ∷ filter p xs) (filter p xs))) [
-      | true ↦ λ e. ((all.0, e), sifted P p xs all.1)
-      | false ↦ λ e. sifted P p xs all.1
-    ]) refl
+sifted P p xs all = all_from _ (filter p xs) (λ x has. let passed = has_filtered p xs x has in (all_has P xs x all passed.0, passed.1))
 
 module _ (key : List ℕ) (project : Option (List ℕ)) where
   abbrev params : Row
@@ -101,7 +90,7 @@ module _ (key : List ℕ) (project : Option (List ℕ)) where
         let p = passes (has_key 1) params in
         let numbers = all_map HasNumber written (filter p rows) (all_weaker IsStudentRow (λ r. HasNumber (written r)) numbered (filter p rows) (all-filter IsStudentRow p rows formed)) in
         let a = subst (λ q. AltersIn s 6 q written old.now new.now) (same_key_of 1 key (text_cell project ∷ []))
-        (altered s update_one 3 _ 6 _ _ _ _ _ _ _ _ refl (has_key 1) with_last (update_one_is.command w.o.checks w.o.terms) (update_one_is.plain w.o.checks w.o.terms) (no_acts w.o.checks w.o.terms)
+        (altered s update_one 3 _ 6 _ _ _ _ _ _ _ _ refl (has_key 1) with_last (update_one_is.command w.o.checks w.o.terms) (update_one_is.plain w.o.checks w.o.terms) (no_acts w.o.checks w.o.terms student_tree)
         params old new h.count w.is apart numbers h.runs) in
         record {
           schema_is = a.schema_is ∙ sym w.is;
@@ -143,5 +132,4 @@ assigns_then all x a b c first later own sound apart =
 
 -- a loop's turn: the student at i
 pub assigns_next : (all : List Assigned) (i : ℕ) (x : Assigned) (a b c : Database) → i < length all → x ≡ get_or all i x → Assigns (take i all) a b → Assigns (x ∷ []) b c → Assigns (take (i + 1) all) a c
-assigns_next all i x a b c within is was more =
-    subst (λ l. Assigns l a c) (ap (λ z. take i all ++ z ∷ []) is ∙ sym (take_more all i x within)) (assigns_then (take i all) x a b c was more)
+assigns_next all i x a b c within is was more = subst (λ l. Assigns l a c) (sym (next_item all i x is within)) (assigns_then (take i all) x a b c was more)

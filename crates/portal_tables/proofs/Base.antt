@@ -1,42 +1,70 @@
 -- Names from below that the proofs use.
-pub use Rattle.portal_tables.specs.Base.{Person, put, Key, Rise, has, equals, is_before, Phase, Round, First, Second, LecturerRow, Listing, ProjectRow, StudentRow, is_key, created, Binary, id_in, is_taken, next_rowid, Database, IsDatabase, Held, state, Integer, Cells, Row, bytes, column, Schema, Begins, HasCleanDisk, IsRolledBack, IsUnchanged, KeepsCommit, Shows, State, Survives, Ghosts, Table, Term, col, lit, op2, Trees, put_row, rowid, bound, Error, Transaction, Value, Blob, Int, Null, Real, Words, Column, Index, Reference, key_cmp, Compare, Eq, number_in, ascending, Order, Bool, Err, IfOk, IsTrue, List, None, Ok, OnErr, OnOk, Option, Result, Some, Vec, [], codes, false, filter, length, map, not, option_map, pos, slice_index_or, take, true, ℕ, ℤ, slice_cmp, AllByRecursion, AllZip, filter_map, find, flat_map, list_any, IsPermutation, IsSorted, is_eq, is_lt, nat_cmp, ⊤, Global}
+unfoldable pub use Rattle.sqlite.specs.Listing.{understood}
+unfoldable pub use Rattle.sqlite.specs.Ops.{binary, unary}
+unfoldable pub use Rattle.sqlite.specs.Order.{value_cmp}
+unfoldable pub use Rattle.sqlite.specs.State.{FailsToQuery, IsNotRun, Shown}
+unfoldable pub use Rattle.sqlite_tied.specs.Compute.{everything}
+unfoldable pub use Rattle.std.specs.List.{IsDistinct}
+pub use lib.Dec.{lt→ltb}
+pub use Rattle.std.proofs.Common.{add-one, ap, ap₂, cond, drop, eqb, get_or, inl, inr, int_cmp, negsuc, refl, slice_get, subst, subst₂, suc, sym, zero, zero-add, ◌∙◌, arith, rules, ◌/◌}
+pub use Rattle.std.proofs.Math.Bool.{and-false, and-true, or-true}
+pub use Rattle.std.proofs.lemmas.Bool.{and_parts, cases_Bool, cases_lt, eq-eqb, eqb-false, or_parts}
+pub use Rattle.std.proofs.lemmas.Cmp.{nat_list_cmp_total, tied_itself}
+pub use Rattle.std.proofs.lemmas.Fn.{always_returns_same}
+pub use Rattle.std.proofs.lemmas.Grind.{common_steps}
+pub use Rattle.std.proofs.lemmas.List.{append-nil, append_assoc, length-map, length-take-le, length_push, map-append, map-id, nil_from_length, take-append-drop, take_all, take_more}
+pub use Rattle.std.proofs.lemmas.List.Elements.{filter-append, filter_map-append}
+pub use Rattle.std.proofs.lemmas.List.Sorted.{IsPermutation-append_left, IsPermutation-append_right, IsPermutation-cons, IsPermutation-filter_both, IsPermutation-map, IsPermutation-middle, IsPermutation-refl, IsPermutation-sym, IsPermutation-to_front, IsPermutation-trans, length_permutation, list_any-IsPermutation, searchable_from_sorted}
+pub use Rattle.std.proofs.lemmas.Map.Keys.{IsDistinct-IsPermutation}
+pub use Rattle.std.proofs.lemmas.Map.Lookups.{exact_bytes}
+pub use Rattle.std.proofs.lemmas.Result.{IfOk-from_err, IfOk-weaker, MatchResult-weaker, on_err_weaker, on_ok_weaker, IfErr-at_err, IfErr-weaker}
+pub use Rattle.std.specs.Borrow.{Bor}
+pub use Rattle.std.specs.Cmp.{int_cmp_is, nat_cmp_is, Equal-is}
+pub use Rattle.std.specs.Cmp.Lexicographic.{texts_ties}
+pub use Rattle.std.specs.List.{cons_option, list_all}
+pub use Rattle.std.specs.Ordering.{is_gt, match_ordering, ordering_reverse, ordering_then}
+pub use Rattle.std.specs.Prelude.{IfErr, IfSome, if◌then◌else◌, option_copied, ◌&&◌, ◌++◌, ◌+◌, ◌<◌, ◌==◌, ◌||◌, ◌∷◌, ◌≡◌, ◌≢◌, ◌≤◌, ◌⊎◌, ◌<ℤ◌, MatchResult, ◌↔◌}
+pub use Rattle.std.specs.Result.{IsErr, IsErrAnd}
+pub use Rattle.std.specs.declared.cmp.Ordering.{Ordering}
+pub use Rattle.std.specs.declared.cmp.Ordering.TheVariants.{Equal, Greater, Less}
 pub use Rattle.portal_core.proofs.Adjacent.{adjacent_rise, rows_sorted}
-pub use Rattle.portal_core.proofs.AllLaws.{all_append, all_map, all_weaker, any_map, filtered_any, is_sym}
+pub use Rattle.portal_core.proofs.AllLaws.{all_append, all_map, all_weaker, any_map, filtered_any, is_sym, none_is}
 pub use Rattle.portal_core.proofs.Fills.{before_other}
 pub use Rattle.portal_core.proofs.Keys.{all_unmap, is_own, is_same, not_before_itself}
-pub use Rattle.portal_core.proofs.Puts.{after_other, before_trans}
-pub use Rattle.portal_tables.specs.Rows.{RowNumbersDiffer, has_text, row_key, Assigned, portal_cells, portal_row, second_cells, second_row}
-pub use Rattle.portal_tables.specs.inner.Changes.{AreNew, Becomes, Drops, ListsBy, InsertsRows, Sets, columns, every, has_number, with_rows}
-pub use Rattle.portal_tables.specs.inner.Decoding.{FindsAny, ShowsAs}
-pub use Rattle.portal_tables.specs.ListTables.{add_eight_text, add_text, clear_text, names, place_among, round_of, tree_of}
-pub use Rattle.portal_tables.specs.Lists.{CountUp, IsWhole, by_place, chosen, list_in_order, named_by, of_key, place_key, place_of, placed_project, second_placement}
-pub use Rattle.portal_tables.specs.Making.{Creates, IsFresh, Upgrades}
-pub use Rattle.portal_tables.specs.inner.Making.{Grown, Grows, Makes, MakesFirst, MakesSecond, with_second}
-pub use Rattle.portal_tables.specs.Names.{is_named_table, is_named_view}
-pub use Rattle.portal_tables.specs.Office.{HasOffice, IsOffice, IsSecond, number_of_phase}
-pub use Rattle.portal_tables.specs.Schema.{HasRound, IsCurrentSchema, IsFirstSchema, HasFirstSchema, SameTable}
-pub use Rattle.portal_tables.specs.inner.Owners.{IsRead, choice_shown, entry, has_list, with_list}
-pub use Rattle.portal_tables.specs.inner.Placements.{pair_shown, placement_asked, placement_shown, result_shown}
-pub use Rattle.portal_tables.specs.inner.Putting.{PutsList, PutsPlacements, RanksSecond, list_cells, numbered, placed}
-pub use Rattle.portal_tables.specs.inner.Queries.{columns_of, given, roll_tree, round_asked, selection, table_round, table_tree, query_text}
-pub use Rattle.portal_tables.specs.Steps.{RunsQueryIn, Commits, IsAfter, IsUnchangedOrUndone, Stays}
-pub use Rattle.portal_tables.specs.inner.Reading.{RunsQueries, RunsQueriesIn}
-pub use Rattle.portal_tables.specs.inner.Rising.{is_above, rises}
-pub use Rattle.portal_tables.specs.inner.Rolls.{by_key}
-pub use Rattle.portal_tables.specs.inner.Rows.{Adds, AddsBy, Assigns, Clears, IsOfVersion, MovesSecond, MovesTo, Ranks, assigned_by, lecturer_cells, lecturer_new, lecturer_values, pair_new, place_cells, place_new, project_new, student_new, student_columns, student_values, text_cell, with_assigned}
-pub use Rattle.portal_tables.specs.inner.Shown.{as_list, first_cell, shown_name, shown_rank}
-pub use Rattle.portal_tables.specs.inner.Steps.{Does, GoesOn, Made, Ran}
-pub use Rattle.portal_tables.specs.Tables.{assigned2, assigned2_tree, choice, choice2, choice2_names, choice2_tree, choice_names, choice_tree, column_of, first_schema, first_trees, first_version, lecturer_schema, lecturer_tree, list_table, no_schema, own_trees, portal, portal_schema, portal_tree, project_schema, project_tree, ranked2, ranked2_tree, ranking, ranking2, ranking2_names, ranking2_tree, ranking_names, ranking_tree, second, second_tree, second_trees, student_schema, student_tree, schema_of, version}
-pub use Rattle.portal_tables.specs.inner.Tables.{assigned2_text, lecturer_text, list_table_text, portal_text, project_text, ranked2_text, second_text, student_text}
+pub use Rattle.portal_core.proofs.Puts.{after_other, before_trans, rise_put, less_of}
+pub use Rattle.portal_core.specs.Words.{is_empty}
+pub use Rattle.portal_tables.specs.Making.{Creates, IsFresh, Upgrades, is_named_table, is_named_view}
+pub use Rattle.portal_tables.specs.Rows.{RowNumbersDiffer, has_text, row_key, Assigned, portal_cells, portal_row, second_cells, second_row, CountUp, IsWhole, by_place, chosen, list_in_order, named_by, of_key, place_key, place_of, placed_project, second_placement, HasOffice, number_of_phase}
+pub use Rattle.portal_tables.specs.Steps.{Commits, IsAfter, IsUnchangedOrUndone, Stays, Reading, Anyhow, Gives}
+pub use Rattle.portal_tables.specs.Tables.{tree_of, HasRound, IsCurrentSchema, IsFirstSchema, HasFirstSchema, SameTable, assigned2, assigned2_tree, choice, choice2, choice2_names, choice2_tree, choice_names, choice_tree, column_of, first_schema, first_trees, first_version, lecturer_schema, lecturer_tree, list_table, no_schema, own_trees, portal, portal_schema, portal_tree, project_schema, project_tree, ranked2, ranked2_tree, ranking, ranking2, ranking2_names, ranking2_tree, ranking_names, ranking_tree, second, second_tree, second_trees, student_schema, student_tree, schema_of, version}
 pub use Rattle.portal_tables.specs.declared.fault.TableFault.{TableFault}
+pub use Rattle.portal_tables.specs.declared.fault.TableFault.TheVariants.{Damaged, Memory}
 pub use Rattle.portal_tables.specs.declared.insert.lists.NewPlace.{NewPlace}
 pub use Rattle.portal_tables.specs.declared.list_table.Lists.{Lists}
 pub use Rattle.portal_tables.specs.declared.list_table.Lists.TheVariants.{Choices, Rankings, SecondChoices, SecondRankings}
 pub use Rattle.portal_tables.specs.declared.select.Query.TheVariants.{AllLists, Choosers, LecturerByCode, LecturerByKey, ListOf, Listed, Numbers, ProjectsOf, SecondPlaceOf, SecondRankedBy, StudentByCode, StudentTold, Whole}
 pub use Rattle.portal_tables.specs.declared.select.Roll.TheVariants.{Lecturers, Projects, Students}
+pub use Rattle.portal_tables.specs.declared.select.Table.{Table as Named}
 pub use Rattle.portal_tables.specs.declared.select.Table.TheVariants.{OfLists, OfPlaces, OfRanked, OfRoll}
-pub use Rattle.sqlite.proofs.Callers.{EndsIn, IsPlain, begins_shown, begun_plain, command_of, given_begin, memory_is_clean, never_commits, one_permutation, one_step, reads_as, runs_as, statement_of, survives_begin}
-pub use Rattle.sqlite.proofs.StateLemmas.{survives_then, survives_weaker}
+pub use Rattle.portal_tables.specs.inner.Base.{Person, put, Key, Rise, has, equals, is_before, Phase, Round, First, Second, LecturerRow, Listing, ProjectRow, StudentRow, is_key, created, Binary, id_in, is_taken, next_rowid, Database, IsDatabase, Held, state, Integer, Cells, Row, bytes, column, Schema, Begins, HasCleanDisk, IsRolledBack, IsUnchanged, KeepsCommit, Shows, State, Survives, Ghosts, Table, Term, col, lit, op2, Trees, put_row, rowid, bound, Error, Transaction, Value, Blob, Int, Null, Real, Words, Column, Index, Reference, key_cmp, Compare, Eq, number_in, ascending, Order, Bool, Err, IfOk, IsTrue, List, None, Ok, OnErr, OnOk, Option, Result, Some, Vec, [], codes, false, filter, length, map, not, option_map, pos, slice_index_or, take, true, ℕ, ℤ, slice_cmp, AllByRecursion, AllZip, filter_map, find, flat_map, list_any, IsPermutation, IsSorted, is_eq, is_lt, nat_cmp, ⊤, Global, IsStudent}
+pub use Rattle.portal_tables.specs.inner.Changes.{AreNew, Becomes, Drops, ListsBy, InsertsRows, Sets, columns, every, has_number, with_rows}
+pub use Rattle.portal_tables.specs.inner.Decoding.{FindsAny, ShowsAs, Refuses}
+pub use Rattle.portal_tables.specs.inner.MakingSteps.{Grown, Grows, Makes, MakesFirst, MakesSecond, with_second}
+pub use Rattle.portal_tables.specs.inner.Owners.{IsRead, choice_shown, entry, has_list, with_list, AreEntriesOf, IsFine, IsListOf}
+pub use Rattle.portal_tables.specs.inner.Placements.{pair_shown, placement_asked, placement_shown, result_shown, pair_told, HasKeys, HasPlacementAsked}
+pub use Rattle.portal_tables.specs.inner.Putting.{PutsList, PutsPlacements, RanksSecond, list_cells, numbered, placed}
+pub use Rattle.portal_tables.specs.inner.Queries.{columns_of, given, roll_tree, round_asked, selection, table_round, table_tree, query_text}
+pub use Rattle.portal_tables.specs.inner.Reads.{IfOpen, Always, Blames}
+pub use Rattle.portal_tables.specs.inner.Rising.{is_above, rises}
+pub use Rattle.portal_tables.specs.inner.Rolls.{by_key}
+pub use Rattle.portal_tables.specs.inner.RowChanges.{IsOffice, IsSecond, Adds, AddsBy, Assigns, Clears, IsOfVersion, MovesSecond, MovesTo, Ranks, assigned_by, lecturer_cells, lecturer_new, lecturer_values, pair_new, place_cells, place_new, project_new, student_new, student_columns, student_values, text_cell, with_assigned}
+pub use Rattle.portal_tables.specs.inner.Running.{Does, GoesOn, Made, Ran}
+pub use Rattle.portal_tables.specs.inner.Shown.{as_list, first_cell, shown_name, shown_rank, shown_student}
+pub use Rattle.portal_tables.specs.inner.Texts.{add_eight_text, add_text, clear_text, names, place_among, round_of, assigned2_text, lecturer_text, list_table_text, portal_text, project_text, ranked2_text, second_text, student_text}
+pub use Rattle.sqlite.proofs.Callers.{EndsIn, IsPlain, begins_shown, begun_plain, command_of, given_begin, memory_is_clean, never_commits, one_permutation, one_step, reads_as, runs_as, statement_of, survives_begin, unchanged_then}
+pub use Rattle.sqlite.proofs.InsideLemmas.{keeps_then as kept_then}
+pub use Rattle.sqlite.proofs.StateLemmas.{survives_then, survives_weaker, unchanged}
+pub use Rattle.sqlite.proofs.StreamLemmas.{rolled_back_since}
 pub use Rattle.sqlite.specs.Cast.{cast, cast_row}
 pub use Rattle.sqlite.specs.Change.{next_tree}
 pub use Rattle.sqlite.specs.Clock.{timed}
@@ -44,19 +72,15 @@ pub use Rattle.sqlite.specs.Command.TheVariants.{CreateTable, Delete, Insert, Se
 pub use Rattle.sqlite.specs.Compile.{table_defined_by}
 pub use Rattle.sqlite.specs.Does.{Tally, lacks_sequence}
 pub use Rattle.sqlite.specs.Edit.{Edit, are_fresh, edit_of, put_all, taken_by, without_all}
-pub use Rattle.sqlite.specs.Effect.{Answers, value_rows}
-pub use Rattle.sqlite.specs.Given.{Advances, HasGiven}
-unfoldable pub use Rattle.sqlite.specs.Listing.{understood}
+pub use Rattle.sqlite.specs.Effect.{Answers, value_rows, Reads}
+pub use Rattle.sqlite.specs.Given.{Advances, HasGiven, IsRefused}
 pub use Rattle.sqlite.specs.Listing.{IsSourceOf, reads_listing}
-unfoldable pub use Rattle.sqlite.specs.Ops.{binary, unary}
 pub use Rattle.sqlite.specs.Ops.{from_truth, is_true}
-unfoldable pub use Rattle.sqlite.specs.Order.{value_cmp}
 pub use Rattle.sqlite.specs.Program.{IsProgramAnswer}
 pub use Rattle.sqlite.specs.Query.{IsAnswer, Output, Query, end, inner, output}
 pub use Rattle.sqlite.specs.Rowids.TheVariants.{Chosen, Given}
 pub use Rattle.sqlite.specs.Rows.{Edited, Written}
 pub use Rattle.sqlite.specs.Source.TheVariants.{Values}
-unfoldable pub use Rattle.sqlite.specs.State.{FailsToQuery, IsNotRun, Shown}
 pub use Rattle.sqlite.specs.State.{Executes, FailsToShow, ShowsRows, Writes, mode_of}
 pub use Rattle.sqlite.specs.Steps.{FailsToCommit}
 pub use Rattle.sqlite.specs.Term.{eval_all, holds}
@@ -71,7 +95,7 @@ pub use Rattle.sqlite_exec.proofs.PartitionLemmas.{ascending_from_sorted}
 pub use Rattle.sqlite_exec.proofs.RowsLemmas.{IsSorted-map}
 pub use Rattle.sqlite_exec.proofs.RunLemmas.{answer_alone}
 pub use Rattle.sqlite_resolve.specs.declared.compiled.Compiled.{Compiled}
-pub use Rattle.sqlite_rules.proofs.ListLemmas.{all_has}
+pub use Rattle.sqlite_rules.proofs.ListLemmas.{all_from, all_has, all_more, has_filtered, has_left, has_right, some_from}
 pub use Rattle.sqlite_rules.specs.Action.{deed_for, pairs, work_by, works}
 pub use Rattle.sqlite_rules.specs.Calls.{ids_of}
 pub use Rattle.sqlite_rules.specs.Lists.{Has}
@@ -84,37 +108,8 @@ pub use Rattle.sqlite_schema.specs.declared.schema.Constraint.TheVariants.{Datat
 pub use Rattle.sqlite_schema.specs.declared.schema.Keys.TheVariants.{Enforced}
 pub use Rattle.sqlite_sql.specs.Ops.{is_null}
 pub use Rattle.sqlite_sql.specs.Program.{Ends}
-unfoldable pub use Rattle.sqlite_tied.specs.Compute.{everything}
 pub use Rattle.sqlite_trees.proofs.Doubt.{no_doubt}
-pub use Rattle.sqlite_trees.proofs.ListLemmas.{IsPermutation-filter, all-append, all-filter, all-map, all_of, filter-map, map-map}
+pub use Rattle.sqlite_trees.proofs.ListLemmas.{IsPermutation-filter, all-append, all-filter, all-get_or, all-map, all_of, filter-map, filter_none, map-map}
 pub use Rattle.sqlite_trees.proofs.TreeLemmas.{all-put_row}
 pub use Rattle.sqlite_trees.specs.Tree.{IsAscending}
 pub use Rattle.sqlite_value.proofs.OrderLemmas.{then-Equal, value_cmp-Int, value_cmp-Text, value_cmp_total}
-pub use Rattle.std.proofs.Common.{add-one, ap, ap₂, cond, drop, eqb, get_or, inl, inr, int_cmp, negsuc, refl, slice_get, subst, subst₂, suc, sym, zero, zero-add, ◌∙◌}
-pub use Rattle.std.proofs.Math.Bool.{and-false, and-true, or-true}
-pub use Rattle.std.proofs.lemmas.Bool.{and_parts, cases_Bool, cases_lt, eq-eqb, eqb-false, or_parts}
-pub use Rattle.std.proofs.lemmas.Cmp.{nat_list_cmp_total, tied_itself}
-pub use Rattle.std.proofs.lemmas.Fn.{always_returns_same}
-pub use Rattle.std.proofs.lemmas.List.{append-nil, append_assoc, length-map, length-take-le, length_push, map-append, map-id, nil_from_length, take-append-drop, take_all, take_more}
-pub use Rattle.std.proofs.lemmas.List.Elements.{filter-append, filter_map-append}
-pub use Rattle.std.proofs.lemmas.List.Sorted.{IsPermutation-append_left, IsPermutation-append_right, IsPermutation-cons, IsPermutation-filter_both, IsPermutation-map, IsPermutation-middle, IsPermutation-refl, IsPermutation-sym, IsPermutation-to_front, IsPermutation-trans, length_permutation, list_any-IsPermutation, searchable_from_sorted}
-pub use Rattle.std.proofs.lemmas.Map.Keys.{IsDistinct-IsPermutation}
-pub use Rattle.std.proofs.lemmas.Map.Lookups.{exact_bytes}
-pub use Rattle.std.proofs.lemmas.Result.{IfOk-weaker, on_err_weaker, on_ok_weaker}
-pub use Rattle.std.specs.Borrow.{Bor}
-pub use Rattle.std.specs.Cmp.{int_cmp_is, nat_cmp_is}
-pub use Rattle.std.specs.Cmp.Lexicographic.{texts_ties}
-unfoldable pub use Rattle.std.specs.List.{IsDistinct}
-pub use Rattle.std.specs.List.{cons_option, list_all}
-pub use Rattle.std.specs.Ordering.{is_gt, match_ordering, ordering_reverse, ordering_then}
-pub use Rattle.std.specs.Prelude.{IfErr, IfSome, if◌then◌else◌, option_copied}
-pub use Rattle.std.specs.Result.{IsErr}
-pub use Rattle.std.specs.declared.cmp.Ordering.{Ordering}
-pub use Rattle.std.specs.declared.cmp.Ordering.TheVariants.{Equal, Greater, Less}
-pub use lib.Dec.{lt→ltb}
-pub use Rattle.portal_tables.specs.declared.fault.TableFault.TheVariants.{Damaged}
-pub use Rattle.portal_tables.specs.inner.Decoding.{Refuses}
-pub use Rattle.portal_tables.specs.inner.Placements.{pair_told}
-pub use Rattle.std.proofs.Common.{arith, rules, ◌/◌}
-pub use Rattle.std.proofs.lemmas.Grind.{common_steps}
-pub use Rattle.std.specs.Prelude.{◌&&◌, ◌++◌, ◌+◌, ◌<◌, ◌==◌, ◌||◌, ◌∷◌, ◌≡◌, ◌≢◌, ◌≤◌, ◌⊎◌}

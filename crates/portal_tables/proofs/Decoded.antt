@@ -1,7 +1,7 @@
 -- Rows that are decoded one at a time, as they are read.
-use Rattle.portal_tables.proofs.Base.{◌≡◌, ◌∷◌, ◌++◌, IsPlain, Refuses, ℕ, Bool, true, false, refl, List, [], None, Some, Option, sym, ap, subst, ◌∙◌, map-append, map-id, timed, Error, EndsIn, begins_shown, Compiled, Database, HasGiven, Advances, Held, state, understood, reads_listing, IsSourceOf, Row, State, Begins, Shown, ShowsRows, IsUnchanged, Ok, Err, Result, IfOk, OnOk, OnErr, option_copied, Bor, AllByRecursion, ShowsAs, FindsAny}
+use Rattle.portal_tables.proofs.Base.{◌≡◌, ◌∷◌, ◌++◌, inl, all_has, has_left, has_right, IsPlain, Refuses, ℕ, Bool, true, false, refl, List, [], None, Some, Option, sym, ap, subst, ◌∙◌, map-append, map-id, timed, Error, EndsIn, begins_shown, Compiled, Database, HasGiven, Advances, Held, state, understood, reads_listing, IsSourceOf, Row, State, Begins, Shown, ShowsRows, IsUnchanged, IsUnchangedOrUndone, HasCleanDisk, FailsToQuery, Survives, survives_weaker, never_commits, unchanged, unchanged_then, Ok, Err, Result, IfOk, OnOk, OnErr, option_copied, Bor, AllByRecursion, ShowsAs, FindsAny, IsRefused, IfErr-at_err}
 use Rattle.sqlite_trees.specs.declared.store.Store.{Ghosts}
-use Rattle.portal_tables.proofs.InTurn.{unchanged_then, unchanged_self}
+use Rattle.portal_tables.proofs.Queries.{failed_leaves}
 
 -- what a connection shows that is as it was before is what it showed then
 pub shown_before : (sql : List ℕ) (params : Row) (a b c : State) (rows : List Row) → IsPlain (understood a.now.schema sql) → IsUnchanged a b → Shown sql params b c rows → Shown sql params a c rows
@@ -16,10 +16,18 @@ shown_before sql params a b c rows plain m h =
       subst (ShowsRows a c sql h.0 full rows) (sym none) (it.0, subst (λ (d : Database). IsSourceOf (reads_listing d.schema sql) d it.0) m.0.now_is it.1, it.2, unchanged_then a b c m it.3),
     )
 
--- what an answer that is known says
-pub at_err : {V E : Type 0} (r : Result V E) (e : E) (A : Type 0) → r ≡ Err e → OnErr r A → A
-at_err {V = V} {E = E} r e A is h = subst (λ (x : Result V E). OnErr x A) is h
+-- a query that does not begin
+module _ {S X : Type 0} (g : Ghosts S) (sql : List ℕ) (params : Row) (old new : Held S) (r : Result X Error) (e : Error) (is : r ≡ Err e) (refused : OnErr r (IsRefused g sql params old r new)) where
+  it : IsRefused g sql params old r new
+  it = IfErr-at_err (λ _. IsRefused g sql params old r new) is refused
 
+  pub refused_leaves : IsPlain (understood old.schema sql) → HasCleanDisk (state g new) → IsUnchangedOrUndone (state g old) (state g new)
+  refused_leaves plain clean = failed_leaves sql params (state g old) (state g new) e plain (IfErr-at_err (FailsToQuery sql params (state g old) (state g new)) is (it.err clean))
+
+  pub refused_survives : Survives (state g old) (state g new) (λ _. IsPlain (understood old.schema sql) → ⊥)
+  refused_survives = survives_weaker (state g old) (state g new) _ _ (λ _ db made plain. never_commits sql params (state g old) db plain made) it.survives
+
+-- what an answer that is known says
 pub at_ok : {V E : Type 0} (r : Result V E) (v : V) (A : Type 0) → r ≡ Ok v → OnOk r A → A
 at_ok {V = V} {E = E} r v A is h = subst (λ (x : Result V E). OnOk x A) is h
 
@@ -64,20 +72,17 @@ found_any IsShown sql params old new plain known ends (Ok false) same none some 
 found_any IsShown sql params old new plain known ends (Ok true) same none some =
     let one = some refl in
     let back : (c : Compiled) → understood new.now.schema sql ≡ Ok c → understood old.now.schema sql ≡ Ok c = λ c. subst (λ (d : Database). understood d.schema sql ≡ Ok c) same.0.now_is in
-    let all = begins_shown sql params new new (one.0 ∷ []) one.1 (unchanged_self new same.0.is_open) (λ c db it source. ends c (back c it.is) db (timed params c.formats it.now)) in
+    let all = begins_shown sql params new new (one.0 ∷ []) one.1 (unchanged new same.0.is_open) (λ c db it source. ends c (back c it.is) db (timed params c.formats it.now)) in
     record { rows = one.0 ∷ all.0; shown = known (one.0 ∷ all.0) (shown_before sql params old new new (one.0 ∷ all.0) plain same all.1); told = refl }
 found_any IsShown sql params old new plain known ends (Err e) same none some = tt
 
 -- a row that was refused is one of those that are shown
-one_of : (P : Row → Type 0) (before : List Row) (row : Row) (more : List Row) → AllByRecursion P ((before ++ row ∷ []) ++ more) → P row
-one_of P [] row more all = all.0
-one_of P (r ∷ before) row more all = one_of P before row more all.1
-
 pub none_refused : (is_fine : Row → Type 0) (IsShown : List Row → Type 0) (sql : List ℕ) (params : Row) (old new : State) → IsPlain (understood old.now.schema sql) → ((rows : List Row) → Shown sql params old new rows → IsShown rows)
     → ((c : Compiled) → understood old.now.schema sql ≡ Ok c → (db : Database) (full : Row) → EndsIn c.command db full)
     → Refuses is_fine sql params old new → ((rows : List Row) → IsShown rows → AllByRecursion is_fine rows) → ⊥
 none_refused is_fine IsShown sql params old new plain known ends h fine =
     let first : List Row = h.before ++ h.row ∷ [] in
     let back : (c : Compiled) → understood new.now.schema sql ≡ Ok c → understood old.now.schema sql ≡ Ok c = λ c. subst (λ (d : Database). understood d.schema sql ≡ Ok c) h.same.0.now_is in
-    let all = begins_shown sql params new new first h.begins (unchanged_self new h.same.0.is_open) (λ c db it source. ends c (back c it.is) db (timed params c.formats it.now)) in
-    h.refused (one_of is_fine h.before h.row all.0 (fine (first ++ all.0) (known (first ++ all.0) (shown_before sql params old new new (first ++ all.0) plain h.same all.1))))
+    let all = begins_shown sql params new new first h.begins (unchanged new h.same.0.is_open) (λ c db it source. ends c (back c it.is) db (timed params c.formats it.now)) in
+    let there = has_left first all.0 h.row (has_right h.before (h.row ∷ []) h.row (inl refl)) in
+    h.refused (all_has is_fine (first ++ all.0) h.row (fine (first ++ all.0) (known (first ++ all.0) (shown_before sql params old new new (first ++ all.0) plain h.same all.1))) there)

@@ -1,118 +1,139 @@
--- Several readings in turn.
-use Rattle.portal_tables.proofs.Base.{◌≡◌, arith, IsErr, List, Lists, subst₂, IfOk, inl, inr, IsTrue, Ok, Err, Result, OnOk, refl, sym, subst, ◌∙◌, Database, State, HasCleanDisk, IsUnchanged, Survives, survives_then, survives_weaker, Round, HasFirstSchema, HasRound, IsUnchangedOrUndone, on_ok_weaker, on_err_weaker, RunsQueryIn, RunsQueries, RunsQueriesIn}
-use Rattle.portal_tables.proofs.Owned.{round_own}
+-- Reads in turn, and what follows of what they tell.
+use Rattle.portal_tables.proofs.Base.{◌≡◌, ◌<◌, ◌≤◌, arith, ℕ, length, get_or, ◌+◌, ◌++◌, ◌∷◌, [], AllByRecursion, all-get_or, take, take_more, Option, cons_option, filter_map, filter_map-append, IsErr, List, IfOk, inl, inr, Ok, Err, Result, OnOk, refl, sym, ap, ap₂, subst, ◌∙◌, Database, State, HasCleanDisk, IsUnchanged, Survives, survives_then, survives_weaker, unchanged, unchanged_then, rolled_back_since, Round, First, Second, HasRound, IsUnchangedOrUndone, on_ok_weaker, on_err_weaker, Reading, Anyhow, IfOpen, TableFault, Damaged, MatchResult, IsErrAnd, Memory, Blames}
+use Rattle.portal_tables.proofs.Owned.{current_own}
+use Rattle.portal_tables.proofs.Queries.{on_err}
 
-pub unchanged_then : (a b c : State) → IsUnchanged a b → IsUnchanged b c → IsUnchanged a c
-unchanged_then a b c p q = (
-  record { was_open = p.0.was_open; is_open = q.0.is_open; now_is = q.0.now_is ∙ p.0.now_is; committed_is = q.0.committed_is ∙ p.0.committed_is; mode = q.0.mode ∙ p.0.mode },
-  record { changes = q.1.changes ∙ p.1.changes; last_rowid = q.1.last_rowid ∙ p.1.last_rowid },
-  q.2 ∙ p.2,
-)
-
-pub unchanged_self : (s : State) → IsTrue s.is_open → IsUnchanged s s
-unchanged_self s on = (record { was_open = on; is_open = on; now_is = refl; committed_is = refl; mode = refl }, record { changes = refl; last_rowid = refl }, refl)
-
-pub then_leaves : (a b c : State) → IsUnchanged a b → IsUnchangedOrUndone b c → IsUnchangedOrUndone a c
-then_leaves a b c p (inl q) = inl (unchanged_then a b c p q)
-then_leaves a b c p (inr q) = inr (record {
-  was_open = λ _. p.0.was_open;
-  undone = λ on. let u = q.undone on in (u.0 ∙ p.0.committed_is, u.1 ∙ p.0.committed_is);
-  autocommit = q.autocommit;
-  unmarked = q.unmarked;
-  counts = record { changes = q.counts.changes ∙ p.1.changes; last_rowid = q.counts.last_rowid ∙ p.1.last_rowid };
-})
-
-pub still_own : (a b : State) → IsUnchanged a b → HasFirstSchema a.now.schema → HasFirstSchema b.now.schema
-still_own a b h own = subst (λ (d : Database). HasFirstSchema d.schema) (sym h.0.now_is) own
+then_leaves : (a b c : State) → a.faults ≤ b.faults → IsUnchanged a b → IsUnchangedOrUndone b c → IsUnchangedOrUndone a c
+then_leaves a b c counts p (inl q) = inl (unchanged_then a b c p q)
+then_leaves a b c counts p (inr q) = inr (rolled_back_since a b c p counts q)
 
 pub clean_before : (b c : State) (P : _) → Survives b c P → HasCleanDisk c → HasCleanDisk b
 clean_before b c P h clean = omega (arith, h.clean, clean)
 
-pub reads_self : {round : Round} {V E : Type 0} (v : V) (s : State) → RunsQueriesIn round {V = V} {E = E} (Ok v) s s
-reads_self v s = record {
-  same = λ own clean on. unchanged_self s on;
-  err = λ own clean on. tt;
-  now = λ own clean. refl;
-  mode = λ idle. idle;
-  crash = record { clean = omega arith; shield = λ h. h; counts = omega arith; limit = refl; closes = λ clean on. inl on; crash = λ clean db h. inl h };
-}
+module _ {round : Round} {Right : Database → Type 0} {V E : Type 0} {Told : Database → Result V E → Type 0} where
+  -- no query is made
+  pub reads_self : {r : Result V E} {s : State} → (HasRound round s.now.schema → Right s.now → Told s.now r) → Reading round IfOpen Right Told r s s
+  reads_self {r} {s} told = record {
+    same = λ own clean on. on_ok r (unchanged s on);
+    err = λ own clean on. on_err (IsUnchangedOrUndone s s) r (inl (unchanged s on));
+    now = λ own clean. on_ok r refl;
+    mode = λ idle. idle;
+    crash = record { clean = omega arith; shield = λ h. h; counts = omega arith; limit = refl; closes = λ clean on. inl on; crash = λ clean db h. inl h };
+    told = λ own right clean. told own right;
+  }
+    where
+      on_ok : {V E A : Type 0} (r : Result V E) → A → OnOk r A
+      on_ok (Ok v) h = h
+      on_ok (Err e) h = tt
 
--- another reading after one that answered
-pub reads_then : {round : Round} {U V D E : Type 0} (u : U) (r : Result V E) (a b c : State) → RunsQueriesIn round {V = U} {E = D} (Ok u) a b → RunsQueriesIn round r b c → RunsQueriesIn round r a c
-reads_then {round} u r a b c p q =
-    let still : (a b : State) → IsUnchanged a b → HasRound round a.now.schema → HasRound round b.now.schema = λ a b h own. subst (λ (d : Database). HasRound round d.schema) (sym h.0.now_is) own in
-    let before : HasCleanDisk c → HasCleanDisk b = clean_before b c _ q.crash in
-    let middle : HasRound round a.now.schema → HasCleanDisk c → IsTrue a.is_open → IsUnchanged a b = λ own clean on. p.same own (before clean) on in
-    record {
-      same = λ own clean on. let m = middle own clean on in on_ok_weaker r (unchanged_then a b c m) (q.same (still a b m own) clean m.0.is_open);
-      err = λ own clean on. let m = middle own clean on in on_err_weaker r (then_leaves a b c m) (q.err (still a b m own) clean m.0.is_open);
-      now = λ own clean.
-          let m : b.now ≡ a.now = p.now own (before clean) in
-          on_ok_weaker r (λ e. e ∙ m) (q.now (subst (λ (d : Database). HasRound round d.schema) (sym m) own) clean);
-      mode = λ idle. q.mode (p.mode idle);
-      crash = survives_then a b c _ _ _ (λ clean db no. no) (λ clean db no own on. let m = middle own clean on in no (still a b m own) m.0.is_open) p.crash q.crash;
+  module _ {r : Result V E} {a b : State} where
+    -- a query is sure to be made, and perhaps none is
+    pub reads_open : {On : State → Type 0} → Reading round Anyhow Right Told r a b → Reading round On Right Told r a b
+    reads_open h = record { same = λ own clean on. h.same own clean tt; err = λ own clean on. h.err own clean tt; now = h.now; mode = h.mode; crash = survives_weaker a b _ _ (λ clean db no own on. no own tt) h.crash; told = h.told }
+
+    -- of the tables of more rounds, and of a database of which more is known
+    pub reads_of : {there : Round} {Known : Database → Type 0} {On : State → Type 0} → (HasRound there a.now.schema → HasRound round a.now.schema) → (HasRound there a.now.schema → Known a.now → Right a.now)
+        → Reading round On Right Told r a b → Reading there On Known Told r a b
+    reads_of wide right h = record {
+      same = λ own. h.same (wide own);
+      err = λ own. h.err (wide own);
+      now = λ own. h.now (wide own);
+      mode = h.mode;
+      crash = survives_weaker a b _ _ (λ clean db no own. no (wide own)) h.crash;
+      told = λ own known. h.told (wide own) (right own known);
     }
 
--- the same reading, whatever is answered then
-pub reads_more : {round : Round} {U V D E : Type 0} (u : U) (r : Result V E) (a b : State) → RunsQueriesIn round {V = U} {E = D} (Ok u) a b → RunsQueriesIn round r a b
-reads_more u (Ok v) a b h = record { same = h.same; err = λ own clean on. tt; now = h.now; mode = h.mode; crash = h.crash }
-reads_more u (Err e) a b h = record { same = λ own clean on. tt; err = λ own clean on. inl (h.same own clean on); now = λ own clean. tt; mode = h.mode; crash = h.crash }
+    -- of more rounds alone
+    pub reads_wide : {there : Round} {On : State → Type 0} → (HasRound there a.now.schema → HasRound round a.now.schema) → Reading round On Right Told r a b → Reading there On Right Told r a b
+    reads_wide wide h = reads_of wide (λ own right. right) h
 
-pub reads_fail : {round : Round} {U V D E : Type 0} (d : D) (e : E) (a b : State) → RunsQueriesIn round {V = U} {E = D} (Err d) a b → RunsQueriesIn round {V = V} {E = E} (Err e) a b
-reads_fail d e a b h = record { same = λ own clean on. tt; err = h.err; now = λ own clean. tt; mode = h.mode; crash = h.crash }
+pub reads_both : {On : State → Type 0} {Right : Database → Type 0} {V E : Type 0} {Told : Database → Result V E → Type 0} {r : Result V E} {a b : State} → Reading First On Right Told r a b → Reading Second On Right Told r a b
+reads_both {a = a} h = reads_wide (current_own a.now.schema) h
 
--- one query
-pub reads_of : {round : Round} {V E : Type 0} (r : Result V E) (a b : State) → RunsQueryIn round r a b → RunsQueriesIn round r a b
-reads_of r a b h = record {
-  same = λ own clean on. h.same own clean;
-  err = λ own clean on. h.err own clean;
-  now = λ own clean. on_ok_weaker r (λ u. u.0.now_is) (h.same own clean);
-  mode = h.mode;
-  crash = survives_weaker a b _ _ (λ clean db no own on. no own) h.crash;
-}
+module _ {round : Round} {On : State → Type 0} {Right : Database → Type 0} {U D : Type 0} {T : Database → Result U D → Type 0} where
+  -- the same read, where something else is made of its result: an error of each error
+  pub reads_as : {V E : Type 0} {Told : Database → Result V E → Type 0} {x : Result U D} {r : Result V E} {a b : State} → Reading round On Right T x a b → (IsErr x → IsErr r)
+      → (HasRound round a.now.schema → Right a.now → T a.now x → Told a.now r) → Reading round On Right Told r a b
+  reads_as {x = Ok u} {r = Ok v} h fails so = record { same = h.same; err = λ own clean on. tt; now = h.now; mode = h.mode; crash = h.crash; told = λ own right clean. so own right (h.told own right clean) }
+  reads_as {x = Ok u} {r = Err e} h fails so =
+      record { same = λ own clean on. tt; err = λ own clean on. inl (h.same own clean on); now = λ own clean. tt; mode = h.mode; crash = h.crash; told = λ own right clean. so own right (h.told own right clean) }
+  reads_as {x = Err d} {r = Ok v} h fails so = let no = fails refl in absurd (cc)
+  reads_as {x = Err d} {r = Err e} h fails so =
+      record { same = λ own clean on. tt; err = h.err; now = λ own clean. tt; mode = h.mode; crash = h.crash; told = λ own right clean. so own right (h.told own right clean) }
 
--- what is answered, by what was found while it was read
-pub named : {X E V : Type 0} (items : V → List X) (r : Result V E) (shown wanted : List X) {Up : Type 0} → (Up → shown ≡ wanted) → IfOk r (λ _. Up) → IfOk r (λ v. items v ≡ shown) → IfOk r (λ v. items v ≡ wanted)
-named items (Ok v) shown wanted same up is = is ∙ same up
-named items (Err e) shown wanted same up is = tt
+  -- what was answered is worked on
+  pub reads_more : {V E : Type 0} {Told : Database → Result V E → Type 0} {u : U} {r : Result V E} {a b : State} → Reading round On Right T (Ok u) a b
+      → (HasRound round a.now.schema → Right a.now → T a.now (Ok u) → Told a.now r) → Reading round On Right Told r a b
+  reads_more h so = reads_as h (λ no. absurd (cc)) so
+
+  -- an error is handed on
+  pub reads_handed : {V : Type 0} {Told : Database → Result V D → Type 0} {e : D} {r : Result V D} {a b : State} → IsErrAnd r (λ f. f ≡ e) → Reading round On Right T (Err e) a b
+      → (HasRound round a.now.schema → Right a.now → T a.now (Err e) → Told a.now (Err e)) → Reading round On Right Told r a b
+  reads_handed {r = Ok v} is h so = absurd is
+  reads_handed {Told = Told} {r = Err f} {a} {b} is h so = subst (λ f. Reading round On Right Told (Err f) a b) (sym is) (reads_as h (λ no. no) so)
+
+  -- there is not enough memory for what was answered
+  pub reads_short : {V : Type 0} {Told : Database → Result V TableFault → Type 0} {u : U} {r : Result V TableFault} {a b : State} → IsErrAnd r (λ f. f ≡ Memory) → Reading round On Right T (Ok u) a b
+      → (HasRound round a.now.schema → Right a.now → T a.now (Ok u) → Told a.now (Err Memory)) → Reading round On Right Told r a b
+  reads_short {r = Ok v} is h so = absurd is
+  reads_short {Told = Told} {r = Err f} {a} {b} is h so = subst (λ f. Reading round On Right Told (Err f) a b) (sym is) (reads_more h so)
+
+  -- another read after one that answered, each of the same tables: of a database of which something
+  -- is known by then, and of the same one
+  module _ {V E : Type 0} {N : Database → Result V E → Type 0} {u : U} {r : Result V E} {a b c : State} where
+    pub reads_then_of : {Known : Database → Type 0} → (HasRound round a.now.schema → (On a → IfOpen a) → Right a.now → T a.now (Ok u) → Known a.now) → Reading round On Right T (Ok u) a b → Reading round IfOpen Known N r b c
+        → Reading round On Right (λ db r. T db (Ok u) × N db r) r a c
+    reads_then_of {Known} known p q =
+        let before : HasCleanDisk c → HasCleanDisk b = clean_before b c _ q.crash in
+        let there : b.now ≡ a.now → HasRound round a.now.schema → HasRound round b.now.schema = λ same own. subst (λ (d : Database). HasRound round d.schema) (sym same) own in
+        let middle : HasRound round a.now.schema → HasCleanDisk c → On a → IsUnchanged a b = λ own clean on. p.same own (before clean) on in
+        record {
+          same = λ own clean on. let m = middle own clean on in on_ok_weaker r (unchanged_then a b c m) (q.same (there m.0.now_is own) clean m.0.is_open);
+          err = λ own clean on. let m = middle own clean on in on_err_weaker r (then_leaves a b c p.crash.counts m) (q.err (there m.0.now_is own) clean m.0.is_open);
+          now = λ own clean. let m = p.now own (before clean) in on_ok_weaker r (λ e. e ∙ m) (q.now (there m own) clean);
+          mode = λ idle. q.mode (p.mode idle);
+          crash = survives_then a b c _ _ _ (λ clean db no. no) (λ clean db no own on. let m = middle own clean on in no (there m.0.now_is own) m.0.is_open) p.crash q.crash;
+          told = λ own right clean.
+              let early = before clean in
+              let t = p.told own right early in
+              (t, subst (λ (d : Database). HasRound round d.schema → Known d → N d r) (p.now own early) (λ own known. q.told own known clean) own (known own (λ on. (p.same own early on).0.was_open) right t));
+        }
+
+    pub reads_then : Reading round On Right T (Ok u) a b → Reading round IfOpen Right N r b c → Reading round On Right (λ db r. T db (Ok u) × N db r) r a c
+    reads_then p q = reads_then_of (λ own on right told. right) p q
+
+-- an answer and an error, each by what is known of it
+pub answered : {V E : Type 0} (r : Result V E) (P : V → Type 0) (Q : E → Type 0) → IfOk r P → ((e : E) → r ≡ Err e → Q e) → MatchResult r P Q
+answered (Ok v) P Q ok err = ok
+answered (Err e) P Q ok err = err e refl
 
 -- two facts of one answer
 pub both : {V E : Type 0} (r : Result V E) (A B C : V → Type 0) → ((v : V) → A v → B v → C v) → IfOk r A → IfOk r B → IfOk r C
 both (Ok v) A B C more a b = more v a b
 both (Err e) A B C more a b = tt
 
-pub wholly : {V E : Type 0} (r : Result V E) (A B : Type 0) → (A → B) → IfOk r (λ _. A) → OnOk r B
-wholly (Ok v) A B more h = more h
-wholly (Err e) A B more h = tt
+-- an answer alone, by what is known of an answer and an error
+pub if_answered : {V E : Type 0} (r : Result V E) (P R : V → Type 0) (Q : E → Type 0) → MatchResult r P Q → ((v : V) → P v → R v) → IfOk r R
+if_answered (Ok v) P R Q h more = more v h
+if_answered (Err e) P R Q h more = tt
 
--- what holds anyway holds at an answer
-pub on_ok : {V E A : Type 0} (r : Result V E) → A → OnOk r A
-on_ok (Ok v) h = h
-on_ok (Err e) h = tt
+-- both of which more is known
+pub told_more : {V E : Type 0} (r : Result V E) (A P R : V → Type 0) (Q S : E → Type 0) → IfOk r A → MatchResult r P Q → ((v : V) → A v → P v → R v) → ((e : E) → Q e → S e) → MatchResult r R S
+told_more (Ok v) A P R Q S a h ok err = ok v a h
+told_more (Err e) A P R Q S a h ok err = err e h
 
--- what reads the first round's tables reads tables of either round
-pub reads_in : {V E : Type 0} (round : Round) (r : Result V E) (a b : State) → RunsQueries r a b → RunsQueriesIn round r a b
-reads_in round r a b h = record {
-  same = λ own. h.same (round_own round a.now.schema own);
-  err = λ own. h.err (round_own round a.now.schema own);
-  now = λ own. h.now (round_own round a.now.schema own);
-  mode = h.mode;
-  crash = survives_weaker a b _ _ (λ clean db no own. no (round_own round a.now.schema own)) h.crash;
-}
+-- an answer, or a fault that blames what is not so
+pub judged : {V : Type 0} (r : Result V TableFault) (P : V → Type 0) (So : Type 0) → IfOk r P → (r ≡ Err Damaged → So → ⊥) → MatchResult r P (λ fault. Blames fault So)
+judged r P So ok damaged = answered r P (λ fault. Blames fault So) ok (λ e is blamed. damaged (is ∙ ap Err blamed))
 
--- an error that is handed on
-pub reads_handed : {round : Round} {V E : Type 0} {U : Type 0} (e : E) (r : Result V E) (a b : State) → IsErr r → RunsQueriesIn round {V = U} {E = E} (Err e) a b → RunsQueriesIn round r a b
-reads_handed e (Ok v) a b is h = absurd (cc)
-reads_handed e (Err f) a b is h = reads_fail e f a b h
+-- an item of a list: what is so of all items is so of it, and it comes after those before
+pub at_item : {X : Type 0} (P : X → Type 0) (xs : List X) (i : ℕ) (x : X) → x ≡ get_or xs i x → i < length xs → AllByRecursion P xs → P x
+at_item P xs i x is within all = subst P (sym is) (all-get_or P xs i x all within)
 
-pub reads_failed : {round : Round} {V U D E : Type 0} (d : D) (r : Result V E) (a b : State) → IsErr r → RunsQueriesIn round {V = U} {E = D} (Err d) a b → RunsQueriesIn round r a b
-reads_failed d (Ok v) a b is h = absurd (cc)
-reads_failed d (Err f) a b is h = reads_fail d f a b h
+pub next_item : {X : Type 0} (xs : List X) (i : ℕ) (x : X) → x ≡ get_or xs i x → i < length xs → take (i + 1) xs ≡ take i xs ++ x ∷ []
+next_item xs i x is within = take_more xs i x within ∙ ap (λ y. take i xs ++ y ∷ []) (sym is)
 
--- what is known by the round, the table, the database and the rows that were given is so of those that are meant
-pub shifted : {round there : Round} {lists which : Lists} {now db : Database} {X : Type 0} {rows owners : X} (P : Round → Lists → Database → X → Type 0) → there ≡ round → lists ≡ which → now ≡ db → rows ≡ owners
-    → P there lists now rows → P round which db owners
-shifted {round} {there} {lists} {which} {now} {db} {X} {rows} {owners} P a b c d h = subst₂ (λ x y. P round which x y) c d (subst₂ (λ x y. P x y now rows) a b h)
-
-pub reads_shifted : {round there : Round} {V E : Type 0} (r : Result V E) (a b : State) → there ≡ round → RunsQueriesIn there r a b → RunsQueriesIn round r a b
-reads_shifted r a b same h = subst (λ x. RunsQueriesIn x r a b) same h
+-- what the items give that came so far, with what the next one gives
+pub next_given : {X Y : Type 0} (f : X → Option Y) (xs : List X) (i : ℕ) (x : X) (ys : List Y) (y : Option Y) → x ≡ get_or xs i x → i < length xs → ys ≡ filter_map f (take i xs) → y ≡ f x
+    → ys ++ cons_option y [] ≡ filter_map f (take (i + 1) xs)
+next_given f xs i x ys y is within given here = ap₂ (λ l o. l ++ cons_option o []) given here ∙ sym (ap (filter_map f) (next_item xs i x is within) ∙ filter_map-append f (take i xs) (x ∷ []))

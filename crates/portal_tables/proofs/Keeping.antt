@@ -1,8 +1,9 @@
--- What each change leaves of what a store knows between two calls: the tables are its own, and rows have numbers of their own.
-use Rattle.portal_tables.proofs.Base.{◌≡◌, ◌≢◌, ◌∷◌, ◌++◌, ℕ, ℤ, List, [], map, length, Result, Ok, Bool, true, false, not, eqb, refl, sym, ap, ap₂, subst, subst₂, ◌∙◌, AllByRecursion, flat_map, list_all, is_eq, match_ordering, Ordering, Less, Equal, Greater, and_parts, or_parts, eqb-false, IsPermutation, IsPermutation-refl, IsPermutation-trans, IsPermutation-sym, IsPermutation-middle, IsPermutation-append_right, map-append, Int, Row, value_cmp, next_rowid, is_taken, id_in, are_fresh, put_all, put_row, rowid, Database, Ghosts, state, Error, Transaction, all-put_row, InsertsRows, Drops, Sets, RowNumbersDiffer, with_rows, AreNew, own_trees, IsCurrentSchema, Adds, AddsBy, Ran, GoesOn, Does}
+-- Each change keeps what a store knows between two calls: its own tables, and distinct row numbers.
+use Rattle.portal_tables.proofs.Base.{◌≡◌, ◌≢◌, ◌∷◌, ◌++◌, ℕ, ℤ, List, [], map, length, Result, Ok, Bool, true, false, not, eqb, refl, sym, ap, ap₂, subst, subst₂, ◌∙◌, AllByRecursion, all_of, flat_map, list_all, is_eq, match_ordering, Ordering, Less, Equal, Greater, and_parts, or_parts, eqb-false, IsPermutation, IsPermutation-refl, IsPermutation-trans, IsPermutation-sym, IsPermutation-middle, IsPermutation-append_right, map-append, Int, Row, value_cmp, next_rowid, is_taken, id_in, are_fresh, put_all, put_row, rowid, Database, Ghosts, state, Error, Transaction, all-put_row, InsertsRows, Drops, Sets, RowNumbersDiffer, with_rows, AreNew, own_trees, IsCurrentSchema, Adds, AddsBy, Ran, GoesOn, Does}
 use Rattle.portal_tables.specs.inner.Changes.{Keeps}
 use Rattle.portal_tables.proofs.Runs.{does_then, goes_then}
 use Rattle.portal_tables.proofs.Lists.{apart_filter, eq_flips, put_splits, not_true}
+use Rattle.portal_tables.proofs.Sorted.{all_two}
 
 pub apart_put : (new : Row) (rows : List Row) (n : _) → rowid new ≡ Int n → RowNumbersDiffer rows → is_taken rows new ≡ false → RowNumbersDiffer (put_row new rows)
 apart_put new [] n is apart free = (is ∙ ap Int (sym (ap id_in is)), tt, tt)
@@ -47,12 +48,7 @@ rows_put rows (x ∷ news) fresh numbers apart =
 
 -- no table but this one is touched by two changes in turn
 pub keeps_then : (tree : ℕ) (a b c : Database) → Keeps tree a b → Keeps tree b c → Keeps tree a c
-keeps_then tree a b c p q = each own_trees p q
-  where
-    each : (trees : List ℕ) → AllByRecursion (λ t. t ≢ tree → b.trees t ≡ a.trees t) trees → AllByRecursion (λ t. t ≢ tree → c.trees t ≡ b.trees t) trees
-        → AllByRecursion (λ t. t ≢ tree → c.trees t ≡ a.trees t) trees
-    each [] p q = tt
-    each (t ∷ trees) p q = (λ other. q.0 other ∙ p.0 other, each trees p.1 q.1)
+keeps_then tree a b c p q = all_two (λ t. t ≢ tree → b.trees t ≡ a.trees t) (λ t. t ≢ tree → c.trees t ≡ b.trees t) (λ t. t ≢ tree → c.trees t ≡ a.trees t) (λ t early late other. late other ∙ early other) own_trees p q
 
 -- what is so of each tree but one is so of trees among which that is not
 pub others_are : (P : ℕ → Type 0) (tree : ℕ) (trees : List ℕ) → list_all (λ t. not (eqb t tree)) trees ≡ true → AllByRecursion (λ t. t ≢ tree → P t) trees → AllByRecursion P trees
@@ -63,18 +59,11 @@ others_are P tree (t ∷ trees) apart all =
 
 -- every table is as it was
 pub keeps_all : {tree : ℕ} (db : Database) → Keeps tree db db
-keeps_all {tree} db = each own_trees
-  where
-    each : (trees : List ℕ) → AllByRecursion (λ t. t ≢ tree → db.trees t ≡ db.trees t) trees
-    each [] = tt
-    each (t ∷ trees) = (λ _. refl, each trees)
+keeps_all {tree} db = all_of (λ t. t ≢ tree → db.trees t ≡ db.trees t) (λ t _. refl) own_trees
 
 -- no row comes
-puts_none : (tree : ℕ) (db : Database) → InsertsRows tree [] db db
-puts_none tree db = record { schema_is = refl; free = tt; rows = refl; others = keeps_all db; sound = λ h. h refl }
-
 pub adds_none : (tree : ℕ) (db : Database) → Adds tree [] db db
-adds_none tree db own = puts_none tree db
+adds_none tree db own = record { schema_is = refl; free = tt; rows = refl; others = keeps_all db; sound = λ h. h refl }
 
 rows_then : (table cells more : List Row) → with_rows table (cells ++ more) ≡ with_rows (with_rows table cells) more
 rows_then table [] more = refl

@@ -1,6 +1,5 @@
 pub mod Base
 pub mod Lists
-pub mod Zip
 pub mod Query
 pub mod Tests
 pub mod Weak

@@ -1,6 +1,5 @@
 -- What a query of one table shows, and the one order of its rows.
-use Rattle.portal_tables.proofs.Base.{◌≡◌, ◌+◌, ◌<◌, ◌≤◌, ◌∷◌, arith, inl, inr, ℕ, pos, negsuc, Bool, true, false, List, [], length, map, filter, refl, sym, ap, subst, subst₂, ◌∙◌, AllByRecursion, IsPermutation, IsSorted, nil_from_length, length-map, IsPermutation-map, IsPermutation-sym, length_permutation, Ordering, Less, Equal, Greater, is_lt, is_gt, nat_cmp, ordering_then, ordering_reverse, lt→ltb, nat_cmp_is, int_cmp_is, cases_lt, slice_cmp, Value, Null, Int, Real, Blob, Words, Row, column, bytes, value_cmp, number_in, IsAscending, map-map, all_of, value_cmp_total, value_cmp-Int, value_cmp-Text, then-Equal, ascending_from_sorted, IsSorted-map, Key, is_before, Rise, all_weaker, all_map, all_unmap, ListsBy, every, columns, has_text, row_key, by_key, of_key, place_of, place_key, by_place, named_by, chosen, CountUp, IsWhole, first_cell, shown_rank, shown_name}
-use Rattle.std.specs.Prelude.{◌<ℤ◌}
+use Rattle.portal_tables.proofs.Base.{◌≡◌, ◌+◌, ◌<◌, ◌≤◌, ◌∷◌, arith, inl, inr, ℕ, pos, negsuc, Bool, true, false, List, [], length, map, filter, refl, sym, ap, subst, subst₂, ◌∙◌, AllByRecursion, IsPermutation, IsSorted, nil_from_length, length-map, IsPermutation-map, IsPermutation-sym, length_permutation, Ordering, Less, Equal, Greater, is_lt, is_gt, nat_cmp, ordering_then, ordering_reverse, lt→ltb, nat_cmp_is, int_cmp_is, cases_lt, slice_cmp, Value, Null, Int, Real, Blob, Words, Row, column, bytes, value_cmp, number_in, IsAscending, map-map, all_of, value_cmp_total, value_cmp-Int, value_cmp-Text, then-Equal, ascending_from_sorted, IsSorted-map, Key, is_before, Rise, all_weaker, all_map, all_unmap, ListsBy, every, columns, has_text, row_key, by_key, of_key, place_of, place_key, by_place, named_by, chosen, CountUp, IsWhole, first_cell, shown_rank, shown_name, ◌<ℤ◌}
 use Rattle.std.specs.Ordering.{int_cmp}
 use Rattle.std.specs.Cmp.Lexicographic.{nat_list_cmp_total}
 use Rattle.portal_core.specs.Words.{put_all}
@@ -17,6 +16,9 @@ pub permuted : (keys : List ℕ) (p : Row → Bool) (show : Row → Row) (table 
 permuted keys p show table shown h =
     let second = λ (k : Row × Row). k.1 in
     subst₂ IsPermutation (map-map second (λ r. (columns keys r, show r)) (filter p table)) (sym h.is) (IsPermutation-map second _ h.keyed h.same)
+
+pub whole_table : (keys cs : List ℕ) (table shown : List Row) → ListsBy keys every (columns cs) table shown → IsPermutation (map (columns cs) table) shown
+whole_table keys cs table shown h = subst (λ rows. IsPermutation (map (columns cs) rows) shown) (filter_all table) (permuted _ _ _ table shown h)
 
 -- a value does not come after one that stands behind it
 abbrev pub AtMost : Value → Value → Type 0
@@ -77,7 +79,7 @@ counts_agree a b s t h =
 
 module _ (rest : List ℕ) (table shown : List Row) (h : ListsBy (1 ∷ []) every (columns (1 ∷ rest)) table shown) where
   whole_roll : IsPermutation (map (columns (1 ∷ rest)) table) shown
-  whole_roll = subst (λ rows. IsPermutation (map (columns (1 ∷ rest)) rows) shown) (filter_all table) (permuted _ _ _ table shown h)
+  whole_roll = whole_table (1 ∷ []) (1 ∷ rest) table shown h
 
   in_place : put_all first_cell (map (columns (1 ∷ rest)) table) [] ≡ map (columns (1 ∷ rest)) (by_key table)
   in_place = put_all_map row_key first_cell (columns (1 ∷ rest)) (λ r. refl) table []

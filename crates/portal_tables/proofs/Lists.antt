@@ -1,5 +1,6 @@
 -- Lists of rows.
-use Rattle.portal_tables.proofs.Base.{◌≡◌, ◌∷◌, ◌++◌, ◌&&◌, ◌||◌, inl, inr, ℤ, List, [], map, filter, Bool, true, false, not, cond, refl, sym, ap, ap₂, subst, ◌∙◌, AllByRecursion, list_any, flat_map, is_eq, ordering_reverse, match_ordering, Ordering, Less, Equal, Greater, or_parts, Value, Int, Row, value_cmp, put_row, rowid, has_rowid, without_rowid, id_in, is_taken, without_all, Has, all_has, all-filter, value_cmp_total, RowNumbersDiffer}
+use Rattle.portal_tables.proofs.Base.{◌≡◌, ◌∷◌, ◌++◌, ◌&&◌, ◌||◌, inl, inr, ℤ, List, [], map, filter, Bool, true, false, not, cond, refl, sym, ap, ap₂, subst, ◌∙◌, AllByRecursion, list_any, flat_map, is_eq, ordering_reverse, match_ordering, Ordering, Less, Equal, Greater, or_parts, Value, Int, Row, value_cmp, put_row, rowid, has_rowid, without_rowid, id_in, is_taken, without_all, Has, all_from, all_has, all-filter, and-false, value_cmp_total, tied_itself, RowNumbersDiffer}
+pub use Rattle.sqlite_trees.proofs.ListLemmas.{filter_same as filter_alike}
 
 -- a loop that shows each element which passes
 pub looped : {X Y : Type 0} (p : X → Bool) (f : X → Y) (xs : List X) → flat_map (λ x. cond (p x) (f x ∷ []) []) xs ≡ map f (filter p xs)
@@ -13,18 +14,14 @@ not_true true h = absurd (cc)
 not_true false h = refl
 
 pub filter_same : {X : Type 0} (p q : X → Bool) (xs : List X) → ((x : X) → Has xs x → p x ≡ q x) → filter p xs ≡ filter q xs
-filter_same p q [] same = refl
-filter_same p q (x ∷ xs) same =
-    (λ i. cond (same x (inl refl) i) (x ∷ filter p xs) (filter p xs)) ∙ ap (λ l. cond (q x) (x ∷ l) l) (filter_same p q xs (λ y has. same y (inr has)))
+filter_same p q xs same = filter_alike p q xs (all_from (λ x. p x ≡ q x) xs same)
 
 pub filter-filter : {X : Type 0} (p q : X → Bool) (xs : List X) → filter p (filter q xs) ≡ filter (λ x. q x && p x) xs
 filter-filter p q [] = refl
-filter-filter p q (x ∷ xs) = go (q x) (filter-filter p q xs)
-  where
-    go : (b : Bool) → filter p (filter q xs) ≡ filter (λ x. q x && p x) xs
-        → filter p (cond b (x ∷ filter q xs) (filter q xs)) ≡ cond (b && p x) (x ∷ filter (λ x. q x && p x) xs) (filter (λ x. q x && p x) xs)
-    go true h = ap (λ l. cond (p x) (x ∷ l) l) h
-    go false h = h
+filter-filter p q (x ∷ xs) =
+    let both = filter (λ x. q x && p x) xs in
+    elim (q x) as (λ b. filter p (cond b (x ∷ filter q xs) (filter q xs)) ≡ cond (b && p x) (x ∷ both) both)
+    [ true ↦ ap (λ l. cond (p x) (x ∷ l) l) (filter-filter p q xs) | false ↦ filter-filter p q xs ]
 
 pub filter_all : {X : Type 0} (xs : List X) → filter (λ x. true) xs ≡ xs
 filter_all [] = refl
@@ -48,13 +45,8 @@ is_eq_reverse Greater = refl
 pub eq_flips : (a b : Value) → is_eq (value_cmp a b) ≡ is_eq (value_cmp b a)
 eq_flips a b = ap is_eq (value_cmp_total.antisymm a b) ∙ is_eq_reverse (value_cmp b a)
 
-self_order : (o : Ordering) → o ≡ ordering_reverse o → is_eq o ≡ true
-self_order Less e = absurd (cc)
-self_order Equal e = refl
-self_order Greater e = absurd (cc)
-
 pub eq_self : (a : Value) → is_eq (value_cmp a a) ≡ true
-eq_self a = self_order (value_cmp a a) (value_cmp_total.antisymm a a)
+eq_self a = ap is_eq (tied_itself value_cmp_total a)
 
 id : Row → ℤ
 id r = id_in (rowid r)
@@ -74,11 +66,7 @@ numbered_as s r is = ap (λ v. is_eq (value_cmp (rowid r) v)) (sym is)
 found_not : (p : Row → Bool) (rows : List Row) (r : Row) → AllByRecursion (λ s. is_eq (value_cmp (rowid r) (rowid s)) ≡ false) rows → RowNumbersDiffer rows → found p rows r ≡ false
 found_not p [] r none apart = refl
 found_not p (x ∷ rows) r none apart =
-    found_head (p x) p x rows r false (numbered_as x r apart.0 ∙ none.0) ∙ nothing (p x) (found_not p rows r none.1 apart.2)
-  where
-    nothing : (b : Bool) → found p rows r ≡ false → ((b && false) || found p rows r) ≡ false
-    nothing true h = h
-    nothing false h = h
+    found_head (p x) p x rows r false (numbered_as x r apart.0 ∙ none.0) ∙ ap (λ b. b || found p rows r) (and-false (p x)) ∙ found_not p rows r none.1 apart.2
 
 pub found_once : (p : Row → Bool) (rows : List Row) (r : Row) → RowNumbersDiffer rows → Has rows r → found p rows r ≡ p r
 found_once p [] r apart none = absurd none
@@ -91,11 +79,7 @@ found_once p (x ∷ rows) r apart (inl same) =
     own false h = h
 found_once p (x ∷ rows) r apart (inr has) =
     found_head (p x) p x rows r false (numbered_as x r apart.0 ∙ eq_flips (rowid r) (rowid x) ∙ all_has (λ s. is_eq (value_cmp (rowid x) (rowid s)) ≡ false) rows r apart.1 has)
-    ∙ other (p x) (found_once p rows r apart.2 has)
-  where
-    other : (b : Bool) → found p rows r ≡ p r → ((b && false) || found p rows r) ≡ p r
-    other true h = h
-    other false h = h
+    ∙ ap (λ b. b || found p rows r) (and-false (p x)) ∙ found_once p rows r apart.2 has
 
 -- the rows stay apart where some go, and where one comes whose number is free
 pub apart_filter : (p : Row → Bool) (rows : List Row) → RowNumbersDiffer rows → RowNumbersDiffer (filter p rows)

@@ -3,7 +3,7 @@ use Rattle.portal_tables.proofs.Base.{◌≡◌, ◌∷◌, ◌++◌, drop, ℕ,
 use Rattle.portal_tables.proofs.Owned.{same_tables, first_self}
 use Rattle.portal_tables.proofs.Runs.{made_then, does_more, does_then}
 use Rattle.portal_tables.proofs.Sorted.{all_two}
-use Rattle.portal_tables.proofs.Weak.{with_checks, first_with, first_is}
+use Rattle.portal_tables.proofs.Weak.{same_with, with_checks, first_with, first_is}
 use Rattle.portal_tables.proofs.Writes.{went, same_value}
 
 abbrev trees_of : Schema → List ℕ
@@ -160,24 +160,13 @@ module _ (terms : Terms) where
   unfolding understood everything
   assigned2_made = record { defined = refl; command = refl; statement = refl; plain = (refl, refl); uncounted = refl; trees = refl; tree = refl }
 
-  same_with : (ts : List Table) → AllZip SameTable (map (with_checks terms.0 terms.1) ts) ts
-  same_with [] = tt
-  same_with (t ∷ ts) = (
-    record {
-      name = refl;
-      tree = refl;
-      columns = refl;
-      key = refl;
-      is_counted = refl;
-      rules = record { primary = refl; uniques = refl; orders = refl; references = refl };
-      defaults = record { computed = refl; places = refl; formats = refl };
-    },
-    same_with ts,
-  )
+  all_same : (ts : List Table) → AllZip SameTable (map (with_checks terms.0 terms.1) ts) ts
+  all_same [] = tt
+  all_same (t ∷ ts) = (same_with (terms.0 t.tree) (terms.1 t.tree) t, all_same ts)
 
   is_current : IsCurrentSchema (with_second six)
   unfolding understood everything
-  is_current = record { tables = zip-append SameTable (map (with_checks terms.0 terms.1) first_schema.tables) (drop 6 portal_schema.tables) first_schema.tables (drop 6 portal_schema.tables) (same_with first_schema.tables) (same_tables (drop 6 portal_schema.tables)); indexes = refl; no_views = refl; no_views_there = refl }
+  is_current = record { tables = zip-append SameTable (map (with_checks terms.0 terms.1) first_schema.tables) (drop 6 portal_schema.tables) first_schema.tables (drop 6 portal_schema.tables) (all_same first_schema.tables) (same_tables (drop 6 portal_schema.tables)); indexes = refl; no_views = refl; no_views_there = refl }
 
 -- beside the six of version 1 they make all
 pub second_current : (s : Schema) → IsFirstSchema s → IsCurrentSchema (with_second s)

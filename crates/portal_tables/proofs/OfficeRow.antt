@@ -1,20 +1,13 @@
 -- The rows of the office and of the second round, as their queries show them.
-use Rattle.portal_tables.proofs.Base.{◌≡◌, ◌&&◌, ◌∷◌, arith, ℕ, ℤ, pos, true, false, drop, Some, List, [], map, refl, sym, ap, subst, ◌∙◌, AllByRecursion, IsPermutation, length_permutation, and_parts, Value, Null, Int, Real, Blob, Words, Row, column, Database, IsDatabase, Datatype, are_typed, is_of, Integer, is_null, Phase, Key, First, Second, portal_tree, portal, second_tree, second, HasFirstSchema, IsCurrentSchema, portal_row, second_row, ListsBy, every, columns, number_of_phase, HasOffice, IsOffice, IsSecond}
+use Rattle.portal_tables.proofs.Base.{◌≡◌, ◌&&◌, ◌∷◌, arith, ℕ, ℤ, pos, true, false, drop, Some, List, [], map, refl, sym, ap, subst, ◌∙◌, AllByRecursion, IsPermutation, length_permutation, one_permutation, and_parts, Value, Null, Int, Real, Blob, Words, Row, column, Database, IsDatabase, Datatype, are_typed, is_of, Integer, is_null, Phase, Key, First, Second, portal_tree, portal, second_tree, second, HasFirstSchema, IsCurrentSchema, portal_row, second_row, ListsBy, every, columns, number_of_phase, HasOffice, IsOffice, IsSecond}
 use Rattle.sqlite.specs.Kind.TheVariants.{Text}
-use Rattle.portal_tables.proofs.Lists.{filter_all}
 use Rattle.portal_tables.proofs.Weak.{own_is}
-use Rattle.portal_tables.proofs.Listed.{permuted}
+use Rattle.portal_tables.proofs.Listed.{whole_table}
 use Rattle.portal_tables.proofs.Shapes.{kept}
 use Rattle.portal_tables.proofs.Sorted.{all_permuted}
 
 abbrev office_columns : Row → Row
 office_columns = columns (0 ∷ 2 ∷ 3 ∷ 4 ∷ [])
-
--- another order of one row is that row
-single : (x : Row) (ys : List Row) → IsPermutation (x ∷ []) ys → ys ≡ x ∷ []
-single x [] same = absurd (let e : 0 ≡ 1 = length_permutation (x ∷ []) [] same in omega (arith, e))
-single x (y ∷ []) same = ap (λ z. z ∷ []) (all_permuted (λ z. z ≡ x) (x ∷ []) (y ∷ []) same (refl, tt)).0
-single x (y ∷ z ∷ ys) same = absurd (let e = length_permutation (x ∷ []) (y ∷ z ∷ ys) same in omega (arith, e))
 
 is_nothing : (v : Value) → is_null v ≡ true → v ≡ Null
 is_nothing Null e = refl
@@ -40,12 +33,9 @@ second_form p (x ∷ y ∷ []) a b t = absurd (let e : Null ≡ Int p = b in cc)
 second_form p (x ∷ y ∷ z ∷ []) a b t = λ i. a i ∷ is_nothing y (and_parts (is_null y) _ t).0 i ∷ b i ∷ []
 second_form p (x ∷ y ∷ z ∷ w ∷ more) a b t = let last = and_parts (is_of Integer z) false (and_parts (is_null y) _ t).1 in absurd (let e = last.1 in cc)
 
-whole_table : (cs : List ℕ) (table shown : List Row) → ListsBy (0 ∷ []) every (columns cs) table shown → IsPermutation (map (columns cs) table) shown
-whole_table cs table shown h = subst (λ rows. IsPermutation (map (columns cs) rows) shown) (filter_all table) (permuted _ _ _ table shown h)
-
 -- where a table shows one row, that is its only one
 one_shown : (cs : List ℕ) (table shown : List Row) (row : Row) → ListsBy (0 ∷ []) every (columns cs) table shown → shown ≡ row ∷ [] → (r : Row) × (table ≡ r ∷ []) × (row ≡ columns cs r)
-one_shown cs table shown row lists is = go table (subst (IsPermutation (map (columns cs) table)) is (whole_table cs table shown lists))
+one_shown cs table shown row lists is = go table (subst (IsPermutation (map (columns cs) table)) is (whole_table (0 ∷ []) cs table shown lists))
   where
     go : (table : List Row) → IsPermutation (map (columns cs) table) (row ∷ []) → (r : Row) × (table ≡ r ∷ []) × (row ≡ columns cs r)
     go [] same = absurd (let e = length_permutation [] (row ∷ []) same in cc)
@@ -54,7 +44,7 @@ one_shown cs table shown row lists is = go table (subst (IsPermutation (map (col
 
 -- and the only row of a table is shown
 shown_one : (cs : List ℕ) (table shown : List Row) (r : Row) → ListsBy (0 ∷ []) every (columns cs) table shown → table ≡ r ∷ [] → shown ≡ columns cs r ∷ []
-shown_one cs table shown r lists is = single (columns cs r) shown (subst (λ rows. IsPermutation (map (columns cs) rows) shown) is (whole_table cs table shown lists))
+shown_one cs table shown r lists is = one_permutation (columns cs r) shown (subst (λ rows. IsPermutation (map (columns cs) rows) shown) is (whole_table (0 ∷ []) cs table shown lists))
 
 abbrev Found : ℕ → Phase → Key → List Row → Type 0
 Found version phase code shown = (row : Row) × (shown ≡ row ∷ []) × IsOffice version phase code row

@@ -1,5 +1,6 @@
 -- The only row that a query shows is what a search of the roll finds.
-use Rattle.portal_tables.proofs.Base.{◌≡◌, ◌∷◌, ℕ, Bool, true, false, cond, Option, Some, None, option_map, List, [], map, filter, refl, sym, ap, ap₂, subst, subst₂, ◌∙◌, AllByRecursion, find, IsPermutation, IsPermutation-map, IsPermutation-sym, IsPermutation-trans, length_permutation, Row, one_permutation, IsPermutation-filter, filter-map, ListsBy, row_key, by_key, as_list}
+use Rattle.portal_tables.proofs.Base.{◌≡◌, ◌∷◌, ℕ, Bool, true, false, cond, Option, Some, None, option_map, List, [], map, filter, refl, sym, ap, subst, subst₂, ◌∙◌, AllByRecursion, find, IsPermutation, IsPermutation-map, IsPermutation-sym, IsPermutation-trans, length_permutation, nil_from_length, Row, one_permutation, IsPermutation-filter, filter-map, ListsBy, row_key, by_key, as_list}
+pub use Rattle.portal_tables.proofs.Lists.{filter_alike}
 use Rattle.portal_tables.proofs.Listed.{permuted}
 use Rattle.portal_tables.proofs.Sorted.{permutes, map_alike, map_twice}
 
@@ -17,21 +18,13 @@ pub first_back : {X : Type 0} (o : Option X) → first_of (as_list o) ≡ o
 first_back None = refl
 first_back (Some x) = refl
 
-no_more : {X : Type 0} (xs : List X) → IsPermutation [] xs → xs ≡ []
-no_more [] same = refl
-no_more (x ∷ xs) same = absurd (let e = length_permutation [] (x ∷ xs) same in cc)
-
 pub only_one : {X : Type 0} (o : Option X) (xs : List X) → IsPermutation (as_list o) xs → xs ≡ as_list o
-only_one None xs same = no_more xs same
+only_one None xs same = nil_from_length xs (length_permutation [] xs same)
 only_one (Some x) xs same = one_permutation x xs same
 
 listed_map : {X Y : Type 0} (f : X → Y) (o : Option X) → map f (as_list o) ≡ as_list (option_map f o)
 listed_map f None = refl
 listed_map f (Some x) = refl
-
-pub filter_alike : {X : Type 0} (p q : X → Bool) (xs : List X) → AllByRecursion (λ x. p x ≡ q x) xs → filter p xs ≡ filter q xs
-filter_alike p q [] all = refl
-filter_alike p q (x ∷ xs) all = ap₂ (λ b l. cond b (x ∷ l) l) all.0 (filter_alike p q xs all.1)
 
 -- the row that a query by code shows is what a search of the roll finds
 pub found : {X : Type 0} (keys : List ℕ) (p : Row → Bool) (show : Row → Row) (of : Row → X) (from : Row → X) (test : X → Bool) → ((r : Row) → from (show r) ≡ of r) → (table shown : List Row)

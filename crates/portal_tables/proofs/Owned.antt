@@ -1,19 +1,9 @@
--- Which schema is the portal's own: those of the tables as they are made, and any over the same trees.
+-- The portal's own schemas: those of the tables as they are made, and any over the same trees.
 use Rattle.portal_tables.proofs.Base.{◌≡◌, ◌∷◌, ◌++◌, List, [], take, length, subst, sym, refl, AllZip, Database, IsDatabase, Trees, Schema, Table, IsSound, lists_once, zip_itself, Round, First, Second, first_schema, portal_schema, SameTable, HasFirstSchema, IsCurrentSchema, IsFirstSchema, HasRound}
-
-same_table : (t : Table) → SameTable t t
-same_table t = record {
-  name = refl;
-  tree = refl;
-  columns = refl;
-  key = refl;
-  is_counted = refl;
-  rules = record { primary = refl; uniques = refl; orders = refl; references = refl };
-  defaults = record { computed = refl; places = refl; formats = refl };
-}
+use Rattle.portal_tables.proofs.Weak.{same_with}
 
 pub same_tables : (ts : List Table) → AllZip SameTable ts ts
-same_tables = zip_itself SameTable same_table
+same_tables = zip_itself SameTable (λ t. same_with t.checks t.stamps.terms t)
 
 pub own_made : (s : Schema) → s ≡ portal_schema → IsCurrentSchema s
 own_made s is = subst IsCurrentSchema (sym is) (record { tables = same_tables portal_schema.tables; indexes = refl; no_views = refl; no_views_there = refl })

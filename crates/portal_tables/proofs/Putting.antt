@@ -1,20 +1,16 @@
 -- A list that is put, whole, in place of another.
-use Rattle.portal_tables.proofs.Base.{◌≡◌, ◌+◌, ◌<◌, ◌∷◌, ◌++◌, ◌&&◌, arith, ℕ, pos, List, [], Bool, true, false, not, cond, map, filter, length, refl, sym, ap, ap₂, subst, ◌∙◌, get_or, take, suc, zero-add, AllByRecursion, IsPermutation, map-append, append-nil, append_assoc, length_push, take_more, length-take-le, State, Made, GoesOn, and-false, filter-append, IsPermutation-refl, IsPermutation-trans, IsPermutation-sym, IsPermutation-cons, IsPermutation-middle, IsPermutation-to_front, is_eq, Ordering, Less, Equal, Greater, Value, Int, Words, Row, value_cmp, column, next_rowid, is_taken, put_row, Database, value_cmp_total, Key, equals, is_before, Rise, is_sym, IsCurrentSchema, has_text, with_rows, AreNew, Adds, Clears, place_cells, of_key, place_key, by_place, list_in_order, CountUp, IsWhole, numbered, placed, list_cells, PutsList}
+use Rattle.portal_tables.proofs.Base.{◌≡◌, ◌+◌, ◌<◌, ◌∷◌, ◌++◌, ◌&&◌, arith, ℕ, pos, List, [], Bool, true, false, not, cond, map, filter, filter_none, all_of, length, refl, sym, ap, ap₂, subst, ◌∙◌, get_or, take, suc, zero-add, AllByRecursion, IsPermutation, map-append, append-nil, append_assoc, length_push, length-take-le, State, Made, GoesOn, and-false, filter-append, IsPermutation-refl, IsPermutation-trans, IsPermutation-sym, IsPermutation-cons, IsPermutation-middle, IsPermutation-to_front, is_eq, Value, Int, Words, Row, value_cmp, column, next_rowid, is_taken, put_row, Database, value_cmp_total, Key, equals, is_before, Rise, is_sym, IsCurrentSchema, has_text, with_rows, AreNew, Adds, Clears, place_cells, of_key, place_key, by_place, list_in_order, CountUp, IsWhole, numbered, placed, list_cells, PutsList, Equal-is}
 use Rattle.portal_tables.proofs.Runs.{made_goes, goes_both}
+use Rattle.portal_tables.proofs.InTurn.{next_item}
 use Rattle.portal_tables.proofs.Keeping.{puts_apart, drops_apart, keeps_then}
 use Rattle.portal_tables.proofs.Lists.{filter_same, filter-filter, put_splits, eq_self}
 use Rattle.portal_tables.proofs.Listed.{less_is}
 use Rattle.portal_tables.proofs.Sorted.{in_order, put_all_map, map_twice}
 use Rattle.portal_tables.proofs.Shapes.{text_equals}
 
-equal_of : (o : Ordering) → is_eq o ≡ true → o ≡ Equal
-equal_of Less e = absurd (cc)
-equal_of Equal e = refl
-equal_of Greater e = absurd (cc)
-
 -- a text is one text
 pub same_text : (v : Value) (k s : Key) → is_eq (value_cmp v (Words k)) ≡ true → is_eq (value_cmp v (Words s)) ≡ equals k s
-same_text v k s e = ap is_eq (value_cmp_total.congr v (Words k) (Words s) (equal_of _ e)) ∙ text_equals k s
+same_text v k s e = ap is_eq (value_cmp_total.congr v (Words k) (Words s) ((Equal-is (value_cmp v (Words k))).0 e)) ∙ text_equals k s
 
 -- the rows of another key stay where those of one key go
 pub kept_key : (key s : Key) (rows : List Row) → equals key s ≡ false → of_key key (filter (λ r. not (has_text 1 s r)) rows) ≡ of_key key rows
@@ -25,13 +21,11 @@ kept_key key s rows other = filter-filter (has_text 1 key) (λ r. not (has_text 
     go r false e = rw e (and-false (not (has_text 1 s r)))
 
 pub none_left : (s : Key) (rows : List Row) → of_key s (filter (λ r. not (has_text 1 s r)) rows) ≡ []
-none_left s [] = refl
-none_left s (r ∷ rows) = go (has_text 1 s r) refl (none_left s rows)
+none_left s rows = filter-filter (has_text 1 s) (λ r. not (has_text 1 s r)) rows ∙ filter_none _ rows (all_of _ (λ r. neither (has_text 1 s r)) rows)
   where
-    go : (b : Bool) → has_text 1 s r ≡ b → of_key s (filter (λ r. not (has_text 1 s r)) rows) ≡ []
-        → of_key s (cond (not b) (r ∷ filter (λ r. not (has_text 1 s r)) rows) (filter (λ r. not (has_text 1 s r)) rows)) ≡ []
-    go true e h = h
-    go false e h = rw e h
+    neither : (b : Bool) → (not b && b) ≡ false
+    neither true = refl
+    neither false = refl
 
 -- once the owner's rows are gone nothing is put
 put_begun : (tree : ℕ) (owner : Key) (first now : Database) → Clears tree owner first now → PutsList tree owner [] first now
@@ -136,9 +130,8 @@ pub cells_next : {X : Type 0} (cells_of : X → Row) (rows : List X) (x : X) (ow
     → map cells_of rows ≡ list_cells owner (take i keys) → map cells_of (rows ++ x ∷ []) ≡ list_cells owner (take (i + 1) keys)
 cells_next cells_of rows x owner k keys i place at within equals cell was =
     let at_end : place + 1 ≡ length (take i keys) + 1 = omega (arith, at, length-take-le i keys (omega (arith, within))) in
-    let more : take i keys ++ k ∷ [] ≡ take (i + 1) keys = sym (take_more keys i k within ∙ ap (λ y. take i keys ++ y ∷ []) (sym equals)) in
     map-append cells_of rows (x ∷ []) ∙ ap₂ (λ l c. l ++ c ∷ []) was (cell ∙ ap (λ n. place_cells owner (pos n) k) at_end)
-    ∙ sym (cells_more owner (take i keys) k) ∙ ap (list_cells owner) more
+    ∙ sym (cells_more owner (take i keys) k) ∙ ap (list_cells owner) (sym (next_item keys i k equals within))
 
 abbrev pair_key : ℕ × Key → Key
 pair_key p = p.0 ∷ []

@@ -1,5 +1,5 @@
 -- Steps of a transaction in turn, whatever the change.
-use Rattle.portal_tables.proofs.Base.{◌≡◌, arith, inl, inr, Bool, true, false, IsTrue, Result, Ok, refl, sym, ap, subst, ◌∙◌, on_ok_weaker, Error, Transaction, cases_Bool, Database, State, HasCleanDisk, Survives, KeepsCommit, Shows, IsRolledBack, FailsToCommit, Ghosts, Held, state, doubt, no_doubt, survives_then, survives_begin, Made, GoesOn, Does, Commits, IsAfter, Stays}
+use Rattle.portal_tables.proofs.Base.{◌≡◌, arith, inl, inr, Bool, true, false, IsTrue, Result, Ok, refl, sym, ap, subst, ◌∙◌, on_ok_weaker, Error, Transaction, cases_Bool, Database, State, HasCleanDisk, Survives, KeepsCommit, Shows, IsRolledBack, FailsToCommit, Ghosts, Held, state, doubt, no_doubt, survives_then, survives_begin, kept_then, Made, GoesOn, Does, Commits, IsAfter, Stays}
 
 -- a step after another
 pub made_then : (A B C : Database → Database → Type 0) (old mid new : State) → Made A old mid → Made B mid new → (A old.now mid.now → B mid.now new.now → C old.now new.now) → Made C old new
@@ -34,9 +34,6 @@ kept_same s = record { was_open = λ on. on; committed = λ on. refl }
 
 pub survives_same : (s : State) → Survives s s (λ _. ⊥)
 survives_same s = record { clean = omega arith; shield = λ h. h; counts = omega arith; limit = refl; closes = λ clean on. inl on; crash = λ clean db h. inl h }
-
-pub kept_then : (a b c : State) → KeepsCommit a b → KeepsCommit b c → KeepsCommit a c
-kept_then a b c p q = record { was_open = λ on. p.was_open (q.was_open on); committed = λ on. q.committed on ∙ p.committed (q.was_open on) }
 
 -- Calls in one transaction: none yet.
 pub does_none : {S A : Type 0} (g : Ghosts S) (P : State → State → Type 0) (a : A) (tx : Transaction S) → P (state g tx.conn.now) (state g tx.conn.now) → Does g P (Ok a) tx tx

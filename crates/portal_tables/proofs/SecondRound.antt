@@ -1,5 +1,6 @@
 -- The tables of the second round's rankings and result.
-use Rattle.portal_tables.proofs.Base.{◌≡◌, ◌||◌, ◌∷◌, inl, inr, Bool, false, not, cond, List, [], map, filter, refl, sym, ap, subst, ◌∙◌, list_any, cases_Bool, list_any-IsPermutation, Int, Words, Row, bytes, next_rowid, put_row, Database, Key, equals, has, any_map, ranked2_tree, assigned2_tree, IsCurrentSchema, RowNumbersDiffer, Drops, every, has_text, with_rows, PutsPlacements, RanksSecond, row_key, Adds, Clears, pair_new}
+use Rattle.portal_tables.proofs.Base.{◌≡◌, ◌||◌, ◌∷◌, inl, inr, Bool, true, false, not, List, [], map, filter, filter_none, all_of, refl, sym, ap, subst, ◌∙◌, list_any, cases_Bool, list_any-IsPermutation, Int, Words, Row, bytes, next_rowid, put_row, Database, Key, equals, has, any_map, ranked2_tree, assigned2_tree, IsCurrentSchema, RowNumbersDiffer, Drops, every, has_text, with_rows, PutsPlacements, RanksSecond, row_key, Adds, Clears, pair_new}
+use Rattle.std.proofs.lemmas.Map.Views.{any-filter_same}
 use Rattle.portal_tables.proofs.Keeping.{drops_apart, keeps_then, put_permutes, puts_apart}
 use Rattle.portal_tables.proofs.Parents.{text_there}
 
@@ -9,14 +10,9 @@ stands k = list_any (λ r. equals k (row_key r))
 
 -- the rows without those of one key have every other
 stands_without : (key k : Key) (rows : List Row) → equals k key ≡ false → stands k (filter (λ r. not (has_text 1 key r)) rows) ≡ stands k rows
-stands_without key k [] other = refl
-stands_without key k (r ∷ rows) other = elim (cases_Bool (has_text 1 key r)) [
-  | inl hit ↦ ap (λ b. stands k (cond (not b) (r ∷ left) left)) hit ∙ stands_without key k rows other ∙ ap (λ b. b || stands k rows) (sym (ap (λ v. equals k (bytes v)) (text_there 1 key r hit) ∙ other))
-  | inr missed ↦ ap (λ b. stands k (cond (not b) (r ∷ left) left)) missed ∙ ap (λ b. equals k (row_key r) || b) (stands_without key k rows other)
-]
-  where
-    left : List Row
-    left = filter (λ r. not (has_text 1 key r)) rows
+stands_without key k rows other =
+    any-filter_same (λ r. equals k (row_key r)) (λ r. not (has_text 1 key r)) true
+    (λ r is. elim (cases_Bool (has_text 1 key r)) [ inl hit ↦ absurd (let e : true ≡ false = sym is ∙ ap (λ v. equals k (bytes v)) (text_there 1 key r hit) ∙ other in cc) | inr missed ↦ ap not missed ]) rows
 
 -- a lecturer's row in place of any
 pub rank_put : (key : Key) (first mid now : Database) → Clears ranked2_tree key first mid → Adds ranked2_tree ((Words key ∷ []) ∷ []) mid now → RanksSecond key first now
@@ -41,10 +37,6 @@ rank_put key first mid now cleared adds own apart =
           ∙ ap (λ l. equals k key || stands k l) drops.rows ∙ both k ∙ sym (ap (λ b. equals k key || b) (any_map (equals k) row_key old));
     }
 
-none_pass : (rows : List Row) → filter (λ r. not (every r)) rows ≡ []
-none_pass [] = refl
-none_pass (r ∷ rows) = none_pass rows
-
 -- the pairs in place of all rows
 pub places_put : (pairs : List (Key × Key)) (first mid now : Database) → (IsCurrentSchema first.schema → RowNumbersDiffer (first.trees assigned2_tree) → Drops assigned2_tree every first mid) → Adds assigned2_tree (map pair_new pairs) mid now
     → PutsPlacements pairs first now
@@ -56,5 +48,5 @@ places_put pairs first mid now dropped adds own apart =
       sound = put.sound (λ _. drops.sound);
       apart = puts_apart assigned2_tree _ mid now put (drops_apart assigned2_tree _ first mid drops apart);
       tables = keeps_then assigned2_tree first mid now drops.others put.others;
-      rows = put.rows ∙ ap (λ rows. with_rows rows (map pair_new pairs)) (drops.rows ∙ none_pass (first.trees assigned2_tree));
+      rows = put.rows ∙ ap (λ rows. with_rows rows (map pair_new pairs)) (drops.rows ∙ filter_none (λ r. not (every r)) (first.trees assigned2_tree) (all_of _ (λ r. refl) (first.trees assigned2_tree)));
     }

@@ -1,7 +1,7 @@
 -- The shapes of the rows of the portal's own tables, by the rules that a database obeys.
-use Rattle.portal_tables.proofs.Base.{◌≡◌, ◌⊎◌, ◌&&◌, ◌∷◌, ◌+◌, inl, inr, ℕ, ℤ, Bool, true, false, not, codes, drop, None, List, [], refl, sym, ap, subst, ◌∙◌, AllByRecursion, and_parts, is_eq, texts_ties, Value, Null, Int, Real, Blob, Words, Row, column, value_cmp, Trees, rowid, id_in, Database, IsDatabase, Column, Constraint, Datatype, NotNull, Keeps, passes, are_typed, are_present, is_of, is_null, Integer, Key, equals, column_of, list_table, lecturer_tree, project_tree, student_tree, ranked2_tree, assigned2_tree, lecturer_schema, project_schema, student_schema, ranked2, assigned2, round_of, names, tree_of, table_round, table_tree, Lists, Choices, Rankings, SecondChoices, SecondRankings, OfRoll, OfLists, OfRanked, OfPlaces, Lecturers, Projects, Students, Table, Round, HasFirstSchema, HasRound, RowNumbersDiffer, has_text, lecturer_cells, place_cells, row_key}
+use Rattle.portal_tables.proofs.Base.{◌≡◌, ◌⊎◌, ◌&&◌, ◌∷◌, ◌+◌, inl, inr, ℕ, ℤ, Bool, true, false, not, codes, drop, None, List, [], refl, sym, ap, subst, ◌∙◌, AllByRecursion, and_parts, is_eq, texts_ties, Value, Null, Int, Real, Blob, Words, Row, column, value_cmp, Trees, rowid, id_in, Database, IsDatabase, Column, Constraint, Datatype, NotNull, Keeps, passes, are_typed, are_present, is_of, is_null, Integer, Key, equals, column_of, list_table, lecturer_tree, project_tree, student_tree, ranked2_tree, assigned2_tree, lecturer_schema, project_schema, student_schema, ranked2, assigned2, round_of, names, tree_of, table_round, table_tree, Lists, Choices, Rankings, SecondChoices, SecondRankings, OfRoll, OfLists, OfRanked, OfPlaces, Lecturers, Projects, Students, Table, Round, HasFirstSchema, HasRound, RowNumbersDiffer, has_text, lecturer_cells, place_cells, row_key, Named}
+use Rattle.sqlite.specs.Kind.{Kind}
 use Rattle.sqlite.specs.Kind.TheVariants.{Text}
-use Rattle.portal_tables.specs.declared.select.Table.{Table as Named}
 use Rattle.portal_tables.proofs.Listed.{IsText}
 use Rattle.portal_tables.proofs.Weak.{Open, schema_with, with_checks, IsWith, own_is}
 
@@ -70,43 +70,31 @@ pub record IsPlace (r : Row) : Type 0 where
   pub item : List ℕ
   pub is : r ≡ Int number ∷ place_cells owner place item
 
--- A row whose first cell is a text, or a number: what is so at each such cell, and whatever columns follow it, is so of the cells.
-text_first : (P : Row → Type 0) (name : List ℕ) (at : ℕ) (cs : List Column) (cells : Row) → are_typed None at (column_of name Text true ∷ cs) cells ≡ true → not (is_null (column cells 0)) ≡ true
-    → ((t : List ℕ) (rest : Row) → are_typed None (at + 1) cs rest ≡ true → P (Words t ∷ rest)) → P cells
-text_first P name at cs [] typed there go = absurd (cc)
-text_first P name at cs (v ∷ vs) typed there go =
-    let two = and_parts (is_of Text v) (are_typed None (at + 1) cs vs) typed in
-    let cell = text_cell v two.0 there in
-    subst (λ x. P (x ∷ vs)) (sym cell.1) (go cell.0 vs two.1)
-
-number_first : (P : Row → Type 0) (name : List ℕ) (at : ℕ) (cs : List Column) (cells : Row) → are_typed None at (column_of name Integer true ∷ cs) cells ≡ true → not (is_null (column cells 0)) ≡ true
-    → ((n : ℤ) (rest : Row) → are_typed None (at + 1) cs rest ≡ true → P (Int n ∷ rest)) → P cells
-number_first P name at cs [] typed there go = absurd (cc)
-number_first P name at cs (v ∷ vs) typed there go =
-    let two = and_parts (is_of Integer v) (are_typed None (at + 1) cs vs) typed in
-    let cell = number_cell v two.0 there in
-    subst (λ x. P (x ∷ vs)) (sym cell.1) (go cell.0 vs two.1)
+-- A row whose next cell is a text, or a number: what is so at each such cell, and whatever columns follow it, is so of the row.
+next : {X : Type 0} {of : X → Value} (kind : Kind) → ((v : Value) → is_of kind v ≡ true → not (is_null v) ≡ true → (x : X) × (v ≡ of x)) → (P : Row → Type 0) (row : Row → Row) (name : List ℕ) (at : ℕ) (cs : List Column)
+    → ((x : Row) → are_present None at (column_of name kind true ∷ cs) (row x) ≡ (not (is_null (column x 0)) && are_present None (at + 1) cs (row x)))
+    → ((x : X) (rest : Row) → are_typed None (at + 1) cs rest ≡ true → are_present None (at + 1) cs (row (of x ∷ rest)) ≡ true → P (row (of x ∷ rest)))
+    → (cells : Row) → are_typed None at (column_of name kind true ∷ cs) cells ≡ true → are_present None at (column_of name kind true ∷ cs) (row cells) ≡ true → P (row cells)
+next kind cell P row name at cs is go [] typed present = let none = (and_parts false (are_present None (at + 1) cs (row [])) (sym (is []) ∙ present)).0 in absurd (cc)
+next kind cell P row name at cs is go (v ∷ vs) typed present =
+    let two = and_parts (is_of kind v) (are_typed None (at + 1) cs vs) typed in
+    let both = and_parts (not (is_null v)) (are_present None (at + 1) cs (row (v ∷ vs))) (sym (is (v ∷ vs)) ∙ present) in
+    let it = cell v two.0 both.0 in
+    subst (λ x. P (row (x ∷ vs))) (sym it.1) (go it.0 vs two.1 (subst (λ x. are_present None (at + 1) cs (row (x ∷ vs)) ≡ true) it.1 both.1))
 
 none_more : (at : ℕ) (cells : Row) → are_typed None at [] cells ≡ true → cells ≡ []
 none_more at [] t = refl
 none_more at (v ∷ vs) t = absurd (cc)
 
-abbrev Present : ℕ → Row → Type 0
-Present at r = not (is_null (column r at)) ≡ true
-
 lecturer_form : (n : ℤ) (cells : Row) → are_typed None 0 (lecturer_schema 1).columns cells ≡ true → are_present None 0 (lecturer_schema 1).columns (Int n ∷ cells) ≡ true → IsLecturerRow (Int n ∷ cells)
-lecturer_form n cells typed present =
-    let p1 = and_parts _ _ present in
-    let p2 = and_parts _ _ p1.1 in
-    let p3 = and_parts _ _ p2.1 in
-    let p4 = and_parts _ _ p3.1 in
-    let p5 = and_parts _ _ p4.1 in
-    text_first (λ x. Present 2 (Int n ∷ x) → Present 3 (Int n ∷ x) → Present 4 (Int n ∷ x) → Present 5 (Int n ∷ x) → IsLecturerRow (Int n ∷ x)) (codes "key") 0 (column_of (codes "name") Text true ∷ column_of (codes "code") Text true ∷ column_of (codes "capacity") Integer true ∷ column_of (codes "ranked") Integer true ∷ []) cells typed p1.0 (λ key rest0 typed0 a2 a3 a4 a5.
-    text_first (λ x. Present 3 (Int n ∷ Words key ∷ x) → Present 4 (Int n ∷ Words key ∷ x) → Present 5 (Int n ∷ Words key ∷ x) → IsLecturerRow (Int n ∷ Words key ∷ x)) (codes "name") 1 (column_of (codes "code") Text true ∷ column_of (codes "capacity") Integer true ∷ column_of (codes "ranked") Integer true ∷ []) rest0 typed0 a2 (λ name rest1 typed1 b3 b4 b5.
-    text_first (λ x. Present 4 (Int n ∷ Words key ∷ Words name ∷ x) → Present 5 (Int n ∷ Words key ∷ Words name ∷ x) → IsLecturerRow (Int n ∷ Words key ∷ Words name ∷ x)) (codes "code") 2 (column_of (codes "capacity") Integer true ∷ column_of (codes "ranked") Integer true ∷ []) rest1 typed1 b3 (λ code rest2 typed2 c4 c5.
-    number_first (λ x. Present 5 (Int n ∷ Words key ∷ Words name ∷ Words code ∷ x) → IsLecturerRow (Int n ∷ Words key ∷ Words name ∷ Words code ∷ x)) (codes "capacity") 3 (column_of (codes "ranked") Integer true ∷ []) rest2 typed2 c4 (λ capacity rest3 typed3 d5.
-    number_first (λ x. IsLecturerRow (Int n ∷ Words key ∷ Words name ∷ Words code ∷ Int capacity ∷ x)) (codes "ranked") 4 [] rest3 typed3 d5 (λ ranked rest4 typed4.
-    record { number = n; key = key; name = name; code = code; capacity = capacity; ranked = ranked; is = ap (λ x. Int n ∷ Words key ∷ Words name ∷ Words code ∷ Int capacity ∷ Int ranked ∷ x) (none_more 5 rest4 typed4) })) c5) b4 b5) a3 a4 a5) p2.0 p3.0 p4.0 p5.0
+lecturer_form n =
+    let cs = (lecturer_schema 1).columns in
+    next Text text_cell IsLecturerRow (λ x. Int n ∷ x) (codes "key") 0 (drop 1 cs) (λ x. refl) (λ key.
+    next Text text_cell IsLecturerRow (λ x. Int n ∷ Words key ∷ x) (codes "name") 1 (drop 2 cs) (λ x. refl) (λ name.
+    next Text text_cell IsLecturerRow (λ x. Int n ∷ Words key ∷ Words name ∷ x) (codes "code") 2 (drop 3 cs) (λ x. refl) (λ code.
+    next Integer number_cell IsLecturerRow (λ x. Int n ∷ Words key ∷ Words name ∷ Words code ∷ x) (codes "capacity") 3 (drop 4 cs) (λ x. refl) (λ capacity.
+    next Integer number_cell IsLecturerRow (λ x. Int n ∷ Words key ∷ Words name ∷ Words code ∷ Int capacity ∷ x) (codes "ranked") 4 [] (λ x. refl) (λ ranked rest typed present.
+    record { number = n; key = key; name = name; code = code; capacity = capacity; ranked = ranked; is = ap (λ x. Int n ∷ Words key ∷ Words name ∷ Words code ∷ Int capacity ∷ Int ranked ∷ x) (none_more 5 rest typed) })))))
 
 -- what may stand where the last column of a student is
 last_cell : (name : List ℕ) (at : ℕ) (cells : Row) → are_typed None at (column_of name Text false ∷ []) cells ≡ true → ((cells ≡ []) ⊎ ((v : Value) × (cells ≡ v ∷ []))) × IsNullOrText (column cells 0)
@@ -115,34 +103,29 @@ last_cell name at (v ∷ []) t = (inr (v, refl), null_or_text v (and_parts (is_o
 last_cell name at (v ∷ w ∷ vs) t = let e = (and_parts (is_of Text v) false t).1 in absurd (cc)
 
 student_form : (n : ℤ) (cells : Row) → are_typed None 0 (student_schema 6).columns cells ≡ true → are_present None 0 (student_schema 6).columns (Int n ∷ cells) ≡ true → IsStudentRow (Int n ∷ cells)
-student_form n cells typed present =
-    let p1 = and_parts _ _ present in
-    let p2 = and_parts _ _ p1.1 in
-    let p3 = and_parts _ _ p2.1 in
-    text_first (λ x. Present 2 (Int n ∷ x) → Present 3 (Int n ∷ x) → IsStudentRow (Int n ∷ x)) (codes "key") 0 (column_of (codes "name") Text true ∷ column_of (codes "code") Text true ∷ column_of (codes "assigned") Text false ∷ []) cells typed p1.0 (λ key rest0 typed0 a2 a3.
-    text_first (λ x. Present 3 (Int n ∷ Words key ∷ x) → IsStudentRow (Int n ∷ Words key ∷ x)) (codes "name") 1 (column_of (codes "code") Text true ∷ column_of (codes "assigned") Text false ∷ []) rest0 typed0 a2 (λ name rest1 typed1 b3.
-    text_first (λ x. IsStudentRow (Int n ∷ Words key ∷ Words name ∷ x)) (codes "code") 2 (column_of (codes "assigned") Text false ∷ []) rest1 typed1 b3 (λ code rest2 typed2.
-    let end = last_cell (codes "assigned") 3 rest2 typed2 in
-    record { number = n; key = key; name = name; code = code; last = rest2; is = refl; few = end.0; assigned = end.1 })) a3) p2.0 p3.0
+student_form n =
+    let cs = (student_schema 6).columns in
+    next Text text_cell IsStudentRow (λ x. Int n ∷ x) (codes "key") 0 (drop 1 cs) (λ x. refl) (λ key.
+    next Text text_cell IsStudentRow (λ x. Int n ∷ Words key ∷ x) (codes "name") 1 (drop 2 cs) (λ x. refl) (λ name.
+    next Text text_cell IsStudentRow (λ x. Int n ∷ Words key ∷ Words name ∷ x) (codes "code") 2 (drop 3 cs) (λ x. refl) (λ code rest typed present.
+    let end = last_cell (codes "assigned") 3 rest typed in
+    record { number = n; key = key; name = name; code = code; last = rest; is = refl; few = end.0; assigned = end.1 })))
 
 -- the lecturer of a project is a text
 project_form : (n : ℤ) (cells : Row) → are_typed None 0 (project_schema 4).columns cells ≡ true → are_present None 0 (project_schema 4).columns (Int n ∷ cells) ≡ true → IsText (column (Int n ∷ cells) 2)
-project_form n cells typed present =
-    let p1 = and_parts _ _ present in
-    let p2 = and_parts _ _ p1.1 in
-    text_first (λ x. Present 2 (Int n ∷ x) → IsText (column (Int n ∷ x) 2)) (codes "key") 0 (column_of (codes "lecturer") Text true ∷ column_of (codes "title") Text true ∷ column_of (codes "capacity") Integer true ∷ []) cells typed p1.0 (λ key rest0 typed0 a2.
-    text_first (λ x. IsText (column (Int n ∷ Words key ∷ x) 2)) (codes "lecturer") 1 (column_of (codes "title") Text true ∷ column_of (codes "capacity") Integer true ∷ []) rest0 typed0 a2 (λ lecturer_schema rest1 typed1. (lecturer_schema, refl))) p2.0
+project_form n =
+    let cs = (project_schema 4).columns in
+    let HasLecturer : Row → Type 0 = λ r. IsText (column r 2) in
+    next Text text_cell HasLecturer (λ x. Int n ∷ x) (codes "key") 0 (drop 1 cs) (λ x. refl) (λ key.
+    next Text text_cell HasLecturer (λ x. Int n ∷ Words key ∷ x) (codes "lecturer") 1 (drop 2 cs) (λ x. refl) (λ lecturer rest typed present. (lecturer, refl)))
 
 place_form : (n : ℤ) (k l m : List ℕ) (cells : Row) → are_typed None 0 (column_of k Text true ∷ column_of l Integer true ∷ column_of m Text true ∷ []) cells ≡ true
     → are_present None 0 (column_of k Text true ∷ column_of l Integer true ∷ column_of m Text true ∷ []) (Int n ∷ cells) ≡ true → IsPlace (Int n ∷ cells)
-place_form n k l m cells typed present =
-    let p1 = and_parts _ _ present in
-    let p2 = and_parts _ _ p1.1 in
-    let p3 = and_parts _ _ p2.1 in
-    text_first (λ x. Present 2 (Int n ∷ x) → Present 3 (Int n ∷ x) → IsPlace (Int n ∷ x)) k 0 (column_of l Integer true ∷ column_of m Text true ∷ []) cells typed p1.0 (λ owner rest0 typed0 a2 a3.
-    number_first (λ x. Present 3 (Int n ∷ Words owner ∷ x) → IsPlace (Int n ∷ Words owner ∷ x)) l 1 (column_of m Text true ∷ []) rest0 typed0 a2 (λ place rest1 typed1 b3.
-    text_first (λ x. IsPlace (Int n ∷ Words owner ∷ Int place ∷ x)) m 2 [] rest1 typed1 b3 (λ item rest2 typed2.
-    record { number = n; owner = owner; place = place; item = item; is = ap (λ x. Int n ∷ Words owner ∷ Int place ∷ Words item ∷ x) (none_more 3 rest2 typed2) })) a3) p2.0 p3.0
+place_form n k l m =
+    next Text text_cell IsPlace (λ x. Int n ∷ x) k 0 (column_of l Integer true ∷ column_of m Text true ∷ []) (λ x. refl) (λ owner.
+    next Integer number_cell IsPlace (λ x. Int n ∷ Words owner ∷ x) l 1 (column_of m Text true ∷ []) (λ x. refl) (λ place.
+    next Text text_cell IsPlace (λ x. Int n ∷ Words owner ∷ Int place ∷ x) m 2 [] (λ x. refl) (λ item rest typed present.
+    record { number = n; owner = owner; place = place; item = item; is = ap (λ x. Int n ∷ Words owner ∷ Int place ∷ Words item ∷ x) (none_more 3 rest typed) })))
 
 -- a row with a number begins with it
 with_number : (P : Row → Type 0) (typed present : Row → Bool) → ((n : ℤ) (cells : Row) → typed cells ≡ true → present (Int n ∷ cells) ≡ true → P (Int n ∷ cells))
@@ -182,7 +165,7 @@ at_table OfRanked o rule db all = all.1.1.1.1.1.1.1.1.0
 at_table (OfLists SecondRankings) o rule db all = all.1.1.1.1.1.1.1.1.1.0
 at_table OfPlaces o rule db all = all.1.1.1.1.1.1.1.1.1.1.0
 
--- what the rules say of the tables of a sound database that are read as those of a round, and of one of them
+-- what the rules say of a sound database's tables, read as those of a round, and of one of them
 pub kept : (round : Round) (db : Database) → IsDatabase db → (rule : Constraint) (w : IsWith round db.schema) → Keeps rule (schema_with round w.o) db.trees
 kept round db sound rule w = subst (λ s. Keeps rule s db.trees) w.is (sound.obeys.rules rule)
 

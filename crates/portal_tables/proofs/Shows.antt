@@ -1,12 +1,11 @@
--- What each query's text is understood as, whatever the checks are, and so what the query shows and leaves.
-use Rattle.portal_tables.proofs.Base.{◌≡◌, ◌∷◌, ℕ, List, [], false, map, Option, Some, None, refl, sym, ap, subst, subst₂, ◌∙◌, Ok, Result, OnOk, OnErr, Row, column, Term, col, Schema, Database, Answers, Command, Program, Compiled, State, Shown, HasCleanDisk, IsUnchanged, Survives, Select, everything, understood, reads_listing, lets_of, Ends, IsPlain, EndsIn, command_of, reads_as, survives_weaker, Choices, Whole, LecturerByCode, StudentByCode, LecturerByKey, StudentTold, AllLists, ListOf, Choosers, Listed, ProjectsOf, First, SecondRankedBy, SecondPlaceOf, Numbers, Lecturers, OfRoll, OfLists, ListsBy, columns, HasRound, selection, round_asked, query_text, given, RunsQueryIn, IsUnchangedOrUndone}
-use Rattle.sqlite.specs.Effect.{Reads}
+-- The meaning of each query's text, whatever the checks are, and so what a query shows and leaves.
+use Rattle.portal_tables.proofs.Base.{◌≡◌, ℕ, List, [], false, map, Option, Some, None, refl, sym, ap, subst, subst₂, ◌∙◌, Ok, Result, OnOk, OnErr, Row, Term, col, Schema, Database, Answers, Command, Program, Compiled, State, Shown, HasCleanDisk, IsUnchanged, Survives, Select, everything, understood, reads_listing, lets_of, Ends, IsPlain, EndsIn, command_of, reads_as, survives_weaker, Choices, Whole, LecturerByCode, StudentByCode, LecturerByKey, StudentTold, AllLists, ListOf, Choosers, Listed, ProjectsOf, First, SecondRankedBy, SecondPlaceOf, Numbers, Lecturers, OfRoll, OfLists, ListsBy, HasRound, selection, round_asked, query_text, given, on_ok_weaker, Reading, Anyhow, IsUnchangedOrUndone, Reads, Always}
 use Rattle.portal_tables.specs.declared.select.Query.{Query}
 use Rattle.portal_tables.specs.inner.Queries.{Shows}
 use Rattle.portal_tables.proofs.Weak.{Open, schema_with, own_is}
-use Rattle.portal_tables.proofs.Query.{passes, shown_as}
+use Rattle.portal_tables.proofs.Query.{passes}
 use Rattle.portal_tables.proofs.Tests.{has_key, same_key, is_number, same_number}
-use Rattle.portal_tables.proofs.Queries.{by_columns, listed}
+use Rattle.portal_tables.proofs.Queries.{by_columns, columns_are, listed}
 
 -- the test, as it is understood
 abbrev tests : Query → List Term
@@ -38,10 +37,6 @@ tested _ = refl
 abbrev program_of : Command → Option Program
 program_of (Select p names) = Some p
 program_of _ = None
-
-columns_are : (places : List ℕ) (params r : Row) → shown_as (map (λ at. col 1 at) places) params r ≡ columns places r
-columns_are [] params r = refl
-columns_are (at ∷ places) params r = ap (λ l. column r at ∷ l) (columns_are places params r)
 
 abbrev asked : Query → Program
 asked q = record { lets = []; body = by_columns (selection q).tree (tests q) (map (λ at. col 1 at) (selection q).shown) (selection q).by }
@@ -92,12 +87,14 @@ module _ (q : Query) (sql : List ℕ) (params : Row) (text : sql ≡ query_text 
       let lists = listed (selection q).tree (selection q).by (tests q) (map (λ at. col 1 at) (selection q).shown) old.now.trees (given q) rows (program_is _ (asked q) old.now (given q) rows it.0 read).answer in
       subst₂ (λ p show. ListsBy (selection q).by p show (old.now.trees (selection q).tree) rows) (tested q) (λ i r. columns_are (selection q).shown (given q) r i) lists
 
-  pub asks : {V E : Type 0} (r : Result V E) (old new : State) → (IsPlain (understood old.now.schema sql) → HasCleanDisk new → OnOk r (IsUnchanged old new))
+  pub asks : {V E : Type 0} {Told : Database → Result V E → Type 0} (r : Result V E) (old new : State) → (IsPlain (understood old.now.schema sql) → HasCleanDisk new → OnOk r (IsUnchanged old new))
       → (IsPlain (understood old.now.schema sql) → HasCleanDisk new → OnErr r (IsUnchangedOrUndone old new)) → (old.in_transaction ≡ false → new.in_transaction ≡ false)
-      → Survives old new (λ _. IsPlain (understood old.now.schema sql) → ⊥) → RunsQueryIn (round_asked q) r old new
-  asks r old new same err mode survives = record {
-    same = λ own. same (plain old.now.schema own);
-    err = λ own. err (plain old.now.schema own);
+      → Survives old new (λ _. IsPlain (understood old.now.schema sql) → ⊥) → (HasRound (round_asked q) old.now.schema → HasCleanDisk new → Told old.now r) → Reading (round_asked q) Anyhow Always Told r old new
+  asks r old new same err mode survives told = record {
+    same = λ own clean on. same (plain old.now.schema own) clean;
+    err = λ own clean on. err (plain old.now.schema own) clean;
+    now = λ own clean. on_ok_weaker r (λ u. u.0.now_is) (same (plain old.now.schema own) clean);
     mode = mode;
-    crash = survives_weaker old new _ _ (λ clean db no own. no (plain old.now.schema own)) survives;
+    crash = survives_weaker old new _ _ (λ clean db no own on. no (plain old.now.schema own)) survives;
+    told = λ own right clean. told own clean;
   }

@@ -1,41 +1,31 @@
 -- Rows put by their keys are the one order of them in which the keys rise.
-use Rattle.portal_tables.proofs.Base.{◌≡◌, ◌||◌, ◌∷◌, ◌++◌, inl, inr, true, false, cond, List, [], map, refl, sym, ap, ap₂, subst, ◌∙◌, append-nil, AllByRecursion, IsDistinct, IsPermutation, IsPermutation-refl, IsPermutation-trans, IsPermutation-sym, IsPermutation-cons, IsPermutation-middle, IsPermutation-map, IsPermutation-append_right, IsDistinct-IsPermutation, Has, Key, equals, has, is_before, Rise, put, is_own, not_before_itself, is_sym, before_trans, after_other, before_other}
+use Rattle.portal_tables.proofs.Base.{◌≡◌, ◌∷◌, ◌++◌, inl, inr, true, false, cond, List, [], map, refl, sym, ap, ap₂, subst, ◌∙◌, append-nil, AllByRecursion, IsDistinct, IsPermutation, IsPermutation-refl, IsPermutation-trans, IsPermutation-sym, IsPermutation-cons, IsPermutation-middle, IsPermutation-map, IsPermutation-append_right, IsDistinct-IsPermutation, Has, Key, equals, has, is_before, Rise, put, all_unmap, all_weaker, map-map, some_from, is_own, none_is, rise_put, not_before_itself, is_sym, before_trans, after_other, before_other}
 pub use Rattle.sqlite_rules.proofs.ListLemmas.{all_has as at, all_from as all_has}
 pub use Rattle.sqlite_trees.proofs.ListLemmas.{all-permutation as all_permuted, all_both as all_two}
 use Rattle.portal_core.specs.Words.{put_all}
 
-all_apart : (k : Key) (ks : List Key) → AllByRecursion (λ l. is_before k l ≡ true) ks → AllByRecursion (λ l. equals k l ≡ false) ks
-all_apart k [] h = tt
-all_apart k (l ∷ ks) h = (before_other k l h.0, all_apart k ks h.1)
-
 pub rise_distinct : (ks : List Key) → Rise ks → IsDistinct equals ks
 unfolding IsDistinct
 rise_distinct [] h = tt
-rise_distinct (k ∷ ks) h = (all_apart k ks h.0, rise_distinct ks h.1)
+rise_distinct (k ∷ ks) h = (all_weaker _ _ (before_other k) ks h.0, rise_distinct ks h.1)
 
 -- no key comes before one that stands in front of it
 abbrev pub NeverFall : List Key → Type 0
 NeverFall [] = Unit {0}
 NeverFall (k ∷ ks) = AllByRecursion (λ l. is_before l k ≡ false) ks × NeverFall ks
 
-above_others : (k : Key) (ks : List Key) → AllByRecursion (λ l. is_before l k ≡ false) ks → AllByRecursion (λ l. equals k l ≡ false) ks → AllByRecursion (λ l. is_before k l ≡ true) ks
-above_others k [] h d = tt
-above_others k (l ∷ ks) h d = (after_other l k h.0 (is_sym l k ∙ d.0), above_others k ks h.1 d.1)
-
 -- distinct keys that never fall rise
 pub rise_from_distinct : (ks : List Key) → NeverFall ks → IsDistinct equals ks → Rise ks
 unfolding IsDistinct
 rise_from_distinct [] h d = tt
-rise_from_distinct (k ∷ ks) h d = (above_others k ks h.0 d.0, rise_from_distinct ks h.1 d.1)
+rise_from_distinct (k ∷ ks) h d = (all_two _ _ (λ l. is_before k l ≡ true) (λ l up other. after_other l k up (is_sym l k ∙ other)) ks h.0 d.0, rise_from_distinct ks h.1 d.1)
 
 pub has_permuted : {X : Type 0} (xs ys : List X) → IsPermutation xs ys → (x : X) → Has xs x → Has ys x
 has_permuted xs ys same x h = at (λ z. Has ys z) xs x (all_permuted (λ z. Has ys z) ys xs (IsPermutation-sym xs ys same) (all_has (λ z. Has ys z) ys (λ z k. k))) h
 
 -- a key that is a member passes the test of it
 pub has_of : (ks : List Key) (k : Key) → Has ks k → has ks k ≡ true
-has_of [] k h = absurd h
-has_of (l ∷ ks) k (inl e) = ap (λ b. b || has ks k) (subst (λ m. equals k m ≡ true) e (is_own k))
-has_of (l ∷ ks) k (inr h) = elim (equals k l) as (λ b. (b || has ks k) ≡ true) [ true ↦ refl | false ↦ has_of ks k h ]
+has_of ks k h = some_from (equals k) ks k h (is_own k)
 
 module _ {X : Type 0} (key : X → Key) where
   -- one more is put last
@@ -61,9 +51,7 @@ module _ {X : Type 0} (key : X → Key) where
   permutes xs = subst (λ l. IsPermutation l (put_all key xs [])) (append-nil xs) (permutes_more xs [])
 
   above : (k : Key) (xs : List X) (x : X) → AllByRecursion (λ l. is_before k l ≡ true) (map key xs) → Has xs x → is_before k (key x) ≡ true
-  above k [] x all h = absurd h
-  above k (y ∷ xs) x all (inl e) = subst (λ z. is_before k (key z) ≡ true) (sym e) all.0
-  above k (y ∷ xs) x all (inr h) = above k xs x all.1 h
+  above k xs x all = at (λ z. is_before k (key z) ≡ true) xs x (all_unmap (λ l. is_before k l ≡ true) key xs all)
 
   -- two lists with rising keys that have the same members are one
   pub one_order : (xs ys : List X) → Rise (map key xs) → Rise (map key ys) → ((x : X) → Has xs x → Has ys x) → ((x : X) → Has ys x → Has xs x) → xs ≡ ys
@@ -100,19 +88,8 @@ module _ {X : Type 0} (key : X → Key) where
   distinct_if_rise xs up = distinct_permuted (put_all key xs []) xs (IsPermutation-sym _ _ (permutes xs)) (rise_distinct _ up)
 
   rise_one : (x : X) (ys : List X) → Rise (map key ys) → AllByRecursion (λ l. equals (key x) l ≡ false) (map key ys) → Rise (map key (put key x ys))
-  rise_one x [] up d = (tt, tt)
-  rise_one x (y ∷ ys) up d =
-      (elim (is_before (key x) (key y)) as (λ b. is_before (key x) (key y) ≡ b → Rise (map key (cond b (x ∷ y ∷ ys) (y ∷ put key x ys)))) [
-        | true ↦ λ e. ((e, later e (map key ys) up.0), up)
-        | false ↦ λ e. (lower (key y) (x ∷ ys) (put key x ys) (permutes_one x ys) (after_other (key x) (key y) e d.0, up.0), rise_one x ys up.1 d.1)
-      ]) refl
-    where
-      later : is_before (key x) (key y) ≡ true → (ks : List Key) → AllByRecursion (λ l. is_before (key y) l ≡ true) ks → AllByRecursion (λ l. is_before (key x) l ≡ true) ks
-      later e [] h = tt
-      later e (k ∷ ks) h = (before_trans (key x) (key y) k e h.0, later e ks h.1)
-
-      lower : (k : Key) (us vs : List X) → IsPermutation us vs → AllByRecursion (λ l. is_before k l ≡ true) (map key us) → AllByRecursion (λ l. is_before k l ≡ true) (map key vs)
-      lower k us vs same h = all_permuted (λ l. is_before k l ≡ true) (map key us) (map key vs) (IsPermutation-map key us vs same) h
+  rise_one x ys up d =
+      rise_put key x ys up (none_is (key x) (map key ys) (all_weaker (λ l. equals (key x) l ≡ false) (λ l. equals l (key x) ≡ false) (λ l other. is_sym l (key x) ∙ other) (map key ys) d))
 
   behind : (k : Key) (us ys : List X) → AllByRecursion (λ l. equals k l ≡ false) (map key (us ++ ys)) → AllByRecursion (λ l. equals k l ≡ false) (map key ys)
   behind k [] ys h = h
@@ -167,13 +144,11 @@ module _ {X Y : Type 0} (key : X → Key) (there : Y → Key) (f : X → Y) (ali
 
 -- changes that are alike on each row
 pub map_alike : {X Y : Type 0} (f g : X → Y) (xs : List X) → ((x : X) → f x ≡ g x) → map f xs ≡ map g xs
-map_alike f g [] h = refl
-map_alike f g (x ∷ xs) h = ap₂ (λ a b. a ∷ b) (h x) (map_alike f g xs h)
+map_alike f g xs h = λ i. map (λ x. h x i) xs
 
 pub map_alike_on : {X Y : Type 0} (f g : X → Y) (xs : List X) → ((x : X) → Has xs x → f x ≡ g x) → map f xs ≡ map g xs
 map_alike_on f g [] h = refl
 map_alike_on f g (x ∷ xs) h = ap₂ (λ a b. a ∷ b) (h x (inl refl)) (map_alike_on f g xs (λ y k. h y (inr k)))
 
 pub map_twice : {X Y Z : Type 0} (f : Y → Z) (g : X → Y) (xs : List X) → map (λ x. f (g x)) xs ≡ map f (map g xs)
-map_twice f g [] = refl
-map_twice f g (x ∷ xs) = ap (λ l. f (g x) ∷ l) (map_twice f g xs)
+map_twice f g xs = sym (map-map f g xs)

@@ -1,5 +1,5 @@
 -- The texts that write, and what each does to its table, whatever the checks are.
-use Rattle.portal_tables.proofs.Base.{◌≡◌, ◌+◌, ◌∷◌, ◌++◌, ◌==◌, ◌/◌, ℕ, pos, Option, Some, slice_get, List, [], map, filter, codes, length, true, false, not, refl, sym, ap, subst, subst₂, ◌∙◌, ⊤, AllByRecursion, flat_map, filter_map, is_eq, Null, Int, Text, Binary, Row, column, value_cmp, Table, put_row, rowid, id_in, value_rows, cast_row, Term, lit, col, op2, Compare, Eq, State, Ghosts, state, Insert, Delete, Update, Values, everything, understood, IsPlain, command_of, works, work_by, deed_for, pairs, parent_key, Enforced, Column, Reference, Order, LecturerRow, ProjectRow, StudentRow, Lists, Second, Choices, Rankings, SecondChoices, SecondRankings, NewPlace, schema_of, list_table, lecturer_schema, project_schema, student_schema, portal_tree, second_tree, ranked2_tree, assigned2_tree, lecturer_tree, project_tree, student_tree, names, place_among, tree_of, clear_text, add_text, add_eight_text, RowNumbersDiffer, Drops, Sets, Becomes, every, IsCurrentSchema, Ran, Made, portal_cells, lecturer_cells, lecturer_new, lecturer_values, project_new, student_new, student_values, place_new, pair_new, AddsBy, Clears, MovesTo, IsOfVersion, MovesSecond, Ranks, portal_row, second_cells, second_row}
+use Rattle.portal_tables.proofs.Base.{◌≡◌, ◌+◌, ◌∷◌, ◌++◌, ◌==◌, ◌/◌, ℕ, pos, Option, Some, slice_get, List, [], map, filter, codes, length, true, false, not, refl, sym, ap, subst, subst₂, ◌∙◌, ⊤, all_map, all_of, flat_map, filter_map, is_eq, Null, Int, Text, Binary, Row, column, value_cmp, Table, put_row, rowid, id_in, value_rows, cast_row, Term, lit, col, op2, Compare, Eq, State, Ghosts, state, Insert, Delete, Update, Values, everything, understood, IsPlain, command_of, works, work_by, deed_for, pairs, parent_key, Enforced, Column, Reference, Order, Lists, Second, Choices, Rankings, SecondChoices, SecondRankings, schema_of, list_table, project_schema, portal_tree, second_tree, ranked2_tree, assigned2_tree, lecturer_tree, project_tree, student_tree, names, place_among, tree_of, clear_text, add_text, add_eight_text, RowNumbersDiffer, Drops, Sets, Becomes, every, IsCurrentSchema, Ran, Made, portal_cells, lecturer_cells, lecturer_new, lecturer_values, project_new, student_new, student_values, place_new, pair_new, AddsBy, Clears, MovesTo, IsOfVersion, MovesSecond, Ranks, portal_row, second_cells, second_row}
 use Rattle.portal_tables.proofs.Weak.{portal_with, with_checks, own_is}
 use Rattle.portal_tables.proofs.Query.{one_table, passes, shown_as}
 use Rattle.portal_tables.proofs.Tests.{param, has_key, same_key, equals_int}
@@ -21,11 +21,11 @@ pub record Updates (sql : List ℕ) (at tree : ℕ) (tests project_schema : List
   pub command : (checks more : ℕ → List Term) → command_of (understood (portal_with checks more) sql) ≡ Update at (record { lets = []; body = one_table tree tests (col 1 0 ∷ project_schema) })
   pub plain : (checks more : ℕ → List Term) → IsPlain (understood (portal_with checks more) sql)
 
--- no table's foreign keys act where rows come
-pub no_works : (checks terms : ℕ → List Term) (tree : ℕ) (rows : List Row) → works (portal_with checks terms) Enforced 0 tree [] rows ≡ []
-no_works checks terms tree rows =
+-- no table's foreign keys act, whatever rows go and come
+pub no_acts : (checks terms : ℕ → List Term) (tree : ℕ) (olds news : List Row) → works (portal_with checks terms) Enforced 0 tree olds news ≡ []
+no_acts checks terms tree olds news =
     let s = portal_with checks terms in
-    elim (length rows == 0) as (λ gone. flat_map (λ (child : Table). filter_map (λ ref. work_by 0 tree (pairs [] rows) child ref (deed_for Enforced gone ref) (parent_key s.tables ref)) child.references) s.tables ≡ [])
+    elim (length news == 0) as (λ gone. flat_map (λ (child : Table). filter_map (λ ref. work_by 0 tree (pairs olds news) child ref (deed_for Enforced gone ref) (parent_key s.tables ref)) child.references) s.tables ≡ [])
     [ true ↦ refl | false ↦ refl ]
 
 -- a table of the portal's stands at this place
@@ -62,16 +62,18 @@ by_eight {R} {values} {cells} {width} {terms} given = record { is = go }
     go (a ∷ b ∷ c ∷ d ∷ e ∷ f ∷ g ∷ h ∷ []) are = given a b c d e f g h
     go (a ∷ b ∷ c ∷ d ∷ e ∷ f ∷ g ∷ h ∷ i ∷ rows) are = absurd (cc)
 
+-- the one row of a table changes whose id is 1
+abbrev the_one : List Term
+the_one = op2 (Compare Eq Binary) (col 1 0) (lit (Int (pos 1))) ∷ []
+
+passed : (params r : Row) → column r 0 ≡ Int (pos 1) → passes the_one params r ≡ true
+passed params r is = equals_int (column r 0) (pos 1) ∙ ap (λ v. is_eq (value_cmp v (Int (pos 1)))) is ∙ eq_self (Int (pos 1))
+
 module _ (at : ℕ) (name : List ℕ) (tree : ℕ) (columns : List Column) (key : Option ℕ) (primary : List ℕ) (uniques : List (List ℕ)) (orders : List Order) (references : List Reference)
     (stands : StandsAt at (schema_of name tree columns key primary uniques orders [] references)) where
   -- the row is of the table's kinds
   abbrev Fits : (checks more : ℕ → List Term) → Row → Row → Type 0
   Fits checks more row fit = cast_row (with_checks checks more (schema_of name tree columns key primary uniques orders [] references)) row ≡ fit
-
-  all_fit : {R : Type 0} (checks more : ℕ → List Term) (cells : R → Row) → ((r : R) → Fits checks more (unnumbered (cells r)) (unnumbered (cells r))) → (rows : List R)
-      → AllByRecursion (λ c. Fits checks more (unnumbered c) (unnumbered c)) (map cells rows)
-  all_fit checks more cells fit [] = tt
-  all_fit checks more cells fit (r ∷ rows) = (fit r, all_fit checks more cells fit rows)
 
   rows_added : {S R : Type 0} (g : Ghosts S) (values cells : R → Row) → ((checks more : ℕ → List Term) (r : R) → Fits checks more (unnumbered (cells r)) (unnumbered (cells r)))
       → (count : ℕ) (sql : List ℕ) (terms : List Term) (width : ℕ) → Inserts sql at terms width → Gives values cells count width terms → AddsBy g sql count tree values cells
@@ -80,9 +82,39 @@ module _ (at : ℕ) (name : List ℕ) (tree : ℕ) (columns : List Column) (key 
     changed = λ own.
         let w = own_is Second (state g old).now.schema own in
         inserted (portal_with w.o.checks w.o.terms) sql at name tree columns key primary uniques orders (w.o.checks tree) references (w.o.terms tree) (stands w.o.checks w.o.terms) (λ P all. all)
-        terms width (inserts.command w.o.checks w.o.terms) (inserts.plain w.o.checks w.o.terms) (no_works w.o.checks w.o.terms tree)
-        (flat_map values rows) (map cells rows) (given.is rows are) (all_fit w.o.checks w.o.terms cells (fit w.o.checks w.o.terms) rows) (state g old) (state g new) ran.count w.is ran.runs;
+        terms width (inserts.command w.o.checks w.o.terms) (inserts.plain w.o.checks w.o.terms) (no_acts w.o.checks w.o.terms tree [])
+        (flat_map values rows) (map cells rows) (given.is rows are) (all_map (λ c. Fits w.o.checks w.o.terms (unnumbered c) (unnumbered c)) cells rows (all_of _ (fit w.o.checks w.o.terms) rows)) (state g old) (state g new) ran.count w.is ran.runs;
   }
+
+  dropped : (sql : List ℕ) (tests : List Term) → Deletes sql at tree tests
+      → (params : Row) (old new : State) → Ran sql params old new → IsCurrentSchema old.now.schema → RowNumbersDiffer (old.now.trees tree) → Drops tree (passes tests params) old.now new.now
+  dropped sql tests deletes params old new ran own apart =
+      let w = own_is Second old.now.schema own in
+      deleted (portal_with w.o.checks w.o.terms) sql at name tree columns key primary uniques orders (w.o.checks tree) references (w.o.terms tree) (stands w.o.checks w.o.terms) (λ P all. all) tests
+      (deletes.command w.o.checks w.o.terms) (deletes.plain w.o.checks w.o.terms) (λ olds. no_acts w.o.checks w.o.terms tree olds []) params old new ran.count w.is apart ran.runs
+
+  cleared : (sql : List ℕ) → Deletes sql at tree (has_key 1)
+      → (old new : State) (owner : List ℕ) → Ran sql (Text owner ∷ []) old new → Made (Clears tree owner) old new
+  cleared sql deletes old new owner ran = record {
+    shown = ran.shown;
+    changed = λ own apart. subst (λ p. Drops tree p old.now new.now) (same_key 1 owner) (dropped sql (has_key 1) deletes (Text owner ∷ []) old new ran own apart);
+  }
+
+  one_changed : (sql : List ℕ) (project_schema : List Term) → Updates sql at tree the_one project_schema
+      → (params r made : Row) → column r 0 ≡ Int (pos 1) → rowid r ≡ Int (pos 1)
+      → ((checks more : ℕ → List Term) → cast_row (with_checks checks more (schema_of name tree columns key primary uniques orders [] references)) (shown_as project_schema params r) ≡ made)
+      → (old new : State) → Ran sql params old new → IsCurrentSchema old.now.schema → old.now.trees tree ≡ r ∷ [] → Becomes tree made old.now new.now
+  one_changed sql project_schema updates params r made id number cast old new h own one =
+      let w = own_is Second old.now.schema own in
+      let p = passes the_one params in
+      let hit : p r ≡ true = passed params r id in
+      let meets : filter p (old.now.trees tree) ≡ r ∷ [] = ap (filter p) one ∙ rw hit refl in
+      let left : filter (λ x. not (p x)) (old.now.trees tree) ≡ [] = ap (filter (λ x. not (p x))) one ∙ rw hit refl in
+      let apart : RowNumbersDiffer (old.now.trees tree) = subst RowNumbersDiffer (sym one) (number ∙ ap Int (sym (ap id_in number)), tt, tt) in
+      let set = updated (portal_with w.o.checks w.o.terms) sql at name tree columns key primary uniques orders (w.o.checks tree) references (w.o.terms tree) (stands w.o.checks w.o.terms) (λ P all. all)
+      the_one project_schema (updates.command w.o.checks w.o.terms) (updates.plain w.o.checks w.o.terms) (λ was row. no_acts w.o.checks w.o.terms tree (was ∷ []) (row ∷ [])) params r old new h.count w.is apart meets h.runs in
+      let done = subst (λ row. Sets tree p row old.now new.now) (cast w.o.checks w.o.terms) set in
+      record { schema_is = done.schema_is; rows = done.rows ∙ ap (put_row made) left; others = done.others; sound = done.sound }
 
 -- the row of `portal` with a version, and that of `second`
 portal_one : Inserts (codes "INSERT INTO portal (version, phase, office) VALUES (?1, 0, ?2)") 0 (lit Null ∷ lit Null ∷ param 0 ∷ lit (Int (pos 0)) ∷ param 1 ∷ []) 5
@@ -111,11 +143,8 @@ pub lecturer_eight : Inserts (codes "INSERT INTO lecturer (key, name, code, capa
 unfolding understood everything
 lecturer_eight = record { command = λ checks more. refl; plain = λ checks more. (refl, refl) }
 
-lecturer_fits : (checks more : ℕ → List Term) (r : LecturerRow) → cast_row (with_checks checks more (lecturer_schema 1)) (unnumbered (lecturer_new r)) ≡ unnumbered (lecturer_new r)
-lecturer_fits checks more r = rw (cast_null, cast_int (pos r.capacity), cast_int (pos 0)) refl
-
 pub lecturers_added : {S : Type 0} (g : Ghosts S) (count : ℕ) (sql : List ℕ) (terms : List Term) → Inserts sql 1 terms 6 → Gives lecturer_values lecturer_new count 6 terms → AddsBy g sql count lecturer_tree lecturer_values lecturer_new
-lecturers_added g count sql terms = rows_added 1 _ 1 _ _ _ _ _ _ (λ checks more. refl) g lecturer_values lecturer_new lecturer_fits count sql terms 6
+lecturers_added g count sql terms = rows_added 1 _ 1 _ _ _ _ _ _ (λ checks more. refl) g lecturer_values lecturer_new (λ checks more r. rw (cast_null, cast_int (pos r.capacity), cast_int (pos 0)) refl) count sql terms 6
 
 abbrev project_terms : ℕ → List Term
 project_terms n = lit Null ∷ param n ∷ param (n + 1) ∷ param (n + 2) ∷ param (n + 3) ∷ []
@@ -128,11 +157,8 @@ pub project_eight : Inserts (codes "INSERT INTO project (key, lecturer, title, c
 unfolding understood everything
 project_eight = record { command = λ checks more. refl; plain = λ checks more. (refl, refl) }
 
-project_fits : (checks more : ℕ → List Term) (r : ProjectRow) → cast_row (with_checks checks more (project_schema 4)) (unnumbered (project_new r)) ≡ unnumbered (project_new r)
-project_fits checks more r = rw (cast_null, cast_int (pos r.capacity)) refl
-
 pub projects_added : {S : Type 0} (g : Ghosts S) (count : ℕ) (sql : List ℕ) (terms : List Term) → Inserts sql 2 terms 5 → Gives project_new project_new count 5 terms → AddsBy g sql count project_tree project_new project_new
-projects_added g count sql terms = rows_added 2 _ 4 _ _ _ _ _ _ (λ checks more. refl) g project_new project_new project_fits count sql terms 5
+projects_added g count sql terms = rows_added 2 _ 4 _ _ _ _ _ _ (λ checks more. refl) g project_new project_new (λ checks more r. rw (cast_null, cast_int (pos r.capacity)) refl) count sql terms 5
 
 abbrev student_terms : ℕ → List Term
 student_terms n = lit Null ∷ param n ∷ param (n + 1) ∷ param (n + 2) ∷ lit Null ∷ []
@@ -145,11 +171,8 @@ pub student_eight : Inserts (codes "INSERT INTO student (key, name, code) VALUES
 unfolding understood everything
 student_eight = record { command = λ checks more. refl; plain = λ checks more. (refl, refl) }
 
-student_fits : (checks more : ℕ → List Term) (r : StudentRow) → cast_row (with_checks checks more (student_schema 6)) (unnumbered (student_new r)) ≡ unnumbered (student_new r)
-student_fits checks more r = rw (cast_null) refl
-
 pub students_added : {S : Type 0} (g : Ghosts S) (count : ℕ) (sql : List ℕ) (terms : List Term) → Inserts sql 3 terms 5 → Gives student_values student_new count 5 terms → AddsBy g sql count student_tree student_values student_new
-students_added g count sql terms = rows_added 3 _ 6 _ _ _ _ _ _ (λ checks more. refl) g student_values student_new student_fits count sql terms 5
+students_added g count sql terms = rows_added 3 _ 6 _ _ _ _ _ _ (λ checks more. refl) g student_values student_new (λ checks more r. rw (cast_null) refl) count sql terms 5
 
 -- the tables of lists, whichever it is
 stands : (l : Lists) → StandsAt (place_among l) (list_table (names l) (tree_of l))
@@ -175,12 +198,9 @@ add_eight_is Rankings = record { command = λ checks more. refl; plain = λ chec
 add_eight_is SecondChoices = record { command = λ checks more. refl; plain = λ checks more. (refl, refl) }
 add_eight_is SecondRankings = record { command = λ checks more. refl; plain = λ checks more. (refl, refl) }
 
-place_fits : (l : Lists) (checks more : ℕ → List Term) (r : NewPlace) → cast_row (with_checks checks more (list_table (names l) (tree_of l))) (unnumbered (place_new r)) ≡ unnumbered (place_new r)
-place_fits l checks more r = rw (cast_null, cast_int (pos r.place)) refl
-
 pub places_added : (l : Lists) {S : Type 0} (g : Ghosts S) (count : ℕ) (sql : List ℕ) (terms : List Term) → Inserts sql (place_among l) terms 4 → Gives place_new place_new count 4 terms
     → AddsBy g sql count (tree_of l) place_new place_new
-places_added l g count sql terms = rows_added (place_among l) _ (tree_of l) _ _ _ _ _ _ (stands l) g place_new place_new (place_fits l) count sql terms 4
+places_added l g count sql terms = rows_added (place_among l) _ (tree_of l) _ _ _ _ _ _ (stands l) g place_new place_new (λ checks more r. rw (cast_null, cast_int (pos r.place)) refl) count sql terms 4
 
 clear_is : (l : Lists) → Deletes (clear_text (names l)) (place_among l) (tree_of l) (has_key 1)
 unfolding understood everything
@@ -189,24 +209,8 @@ clear_is Rankings = record { command = λ checks more. refl; plain = λ checks m
 clear_is SecondChoices = record { command = λ checks more. refl; plain = λ checks more. (refl, refl) }
 clear_is SecondRankings = record { command = λ checks more. refl; plain = λ checks more. (refl, refl) }
 
-module _ (at : ℕ) (name : List ℕ) (tree : ℕ) (columns : List Column) (key : Option ℕ) (primary : List ℕ) (uniques : List (List ℕ)) (orders : List Order) (references : List Reference)
-    (stands : StandsAt at (schema_of name tree columns key primary uniques orders [] references)) where
-  dropped : (sql : List ℕ) (tests : List Term) → Deletes sql at tree tests → ((checks terms : ℕ → List Term) (olds : List Row) → works (portal_with checks terms) Enforced 0 tree olds [] ≡ [])
-      → (params : Row) (old new : State) → Ran sql params old new → IsCurrentSchema old.now.schema → RowNumbersDiffer (old.now.trees tree) → Drops tree (passes tests params) old.now new.now
-  dropped sql tests deletes idle params old new ran own apart =
-      let w = own_is Second old.now.schema own in
-      deleted (portal_with w.o.checks w.o.terms) sql at name tree columns key primary uniques orders (w.o.checks tree) references (w.o.terms tree) (stands w.o.checks w.o.terms) (λ P all. all) tests
-      (deletes.command w.o.checks w.o.terms) (deletes.plain w.o.checks w.o.terms) (idle w.o.checks w.o.terms) params old new ran.count w.is apart ran.runs
-
-  cleared : (sql : List ℕ) → Deletes sql at tree (has_key 1) → ((checks terms : ℕ → List Term) (olds : List Row) → works (portal_with checks terms) Enforced 0 tree olds [] ≡ [])
-      → (old new : State) (owner : List ℕ) → Ran sql (Text owner ∷ []) old new → Made (Clears tree owner) old new
-  cleared sql deletes idle old new owner ran = record {
-    shown = ran.shown;
-    changed = λ own apart. subst (λ p. Drops tree p old.now new.now) (same_key 1 owner) (dropped sql (has_key 1) deletes idle (Text owner ∷ []) old new ran own apart);
-  }
-
 pub list_cleared : (l : Lists) (old new : State) (owner : List ℕ) → Ran (clear_text (names l)) (Text owner ∷ []) old new → Made (Clears (tree_of l) owner) old new
-list_cleared l = cleared (place_among l) _ (tree_of l) _ _ _ _ _ _ (stands l) (clear_text (names l)) (clear_is l) (λ checks terms olds. refl)
+list_cleared l = cleared (place_among l) _ (tree_of l) _ _ _ _ _ _ (stands l) (clear_text (names l)) (clear_is l)
 
 -- who has a ranking in the second round
 unrank_is : Deletes (codes "DELETE FROM ranked2 WHERE lecturer = ?1") 8 19 (has_key 1)
@@ -214,7 +218,7 @@ unfolding understood everything
 unrank_is = record { command = λ checks more. refl; plain = λ checks more. (refl, refl) }
 
 pub rank_cleared : (old new : State) (owner : List ℕ) → Ran (codes "DELETE FROM ranked2 WHERE lecturer = ?1") (Text owner ∷ []) old new → Made (Clears ranked2_tree owner) old new
-rank_cleared = cleared 8 _ 19 _ _ _ _ _ _ (λ checks more. refl) (codes "DELETE FROM ranked2 WHERE lecturer = ?1") unrank_is (λ checks terms olds. refl)
+rank_cleared = cleared 8 _ 19 _ _ _ _ _ _ (λ checks more. refl) (codes "DELETE FROM ranked2 WHERE lecturer = ?1") unrank_is
 
 rank_one : Inserts (codes "INSERT INTO ranked2 (lecturer) VALUES (?1)") 8 (lit Null ∷ param 0 ∷ []) 2
 unfolding understood everything
@@ -229,7 +233,7 @@ unfolding understood everything
 empty_is = record { command = λ checks more. refl; plain = λ checks more. (refl, refl) }
 
 pub places_dropped : (old new : State) → Ran (codes "DELETE FROM assigned2") [] old new → IsCurrentSchema old.now.schema → RowNumbersDiffer (old.now.trees assigned2_tree) → Drops assigned2_tree every old.now new.now
-places_dropped = dropped 10 _ 24 _ _ _ _ _ _ (λ checks more. refl) (codes "DELETE FROM assigned2") [] empty_is (λ checks terms olds. refl) []
+places_dropped = dropped 10 _ 24 _ _ _ _ _ _ (λ checks more. refl) (codes "DELETE FROM assigned2") [] empty_is []
 
 abbrev pair_terms : ℕ → List Term
 pair_terms n = lit Null ∷ param n ∷ param (n + 1) ∷ []
@@ -267,31 +271,6 @@ lecturer_ranked old new key h = record {
       subst₂ (λ p row. Sets 1 p row old.now new.now) (same_key 1 key) (rw (cast_int number, cast_int capacity, cast_int (pos 1)) refl) set;
 }
 
--- the one row of a table changes whose id is 1
-abbrev the_one : List Term
-the_one = op2 (Compare Eq Binary) (col 1 0) (lit (Int (pos 1))) ∷ []
-
-passed : (params r : Row) → column r 0 ≡ Int (pos 1) → passes the_one params r ≡ true
-passed params r is = equals_int (column r 0) (pos 1) ∙ ap (λ v. is_eq (value_cmp v (Int (pos 1)))) is ∙ eq_self (Int (pos 1))
-
-module _ (at : ℕ) (name : List ℕ) (tree : ℕ) (columns : List Column) (key : Option ℕ) (primary : List ℕ) (uniques : List (List ℕ)) (orders : List Order) (references : List Reference)
-    (stands : StandsAt at (schema_of name tree columns key primary uniques orders [] references)) where
-  one_changed : (sql : List ℕ) (project_schema : List Term) → Updates sql at tree the_one project_schema → ((checks terms : ℕ → List Term) (r new : Row) → works (portal_with checks terms) Enforced 0 tree (r ∷ []) (new ∷ []) ≡ [])
-      → (params r made : Row) → column r 0 ≡ Int (pos 1) → rowid r ≡ Int (pos 1)
-      → ((checks more : ℕ → List Term) → cast_row (with_checks checks more (schema_of name tree columns key primary uniques orders [] references)) (shown_as project_schema params r) ≡ made)
-      → (old new : State) → Ran sql params old new → IsCurrentSchema old.now.schema → old.now.trees tree ≡ r ∷ [] → Becomes tree made old.now new.now
-  one_changed sql project_schema updates idle params r made id number cast old new h own one =
-      let w = own_is Second old.now.schema own in
-      let p = passes the_one params in
-      let hit : p r ≡ true = passed params r id in
-      let meets : filter p (old.now.trees tree) ≡ r ∷ [] = ap (filter p) one ∙ rw hit refl in
-      let left : filter (λ x. not (p x)) (old.now.trees tree) ≡ [] = ap (filter (λ x. not (p x))) one ∙ rw hit refl in
-      let apart : RowNumbersDiffer (old.now.trees tree) = subst RowNumbersDiffer (sym one) (number ∙ ap Int (sym (ap id_in number)), tt, tt) in
-      let set = updated (portal_with w.o.checks w.o.terms) sql at name tree columns key primary uniques orders (w.o.checks tree) references (w.o.terms tree) (stands w.o.checks w.o.terms) (λ P all. all)
-      the_one project_schema (updates.command w.o.checks w.o.terms) (updates.plain w.o.checks w.o.terms) (idle w.o.checks w.o.terms) params r old new h.count w.is apart meets h.runs in
-      let done = subst (λ row. Sets tree p row old.now new.now) (cast w.o.checks w.o.terms) set in
-      record { schema_is = done.schema_is; rows = done.rows ∙ ap (put_row made) left; others = done.others; sound = done.sound }
-
 phase_is : Updates (codes "UPDATE portal SET phase = ?1 WHERE id = 1") 0 0 the_one (col 1 0 ∷ lit Null ∷ col 1 2 ∷ param 0 ∷ col 1 4 ∷ [])
 unfolding understood everything
 phase_is = record { command = λ checks more. refl; plain = λ checks more. (refl, refl) }
@@ -299,7 +278,7 @@ phase_is = record { command = λ checks more. refl; plain = λ checks more. (ref
 pub phase_moved : (old new : State) (phase : ℕ) → Ran (codes "UPDATE portal SET phase = ?1 WHERE id = 1") (Int (pos phase) ∷ []) old new → Made (MovesTo phase) old new
 phase_moved old new phase h = record {
   shown = h.shown;
-  changed = λ own version was office. one_changed 0 _ 0 _ _ _ _ _ _ (λ checks more. refl) _ _ phase_is (λ checks terms r new. refl) (Int (pos phase) ∷ []) (portal_row version was office) _ refl refl
+  changed = λ own version was office. one_changed 0 _ 0 _ _ _ _ _ _ (λ checks more. refl) _ _ phase_is (Int (pos phase) ∷ []) (portal_row version was office) _ refl refl
       (λ checks more. rw (cast_int (pos 1), cast_null, cast_int version, cast_int (pos phase)) refl) old new h own;
 }
 
@@ -310,7 +289,7 @@ version_is = record { command = λ checks more. refl; plain = λ checks more. (r
 pub version_set : (old new : State) (version : ℕ) → Ran (codes "UPDATE portal SET version = ?1 WHERE id = 1") (Int (pos version) ∷ []) old new → Made (IsOfVersion version) old new
 version_set old new version h = record {
   shown = h.shown;
-  changed = λ own was phase office. one_changed 0 _ 0 _ _ _ _ _ _ (λ checks more. refl) _ _ version_is (λ checks terms r new. refl) (Int (pos version) ∷ []) (portal_row was phase office) _ refl refl
+  changed = λ own was phase office. one_changed 0 _ 0 _ _ _ _ _ _ (λ checks more. refl) _ _ version_is (Int (pos version) ∷ []) (portal_row was phase office) _ refl refl
       (λ checks more. rw (cast_int (pos 1), cast_null, cast_int (pos version), cast_int phase) refl) old new h own;
 }
 
@@ -321,6 +300,6 @@ second_is = record { command = λ checks more. refl; plain = λ checks more. (re
 pub second_moved : (old new : State) (phase : ℕ) → Ran (codes "UPDATE second SET phase = ?1 WHERE id = 1") (Int (pos phase) ∷ []) old new → Made (MovesSecond phase) old new
 second_moved old new phase h = record {
   shown = h.shown;
-  changed = λ own was. one_changed 6 _ 15 _ _ _ _ _ _ (λ checks more. refl) _ _ second_is (λ checks terms r new. refl) (Int (pos phase) ∷ []) (second_row was) _ refl refl
+  changed = λ own was. one_changed 6 _ 15 _ _ _ _ _ _ (λ checks more. refl) _ _ second_is (Int (pos phase) ∷ []) (second_row was) _ refl refl
       (λ checks more. rw (cast_int (pos 1), cast_null, cast_int (pos phase)) refl) old new h own;
 }

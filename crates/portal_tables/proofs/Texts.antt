@@ -1,10 +1,10 @@
--- The key that a row begins with is a text: that of a roll, and the owner's in a row of a list or of the second round.
-use Rattle.portal_tables.proofs.Base.{◌≡◌, ◌&&◌, ◌∷◌, lecturer_schema, project_schema, student_schema, true, false, drop, codes, None, List, [], ℕ, AllByRecursion, and_parts, Row, column, Database, IsDatabase, Column, Datatype, NotNull, are_typed, are_present, is_of, Integer, column_of, lecturer_tree, project_tree, student_tree, ranked2_tree, assigned2_tree, names, tree_of, table_round, table_tree, HasRound, OfRoll, OfLists, OfRanked, OfPlaces, Lecturers, Projects, Students}
+-- The key that a row begins with is a text: a roll's, or the owner's in a list or the second round.
+use Rattle.portal_tables.proofs.Base.{◌≡◌, ◌&&◌, ◌∷◌, lecturer_schema, project_schema, student_schema, true, false, drop, codes, None, List, [], ℕ, AllByRecursion, and_parts, Row, column, Database, IsDatabase, Column, Datatype, NotNull, are_typed, are_present, is_of, Integer, column_of, lecturer_tree, project_tree, student_tree, ranked2_tree, assigned2_tree, names, tree_of, table_round, table_tree, HasRound, OfRoll, OfLists, OfRanked, OfPlaces, Lecturers, Projects, Students, Named}
 use Rattle.sqlite.specs.Kind.TheVariants.{Text}
-use Rattle.portal_tables.specs.declared.select.Table.{Table as Named}
 use Rattle.portal_tables.proofs.Weak.{Open, own_is}
 use Rattle.portal_tables.proofs.Listed.{IsText}
 use Rattle.portal_tables.proofs.Shapes.{text_cell, Follows, followed}
+use Rattle.portal_tables.proofs.Sorted.{all_two}
 
 text_key : (name : List ℕ) (cs : List Column) (r : Row) → (are_typed None 0 (column_of name Text true ∷ cs) (drop 1 r) && true) ≡ true → are_present None 0 (column_of name Text true ∷ cs) r ≡ true → IsText (column r 1)
 text_key name cs [] t p = absurd (let e : false ≡ true = p in cc)
@@ -13,8 +13,7 @@ text_key name cs (n ∷ v ∷ vs) t p = text_cell v (and_parts (is_of Text v) _ 
 
 texts : (name : List ℕ) (cs : List Column) (rows : List Row) → AllByRecursion (λ r. (are_typed None 0 (column_of name Text true ∷ cs) (drop 1 r) && true) ≡ true) rows
     → AllByRecursion (λ r. are_present None 0 (column_of name Text true ∷ cs) r ≡ true) rows → AllByRecursion (λ r. IsText (column r 1)) rows
-texts name cs [] t p = tt
-texts name cs (r ∷ rows) t p = (text_key name cs r t.0 p.0, texts name cs rows t.1 p.1)
+texts name cs = all_two _ (λ r. are_present None 0 (column_of name Text true ∷ cs) r ≡ true) (λ r. IsText (column r 1)) (text_key name cs)
 
 pub key_texts : (db : Database) (t : Named) → HasRound (table_round t) db.schema → IsDatabase db → AllByRecursion (λ r. IsText (column r 1)) (db.trees (table_tree t))
 key_texts db t own sound = go t (own_is (table_round t) db.schema own).o (followed db t own sound Datatype) (followed db t own sound NotNull)

@@ -1,8 +1,19 @@
 -- Schemas that are the portal's own but for their checks and the terms of their defaults.
 use Rattle.portal_tables.proofs.Base.{◌≡◌, ◌&&◌, ◌∷◌, ◌++◌, ℕ, Bool, true, false, not, cond, eqb, take, drop, List, [], map, refl, sym, ap, ap₂, ◌∙◌, AllZip, list_all, and_parts, eq-eqb, take-append-drop, Term, Table, Schema, Index, Round, First, Second, first_schema, portal_schema, SameTable, IsFirstSchema, HasRound}
 
-abbrev with_terms : List Term → List Term → Table → Table
+abbrev pub with_terms : List Term → List Term → Table → Table
 with_terms checks terms t = record t { checks = checks; stamps = record t.stamps { terms = terms } }
+
+pub same_with : (checks terms : List Term) (t : Table) → SameTable (with_terms checks terms t) t
+same_with checks terms t = record {
+  name = refl;
+  tree = refl;
+  columns = refl;
+  key = refl;
+  is_counted = refl;
+  rules = record { primary = refl; uniques = refl; orders = refl; references = refl };
+  defaults = record { computed = refl; places = refl; formats = refl };
+}
 
 abbrev pub with_checks : (ℕ → List Term) → (ℕ → List Term) → Table → Table
 with_checks checks terms t = with_terms (checks t.tree) (terms t.tree) t

@@ -1,11 +1,13 @@
 -- What a statement on one table does to its rows.
-use Rattle.portal_tables.proofs.Base.{◌≡◌, ◌⊎◌, ◌∷◌, ◌++◌, ◌&&◌, ◌≢◌, ◌||◌, ◌/◌, inl, inr, ℕ, ℤ, List, [], map, slice_get, Bool, true, false, not, cond, Option, Some, None, Ok, Err, Result, refl, sym, ap, ap₂, subst, subst₂, ◌∙◌, filter, length, drop, AllByRecursion, list_any, and_parts, Null, Int, Row, Term, col, unary, Table, Schema, Values, Insert, Delete, Update, Edit, edit_of, put_all, next_rowid, is_taken, are_fresh, without_all, id_in, taken_by, cast, cast_row, Chosen, Given, Tally, Written, Edited, Trees, put_row, rowid, has_rowid, understood, Database, IsDatabase, value_rows, State, mode_of, Executes, IsPlain, command_of, statement_of, runs_as, one_step, one_permutation, works, Enforced, Column, Reference, Order, own_trees, InsertsRows, Drops, Sets, RowNumbersDiffer, with_rows, AreNew, IsPermutation, IsPermutation-map, IsPermutation-trans, IsPermutation-append_left, list_any-IsPermutation, IsProgramAnswer, IsAnswer, output, Output, answer_alone, ids_of, Program, map-map}
+use Rattle.portal_tables.proofs.Base.{◌≡◌, ◌⊎◌, ◌∷◌, ◌++◌, ◌&&◌, ◌≢◌, ◌||◌, ◌/◌, inl, inr, ℕ, ℤ, List, [], map, slice_get, Bool, true, false, not, cond, Option, Some, None, Ok, Err, Result, refl, sym, ap, ap₂, subst, ◌∙◌, filter, length, drop, AllByRecursion, list_any, and_parts, Null, Int, Row, Term, col, unary, Table, Schema, Values, Insert, Delete, Update, Edit, edit_of, put_all, next_rowid, is_taken, are_fresh, without_all, id_in, taken_by, cast, cast_row, Chosen, Given, Tally, Written, Edited, Trees, put_row, rowid, has_rowid, understood, Database, IsDatabase, value_rows, State, mode_of, Executes, IsPlain, command_of, statement_of, runs_as, one_step, one_permutation, works, Enforced, Column, Reference, Order, schema_of, own_trees, InsertsRows, Drops, Sets, RowNumbersDiffer, with_rows, AreNew, IsPermutation, IsPermutation-map, IsPermutation-trans, IsPermutation-append_left, list_any-IsPermutation, IsProgramAnswer, ids_of, Program, map-map}
 use Rattle.sqlite.specs.Kind.TheVariants as kind
 use Rattle.sqlite.specs.Edit.{numbered}
 use Rattle.sqlite.specs.Does.{Does}
 use Rattle.portal_tables.proofs.Query.{one_table, passes, shown_as}
-use Rattle.portal_tables.proofs.Lists.{looped, not_true, filter_same, without_is, found_once, apart_filter}
+use Rattle.portal_tables.proofs.Lists.{not_true, filter_same, without_is, found_once, apart_filter}
 use Rattle.portal_tables.proofs.Keeping.{rows_put}
+use Rattle.portal_tables.proofs.Listed.{permuted}
+use Rattle.portal_tables.proofs.Queries.{listed}
 use Rattle.portal_tables.proofs.Sorted.{all_permuted}
 
 -- the other tables of a schema are as they were
@@ -62,14 +64,7 @@ rows_new table (c ∷ cells) h =
 -- what a query of one table shows, in some order
 pub answered : (tree : ℕ) (tests project : List Term) (db : Trees) (params : Row) (rows : List Row) → IsProgramAnswer [] (one_table tree tests project) db params rows
     → IsPermutation (map (shown_as project params) (filter (passes tests params) (db tree))) rows
-answered tree tests project db params rows h =
-    let q = one_table tree tests project in
-    let a : IsAnswer q db params rows = answer_alone q db params rows h Null in
-    let f = passes tests params in
-    let staged : a.staged ≡ map (λ r. params ∷ r ∷ []) (filter f (db tree)) = a.grouped ∙ looped f (λ r. params ∷ r ∷ []) (db tree) in
-    let kept : map (λ (o : Output). o.1) a.kept ≡ map (shown_as project params) (filter f (db tree)) =
-    ap (map (λ (o : Output). o.1)) (a.distinct ∙ ap (map (output q)) staged) ∙ map-map (λ (o : Output). o.1) (output q) (map (λ r. params ∷ r ∷ []) (filter f (db tree))) ∙ map-map (λ env. (output q env).1) (λ r. params ∷ r ∷ []) (filter f (db tree)) in
-    subst₂ IsPermutation kept (sym a.shown) (IsPermutation-map (λ (o : Output). o.1) a.kept a.ordered a.same)
+answered tree tests project db params rows h = permuted [] (passes tests params) (shown_as project params) (db tree) rows (listed tree [] tests project db params rows h)
 
 -- the rows that are left where those that pass go by their numbers
 pub left_is : (p : Row → Bool) (rest : Row → Row) (rows shown : List Row) → RowNumbersDiffer rows → IsPermutation (map (λ r. rowid r ∷ rest r) (filter p rows)) shown
@@ -95,20 +90,7 @@ HasNumber r = rowid r ≡ Int (id_in (rowid r))
 module _ (schema : Schema) (sql : List ℕ) (at : ℕ) (name : List ℕ) (tree : ℕ) (columns : List Column) (key : Option ℕ) (primary : List ℕ) (uniques : List (List ℕ)) (orders : List Order) (checks : List Term)
     (references : List Reference) (terms_of : List Term) where
   abbrev pub table : Table
-  table = record {
-    name = name;
-    tree = tree;
-    columns = columns;
-    key = key;
-    primary = primary;
-    uniques = uniques;
-    orders = orders;
-    checks = checks;
-    references = references;
-    computed = [];
-    stamps = record { places = []; terms = terms_of; formats = [] };
-    is_counted = false;
-  }
+  table = record (schema_of name tree columns key primary uniques orders checks references) { stamps = record { places = []; terms = terms_of; formats = [] } }
 
   -- where its tables are the portal's own
   module _ (place : slice_get schema.tables at ≡ Some table) (own : (P : ℕ → Type 0) → AllByRecursion (λ (t : Table). P t.tree) schema.tables → AllByRecursion P own_trees) where

@@ -1,12 +1,6 @@
 pub mod Base
 pub mod Tables
-pub mod ListTables
-pub mod Schema
 pub mod Steps
 pub mod Making
 pub mod Rows
-pub mod Lists
-pub mod Office
-pub mod Reads
-pub mod Names
 pub mod inner

@@ -1,24 +1,24 @@
--- What the rows of the tables say, and what the statements put into them.
-use Rattle.std.specs.Prelude.{◌∷◌, ◌≡◌}
-use Rattle.portal_tables.specs.Base.{ℕ, ℤ, pos, List, [], Option, Null, Int, Words, Row, column, bytes, Key, Some, None, Value, Real, Blob, Bool, false, ⊤, AllByRecursion, is_eq, value_cmp, id_in, rowid}
+-- What the rows of the tables say, what the statements put into them, and the lists that they hold.
+use Rattle.std.specs.Prelude.{◌∷◌, ◌≡◌, if◌then◌else◌, ◌==◌, ◌+◌}
+use Rattle.portal_tables.specs.Base.{ℕ, ℤ, pos, List, [], Option, Null, Int, Words, Row, column, bytes, Key, Some, None, Value, Real, Blob, Bool, false, ⊤, AllByRecursion, is_eq, value_cmp, id_in, rowid, Phase, Setup, Choosing, Ranking, Published, map, filter, number_in, put_all, option_map, find, Trees, equals}
+use Rattle.portal_tables.specs.Tables.{assigned2_tree}
 
--- the cells of a row after its number; that of `portal` has its id for a number, and nothing in the
--- column
+-- the cells of the row of `portal` after its number; the number is the id, whose own cell is empty
 abbrev pub portal_cells : ℤ → ℤ → List ℕ → Row
 portal_cells version phase office = Null ∷ Int version ∷ Int phase ∷ Words office ∷ []
 
--- the row of `portal`, whose id is 1
+-- the row of `portal`, with the id 1
 abbrev pub portal_row : ℤ → ℤ → List ℕ → Row
 portal_row version phase office = Int (pos 1) ∷ portal_cells version phase office
 
--- the cells of the row of `second` after its number, and the row, whose id is 1
+-- the same for the row of `second`, also with the id 1
 abbrev pub second_cells : ℤ → Row
 second_cells phase = Null ∷ Int phase ∷ []
 
 abbrev pub second_row : ℤ → Row
 second_row phase = Int (pos 1) ∷ second_cells phase
 
--- a student's key, and the project that the student is to be assigned to, or none
+-- a student's key, and the project to assign to the student, or none
 abbrev pub Assigned : Type 0
 Assigned = List ℕ × Option (List ℕ)
 
@@ -26,7 +26,7 @@ Assigned = List ℕ × Option (List ℕ)
 abbrev pub row_key : Row → Key
 row_key r = bytes (column r 1)
 
--- the text in a cell, if it is not NULL
+-- the text in a cell, or none for NULL; any other value counts as the empty text
 abbrev pub text_or_none : Value → Option Key
 text_or_none Null = None
 text_or_none (Int n) = Some []
@@ -34,11 +34,70 @@ text_or_none (Real x) = Some []
 text_or_none (Blob b) = Some []
 text_or_none (Words t) = Some t
 
--- each row has a number, and no two have one number
+-- each row has a number, and the numbers differ
 abbrev pub RowNumbersDiffer : List Row → Type 0
 RowNumbersDiffer [] = ⊤
 RowNumbersDiffer (r ∷ rs) = (rowid r ≡ Int (id_in (rowid r))) × AllByRecursion (λ s. is_eq (value_cmp (rowid r) (rowid s)) ≡ false) rs × RowNumbersDiffer rs
 
--- the text in a column is these bytes
+-- column `at` holds exactly this text
 abbrev pub has_text : ℕ → List ℕ → Row → Bool
 has_text at t r = is_eq (value_cmp (column r at) (Words t))
+
+-- the number that stands for a phase
+abbrev pub number_of_phase : Phase → ℕ
+number_of_phase Setup = 0
+number_of_phase Choosing = 1
+number_of_phase Ranking = 2
+number_of_phase Published = 3
+
+-- the phase of a number; any other number is setup
+abbrev pub phase_numbered : ℕ → Phase
+phase_numbered n = if n == 1 then Choosing else (if n == 2 then Ranking else (if n == 3 then Published else Setup))
+
+-- the rows are the one row of `portal`, with this schema version
+pub record HasOffice (version : ℕ) (rows : List Row) : Type 0 where
+  pub phase : Phase
+  pub office : Key
+  pub is : rows ≡ portal_row (pos version) (pos (number_of_phase phase)) office ∷ []
+
+-- the rows of one owner, by the key in column 1
+abbrev pub of_key : Key → List Row → List Row
+of_key key = filter (has_text 1 key)
+
+abbrev pub place_of : Row → ℕ
+place_of r = number_in (column r 2)
+
+-- the item in the row of a list
+abbrev pub named_by : Row → Key
+named_by r = bytes (column r 3)
+
+-- the place as a key, by which rows can be sorted
+abbrev pub place_key : Row → Key
+place_key r = place_of r ∷ []
+
+abbrev pub by_place : List Row → List Row
+by_place rows = put_all place_key rows []
+
+abbrev pub list_in_order : List Row → List Key
+list_in_order rows = map named_by (by_place rows)
+
+-- the list of one owner, from the rows of all owners
+abbrev pub chosen : List Row → Key → List Key
+chosen rows key = list_in_order (of_key key rows)
+
+-- the numbers are n, n + 1 and so on
+abbrev pub CountUp : ℕ → List ℕ → Type 0
+CountUp n [] = Unit {0}
+CountUp n (m ∷ ms) = (m ≡ n) × CountUp (n + 1) ms
+
+-- the places are 1 to n, each once
+abbrev pub IsWhole : List Row → Type 0
+IsWhole rows = CountUp 1 (map place_of (by_place rows))
+
+-- the project in a row of `assigned2`
+abbrev pub placed_project : Row → Key
+placed_project a = bytes (column a 2)
+
+-- the project in the second round of the student with this key
+abbrev pub second_placement : Trees → Key → Option Key
+second_placement db k = option_map placed_project (find (λ a. equals (row_key a) k) (db assigned2_tree))

@@ -1,8 +1,7 @@
--- What a step of a transaction does, what is there when the transaction has ended, and what a query
--- leaves.
+-- What a transaction leaves, what a read does to a connection, and what it returns.
 use Rattle.std.specs.Prelude.{◌≡◌, ◌⊎◌}
-use Rattle.portal_tables.specs.Base.{IsTrue, Trees, Database, State, IsUnchanged, IsRolledBack, false, Result, OnOk, OnErr, HasCleanDisk, Survives, Round}
-use Rattle.portal_tables.specs.Schema.{HasRound}
+use Rattle.portal_tables.specs.Base.{IsTrue, Trees, Database, State, IsUnchanged, IsRolledBack, false, Result, IfOk, OnOk, OnErr, Held, state, HasCleanDisk, Survives, Ghosts, Round}
+use Rattle.portal_tables.specs.Tables.{HasRound}
 
 -- the change is made and committed
 pub record Commits (Change : Database → Database → Type 0) (old new : State) : Type 0 where
@@ -11,11 +10,11 @@ pub record Commits (Change : Database → Database → Type 0) (old new : State)
   pub settled : new.committed ≡ new.now
   pub changed : Change old.now new.now
 
--- what a crash may leave of the change, where it was committed
+-- what a crash may leave of a committed change
 abbrev pub IsAfter : (Database → Database → Type 0) → State → Trees → Type 0
 IsAfter Change old db = (after : Database) × Change old.now after × (db ≡ after.trees)
 
--- nothing is changed
+-- nothing is changed, and the connection was open
 abbrev pub Stays : State → State → Type 0
 Stays old new = IsTrue old.is_open × (new.now ≡ old.now) × (new.committed ≡ old.committed)
 
@@ -23,14 +22,26 @@ Stays old new = IsTrue old.is_open × (new.now ≡ old.now) × (new.committed �
 abbrev pub LeavesOnly : State → Type 0
 LeavesOnly s = (db : Trees) → s.may_leave db → db ≡ s.now.trees
 
--- nothing is changed, or the open transaction is undone
+-- nothing is changed, or the open transaction is rolled back
 abbrev pub IsUnchangedOrUndone : State → State → Type 0
 IsUnchangedOrUndone old new = IsUnchanged old new ⊎ IsRolledBack old new
 
--- One query of a round's tables: with an answer nothing is changed, with an error at most the open
--- transaction is undone, none is begun, and a crash leaves what it left before.
-pub record RunsQueryIn (round : Round) {V E : Type 0} (result : Result V E) (old new : State) : Type 0 where
-  pub same : HasRound round old.now.schema → HasCleanDisk new → OnOk result (IsUnchanged old new)
-  pub err : HasRound round old.now.schema → HasCleanDisk new → OnErr result (IsUnchangedOrUndone old new)
+-- what a read leaves, if `On` holds of the connection; over a `Right` database `Told` holds too
+pub record Reading (round : Round) (On : State → Type 0) (Right : Database → Type 0) {V E : Type 0} (Told : Database → Result V E → Type 0) (result : Result V E) (old new : State) : Type 0 where
+  pub same : HasRound round old.now.schema → HasCleanDisk new → On old → OnOk result (IsUnchanged old new)
+  pub err : HasRound round old.now.schema → HasCleanDisk new → On old → OnErr result (IsUnchangedOrUndone old new)
+  pub now : HasRound round old.now.schema → HasCleanDisk new → OnOk result (new.now ≡ old.now)
   pub mode : old.in_transaction ≡ false → new.in_transaction ≡ false
-  pub crash : Survives old new (λ _. HasRound round old.now.schema → ⊥)
+  pub crash : Survives old new (λ _. HasRound round old.now.schema → On old → ⊥)
+  pub told : HasRound round old.now.schema → Right old.now → HasCleanDisk new → Told old.now result
+
+-- no condition on the connection
+abbrev pub Anyhow : State → Type 0
+Anyhow _ = Unit {0}
+
+abbrev pub Reads : {S V E : Type 0} → Round → Ghosts S → (Database → Type 0) → (Database → Result V E → Type 0) → Result V E → Held S → Held S → Type 0
+Reads round g Right Told result old new = Reading round Anyhow Right Told result (state g old) (state g new)
+
+-- `Answer` holds of what a read returns, if it succeeds
+abbrev pub Gives : {V E : Type 0} → (Database → V → Type 0) → Database → Result V E → Type 0
+Gives Answer db result = IfOk result (Answer db)

@@ -1,7 +1,8 @@
--- The portal's tables: their texts, and what is understood of them. Six are those of the first
--- round, and five behind them of the second.
-use Rattle.std.specs.Prelude.{◌∷◌, ◌++◌}
-use Rattle.portal_tables.specs.Base.{Binary, true, false, [], Some, None, codes, List, ℕ, pos, Bool, Option, Null, Int, Table, Schema, Kind, Integer, Text, Term, lit, col, op2, Compare, And, Or, Eq, Ge, Le, Column, Index, Reference, NoAction, Order, plain}
+-- The portal's tables, six of the first round and five of the second, and which count as its own.
+use Rattle.std.specs.Prelude.{◌∷◌, ◌++◌, ◌≡◌}
+use Rattle.portal_tables.specs.Base.{Binary, true, false, [], Some, None, codes, List, ℕ, pos, Bool, Option, Null, Int, Table, Schema, Kind, Integer, Text, Term, lit, col, op2, Compare, And, Or, Eq, Ge, Le, Column, Index, Reference, NoAction, Order, plain, Round, First, Second, take, AllZip}
+use Rattle.portal_tables.specs.declared.list_table.Lists.{Lists}
+use Rattle.portal_tables.specs.declared.list_table.Lists.TheVariants.{Choices, Rankings, SecondChoices, SecondRankings}
 
 abbrev pub column_of : List ℕ → Kind → Bool → Column
 column_of name kind required = record { name = name; kind = kind; is_strict = true; not_null = required; default = Null; collation = Binary }
@@ -33,7 +34,7 @@ schema_of name tree columns key primary uniques orders checks references = recor
   is_counted = false;
 }
 
--- checks of a number: it is n, and it is from one number to another
+-- the checks that a number is n, and that it is from `low` to `high`
 abbrev pub is_at : ℕ → ℕ → Term
 is_at place n = op2 (Compare Eq Binary) (col 1 place) (lit (Int (pos n)))
 
@@ -64,8 +65,7 @@ student_schema tree = schema_of (codes "student") tree
     column_of (codes "assigned") Text false ∷ [])
     None (1 ∷ []) ((1 ∷ []) ∷ (3 ∷ []) ∷ []) (plain ∷ plain ∷ []) [] (refers_to 4 (codes "project") ∷ [])
 
--- A table of lists: its name, and the names of two of its columns, each that of the roll to which
--- it refers.
+-- a table of lists; the columns `owner` and `item` have the names of the rolls that they refer to
 pub record ListTable : Type 0 where
   pub name : List ℕ
   pub owner : List ℕ
@@ -76,7 +76,7 @@ list_table t tree = schema_of t.name tree
     (column_of t.owner Text true ∷ column_of (codes "place") Integer true ∷ column_of t.item Text true ∷ [])
     None (1 ∷ 2 ∷ []) ((1 ∷ 2 ∷ []) ∷ (3 ∷ 1 ∷ []) ∷ []) (plain ∷ plain ∷ []) [] (refers_to 1 t.owner ∷ refers_to 3 t.item ∷ [])
 
--- students' lists of projects, and lecturers' rankings of students, of each round
+-- the tables of students' lists and of lecturers' rankings, for each round
 abbrev pub choice_names : ListTable
 choice_names = record { name = codes "choice"; owner = codes "student"; item = codes "project" }
 
@@ -127,8 +127,7 @@ index_of tree name table columns = record {
   is_unique = true;
 }
 
--- The tables of the first round, which are those of version 1, as they are made in this order: a
--- table and then its indexes, each in a tree of its own.
+-- the tables of version 1; trees are numbered in the order of making: a table, then its indexes
 abbrev pub first_schema : Schema
 first_schema = record {
   tables = portal 0 ∷ lecturer_schema 1 ∷ project_schema 4 ∷ student_schema 6 ∷ choice 9 ∷ ranking 12 ∷ [];
@@ -139,7 +138,7 @@ first_schema = record {
   views = [];
 }
 
--- all tables: behind those of the first round the five of the second
+-- all tables: the five of the second round after those of the first
 abbrev pub portal_schema : Schema
 portal_schema = record {
   tables = first_schema.tables ++ second 15 ∷ choice2 16 ∷ ranked2 19 ∷ ranking2 21 ∷ assigned2 24 ∷ [];
@@ -150,8 +149,7 @@ portal_schema = record {
   views = [];
 }
 
--- the versions of the schema that the row of `portal` tells: that of all tables, and that of the
--- six alone
+-- the schema versions in the row of `portal`: that of all tables, and that of the first six alone
 abbrev pub version : ℕ
 version = 2
 
@@ -191,7 +189,7 @@ ranking2_tree = 21
 abbrev pub assigned2_tree : ℕ
 assigned2_tree = 24
 
--- the trees of the six, of the five, and of all
+-- the trees of the first round's tables, of the second round's, and of all
 abbrev pub first_trees : List ℕ
 first_trees = portal_tree ∷ lecturer_tree ∷ project_tree ∷ student_tree ∷ choice_tree ∷ ranking_tree ∷ []
 
@@ -200,3 +198,62 @@ second_trees = second_tree ∷ choice2_tree ∷ ranked2_tree ∷ ranking2_tree �
 
 abbrev pub own_trees : List ℕ
 own_trees = first_trees ++ second_trees
+
+abbrev pub tree_of : Lists → ℕ
+tree_of Choices = choice_tree
+tree_of Rankings = ranking_tree
+tree_of SecondChoices = choice2_tree
+tree_of SecondRankings = ranking2_tree
+
+-- the tables of a round's lists and rankings
+abbrev pub choice_table : Round → Lists
+choice_table First = Choices
+choice_table Second = SecondChoices
+
+abbrev pub ranking_table : Round → Lists
+ranking_table First = Rankings
+ranking_table Second = SecondRankings
+
+pub record SameRules (a b : Table) : Type 0 where
+  pub primary : a.primary ≡ b.primary
+  pub uniques : a.uniques ≡ b.uniques
+  pub orders : a.orders ≡ b.orders
+  pub references : a.references ≡ b.references
+
+pub record SameDefaults (a b : Table) : Type 0 where
+  pub computed : a.computed ≡ b.computed
+  pub places : a.stamps.places ≡ b.stamps.places
+  pub formats : a.stamps.formats ≡ b.stamps.formats
+
+pub record SameTable (a b : Table) : Type 0 where
+  pub name : a.name ≡ b.name
+  pub tree : a.tree ≡ b.tree
+  pub columns : a.columns ≡ b.columns
+  pub key : a.key ≡ b.key
+  pub is_counted : a.is_counted ≡ b.is_counted
+  pub rules : SameRules a b
+  pub defaults : SameDefaults a b
+
+pub record SameSchema (a b : Schema) : Type 0 where
+  pub tables : AllZip SameTable a.tables b.tables
+  pub indexes : a.indexes ≡ b.indexes
+  pub no_views : a.views ≡ []
+  pub no_views_there : b.views ≡ []
+
+-- exactly the portal's tables; only the terms of CHECK and DEFAULT are not compared
+abbrev pub IsCurrentSchema : Schema → Type 0
+IsCurrentSchema schema = SameSchema schema portal_schema
+
+-- exactly the six tables of version 1, compared likewise
+abbrev pub IsFirstSchema : Schema → Type 0
+IsFirstSchema schema = SameSchema schema first_schema
+
+-- for both versions: the first six tables are those of the first round, and there is no view
+pub record HasFirstSchema (schema : Schema) : Type 0 where
+  pub tables : AllZip SameTable (take 6 schema.tables) first_schema.tables
+  pub no_views : schema.views ≡ []
+
+-- what the schema has to have so that the tables of a round can be read
+abbrev pub HasRound : Round → Schema → Type 0
+HasRound First = HasFirstSchema
+HasRound Second = IsCurrentSchema

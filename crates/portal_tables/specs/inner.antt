@@ -1,10 +1,10 @@
-pub mod Tables
+pub mod Base
+pub mod Texts
 pub mod Changes
-pub mod Steps
-pub mod Making
-pub mod Rows
+pub mod Running
+pub mod MakingSteps
+pub mod RowChanges
 pub mod Rising
-pub mod Reading
 pub mod Queries
 pub mod Decoding
 pub mod Rolls
@@ -12,3 +12,4 @@ pub mod Shown
 pub mod Placements
 pub mod Owners
 pub mod Putting
+pub mod Reads

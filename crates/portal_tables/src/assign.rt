@@ -1,9 +1,9 @@
 //! Writes the projects that students are assigned to, into the rows of the first round.
 
 ghost use Rattle.std.specs.Prelude.{◌≡◌, ◌∷◌};
-ghost use Rattle.portal_tables.specs.Base.{[], option_map, owned};
-ghost use Rattle.portal_tables.specs.inner.Steps.{Does, Made, GoesOn};
-ghost use Rattle.portal_tables.specs.inner.Rows.{Assigns, text_cell as text_or_null_of};
+ghost use Rattle.portal_tables.specs.inner.Base.{[], option_map, owned};
+ghost use Rattle.portal_tables.specs.inner.Running.{Does, Made, GoesOn};
+ghost use Rattle.portal_tables.specs.inner.RowChanges.{Assigns, text_cell as text_or_null_of};
 
 use crate::run::write;
 use sqlite::types::ValueRef;

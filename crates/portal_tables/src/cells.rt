@@ -1,8 +1,8 @@
 //! From one cell of a row that a query shows to a key, a name, a code or a number.
 
 ghost use Rattle.std.specs.Prelude.{◌≡◌, ◌≤◌, is_none};
-ghost use Rattle.portal_tables.specs.Base.{true, false, Err, IfOk, IfSome, column, bytes};
-ghost use Rattle.portal_tables.specs.Base.{number_in, is_key, is_code, is_name};
+ghost use Rattle.portal_tables.specs.inner.Base.{true, false, Err, IfOk, IfSome, column, bytes};
+ghost use Rattle.portal_tables.specs.inner.Base.{number_in, is_key, is_code, is_name};
 ghost use Rattle.portal_tables.specs.Rows.{text_or_none};
 
 use crate::fault::TableFault;

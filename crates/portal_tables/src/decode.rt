@@ -1,10 +1,10 @@
 //! From the rows that queries show to the rows of rolls, lists and pairs.
 
 ghost use Rattle.std.specs.Prelude.{◌≡◌, ◌↔◌, ◌≤◌};
-ghost use Rattle.portal_tables.specs.Base.{true, Err, IfOk, IsTrue, length, map, ⊤, AllByRecursion};
-ghost use Rattle.portal_tables.specs.Base.{Cells, is_key, IsLecturer, IsProject, IsStudent, Rise};
-ghost use Rattle.portal_tables.specs.Base.{is_before};
-ghost use Rattle.portal_tables.specs.Lists.{CountUp};
+ghost use Rattle.portal_tables.specs.inner.Base.{true, Err, IfOk, IsTrue, length, map, ⊤};
+ghost use Rattle.portal_tables.specs.inner.Base.{AllByRecursion, Cells, is_key, IsLecturer};
+ghost use Rattle.portal_tables.specs.inner.Base.{IsProject, IsStudent, Rise, is_before};
+ghost use Rattle.portal_tables.specs.Rows.{CountUp};
 ghost use Rattle.portal_tables.specs.inner.Shown.{as_list, first_cell, shown_lecturer};
 ghost use Rattle.portal_tables.specs.inner.Shown.{shown_project, shown_student, shown_rank};
 ghost use Rattle.portal_tables.specs.inner.Shown.{shown_name};

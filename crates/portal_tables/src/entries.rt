@@ -1,16 +1,15 @@
 //! The lists of the owners whose rows are shown: one owner's by a query, or several in turn.
 
-ghost use Rattle.std.specs.Prelude.{◌≡◌, ◌↔◌, ◌∷◌, if◌then◌else◌};
-ghost use Rattle.portal_tables.specs.Base.{[], false, true, Ok, Err, IfOk, OnOk, IsTrue, Some};
-ghost use Rattle.portal_tables.specs.Base.{None, option_map, map, AllByRecursion, filter_map};
-ghost use Rattle.portal_tables.specs.Base.{HasCleanDisk, state, is_key, has, Rise};
-ghost use Rattle.portal_tables.specs.Schema.{HasRound};
-ghost use Rattle.portal_tables.specs.Lists.{of_key, IsWhole, chosen};
-ghost use Rattle.portal_tables.specs.inner.Reading.{RunsQueriesIn, YieldsIn, YieldsSound};
-ghost use Rattle.portal_tables.specs.inner.Reading.{OverSound};
-ghost use Rattle.portal_tables.specs.ListTables.{round_of, tree_of};
+ghost use Rattle.std.specs.Prelude.{◌≡◌, ◌↔◌, if◌then◌else◌};
+ghost use Rattle.portal_tables.specs.inner.Base.{[], false, true, Err, IfOk, OnOk, IsTrue, Some};
+ghost use Rattle.portal_tables.specs.inner.Base.{None, option_map, map, AllByRecursion, ⊤};
+ghost use Rattle.portal_tables.specs.inner.Base.{IsDatabase, has, Rise};
+ghost use Rattle.portal_tables.specs.Steps.{Reads, Gives};
+ghost use Rattle.portal_tables.specs.inner.Reads.{MayRead, Always, Answers, Blames};
+ghost use Rattle.portal_tables.specs.inner.Texts.{round_of};
+ghost use Rattle.portal_tables.specs.Tables.{tree_of};
 ghost use Rattle.portal_tables.specs.inner.Owners.{AreOwned, has_list, entry, with_list, IsRead};
-ghost use Rattle.portal_tables.specs.inner.Owners.{IsFine};
+ghost use Rattle.portal_tables.specs.inner.Owners.{IsFine, IsFineList, IsListOf, AreEntriesOf};
 ghost use Rattle.portal_tables.specs.inner.Shown.{first_cell};
 
 use crate::cells::{bytes_at, key_at, number_at};
@@ -32,20 +31,10 @@ pub fn list_in<S: Alter>(
     lists: Lists,
     owner: &Key,
 ) -> Result<Vec<Key>, TableFault>
-    ensures names { YieldsIn (round_of lists) S.Store conn.old conn.new result
-        (λ db v. v.items ≡ chosen (db.trees (tree_of lists)) owner.now) }
-    ensures whole { HasRound (round_of lists) conn.old.schema
-        → HasCleanDisk (state S.Store conn.new)
-        → OnOk result (IsWhole
-        (of_key owner.now ((state S.Store conn.old).now.trees (tree_of lists)))) }
-    ensures damaged { HasRound (round_of lists) conn.old.schema
-        → HasCleanDisk (state S.Store conn.new)
-        → result ≡ Err TableFault.Damaged
-        → IsWhole (of_key owner.now ((state S.Store conn.old).now.trees (tree_of lists)))
-        → AllByRecursion (λ k. is_key k ≡ true)
-        (chosen ((state S.Store conn.old).now.trees (tree_of lists)) owner.now) → ⊥ }
-    ensures reads { RunsQueriesIn (round_of lists) result
-        (state S.Store conn.old) (state S.Store conn.new) }
+    ensures { Reads (round_of lists) S.Store Always
+        (Answers (λ db v. IsListOf owner.now (db.trees (tree_of lists)) v.items)
+        (λ db fault. Blames fault (IsFineList owner.now (db.trees (tree_of lists)))))
+        result conn.old conn.new }
 {
     let rows = read_rows(alloc, conn, Query::ListOf(lists, owner.as_bytes()))?;
     list_from(alloc, &rows)
@@ -58,11 +47,9 @@ pub fn has_list_in<S: Alter>(
     lists: Lists,
     row: &Row,
 ) -> Result<bool, TableFault>
-    ensures told { YieldsSound (round_of lists) S.Store conn.old conn.new result
-        (λ db b. b ≡ has_list lists db.trees row.now) }
+    ensures reads { MayRead (round_of lists) S.Store IsDatabase
+        (Gives (λ db b. b ≡ has_list lists db.trees row.now)) result conn.old conn.new }
     ensures undamaged { result ≡ Err TableFault.Damaged → ⊥ }
-    ensures reads { RunsQueriesIn (round_of lists) result
-        (state S.Store conn.old) (state S.Store conn.new) }
 {
     match lists {
         Lists::Choices | Lists::SecondChoices => Ok(true),
@@ -99,15 +86,10 @@ pub fn entry_in<S: Alter>(
     lists: Lists,
     owner: &Row,
 ) -> Result<Option<(Key, Vec<Key>)>, TableFault>
-    ensures ok { YieldsSound (round_of lists) S.Store conn.old conn.new result
-        (λ db found. option_map with_list found ≡ entry lists db.trees owner.now) }
-    ensures read { OverSound (round_of lists) S.Store conn.old conn.new
-        (OnOk result (IsRead lists (state S.Store conn.old).now.trees owner.now)) }
-    ensures damaged { OverSound (round_of lists) S.Store conn.old conn.new
-        (result ≡ Err TableFault.Damaged
-        → IsFine lists (state S.Store conn.old).now.trees owner.now → ⊥) }
-    ensures reads { RunsQueriesIn (round_of lists) result
-        (state S.Store conn.old) (state S.Store conn.new) }
+    ensures { MayRead (round_of lists) S.Store IsDatabase
+        (Answers (λ db found. (option_map with_list found ≡ entry lists db.trees owner.now)
+        × IsRead lists db.trees owner.now)
+        (λ db fault. Blames fault (IsFine lists db.trees owner.now))) result conn.old conn.new }
 {
     let key = key_at(alloc, owner, 0)?;
     let list = list_in(alloc, conn, lists, &key)?;
@@ -124,16 +106,10 @@ fn entries_each<S: Alter>(
     lists: Lists,
     owners: &[Row],
 ) -> Result<Vec<(Key, Vec<Key>)>, TableFault>
-    ensures ok { YieldsSound (round_of lists) S.Store conn.old conn.new result
-        (λ db v. map with_list v.items ≡ filter_map (entry lists db.trees) owners.now) }
-    ensures read { OverSound (round_of lists) S.Store conn.old conn.new
-        (OnOk result (AllByRecursion
-        (IsRead lists (state S.Store conn.old).now.trees) owners.now)) }
-    ensures damaged { OverSound (round_of lists) S.Store conn.old conn.new
-        (result ≡ Err TableFault.Damaged
-        → AllByRecursion (IsFine lists (state S.Store conn.old).now.trees) owners.now → ⊥) }
-    ensures reads { RunsQueriesIn (round_of lists) result
-        (state S.Store conn.old) (state S.Store conn.new) }
+    ensures { MayRead (round_of lists) S.Store IsDatabase
+        (Answers (λ db v. AreEntriesOf lists db.trees owners.now (map with_list v.items))
+        (λ db fault. Blames fault (AllByRecursion (IsFine lists db.trees) owners.now)))
+        result conn.old conn.new }
 {
     let mut entries = Vec::new(alloc);
     for owner in owners {
@@ -171,12 +147,9 @@ fn see_owners<S: Alter>(
     lists: Lists,
     owners: &[Row],
 ) -> Result<(), TableFault>
-    ensures damaged { HasRound (round_of lists) conn.old.schema
-        → HasCleanDisk (state S.Store conn.new)
-        → result ≡ Err TableFault.Damaged
-        → AreOwned lists (state S.Store conn.old).now.trees owners.now → ⊥ }
-    ensures reads { RunsQueriesIn (round_of lists) result
-        (state S.Store conn.old) (state S.Store conn.new) }
+    ensures { Reads (round_of lists) S.Store Always
+        (Answers (λ db _. ⊤) (λ db fault. Blames fault (AreOwned lists db.trees owners.now)))
+        result conn.old conn.new }
 {
     let rows = read_rows(alloc, conn, Query::AllLists(lists))?;
     if are_owned(owners, &rows) {
@@ -195,17 +168,10 @@ pub fn entries_in<S: Alter>(
     lists: Lists,
     owners: &[Row],
 ) -> Result<Vec<(Key, Vec<Key>)>, TableFault>
-    ensures ok { YieldsSound (round_of lists) S.Store conn.old conn.new result
-        (λ db v. map with_list v.items ≡ filter_map (entry lists db.trees) owners.now) }
-    ensures read { OverSound (round_of lists) S.Store conn.old conn.new
-        (OnOk result (AllByRecursion
-        (IsRead lists (state S.Store conn.old).now.trees) owners.now)) }
-    ensures damaged { OverSound (round_of lists) S.Store conn.old conn.new
-        (result ≡ Err TableFault.Damaged
-        → AreOwned lists (state S.Store conn.old).now.trees owners.now
-        → AllByRecursion (IsFine lists (state S.Store conn.old).now.trees) owners.now → ⊥) }
-    ensures reads { RunsQueriesIn (round_of lists) result
-        (state S.Store conn.old) (state S.Store conn.new) }
+    ensures { Reads (round_of lists) S.Store IsDatabase
+        (Answers (λ db v. AreEntriesOf lists db.trees owners.now (map with_list v.items))
+        (λ db fault. Blames fault (AreOwned lists db.trees owners.now
+        × AllByRecursion (IsFine lists db.trees) owners.now))) result conn.old conn.new }
 {
     see_owners(alloc, conn, lists, owners)?;
     entries_each(alloc, conn, lists, owners)

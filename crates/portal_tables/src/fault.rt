@@ -1,7 +1,7 @@
 //! Why tables are not read or written.
 
 ghost use Rattle.std.specs.Prelude.{◌≡◌, ◌↔◌};
-ghost use Rattle.portal_tables.specs.Base.{SqliteFailure, OutOfMemory};
+ghost use Rattle.portal_tables.specs.inner.Base.{SqliteFailure, OutOfMemory};
 ghost use Rattle.portal_core.specs.declared.keeper.KeepFault.TheVariants as keep;
 ghost use Rattle.portal_tables.specs.declared.fault.TableFault.TheVariants.{Damaged, Memory};
 

@@ -1,8 +1,9 @@
 //! The four tables of lists: the students' lists and the lecturers' rankings, of either round.
 
 ghost use Rattle.std.specs.Prelude.{◌≡◌};
-ghost use Rattle.portal_tables.specs.ListTables as meant;
-ghost use Rattle.portal_tables.specs.ListTables.{names, round_of};
+ghost use Rattle.portal_tables.specs.Tables as meant;
+ghost use Rattle.portal_tables.specs.inner.Texts as texts;
+ghost use Rattle.portal_tables.specs.inner.Texts.{names, round_of};
 
 use portal_core::Round;
 
@@ -44,7 +45,7 @@ impl Lists {
 
     /// The text that takes the rows of one owner away.
     pub(crate) fn clear_text(self) -> &'static str
-        ensures { result.now ≡ meant.clear_text (names self) }
+        ensures { result.now ≡ texts.clear_text (names self) }
     {
         match self {
             Lists::Choices => "DELETE FROM choice WHERE student = ?1",

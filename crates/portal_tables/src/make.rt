@@ -1,12 +1,12 @@
 //! Makes the portal's tables.
 
 ghost use Rattle.std.specs.Prelude.{◌≡◌};
-ghost use Rattle.portal_tables.specs.Base.{false, Err, OnOk, OnErr, IsTrue, HasCleanDisk, Survives};
-ghost use Rattle.portal_tables.specs.Base.{state};
+ghost use Rattle.portal_tables.specs.inner.Base.{false, Err, OnOk, OnErr, IsTrue, HasCleanDisk};
+ghost use Rattle.portal_tables.specs.inner.Base.{Survives, state};
 ghost use Rattle.portal_tables.specs.Steps.{Commits, IsAfter, LeavesOnly, Stays};
-ghost use Rattle.portal_tables.specs.inner.Steps.{Does, Made};
+ghost use Rattle.portal_tables.specs.inner.Running.{Does, Made};
 ghost use Rattle.portal_tables.specs.Making.{Creates};
-ghost use Rattle.portal_tables.specs.inner.Making.{Makes, MakesFirst, MakesSecond};
+ghost use Rattle.portal_tables.specs.inner.MakingSteps.{Makes, MakesFirst, MakesSecond};
 
 use crate::fault::TableFault;
 use crate::insert::{add_portal, add_second};

@@ -1,8 +1,8 @@
 //! Keys that rows begin with, looked for among rows whose keys rise.
 
 ghost use Rattle.std.specs.Prelude.{◌≡◌, ◌<◌};
-ghost use Rattle.portal_tables.specs.Base.{IfSome, is_some, map, length, slice_index_or, slice_cmp};
-ghost use Rattle.portal_tables.specs.Base.{nat_cmp, Cells, has, Rise};
+ghost use Rattle.portal_tables.specs.inner.Base.{IfSome, is_some, map, length, slice_index_or};
+ghost use Rattle.portal_tables.specs.inner.Base.{slice_cmp, nat_cmp, Cells, has, Rise};
 ghost use Rattle.portal_tables.specs.inner.Shown.{first_cell};
 
 use crate::cells::bytes_at;

@@ -1,11 +1,11 @@
 //! Whether a database has tables of the portal's names.
 
 ghost use Rattle.std.specs.Prelude.{◌≡◌, ◌↔◌};
-ghost use Rattle.portal_tables.specs.Base.{IsTrue, list_any};
+ghost use Rattle.portal_tables.specs.inner.Base.{IsTrue, list_any};
 ghost use Rattle.portal_tables.specs.Tables.{no_schema};
-ghost use Rattle.portal_tables.specs.Names.{has_first_name, has_second_name, has_name};
-ghost use Rattle.portal_tables.specs.Names.{stands_for_table, is_named_table, is_named_view};
-ghost use Rattle.portal_tables.specs.Names.{has_names};
+ghost use Rattle.portal_tables.specs.Making.{has_first_name, has_second_name, has_name};
+ghost use Rattle.portal_tables.specs.Making.{stands_for_table, is_named_table, is_named_view};
+ghost use Rattle.portal_tables.specs.Making.{has_names};
 
 use sqlite_schema::names::same_name;
 use sqlite_schema::schema::{Schema, Table, View};

@@ -1,14 +1,14 @@
 //! The row of the office: how it is read, and what number a phase has in it.
 
 ghost use Rattle.std.specs.Prelude.{◌≡◌, ◌↔◌, ◌∷◌};
-ghost use Rattle.portal_tables.specs.Base.{[], pos, true, false, Err, IfOk, IfSome, IfNone, OnOk};
-ghost use Rattle.portal_tables.specs.Base.{OnErr, IsTrue, List, ℕ, Int, Words, Cells, column};
-ghost use Rattle.portal_tables.specs.Base.{HasCleanDisk, state, is_code, ThePhase, First};
+ghost use Rattle.portal_tables.specs.inner.Base.{[], pos, true, Err, IfOk, IfSome, IfNone, IsTrue};
+ghost use Rattle.portal_tables.specs.inner.Base.{List, ℕ, Int, Words, Cells, column, is_code};
+ghost use Rattle.portal_tables.specs.inner.Base.{ThePhase, First, IsDatabase};
 ghost use Rattle.portal_tables.specs.Tables.{portal_tree};
-ghost use Rattle.portal_tables.specs.Schema.{HasFirstSchema};
-ghost use Rattle.portal_tables.specs.inner.Reading.{RunsQuery, OverSound};
-ghost use Rattle.portal_tables.specs.Rows.{portal_row};
-ghost use Rattle.portal_tables.specs.Office.{number_of_phase, IsOffice, HasOffice};
+ghost use Rattle.portal_tables.specs.Steps.{Reads};
+ghost use Rattle.portal_tables.specs.inner.Reads.{Always, Answers, Blames};
+ghost use Rattle.portal_tables.specs.Rows.{portal_row, number_of_phase, HasOffice};
+ghost use Rattle.portal_tables.specs.inner.RowChanges.{IsOffice};
 
 use crate::cells::code_at;
 use crate::fault::TableFault;
@@ -120,14 +120,11 @@ pub fn office_in<S: Alter>(
     conn: &mut Connection<S>,
     version: u32,
 ) -> Result<Office, TableFault>
-    ensures row { OverSound First S.Store conn.old conn.new
-        (IfOk result (λ office. (state S.Store conn.old).now.trees portal_tree
-        ≡ portal_row (pos version) (pos (number_of_phase office.phase)) office.code ∷ [])) }
-    ensures damaged { HasFirstSchema conn.old.schema → HasCleanDisk (state S.Store conn.new)
-        → result ≡ Err TableFault.Damaged
-        → (office : HasOffice version ((state S.Store conn.old).now.trees portal_tree))
-        → is_code office.office ≡ true → ⊥ }
-    ensures asks { RunsQuery result (state S.Store conn.old) (state S.Store conn.new) }
+    ensures { Reads First S.Store Always
+        (Answers (λ db office. IsDatabase db → db.trees portal_tree
+        ≡ portal_row (pos version) (pos (number_of_phase office.phase)) office.code ∷ [])
+        (λ db fault. (office : HasOffice version (db.trees portal_tree))
+        → Blames fault (is_code office.office ≡ true))) result conn.old conn.new }
 {
     let rows = read_rows(alloc, conn, Query::Office)?;
     office_from(alloc, &rows, version)

@@ -1,21 +1,19 @@
 //! Reads which projects the results of both rounds give to students.
 
 ghost use Rattle.std.specs.Prelude.{◌≡◌, ◌≤◌, is_none, if◌then◌else◌};
-ghost use Rattle.portal_tables.specs.Base.{true, Err, None, IfOk, IfSome, option_map, length, map};
-ghost use Rattle.portal_tables.specs.Base.{AllByRecursion, filter_map, state, is_key, is_published};
-ghost use Rattle.portal_tables.specs.Base.{IsStudent, First, InSecond};
-ghost use Rattle.portal_tables.specs.Tables.{assigned2_tree};
-ghost use Rattle.portal_tables.specs.Lists.{of_key};
-ghost use Rattle.portal_tables.specs.inner.Reading.{RunsQueries, RunsQueriesIn, Yields};
-ghost use Rattle.portal_tables.specs.inner.Reading.{YieldsSound, OverSound};
+ghost use Rattle.portal_tables.specs.inner.Base.{true, Err, None, IfOk, option_map, length, map};
+ghost use Rattle.portal_tables.specs.inner.Base.{AllByRecursion, filter_map, is_key, is_published};
+ghost use Rattle.portal_tables.specs.inner.Base.{IsDatabase, IsStudent, First, InSecond};
+ghost use Rattle.portal_tables.specs.Steps.{Reads};
+ghost use Rattle.portal_tables.specs.inner.Reads.{MayRead, Always, Answers, Blames};
 ghost use Rattle.portal_tables.specs.inner.Shown.{as_list, first_cell, shown_name, shown_student};
 ghost use Rattle.portal_tables.specs.inner.Placements as meant;
-ghost use Rattle.portal_tables.specs.Lists.{second_placement};
+ghost use Rattle.portal_tables.specs.Rows.{second_placement};
 ghost use Rattle.portal_tables.specs.inner.Placements.{placement_shown, placement_before};
 ghost use Rattle.portal_tables.specs.inner.Placements.{result_shown, pair_shown, HasFirstPlace};
 ghost use Rattle.portal_tables.specs.inner.Placements.{HasPlacement, HasPlacementAsked, HasKeys};
-ghost use Rattle.portal_tables.specs.inner.Placements.{pair_told};
-ghost use Rattle.portal_tables.specs.inner.Placements.{places_shown, first_pairs};
+ghost use Rattle.portal_tables.specs.inner.Placements.{HasSecondPlace, pair_told, places_shown};
+ghost use Rattle.portal_tables.specs.inner.Placements.{first_pairs};
 ghost use Rattle.portal_tables.specs.inner.Rolls.{RollRises};
 ghost use Rattle.portal_tables.specs.declared.select.Roll.TheVariants.{Students};
 
@@ -45,16 +43,10 @@ pub fn second_placement_in<S: Alter>(
     conn: &mut Connection<S>,
     student: &[u8],
 ) -> Result<Option<Key>, TableFault>
-    ensures ok { YieldsSound InSecond S.Store conn.old conn.new result
-        (λ db p. p ≡ second_placement db.trees student.now) }
-    ensures damaged { OverSound InSecond S.Store conn.old conn.new
-        (result ≡ Err TableFault.Damaged
-        → IfSome (second_placement (state S.Store conn.old).now.trees student.now)
-        (λ p. is_key p ≡ true)
-        → length (of_key student.now ((state S.Store conn.old).now.trees assigned2_tree)) ≤ 1
-        → ⊥) }
-    ensures reads { RunsQueriesIn InSecond result
-        (state S.Store conn.old) (state S.Store conn.new) }
+    ensures { Reads InSecond S.Store IsDatabase
+        (Answers (λ db p. p ≡ second_placement db.trees student.now)
+        (λ db fault. Blames fault (HasSecondPlace db.trees student.now)))
+        result conn.old conn.new }
 {
     let rows = read_rows(alloc, conn, Query::SecondPlaceOf(student))?;
     only_name(alloc, &rows)
@@ -69,12 +61,10 @@ pub(crate) fn placement_in<S: Alter>(
     round: Round,
     row: &Row,
 ) -> Result<Option<Key>, TableFault>
-    ensures ok { YieldsSound round S.Store conn.old conn.new result
-        (λ db p. p ≡ placement_shown round db.trees row.now) }
-    ensures damaged { OverSound round S.Store conn.old conn.new
-        (result ≡ Err TableFault.Damaged
-        → HasPlacement round (state S.Store conn.old).now.trees row.now → ⊥) }
-    ensures reads { RunsQueriesIn round result (state S.Store conn.old) (state S.Store conn.new) }
+    ensures { MayRead round S.Store IsDatabase
+        (Answers (λ db p. p ≡ placement_shown round db.trees row.now)
+        (λ db fault. Blames fault (HasPlacement round db.trees row.now)))
+        result conn.old conn.new }
 {
     match round {
         Round::First => assigned_at(alloc, row, 3),
@@ -111,13 +101,11 @@ fn published_in<S: Alter>(
     phase: Phase,
     row: &Row,
 ) -> Result<Option<Key>, TableFault>
-    ensures ok { YieldsSound round S.Store conn.old conn.new result
-        (λ db p. p ≡
-        (if is_published phase then placement_shown round db.trees row.now else None)) }
-    ensures damaged { OverSound round S.Store conn.old conn.new
-        (result ≡ Err TableFault.Damaged
-        → HasPlacement round (state S.Store conn.old).now.trees row.now → ⊥) }
-    ensures reads { RunsQueriesIn round result (state S.Store conn.old) (state S.Store conn.new) }
+    ensures { MayRead round S.Store IsDatabase
+        (Answers (λ db p. p ≡
+        (if is_published phase then placement_shown round db.trees row.now else None))
+        (λ db fault. Blames fault (HasPlacement round db.trees row.now)))
+        result conn.old conn.new }
 {
     match phase {
         Phase::Published => placement_in(alloc, conn, round, row),
@@ -134,12 +122,10 @@ pub fn result_in<S: Alter>(
     phase: Phase,
     row: &Row,
 ) -> Result<Option<Key>, TableFault>
-    ensures ok { YieldsSound round S.Store conn.old conn.new result
-        (λ db p. p ≡ result_shown round db.trees phase row.now) }
-    ensures damaged { OverSound round S.Store conn.old conn.new
-        (result ≡ Err TableFault.Damaged → HasFirstPlace row.now
-        → HasPlacement round (state S.Store conn.old).now.trees row.now → ⊥) }
-    ensures reads { RunsQueriesIn round result (state S.Store conn.old) (state S.Store conn.new) }
+    ensures { MayRead round S.Store IsDatabase
+        (Answers (λ db p. p ≡ result_shown round db.trees phase row.now)
+        (λ db fault. Blames fault (HasFirstPlace row.now × HasPlacement round db.trees row.now)))
+        result conn.old conn.new }
 {
     if let Some(place) = place_before_at(alloc, round, row)? {
         return Ok(Some(place));
@@ -156,12 +142,10 @@ fn placement_asked<S: Alter>(
     phase: Option<Phase>,
     row: &Row,
 ) -> Result<Option<Key>, TableFault>
-    ensures ok { YieldsSound round S.Store conn.old conn.new result
-        (λ db p. p ≡ meant.placement_asked round phase db.trees row.now) }
-    ensures damaged { OverSound round S.Store conn.old conn.new
-        (result ≡ Err TableFault.Damaged
-        → HasPlacementAsked round phase (state S.Store conn.old).now.trees row.now → ⊥) }
-    ensures reads { RunsQueriesIn round result (state S.Store conn.old) (state S.Store conn.new) }
+    ensures { MayRead round S.Store IsDatabase
+        (Answers (λ db p. p ≡ meant.placement_asked round phase db.trees row.now)
+        (λ db fault. Blames fault (HasPlacementAsked round phase db.trees row.now)))
+        result conn.old conn.new }
 {
     match phase {
         Some(phase) => result_in(alloc, conn, round, phase, row),
@@ -192,12 +176,10 @@ fn pair_in<S: Alter>(
     phase: Option<Phase>,
     row: &Row,
 ) -> Result<Option<(Key, Key)>, TableFault>
-    ensures ok { YieldsSound round S.Store conn.old conn.new result
-        (λ db o. o ≡ pair_shown round phase db.trees row.now) }
-    ensures damaged { OverSound round S.Store conn.old conn.new
-        (result ≡ Err TableFault.Damaged → IsStudent (shown_student row.now)
-        → HasPlacementAsked round phase (state S.Store conn.old).now.trees row.now → ⊥) }
-    ensures reads { RunsQueriesIn round result (state S.Store conn.old) (state S.Store conn.new) }
+    ensures { MayRead round S.Store IsDatabase
+        (Answers (λ db o. o ≡ pair_shown round phase db.trees row.now)
+        (λ db fault. Blames fault (IsStudent (shown_student row.now)
+        × HasPlacementAsked round phase db.trees row.now))) result conn.old conn.new }
 {
     let place = placement_asked(alloc, conn, round, phase, row)?;
     with_placement(alloc, row, place)
@@ -213,14 +195,11 @@ pub fn pairs_in<S: Alter>(
     phase: Option<Phase>,
     rows: &[Row],
 ) -> Result<Vec<(Key, Key)>, TableFault>
-    ensures ok { YieldsSound round S.Store conn.old conn.new result
-        (λ db v. v.items ≡ filter_map (pair_shown round phase db.trees) rows.now) }
-    ensures damaged { OverSound round S.Store conn.old conn.new
-        (result ≡ Err TableFault.Damaged
-        → AllByRecursion (λ c. IsStudent (shown_student c)) rows.now
-        → AllByRecursion (HasPlacementAsked round phase
-        (state S.Store conn.old).now.trees) rows.now → ⊥) }
-    ensures reads { RunsQueriesIn round result (state S.Store conn.old) (state S.Store conn.new) }
+    ensures { MayRead round S.Store IsDatabase
+        (Answers (λ db v. v.items ≡ filter_map (pair_shown round phase db.trees) rows.now)
+        (λ db fault. Blames fault (AllByRecursion (λ c. IsStudent (shown_student c)) rows.now
+        × AllByRecursion (HasPlacementAsked round phase db.trees) rows.now)))
+        result conn.old conn.new }
 {
     let mut pairs = Vec::new(alloc);
     for row in rows {
@@ -263,13 +242,10 @@ pub fn first_pairs_in<S: Alter>(
     alloc: Global,
     conn: &mut Connection<S>,
 ) -> Result<Vec<(Key, Key)>, TableFault>
-    ensures ok { Yields S.Store conn.old conn.new result
-        (λ db v. v.items ≡ first_pairs db.trees) }
-    ensures damaged { OverSound First S.Store conn.old conn.new
-        (result ≡ Err TableFault.Damaged
-        → RollRises Students (state S.Store conn.old).now.trees
-        → AllByRecursion HasKeys (places_shown (state S.Store conn.old).now.trees) → ⊥) }
-    ensures reads { RunsQueries result (state S.Store conn.old) (state S.Store conn.new) }
+    ensures { Reads First S.Store Always
+        (Answers (λ db v. v.items ≡ first_pairs db.trees)
+        (λ db fault. Blames fault (IsDatabase db × RollRises Students db.trees
+        × AllByRecursion HasKeys (places_shown db.trees)))) result conn.old conn.new }
 {
     let rows = rising(alloc, conn, Query::FirstPlacements)?;
     pairs_from(alloc, &rows)

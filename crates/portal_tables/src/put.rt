@@ -1,10 +1,10 @@
 //! Puts a list in place of another.
 
 ghost use Rattle.std.specs.Prelude.{◌≡◌, ◌≤◌};
-ghost use Rattle.portal_tables.specs.Base.{length, map, IfOk};
-ghost use Rattle.portal_tables.specs.inner.Steps.{Does, Made, GoesOn};
-ghost use Rattle.portal_tables.specs.ListTables.{tree_of};
-ghost use Rattle.portal_tables.specs.inner.Rows.{Clears, place_new};
+ghost use Rattle.portal_tables.specs.inner.Base.{length, map, IfOk};
+ghost use Rattle.portal_tables.specs.inner.Running.{Does, Made, GoesOn};
+ghost use Rattle.portal_tables.specs.Tables.{tree_of};
+ghost use Rattle.portal_tables.specs.inner.RowChanges.{Clears, place_new};
 ghost use Rattle.portal_tables.specs.inner.Putting.{list_cells, PutsList};
 
 use crate::insert::{NewPlace, add_all};

@@ -1,15 +1,13 @@
 //! The three rolls of the portal, read by key and decoded.
 
 ghost use Rattle.std.specs.Prelude.{◌≡◌};
-ghost use Rattle.portal_tables.specs.Base.{Err, IfOk, List, Cells, map, AllByRecursion};
-ghost use Rattle.portal_tables.specs.Base.{HasCleanDisk, state, IsLecturer, IsProject, IsStudent};
-ghost use Rattle.portal_tables.specs.Base.{Rise, First};
-ghost use Rattle.portal_tables.specs.Schema.{HasRound};
+ghost use Rattle.portal_tables.specs.inner.Base.{Err, IfOk, List, Cells, map, AllByRecursion};
+ghost use Rattle.portal_tables.specs.inner.Base.{IsDatabase, IsLecturer, IsProject, IsStudent};
+ghost use Rattle.portal_tables.specs.inner.Base.{Rise, First};
 ghost use Rattle.portal_tables.specs.inner.Queries.{Shows, round_asked};
-ghost use Rattle.portal_tables.specs.inner.Reading.{RunsQueries, RunsQueriesIn, Yields, YieldsIn};
-ghost use Rattle.portal_tables.specs.inner.Reading.{OverSound};
-ghost use Rattle.portal_tables.specs.inner.Rolls.{roll_rows, RollRises, lecturers_shown};
-ghost use Rattle.portal_tables.specs.inner.Rolls.{projects_shown, students_shown, RollsRise};
+ghost use Rattle.portal_tables.specs.Steps.{Reads};
+ghost use Rattle.portal_tables.specs.inner.Reads.{Always, Answers, Blames};
+ghost use Rattle.portal_tables.specs.inner.Rolls.{roll_rows, RollRises, AreRolls, RollsRise};
 ghost use Rattle.portal_tables.specs.inner.Shown.{first_cell, shown_lecturer, shown_project};
 ghost use Rattle.portal_tables.specs.inner.Shown.{shown_student};
 
@@ -51,15 +49,11 @@ pub fn rising<S: Alter>(
     conn: &mut Connection<S>,
     query: Query<'_>,
 ) -> Result<Vec<Row>, TableFault>
-    ensures rows { YieldsIn (round_asked query.entry) S.Store conn.old conn.new result
-        (λ db rows. Shows query.entry db.trees rows.items) }
+    ensures reads { Reads (round_asked query.entry) S.Store Always
+        (Answers (λ db rows. Shows query.entry db.trees rows.items)
+        (λ db fault. Blames fault ((rows : List Cells) → Shows query.entry db.trees rows
+        → Rise (map first_cell rows)))) result conn.old conn.new }
     ensures rise { IfOk result (λ rows. Rise (map first_cell rows.items)) }
-    ensures damaged { HasRound (round_asked query.entry) conn.old.schema
-        → HasCleanDisk (state S.Store conn.new) → result ≡ Err TableFault.Damaged
-        → ((rows : List Cells) → Shows query.entry (state S.Store conn.old).now.trees rows
-        → Rise (map first_cell rows)) → ⊥ }
-    ensures reads { RunsQueriesIn (round_asked query.entry) result
-        (state S.Store conn.old) (state S.Store conn.new) }
 {
     let rows = read_rows(alloc, conn, query)?;
     risen(rows)
@@ -72,28 +66,20 @@ pub fn roll_in<S: Alter>(
     conn: &mut Connection<S>,
     roll: Roll,
 ) -> Result<Vec<Row>, TableFault>
-    ensures rows { Yields S.Store conn.old conn.new result
-        (λ db v. v.items ≡ roll_rows roll db.trees) }
-    ensures damaged { OverSound First S.Store conn.old conn.new
-        (result ≡ Err TableFault.Damaged
-        → RollRises roll (state S.Store conn.old).now.trees → ⊥) }
-    ensures reads { RunsQueries result (state S.Store conn.old) (state S.Store conn.new) }
+    ensures { Reads First S.Store Always
+        (Answers (λ db v. v.items ≡ roll_rows roll db.trees)
+        (λ db fault. Blames fault (IsDatabase db × RollRises roll db.trees)))
+        result conn.old conn.new }
 {
     rising(alloc, conn, Query::Whole(roll))
 }
 
 /// The three rolls by key, or the fault of the first that cannot be read.
 pub fn rolls_in<S: Alter>(alloc: Global, conn: &mut Connection<S>) -> Result<Rolls, TableFault>
-    ensures lecturers { Yields S.Store conn.old conn.new result
-        (λ db r. r.lecturers.items ≡ lecturers_shown db.trees) }
-    ensures projects { Yields S.Store conn.old conn.new result
-        (λ db r. r.projects.items ≡ projects_shown db.trees) }
-    ensures students { Yields S.Store conn.old conn.new result
-        (λ db r. r.students.items ≡ students_shown db.trees) }
-    ensures damaged { OverSound First S.Store conn.old conn.new
-        (result ≡ Err TableFault.Damaged
-        → RollsRise (state S.Store conn.old).now.trees → ⊥) }
-    ensures reads { RunsQueries result (state S.Store conn.old) (state S.Store conn.new) }
+    ensures { Reads First S.Store Always
+        (Answers (λ db. AreRolls db.trees)
+        (λ db fault. Blames fault (IsDatabase db × RollsRise db.trees)))
+        result conn.old conn.new }
 {
     let lecturers = roll_in(alloc, conn, Roll::Lecturers)?;
     let projects = roll_in(alloc, conn, Roll::Projects)?;

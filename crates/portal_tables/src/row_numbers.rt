@@ -2,11 +2,11 @@
 //! their numbers.
 
 ghost use Rattle.std.specs.Prelude.{◌≡◌};
-ghost use Rattle.portal_tables.specs.Base.{true, IfSome, IsTrue, None, state, Int, column};
+ghost use Rattle.portal_tables.specs.inner.Base.{true, IfSome, IsTrue, None, Int, column};
 ghost use Rattle.portal_tables.specs.Rows.{RowNumbersDiffer};
 ghost use Rattle.portal_tables.specs.inner.Queries.{table_tree, table_round};
-ghost use Rattle.portal_tables.specs.Steps.{RunsQueryIn};
-ghost use Rattle.portal_tables.specs.inner.Reading.{YieldsIn};
+ghost use Rattle.portal_tables.specs.Steps.{Reads, Gives};
+ghost use Rattle.portal_tables.specs.inner.Reads.{Always};
 ghost use Rattle.portal_tables.specs.inner.Rising.{rises};
 
 use crate::select::{Query, Table, read};
@@ -39,10 +39,9 @@ fn do_rise(rows: &[Row]) -> bool
 
 /// Whether the rows of a table have numbers of their own.
 pub fn row_numbers_differ<S: Alter>(conn: &mut Connection<S>, table: Table) -> Result<bool, Error>
-    ensures apart { YieldsIn (table_round table) S.Store conn.old conn.new result
-        (λ db apart. IsTrue apart → RowNumbersDiffer (db.trees (table_tree table))) }
-    ensures asks { RunsQueryIn (table_round table) result
-        (state S.Store conn.old) (state S.Store conn.new) }
+    ensures { Reads (table_round table) S.Store Always
+        (Gives (λ db apart. IsTrue apart → RowNumbersDiffer (db.trees (table_tree table))))
+        result conn.old conn.new }
 {
     let rows = read(conn, Query::Numbers(table))?;
     Ok(do_rise(&rows))

@@ -3,11 +3,11 @@
 //! part by part.
 
 ghost use Rattle.std.specs.Prelude.{◌≡◌, ◌↔◌};
-ghost use Rattle.portal_tables.specs.Base.{IsTrue, [], length, false, IfOk, OnOk, Option, None};
-ghost use Rattle.portal_tables.specs.Base.{AllZip};
-ghost use Rattle.portal_tables.specs.Tables.{no_schema, portal_schema};
-ghost use Rattle.portal_tables.specs.Schema.{SameRules, SameDefaults, SameTable, SameSchema};
-ghost use Rattle.portal_tables.specs.Schema.{IsCurrentSchema, IsFirstSchema, HasFirstSchema};
+ghost use Rattle.portal_tables.specs.inner.Base.{IsTrue, [], length, false, IfOk, OnOk, Option};
+ghost use Rattle.portal_tables.specs.inner.Base.{None, AllZip};
+ghost use Rattle.portal_tables.specs.Tables.{no_schema, portal_schema, SameRules, SameDefaults};
+ghost use Rattle.portal_tables.specs.Tables.{SameTable, SameSchema, IsCurrentSchema, IsFirstSchema};
+ghost use Rattle.portal_tables.specs.Tables.{HasFirstSchema};
 
 use crate::make::make_tables;
 use sqlite::{Alter, Connection, Error, MemStore};

@@ -2,17 +2,15 @@
 //! result.
 
 ghost use Rattle.std.specs.Prelude.{◌≡◌, ◌∷◌};
-ghost use Rattle.portal_tables.specs.Base.{[], pos, Err, IfOk, HasCleanDisk, state, ThePhase};
-ghost use Rattle.portal_tables.specs.Base.{Second, InSecond};
+ghost use Rattle.portal_tables.specs.inner.Base.{[], pos, Err, IfOk, ThePhase, InSecond};
+ghost use Rattle.portal_tables.specs.inner.Base.{IsDatabase};
 ghost use Rattle.portal_tables.specs.Tables.{second_tree, assigned2_tree};
-ghost use Rattle.portal_tables.specs.Schema.{IsCurrentSchema};
-ghost use Rattle.portal_tables.specs.Office.{number_of_phase, IsSecond};
+ghost use Rattle.portal_tables.specs.Rows.{number_of_phase, second_row};
+ghost use Rattle.portal_tables.specs.inner.RowChanges.{IsSecond, MovesSecond, pair_new};
 ghost use Rattle.portal_tables.specs.inner.Putting.{PutsPlacements, RanksSecond};
-ghost use Rattle.portal_tables.specs.Steps.{RunsQueryIn};
-ghost use Rattle.portal_tables.specs.inner.Reading.{OverSound};
-ghost use Rattle.portal_tables.specs.Rows.{second_row};
-ghost use Rattle.portal_tables.specs.inner.Rows.{MovesSecond, pair_new};
-ghost use Rattle.portal_tables.specs.inner.Steps.{Does, Made, GoesOn};
+ghost use Rattle.portal_tables.specs.Steps.{Reads};
+ghost use Rattle.portal_tables.specs.inner.Reads.{Always, Answers, Blames};
+ghost use Rattle.portal_tables.specs.inner.Running.{Does, Made, GoesOn};
 
 use crate::fault::TableFault;
 use crate::insert::{Target, add_all};
@@ -45,14 +43,12 @@ fn second_from(rows: &[Row]) -> Result<Phase, TableFault>
 /// `Damaged` where the table has not the one row that tells a phase, `Store` where the store
 /// answered an error.
 pub fn second_in<S: Alter>(alloc: Global, conn: &mut Connection<S>) -> Result<Phase, TableFault>
-    ensures row { OverSound InSecond S.Store conn.old conn.new
-        (IfOk result (λ phase. (state S.Store conn.old).now.trees second_tree
-        ≡ second_row (pos (number_of_phase phase)) ∷ [])) }
-    ensures damaged { IsCurrentSchema conn.old.schema → HasCleanDisk (state S.Store conn.new)
-        → result ≡ Err TableFault.Damaged → (phase : ThePhase)
-        → (state S.Store conn.old).now.trees second_tree
-        ≡ second_row (pos (number_of_phase phase)) ∷ [] → ⊥ }
-    ensures asks { RunsQueryIn Second result (state S.Store conn.old) (state S.Store conn.new) }
+    ensures { Reads InSecond S.Store Always
+        (Answers (λ db phase. IsDatabase db
+        → db.trees second_tree ≡ second_row (pos (number_of_phase phase)) ∷ [])
+        (λ db fault. (phase : ThePhase) → Blames fault
+        (db.trees second_tree ≡ second_row (pos (number_of_phase phase)) ∷ [])))
+        result conn.old conn.new }
 {
     let rows = read_rows(alloc, conn, Query::Second)?;
     second_from(&rows)

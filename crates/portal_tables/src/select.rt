@@ -2,13 +2,11 @@
 //! one table.
 
 ghost use Rattle.std.specs.Prelude.{◌≡◌};
-ghost use Rattle.portal_tables.specs.Base.{Err, IfOk, List, map, AllByRecursion, HasCleanDisk};
-ghost use Rattle.portal_tables.specs.Base.{state, Cells, bound};
-ghost use Rattle.portal_tables.specs.Schema.{HasRound};
+ghost use Rattle.portal_tables.specs.inner.Base.{Err, List, AllByRecursion, Cells, bound};
 ghost use Rattle.portal_tables.specs.inner.Decoding.{ShowsAs, FindsAny};
 ghost use Rattle.portal_tables.specs.inner.Queries.{Shows, round_asked, query_text, given};
-ghost use Rattle.portal_tables.specs.Steps.{RunsQueryIn};
-ghost use Rattle.portal_tables.specs.inner.Reading.{RunsQueriesIn, YieldsIn};
+ghost use Rattle.portal_tables.specs.Steps.{Reads, Gives};
+ghost use Rattle.portal_tables.specs.inner.Reads.{Always, Answers, Blames};
 ghost use Rattle.portal_tables.specs.inner.Shown.{as_list};
 
 use crate::decode::FromCells;
@@ -216,12 +214,8 @@ fn values<'a>(value: &'a Option<ValueRef<'a>>) -> &'a [ValueRef<'a>]
 
 /// The rows that a query shows, or the store's own error.
 pub fn read<S: Alter>(conn: &mut Connection<S>, query: Query<'_>) -> Result<Vec<Row>, Error>
-    ensures rows { YieldsIn (round_asked query.entry) S.Store conn.old conn.new result
-        (λ db rows. Shows query.entry db.trees rows.items) }
-    ensures asks { RunsQueryIn (round_asked query.entry) result
-        (state S.Store conn.old) (state S.Store conn.new) }
-    ensures reads { RunsQueriesIn (round_asked query.entry) result
-        (state S.Store conn.old) (state S.Store conn.new) }
+    ensures { Reads (round_asked query.entry) S.Store Always
+        (Gives (λ db rows. Shows query.entry db.trees rows.items)) result conn.old conn.new }
 {
     conn.query_all(query.text(), values(&query.value()))
 }
@@ -233,17 +227,11 @@ pub fn read_each<S: Alter, T: FromCells>(
     conn: &mut Connection<S>,
     query: Query<'_>,
 ) -> Result<Vec<T>, TableFault>
-    ensures rows { YieldsIn (round_asked query.entry) S.Store conn.old conn.new result
-        (λ db v. ShowsAs T.shown (Shows query.entry db.trees) v.items) }
+    ensures reads { Reads (round_asked query.entry) S.Store Always
+        (Answers (λ db v. ShowsAs T.shown (Shows query.entry db.trees) v.items)
+        (λ db fault. Blames fault ((rows : List Cells) → Shows query.entry db.trees rows
+        → AllByRecursion T.is_fine rows))) result conn.old conn.new }
     ensures undamaged { result ≡ Err TableFault.Damaged → ((c : Cells) → T.is_fine c) → ⊥ }
-    ensures damaged { HasRound (round_asked query.entry) conn.old.schema
-        → HasCleanDisk (state S.Store conn.new) → result ≡ Err TableFault.Damaged
-        → ((rows : List Cells) → Shows query.entry (state S.Store conn.old).now.trees rows
-        → AllByRecursion T.is_fine rows) → ⊥ }
-    ensures asks { RunsQueryIn (round_asked query.entry) result
-        (state S.Store conn.old) (state S.Store conn.new) }
-    ensures reads { RunsQueriesIn (round_asked query.entry) result
-        (state S.Store conn.old) (state S.Store conn.new) }
 {
     run::read_each(alloc, conn, query.text(), values(&query.value()))
 }
@@ -254,25 +242,17 @@ pub fn read_rows<S: Alter>(
     conn: &mut Connection<S>,
     query: Query<'_>,
 ) -> Result<Vec<Row>, TableFault>
-    ensures rows { YieldsIn (round_asked query.entry) S.Store conn.old conn.new result
-        (λ db rows. Shows query.entry db.trees rows.items) }
+    ensures reads { Reads (round_asked query.entry) S.Store Always
+        (Gives (λ db rows. Shows query.entry db.trees rows.items)) result conn.old conn.new }
     ensures undamaged { result ≡ Err TableFault.Damaged → ⊥ }
-    ensures asks { RunsQueryIn (round_asked query.entry) result
-        (state S.Store conn.old) (state S.Store conn.new) }
-    ensures reads { RunsQueriesIn (round_asked query.entry) result
-        (state S.Store conn.old) (state S.Store conn.new) }
 {
     read_each(alloc, conn, query)
 }
 
 /// Whether a query shows a row. No more than one is read.
 pub fn finds_any<S: Alter>(conn: &mut Connection<S>, query: Query<'_>) -> Result<bool, Error>
-    ensures told { YieldsIn (round_asked query.entry) S.Store conn.old conn.new result
-        (λ db. FindsAny (Shows query.entry db.trees)) }
-    ensures asks { RunsQueryIn (round_asked query.entry) result
-        (state S.Store conn.old) (state S.Store conn.new) }
-    ensures reads { RunsQueriesIn (round_asked query.entry) result
-        (state S.Store conn.old) (state S.Store conn.new) }
+    ensures { Reads (round_asked query.entry) S.Store Always
+        (Gives (λ db. FindsAny (Shows query.entry db.trees))) result conn.old conn.new }
 {
     run::finds_any(conn, query.text(), values(&query.value()))
 }

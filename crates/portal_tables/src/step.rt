@@ -1,10 +1,10 @@
 //! Commits: a step is taken in a transaction of its own.
 
 ghost use Rattle.std.specs.Prelude.{◌≡◌};
-ghost use Rattle.portal_tables.specs.Base.{false, Err, OnOk, OnErr, IsTrue, HasCleanDisk, Survives};
-ghost use Rattle.portal_tables.specs.Base.{state, Database};
+ghost use Rattle.portal_tables.specs.inner.Base.{false, Err, OnOk, OnErr, IsTrue, HasCleanDisk};
+ghost use Rattle.portal_tables.specs.inner.Base.{Survives, state, Database};
 ghost use Rattle.portal_tables.specs.Steps.{Commits, IsAfter, LeavesOnly, Stays};
-ghost use Rattle.portal_tables.specs.inner.Steps.{Does, GoesOn};
+ghost use Rattle.portal_tables.specs.inner.Running.{Does, GoesOn};
 
 use crate::fault::TableFault;
 use sqlite::{Alter, Connection, Error, Transaction};

@@ -1,7 +1,7 @@
 //! Updates one column of one row: the phase, the version, or that a ranking is there.
 
-ghost use Rattle.portal_tables.specs.inner.Steps.{Does, Made};
-ghost use Rattle.portal_tables.specs.inner.Rows.{IsOfVersion, MovesTo, Ranks};
+ghost use Rattle.portal_tables.specs.inner.Running.{Does, Made};
+ghost use Rattle.portal_tables.specs.inner.RowChanges.{IsOfVersion, MovesTo, Ranks};
 
 use crate::run::write;
 use sqlite::types::{ToSql, ValueRef};

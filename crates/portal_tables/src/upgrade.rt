@@ -1,8 +1,8 @@
 //! Upgrades: makes all tables of the six of version 1.
 
 ghost use Rattle.std.specs.Prelude.{◌≡◌};
-ghost use Rattle.portal_tables.specs.Base.{false, Err, OnOk, OnErr, IsTrue, HasCleanDisk, Survives};
-ghost use Rattle.portal_tables.specs.Base.{state};
+ghost use Rattle.portal_tables.specs.inner.Base.{false, Err, OnOk, OnErr, IsTrue, HasCleanDisk};
+ghost use Rattle.portal_tables.specs.inner.Base.{Survives, state};
 ghost use Rattle.portal_tables.specs.Steps.{Commits, IsAfter, LeavesOnly, Stays};
 ghost use Rattle.portal_tables.specs.Making.{Upgrades};
 

@@ -1,8 +1,6 @@
 -- Who names a project, of the keys that a query of the lists shows.
-use Rattle.portal_views.proofs.Base.{◌≡◌, ◌&&◌, ◌∷◌, permuted, any_alike, has_round, OnRoll, owners_of, IsPlace, has_text_of, permutes, all_permuted, Bool, true, List, [], map, filter, refl, sym, ap, ap₂, subst, ◌∙◌, AllByRecursion, list_any, and_comm, list_any-IsPermutation, Row, column, bytes, Database, all-filter, Key, equals, has, all_weaker, all_map, any_map, filtered_any, is_sym, student_tree, Round, First, Second, choice_table, round_of, tree_of, RowNumbersDiffer, ListsBy, columns, has_text, of_key, named_by, place_key, by_place, chosen, row_key, students_shown, first_cell, HasTables}
+use Rattle.portal_views.proofs.Base.{◌≡◌, ◌&&◌, ◌∷◌, permuted, any_alike, has_round, OnRoll, owners_of, IsPlace, has_text_of, permutes, all_permuted, Bool, true, List, [], map, filter, refl, sym, ap, ap₂, subst, ◌∙◌, AllByRecursion, list_any, and_comm, list_any-IsPermutation, Row, column, bytes, Database, all-filter, Key, equals, has, all_weaker, all_map, any_map, filtered_any, is_sym, student_tree, Round, First, Second, choice_table, round_of, tree_of, RowNumbersDiffer, ListsBy, columns, has_text, of_key, named_by, place_key, by_place, chosen, row_key, students_shown, first_cell, HasTables, place_parents, place_rows_formed}
 use Rattle.portal_views.proofs.Owners.{shown_there}
-use Rattle.portal_tables.proofs.Parents.{place_parents}
-use Rattle.portal_tables.proofs.Shapes.{place_rows_formed}
 
 -- a key is shown of the rows that pass where one of them is its own
 pub named_where : (t : Row → Bool) (table shown : List Row) → ListsBy (1 ∷ []) t (columns (1 ∷ [])) table shown → (k : Key) → has (map first_cell shown) k ≡ list_any (λ r. t r && equals k (row_key r)) table

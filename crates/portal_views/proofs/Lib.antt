@@ -1,4 +1,5 @@
 pub mod Base
+pub mod Turns
 pub mod OneKey
 pub mod Owners
 pub mod Choosers

@@ -1,17 +1,8 @@
 -- Who has a list, and whether some list holds a project, of what queries of the lists show.
-use Rattle.portal_views.proofs.Base.{◌≡◌, ◌&&◌, ◌||◌, ◌∷◌, is_none, pos, HasCleanDisk, has_number, IsWhole, any_alike, filter_alike, has_round, IsPlace, has_text_of, permutes, all_permuted, HasWholeLists, is_chosen_shown, unlisted, Bool, true, false, ℤ, List, [], map, filter, inl, inr, refl, sym, ap, subst, ◌∙◌, not, AllByRecursion, list_any, and_comm, list_any-IsPermutation, cases_Bool, Row, column, bytes, Database, value_cmp, Int, is_eq, all-filter, all_of, Key, equals, has, all_weaker, all_map, any_map, filtered_any, is_sym, student_tree, Round, choice_table, tree_of, ListsBy, columns, has_text, of_key, named_by, place_key, by_place, chosen, row_key, HasRound, students_shown, first_cell, placement_before}
-use Rattle.std.proofs.Common.{negsuc}
-use Rattle.std.proofs.Math.Bool.{or-true}
-use Rattle.sqlite.specs.State.{State}
+use Rattle.portal_views.proofs.Base.{◌∙◌, ◌&&◌, ◌||◌, ◌∷◌, ◌≡◌, AllByRecursion, Bool, Database, HasWholeLists, Int, IsDatabase, IsPlace, IsWhole, Key, List, ListsBy, Reading, Result, Round, Row, [], all-filter, all_map, all_of, all_permuted, all_weaker, and_comm, any_alike, any_map, ap, by_place, bytes, cases_Bool, choice_table, chosen, column, columns, equals, false, filter, filter_alike, filtered_any, first_cell, has, has_number, has_text, has_text_of, inl, inr, is_chosen_shown, is_eq, is_none, is_sym, list_any, list_any-IsPermutation, map, named_by, not, of_key, passes, permutes, place_key, placement_before, pos, reads_of, refl, row_key, student_tree, students_shown, subst, sym, tree_of, true, unlisted, value_cmp, ℤ, negsuc, or-true, State, is_empty, any_nowhere, choice_shown, CountUp, place_of, eq_self, none_of}
 use Rattle.sqlite_trees.specs.Objects.{number_in}
-use Rattle.portal_core.specs.Words.{is_empty}
-use Rattle.portal_core.proofs.AllLaws.{any_nowhere}
 use Rattle.portal_core.proofs.Kept.{empty_map}
 use Rattle.portal_list.proofs.Members.{has_all}
-use Rattle.portal_tables.specs.inner.Owners.{choice_shown}
-use Rattle.portal_tables.specs.Lists.{CountUp, place_of}
-use Rattle.portal_tables.proofs.Lists.{eq_self}
-use Rattle.portal_tables.proofs.Parents.{none_of}
 use Rattle.portal_views.proofs.Choosers.{named_where, choices_formed, choices_parents, chooser, choosers_known}
 
 -- somebody names the project
@@ -93,12 +84,6 @@ module _ (round : Round) (db : Database) (lists : HasWholeLists round db) (shown
       ap (map first_cell) (filter_alike (λ c. is_none (placement_before round c) && not (has (map first_cell shown) (first_cell c))) (λ c. is_none (placement_before round c) && is_empty (choice_shown round db.trees c)) students
       (all_of _ (λ c. ap (λ b. is_none (placement_before round c) && b) (ap not (lister (first_cell c)) ∙ twice (is_empty (chosen table (first_cell c))))) students))
 
--- of a reading in the middle
-
--- tables of a round are read as those of it
-pub round_held : {round : Round} (db : Database) → HasWholeLists round db → HasRound round db.schema
-round_held {round} db lists = has_round round db.schema lists.tables.current
-
--- what holds of a reading after one that changed nothing holds over the tables before that one
-pub at_start : {round : Round} (a b c : State) → b.now ≡ a.now → (P : Database → Type 0) → (HasWholeLists round b.now → HasCleanDisk c → P b.now) → HasWholeLists round a.now → HasCleanDisk c → P a.now
-at_start {round} a b c same P next = subst (λ (x : Database). HasWholeLists round x → HasCleanDisk c → P x) same next
+-- a read of sound tables
+pub reads_whole : {round : Round} {On : State → Type 0} {V E : Type 0} {Told : Database → Result V E → Type 0} {r : Result V E} {a b : State} → Reading round On IsDatabase Told r a b → Reading round On (HasWholeLists round) Told r a b
+reads_whole h = reads_of (λ own. own) (λ own lists. lists.tables.sound) h

@@ -1,11 +1,6 @@
--- Each key of a roll is of one row, and so is a student's place in the second round, by the unique index of the table.
-use Rattle.portal_views.proofs.Base.{◌≡◌, ◌≤◌, ◌&&◌, ◌||◌, ◌∷◌, arith, Open, schema_with, own_is, IsText, filter_all, not_true, filter_alike, Follows, followed, kept, has_text_of, rise_put_all, key_texts, ℤ, Bool, true, false, not, cond, List, [], map, filter, all-filter, length, refl, sym, ap, subst, ◌∙◌, and_parts, or_parts, append-nil, AllByRecursion, IsDistinct, list_any, is_eq, is_ne, Ordering, Less, Equal, Greater, Some, Int, Words, Binary, Row, column, bytes, value_cmp, binary, is_true, from_truth, Trees, rowid, id_in, Database, IsDatabase, Unique, equal, differ, everything, Key, equals, is_sym, is_same, Rise, all_weaker, all_unmap, lecturer_tree, project_tree, student_tree, assigned2_tree, roll_tree, OfRoll, OfPlaces, Second, Keeps, passes, Roll, Lecturers, Projects, Students, IsCurrentSchema, RowNumbersDiffer, has_text, every, of_key, row_key, by_key}
+-- The unique index gives one row to each key of a roll, and one to a student's second-round place.
+use Rattle.portal_views.proofs.Base.{◌≡◌, ◌≤◌, ◌&&◌, ◌||◌, ◌∷◌, arith, Open, schema_with, own_is, IsText, filter_all, not_true, filter_alike, Follows, followed, kept, has_text_of, rise_put_all, key_texts, ℤ, Bool, true, false, not, cond, List, [], map, filter, all-filter, length, refl, sym, ap, subst, ◌∙◌, and_parts, or_parts, append-nil, AllByRecursion, IsDistinct, list_any, is_eq, is_ne, Ordering, Less, Equal, Greater, Some, Int, Words, Binary, Row, column, bytes, value_cmp, binary, is_true, from_truth, Trees, rowid, id_in, Database, IsDatabase, Unique, equal, differ, everything, Key, equals, is_sym, is_same, Rise, all_weaker, all_unmap, lecturer_tree, project_tree, student_tree, assigned2_tree, roll_tree, OfRoll, OfPlaces, Second, Keeps, passes, Roll, Lecturers, Projects, Students, IsCurrentSchema, RowNumbersDiffer, has_text, every, of_key, row_key, by_key, with_checks, current_own, apart_filter, form_of, text_equals, equals_text}
 use Rattle.portal_tables.specs.declared.select.Table.{Table as Named}
-use Rattle.portal_tables.proofs.Weak.{with_checks}
-use Rattle.portal_tables.proofs.Owned.{current_own}
-use Rattle.portal_tables.proofs.Lists.{apart_filter}
-use Rattle.portal_tables.proofs.Shapes.{form_of, text_equals}
-use Rattle.portal_tables.proofs.Tests.{equals_text}
 
 told_not : (o : Ordering) → is_true (from_truth (Some (is_ne o))) ≡ not (is_eq o)
 told_not Less = refl
@@ -24,7 +19,7 @@ unlike true true h e = e
 unlike true false h e = h
 unlike false b h e = refl
 
--- Of good rows doubles are two that have one key and not one number. Where there are none, each key is of one row.
+-- Doubles are good rows with one key and different numbers. Without doubles each key is of one row.
 module _ (IsGood : Row → Type 0) (is_double : Row → Row → Bool) (says : (r s : Row) → IsGood r → IsGood s → is_double r s ≡ (equals (row_key r) (row_key s) && differ (rowid r) (rowid s))) where
   apart_keys : (r s : Row) → IsGood r → IsGood s → rowid r ≡ Int (id_in (rowid r)) → rowid s ≡ Int (id_in (rowid s)) → is_double r s ≡ false → is_eq (value_cmp (rowid r) (rowid s)) ≡ false → equals (row_key r) (row_key s) ≡ false
   apart_keys r s x y m n h e =

@@ -1,11 +1,7 @@
--- The projects that a query by lecturer shows, and those that the catalogue has of a lecturer, are those of the roll.
-use Rattle.portal_views.proofs.Base.{◌≡◌, ◌∷◌, ◌||◌, IsText, filter_all, filter_alike, OnRoll, has_text_of, project_rows_formed, all_permuted, permutes, First, Bool, List, [], map, filter, sym, ap, subst, ◌∙◌, map-map, filter-map, IsPermutation, IsPermutation-filter, Row, column, bytes, Database, Key, equals, Rise, all_weaker, rise_kept, Projects, columns_of, project_tree, ListsBy, every, columns, has_text, row_key, by_key, first_cell, HasTables, own_keys_shown, AllByRecursion, true, false, cond, refl, Some, None, option_map, find, has, is_sym, all_map, LecturerRow, ProjectRow, Listing, listing_with, name_of, offered, own_listed, catalogue_shown, shown_lecturer, shown_project, lecturers_shown, projects_shown, Lecturers, lecturer_tree}
-use Rattle.std.specs.Prelude.{is_some}
-use Rattle.std.specs.List.{cons_option}
-use Rattle.portal_tables.proofs.Listed.{roll_shown}
+-- A query by lecturer and the catalogue show exactly the lecturer's projects that are on the roll.
+use Rattle.portal_views.proofs.Base.{◌≡◌, ◌∷◌, ◌||◌, IsText, filter_all, filter_alike, OnRoll, has_text_of, project_rows_formed, all_permuted, permutes, First, Bool, List, [], map, filter, sym, ap, subst, ◌∙◌, map-map, filter-map, IsPermutation, IsPermutation-filter, Row, column, bytes, Database, Key, equals, Rise, all_weaker, rise_kept, Projects, columns_of, project_tree, ListsBy, every, columns, has_text, row_key, by_key, first_cell, HasTables, own_keys_shown, AllByRecursion, true, false, cond, refl, Some, None, option_map, find, has, is_sym, all_map, LecturerRow, ProjectRow, Listing, listing_with, name_of, offered, own_listed, catalogue_shown, shown_lecturer, shown_project, lecturers_shown, projects_shown, Lecturers, lecturer_tree, is_some, cons_option, roll_shown, in_order}
 use Rattle.portal_views.proofs.OneKey.{roll_keys_rise}
 use Rattle.portal_views.proofs.Owners.{lecturers_known, shown_there}
-use Rattle.portal_tables.proofs.Sorted.{in_order}
 
 pub own_found : (db : Database) → HasTables db → (k : Key) (shown : List Row) → ListsBy (1 ∷ []) (has_text 2 k) (columns (1 ∷ [])) (db.trees project_tree) shown → Rise (map first_cell shown) → map first_cell shown ≡ own_keys_shown db.trees k
 own_found db tables k shown lists up =

@@ -1,6 +1,5 @@
--- Each row of a list is of an owner on the roll, and each project of a lecturer on the roll; a roll shows the keys of its rows.
-use Rattle.portal_views.proofs.Base.{◌≡◌, ◌&&◌, ◌∷◌, RollRises, Open, own_is, IsText, OnRoll, owners_of, Follows, followed, project_rows_formed, all_two, permutes, key_texts, refl, Bool, true, List, [], ℕ, map, sym, ap, subst, ◌∙◌, and_parts, list_any-IsPermutation, Value, Null, Words, Database, IsDatabase, Row, column, bytes, Trees, ForeignKey, OfLists, everything, map-map, Key, equals, has, Rise, all_weaker, any_map, round_of, tree_of, Lists, Choices, Rankings, SecondChoices, SecondRankings, HasRound, Round, First, Second, choice_table, ranking_table, Students, Lecturers, columns_of, students_shown, lecturers_shown, columns, row_key, by_key, AreOwned, first_cell, AllByRecursion, RowNumbersDiffer, HasFirstSchema, OfRoll, Projects, lecturer_tree, project_tree}
-use Rattle.portal_tables.proofs.Parents.{Found, on_roll}
+-- List rows have owners on the roll, projects lecturers on it, and a roll shows its rows' keys.
+use Rattle.portal_views.proofs.Base.{◌≡◌, ◌&&◌, ◌∷◌, RollRises, Open, own_is, IsText, OnRoll, owners_of, Follows, followed, project_rows_formed, all_two, permutes, key_texts, refl, Bool, true, List, [], ℕ, map, sym, ap, subst, ◌∙◌, and_parts, list_any-IsPermutation, Value, Null, Words, Database, IsDatabase, Row, column, bytes, Trees, ForeignKey, OfLists, everything, map-map, Key, equals, has, Rise, all_weaker, any_map, round_of, tree_of, Lists, Choices, Rankings, SecondChoices, SecondRankings, HasRound, Round, First, Second, choice_table, ranking_table, Students, Lecturers, columns_of, students_shown, lecturers_shown, columns, row_key, by_key, AreOwned, first_cell, AllByRecursion, RowNumbersDiffer, HasFirstSchema, OfRoll, Projects, lecturer_tree, project_tree, Found, on_roll}
 
 -- a roll shows the keys of its rows, and whoever is on it
 pub keys_shown : (cs : List ℕ) (roll : List Row) → map first_cell (map (columns (1 ∷ cs)) (by_key roll)) ≡ map row_key (by_key roll)

@@ -1,11 +1,8 @@
--- The keys that queries show of a lecturer's projects, of who names a project and of who has a list rise: no two of the rows have one.
-use Rattle.portal_views.proofs.Base.{◌≡◌, ◌&&◌, ◌∷◌, arith, pos, has_number, filter_all, not_true, IsPlace, kept, rise_put_all, key_texts, Open, schema_with, own_is, ℤ, Bool, true, false, not, cond, List, [], map, filter, all-filter, refl, sym, ap, ap₂, subst, ◌∙◌, and_parts, append-nil, AllByRecursion, IsDistinct, IsPermutation, list_any, is_eq, Ordering, Less, Equal, Greater, Int, Words, Binary, Row, column, value_cmp, Trees, rowid, Database, Unique, equal, differ, everything, Key, equals, is_own, Rise, all_weaker, project_tree, Projects, OfRoll, OfLists, Keeps, Round, First, Second, choice_table, tree_of, ListsBy, every, columns, has_text, row_key, first_cell, HasTables}
+-- Query keys of a lecturer's projects, a project's choosers and list owners rise: no two are equal.
+use Rattle.portal_views.proofs.Base.{◌≡◌, ◌&&◌, ◌∷◌, arith, pos, has_number, filter_all, not_true, IsPlace, kept, rise_put_all, key_texts, Open, schema_with, own_is, ℤ, Bool, true, false, not, cond, List, [], map, filter, all-filter, refl, sym, ap, ap₂, subst, ◌∙◌, and_parts, append-nil, AllByRecursion, IsDistinct, IsPermutation, list_any, is_eq, Ordering, Less, Equal, Greater, Int, Words, Binary, Row, column, value_cmp, Trees, rowid, Database, Unique, equal, differ, everything, Key, equals, is_own, Rise, all_weaker, project_tree, Projects, OfRoll, OfLists, Keeps, Round, First, Second, choice_table, tree_of, ListsBy, every, columns, has_text, row_key, first_cell, HasTables, roll_rises, text_there, equals_int}
 use Rattle.std.proofs.lemmas.Bool.Decides.{nat_tests}
 use Rattle.std.proofs.lemmas.Int.{ints}
 use Rattle.portal_tables.proofs.Base.{value_cmp-Int}
-use Rattle.portal_tables.proofs.Listed.{roll_rises}
-use Rattle.portal_tables.proofs.Parents.{text_there}
-use Rattle.portal_tables.proofs.Tests.{equals_int}
 use Rattle.portal_views.proofs.Choosers.{choices_apart, choices_formed}
 use Rattle.portal_views.proofs.OneKey.{HasTextKey, IsAlone, kept_distinct, roll_distinct, same_keys, same_text}
 
@@ -22,7 +19,7 @@ pub own_rise : (db : Database) → HasTables db → (k : Key) (shown : List Row)
 own_rise db tables k shown lists =
     kept_rise (has_text 2 k) (db.trees project_tree) shown (key_texts db (OfRoll Projects) tables.own tables.sound) (roll_distinct db Projects (has_text 2 k) tables.current tables.sound tables.apart.1.1.0) lists
 
--- Of a list, another row of the same owner for the same place, and one of the same owner that names the same. Unique indexes leave neither.
+-- A list's twins: one owner's rows for one place, or for one item. Unique indexes leave neither.
 abbrev is_place_twin : Row → Row → Bool
 is_place_twin other r = (equal Binary (column other 1) (column r 1) && (equal Binary (column other 2) (column r 2) && true)) && differ (rowid other) (rowid r)
 

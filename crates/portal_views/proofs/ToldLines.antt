@@ -1,10 +1,5 @@
--- What the reading of a student's line never refuses: the one row of a student on the roll, whose cells have their forms.
-use Rattle.portal_views.proofs.Base.{◌≡◌, ◌≤◌, ◌||◌, ◌∷◌, arith, HasFirstPlace, HasPlacement, permuted, any_alike, IsStudentRow, student_test, student_rows_formed, all_permuted, all_two, permutes, HasStudents, IsStudentKey, Bool, true, false, cond, ℕ, Option, Some, None, option_map, List, [], map, filter, length, all-filter, refl, sym, ap, ◌∙◌, AllByRecursion, find, list_any, list_any-IsPermutation, Row, Database, First, Round, Students, Key, equals, has, is_sym, any_map, all_map, all_unmap, all_weaker, subst, row_key, by_key, roll_columns, students_shown, student_tree, ListsBy, columns, has_text, of_key, ShowsAs, first_cell, HasTables, shown_line, told_line, ApplicantLine}
-use Rattle.std.specs.Prelude.{◌<◌}
-use Rattle.std.proofs.Common.{get_or, zero, suc}
-use Rattle.std.proofs.lemmas.List.{length-map}
-use Rattle.std.proofs.lemmas.List.Sorted.{length_permutation, IsPermutation-sym}
-use Rattle.portal_views.specs.inner.Lines.{IsNamed, IsTold}
+-- Reading a student's line never refuses the student's one row on the roll, with cells in form.
+use Rattle.portal_views.proofs.Base.{◌∙◌, ◌||◌, ◌∷◌, ◌≡◌, ◌≤◌, AllByRecursion, ApplicantLine, Bool, Database, First, HasFirstPlace, HasPlacement, HasStudents, HasTables, IsStudentKey, IsStudentRow, Key, List, ListsBy, None, Option, Round, Row, ShowsAs, Some, Students, [], all-filter, all_map, all_permuted, all_two, all_unmap, all_weaker, any_alike, any_map, ap, arith, by_key, columns, cond, equals, false, filter, find, first_cell, has, has_text, is_sym, length, list_any, list_any-IsPermutation, map, of_key, option_map, permuted, permutes, refl, roll_columns, row_key, shown_line, student_rows_formed, student_test, student_tree, students_shown, subst, sym, told_line, true, length-map, length_permutation, IsPermutation-sym, IsNamed, IsTold}
 use Rattle.portal_views.proofs.LineRows.{first_told}
 use Rattle.portal_views.proofs.OneKey.{one_row}
 use Rattle.portal_views.proofs.Owners.{keys_shown}
@@ -13,13 +8,7 @@ use Rattle.portal_views.proofs.Owners.{keys_shown}
 pub of_first : (round : Round) (db : Database) → HasStudents round db → HasStudents First db
 of_first round db students = record { tables = students.tables; persons = students.persons; first = students.first; places = students.first }
 
--- what holds of all holds of one
-pub at_item : {X : Type 0} (P : X → Type 0) (xs : List X) (i : ℕ) (x : X) → i < length xs → x ≡ get_or xs i x → AllByRecursion P xs → P x
-at_item P [] i x less is all = absurd (omega (arith, less))
-at_item P (y ∷ xs) zero x less is all = subst P (sym is) all.0
-at_item P (y ∷ xs) (suc i) x less is all = at_item P xs i x (omega (arith, less)) is all.1
-
--- and of what is found
+-- what holds of all holds of what is found
 found_in : (P : Row → Type 0) (t : Row → Bool) (rows : List Row) (c : Row) → AllByRecursion P rows → find t rows ≡ Some c → P c
 found_in P t [] c all is = absurd (cc)
 found_in P t (r ∷ rows) c all is =

@@ -1,12 +1,13 @@
 //! Applicants and placed students of a lecturer's projects.
 
 ghost use Rattle.std.specs.Prelude.{◌≡◌, ◌∷◌, ◌++◌};
-ghost use Rattle.portal_views.specs.inner.Base.{[], IfOk, OnOk, map, state, is_at, is_from_ranking};
+ghost use Rattle.portal_views.specs.inner.Base.{[], IfOk, OnOk, map, is_at, is_from_ranking};
+ghost use Rattle.portal_views.specs.inner.Base.{Contradicts};
 ghost use Rattle.portal_views.specs.inner.Callers.{with_persons, lines_shown, persons_at};
 ghost use Rattle.portal_views.specs.inner.Callers.{placed_among, persons_before, placed_at_shown};
-ghost use Rattle.portal_views.specs.inner.Callers.{applicants_told, placed_told};
+ghost use Rattle.portal_views.specs.inner.Callers.{AreTold};
 ghost use Rattle.portal_views.specs.inner.Lines.{HasTables, HasStudents};
-ghost use Rattle.portal_tables.specs.inner.Reading.{RunsQueriesIn, YieldsOf, UndamagedOf};
+ghost use Rattle.portal_tables.specs.inner.Reads.{MayRead, Answers};
 
 use crate::lines::{ApplicantLine, lines_to, persons_of};
 use crate::persons::put_persons;
@@ -24,10 +25,9 @@ fn lines_in<S: Alter>(
     phase: Phase,
     project: &Key,
 ) -> Result<Vec<ApplicantLine>, TableFault>
-    ensures told { YieldsOf HasTables S.Store conn.old conn.new result
-        (λ db v. v.items ≡ lines_shown round db.trees phase project.now) }
-    ensures damaged { UndamagedOf (HasStudents round) S.Store conn.old conn.new result }
-    ensures reads { RunsQueriesIn round result (state S.Store conn.old) (state S.Store conn.new) }
+    ensures { MayRead round S.Store HasTables
+        (Answers (λ db v. v.items ≡ lines_shown round db.trees phase project.now)
+        (Contradicts (HasStudents round))) result conn.old conn.new }
 {
     if phase.is_from_ranking() {
         return lines_to(alloc, conn, round, project);
@@ -84,10 +84,9 @@ fn before_in<S: Alter>(
     round: Round,
     project: &Key,
 ) -> Result<Vec<Person>, TableFault>
-    ensures told { YieldsOf HasTables S.Store conn.old conn.new result
-        (λ db v. v.items ≡ persons_before round db.trees project.now) }
-    ensures damaged { UndamagedOf (HasStudents round) S.Store conn.old conn.new result }
-    ensures reads { RunsQueriesIn round result (state S.Store conn.old) (state S.Store conn.new) }
+    ensures { MayRead round S.Store HasTables
+        (Answers (λ db v. v.items ≡ persons_before round db.trees project.now)
+        (Contradicts (HasStudents round))) result conn.old conn.new }
 {
     match round {
         Round::First => Ok(Vec::new(alloc)),
@@ -108,10 +107,9 @@ fn placed_with<S: Alter>(
     project: &Key,
     lines: &[ApplicantLine],
 ) -> Result<Vec<Person>, TableFault>
-    ensures told { YieldsOf HasTables S.Store conn.old conn.new result
-        (λ db v. v.items ≡ placed_at_shown round db.trees phase project.now lines.now) }
-    ensures damaged { UndamagedOf (HasStudents round) S.Store conn.old conn.new result }
-    ensures reads { RunsQueriesIn round result (state S.Store conn.old) (state S.Store conn.new) }
+    ensures { MayRead round S.Store HasTables
+        (Answers (λ db v. v.items ≡ placed_at_shown round db.trees phase project.now lines.now)
+        (Contradicts (HasStudents round))) result conn.old conn.new }
 {
     let mut placed = before_in(alloc, conn, round, project)?;
     let more = placed_if_published(alloc, phase, lines, project)?;
@@ -156,14 +154,9 @@ pub(crate) fn project_students<S: Alter>(
     phase: Phase,
     projects: &[Key],
 ) -> Result<ProjectStudents, TableFault>
-    ensures applicants { YieldsOf HasTables S.Store conn.old conn.new result
-        (λ db t. map with_persons t.applicants.items
-        ≡ applicants_told round db.trees phase projects.now) }
-    ensures placed { YieldsOf HasTables S.Store conn.old conn.new result
-        (λ db t. map with_persons t.placed.items
-        ≡ placed_told round db.trees phase projects.now) }
-    ensures damaged { UndamagedOf (HasStudents round) S.Store conn.old conn.new result }
-    ensures reads { RunsQueriesIn round result (state S.Store conn.old) (state S.Store conn.new) }
+    ensures { MayRead round S.Store HasTables
+        (Answers (λ db. AreTold round db.trees phase projects.now)
+        (Contradicts (HasStudents round))) result conn.old conn.new }
 {
     let mut told = ProjectStudents {
         applicants: Vec::new(alloc),

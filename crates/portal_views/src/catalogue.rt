@@ -5,11 +5,12 @@ ghost use Rattle.std.specs.Prelude.{◌≡◌};
 ghost use Rattle.portal_core.specs.inner.Room as left_by;
 ghost use Rattle.portal_core.specs.declared.phase.Round.TheVariants.{First, Second};
 ghost use Rattle.portal_views.specs.inner.Base.{Err, IfOk, AllByRecursion, IsLecturer, IsProject};
-ghost use Rattle.portal_views.specs.inner.Base.{filter_map, map, state};
+ghost use Rattle.portal_views.specs.inner.Base.{filter_map, map, IsDatabase, Contradicts};
 ghost use Rattle.portal_views.specs.inner.Catalogue.{offered_in, catalogue_shown, HasOffers};
 ghost use Rattle.portal_views.specs.inner.Catalogue.{HasPairs};
 ghost use Rattle.portal_tables.specs.inner.Placements.{first_pairs};
-ghost use Rattle.portal_tables.specs.inner.Reading.{RunsQueries, Yields, OverSound};
+ghost use Rattle.portal_tables.specs.Steps.{Reads};
+ghost use Rattle.portal_tables.specs.inner.Reads.{MayRead, Always, Answers, Blames};
 ghost use Rattle.portal_tables.specs.inner.Rolls.{lecturers_shown, projects_shown};
 ghost use Rattle.portal_tables.specs.inner.Shown.{shown_lecturer, shown_project};
 
@@ -84,12 +85,11 @@ fn listings_in<S: Alter>(
     lecturers: &[LecturerRow],
     projects: &[ProjectRow],
 ) -> Result<Vec<Listing>, TableFault>
-    ensures shows { Yields S.Store conn.old conn.new result (λ db v. v.items
-        ≡ offered_in round lecturers.now projects.now (first_pairs db.trees)) }
-    ensures damaged { OverSound First S.Store conn.old conn.new
-        (result ≡ Err TableFault.Damaged
-        → HasPairs round (state S.Store conn.old).now.trees → ⊥) }
-    ensures reads { RunsQueries result (state S.Store conn.old) (state S.Store conn.new) }
+    ensures { MayRead First S.Store Always
+        (Answers (λ db v. v.items
+        ≡ offered_in round lecturers.now projects.now (first_pairs db.trees))
+        (λ db fault. Blames fault (IsDatabase db × HasPairs round db.trees)))
+        result conn.old conn.new }
 {
     match round {
         Round::First => Ok(listings_of(alloc, lecturers, projects)?),
@@ -122,13 +122,10 @@ fn offers_in<S: Alter>(
     alloc: Global,
     conn: &mut Connection<S>,
 ) -> Result<(Vec<LecturerRow>, Vec<ProjectRow>), TableFault>
-    ensures lecturers { Yields S.Store conn.old conn.new result
-        (λ db rows. rows.0.items ≡ map shown_lecturer (lecturers_shown db.trees)) }
-    ensures projects { Yields S.Store conn.old conn.new result
-        (λ db rows. rows.1.items ≡ map shown_project (projects_shown db.trees)) }
-    ensures damaged { OverSound First S.Store conn.old conn.new
-        (result ≡ Err TableFault.Damaged → HasOffers (state S.Store conn.old).now.trees → ⊥) }
-    ensures reads { RunsQueries result (state S.Store conn.old) (state S.Store conn.new) }
+    ensures { Reads First S.Store Always
+        (Answers (λ db rows. (rows.0.items ≡ map shown_lecturer (lecturers_shown db.trees))
+        × (rows.1.items ≡ map shown_project (projects_shown db.trees)))
+        (Contradicts HasOffers)) result conn.old conn.new }
 {
     let lecturers = roll_in(alloc, conn, Roll::Lecturers)?;
     let projects = roll_in(alloc, conn, Roll::Projects)?;
@@ -144,12 +141,10 @@ pub fn catalogue_in<S: Alter>(
     conn: &mut Connection<S>,
     round: Round,
 ) -> Result<Rc<Vec<Listing>>, TableFault>
-    ensures shows { Yields S.Store conn.old conn.new result
-        (λ db shared. shared.value.items ≡ catalogue_shown round db.trees) }
-    ensures damaged { OverSound First S.Store conn.old conn.new
-        (result ≡ Err TableFault.Damaged → HasOffers (state S.Store conn.old).now.trees
-        → HasPairs round (state S.Store conn.old).now.trees → ⊥) }
-    ensures reads { RunsQueries result (state S.Store conn.old) (state S.Store conn.new) }
+    ensures { Reads First S.Store Always
+        (Answers (λ db shared. shared.value.items ≡ catalogue_shown round db.trees)
+        (λ db fault. Blames fault (HasOffers db × HasPairs round db.trees)))
+        result conn.old conn.new }
 {
     let offers = offers_in(alloc, conn)?;
     let listings = listings_in(alloc, conn, round, &offers.0, &offers.1)?;

@@ -1,15 +1,13 @@
 //! The rows of the rolls and of a round's lists and result, read and decoded.
 
 ghost use Rattle.std.specs.Prelude.{◌≡◌};
-ghost use Rattle.portal_views.specs.inner.Base.{false, Err, IfOk, OnOk, map, AllByRecursion, state};
+ghost use Rattle.portal_views.specs.inner.Base.{Err, IfOk, map, AllByRecursion, IsDatabase};
 ghost use Rattle.portal_views.specs.inner.Base.{IsLecturer, IsProject, IsStudent};
-ghost use Rattle.portal_views.specs.inner.Contents.{rows_held, rows_with, rows_from, AreRead};
-ghost use Rattle.portal_views.specs.inner.Contents.{AreFine};
-ghost use Rattle.portal_tables.specs.ListTables.{choice_table, ranking_table};
-ghost use Rattle.portal_tables.specs.inner.Owners.{AreOwned, with_list};
-ghost use Rattle.portal_tables.specs.inner.Reading.{RunsQueriesIn, YieldsSound, OverSound};
-ghost use Rattle.portal_tables.specs.inner.Rolls.{lecturers_shown, projects_shown, students_shown};
-ghost use Rattle.portal_tables.specs.inner.Rolls.{RollsRise};
+ghost use Rattle.portal_views.specs.inner.Contents.{rows_held, rows_with, HasReadOf, HasRead};
+ghost use Rattle.portal_views.specs.inner.Contents.{HasFineRows, HasFineRolls};
+ghost use Rattle.portal_tables.specs.inner.Owners.{with_list};
+ghost use Rattle.portal_tables.specs.Steps.{Reads};
+ghost use Rattle.portal_tables.specs.inner.Reads.{MayRead, Answers, Blames};
 ghost use Rattle.portal_tables.specs.inner.Shown.{shown_lecturer, shown_project, shown_student};
 
 use portal_core::{LecturerRow, ProjectRow, Round, StudentRow};
@@ -67,20 +65,12 @@ fn rows_in<S: Alter>(
     round: Round,
     rolls: Rolls,
 ) -> Result<Contents, TableFault>
-    ensures rows { YieldsSound round S.Store conn.old conn.new result
-        (λ db rows. rows_held rows
-        ≡ rows_from round db.trees
-        rolls.lecturers.items rolls.projects.items rolls.students.items) }
-    ensures read { OverSound round S.Store conn.old conn.new
-        (OnOk result (AreRead round
-        (state S.Store conn.old).now.trees rolls.lecturers.items rolls.students.items)) }
-    ensures damaged { OverSound round S.Store conn.old conn.new
-        (result ≡ Err TableFault.Damaged
-        → AreOwned (choice_table round) (state S.Store conn.old).now.trees rolls.students.items
-        → AreOwned (ranking_table round) (state S.Store conn.old).now.trees rolls.lecturers.items
-        → AreFine round (state S.Store conn.old).now.trees
-        rolls.lecturers.items rolls.projects.items rolls.students.items → ⊥) }
-    ensures reads { RunsQueriesIn round result (state S.Store conn.old) (state S.Store conn.new) }
+    ensures { MayRead round S.Store IsDatabase
+        (Answers (λ db rows. HasReadOf round (rows_held rows) db.trees
+        rolls.lecturers.items rolls.projects.items rolls.students.items)
+        (λ db fault. Blames fault (HasFineRows round db.trees
+        rolls.lecturers.items rolls.projects.items rolls.students.items)))
+        result conn.old conn.new }
 {
     let choices = entries_in(alloc, conn, Lists::choices_of(round), &rolls.students)?;
     let rankings = entries_in(alloc, conn, Lists::rankings_of(round), &rolls.lecturers)?;
@@ -98,21 +88,9 @@ pub fn contents_in<S: Alter>(
     conn: &mut Connection<S>,
     round: Round,
 ) -> Result<Contents, TableFault>
-    ensures rows { YieldsSound round S.Store conn.old conn.new result
-        (λ db rows. rows_held rows
-        ≡ rows_from round db.trees
-        (lecturers_shown db.trees) (projects_shown db.trees) (students_shown db.trees)) }
-    ensures read { OverSound round S.Store conn.old conn.new
-        (OnOk result (AreRead round (state S.Store conn.old).now.trees
-        (lecturers_shown (state S.Store conn.old).now.trees)
-        (students_shown (state S.Store conn.old).now.trees))) }
-    ensures damaged { OverSound round S.Store conn.old conn.new
-        (result ≡ Err TableFault.Damaged → RollsRise (state S.Store conn.old).now.trees
-        → AreFine round (state S.Store conn.old).now.trees
-        (lecturers_shown (state S.Store conn.old).now.trees)
-        (projects_shown (state S.Store conn.old).now.trees)
-        (students_shown (state S.Store conn.old).now.trees) → ⊥) }
-    ensures reads { RunsQueriesIn round result (state S.Store conn.old) (state S.Store conn.new) }
+    ensures { Reads round S.Store IsDatabase
+        (Answers (λ db rows. HasRead round (rows_held rows) db.trees)
+        (λ db fault. Blames fault (HasFineRolls round db.trees))) result conn.old conn.new }
 {
     let rolls = rolls_in(alloc, conn)?;
     rows_in(alloc, conn, round, rolls)

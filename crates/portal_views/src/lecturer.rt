@@ -1,17 +1,17 @@
 //! What a lecturer sees, by queries of the own ranking, the own projects and their applicants.
 
 ghost use Rattle.std.specs.Prelude.{◌≡◌, ◌≤◌};
-ghost use Rattle.portal_views.specs.inner.Base.{Err, IfOk, AllByRecursion, option_map, map};
-ghost use Rattle.portal_views.specs.inner.Base.{column, bytes, number_in, state};
+ghost use Rattle.portal_views.specs.inner.Base.{Err, IfOk, AllByRecursion, option_map, map, column};
+ghost use Rattle.portal_views.specs.inner.Base.{number_in, IsDatabase, First, Contradicts};
 ghost use Rattle.portal_views.specs.inner.Callers.{with_persons, own_keys_shown, HasOwnKeys};
 ghost use Rattle.portal_views.specs.inner.Callers.{lecturer_sees_with, lecturer_shown};
 ghost use Rattle.portal_views.specs.inner.Callers.{IsReadableByLecturer};
 ghost use Rattle.portal_views.specs.inner.Lines.{HasTables, HasKey, IsNamed};
 ghost use Rattle.portal_views.specs.inner.Catalogue.{IsCatalogue, own_listed};
-ghost use Rattle.portal_tables.specs.ListTables.{ranking_table};
+ghost use Rattle.portal_tables.specs.Tables.{ranking_table};
 ghost use Rattle.portal_tables.specs.inner.Owners.{IsFine, with_list, ranking_shown};
-ghost use Rattle.portal_tables.specs.inner.Reading.{RunsQueries, RunsQueriesIn, YieldsOf};
-ghost use Rattle.portal_tables.specs.inner.Reading.{YieldsSound, OverSound, UndamagedOf};
+ghost use Rattle.portal_tables.specs.Steps.{Reads};
+ghost use Rattle.portal_tables.specs.inner.Reads.{MayRead, Answers, Blames};
 ghost use Rattle.portal_tables.specs.inner.Shown.{first_cell};
 
 use crate::applicants::{ProjectStudents, project_students};
@@ -61,10 +61,9 @@ fn keys_asked<S: Alter>(
     conn: &mut Connection<S>,
     lecturer: &[u8],
 ) -> Result<Vec<Key>, TableFault>
-    ensures keys { YieldsOf HasTables S.Store conn.old conn.new result
-        (λ db v. v.items ≡ own_keys_shown db.trees lecturer.now) }
-    ensures damaged { UndamagedOf (HasOwnKeys lecturer.now) S.Store conn.old conn.new result }
-    ensures reads { RunsQueries result (state S.Store conn.old) (state S.Store conn.new) }
+    ensures { Reads First S.Store HasTables
+        (Answers (λ db v. v.items ≡ own_keys_shown db.trees lecturer.now)
+        (Contradicts (HasOwnKeys lecturer.now))) result conn.old conn.new }
 {
     let rows = rising(alloc, conn, Query::ProjectsOf(lecturer))?;
     keys_of(alloc, &rows)
@@ -79,11 +78,10 @@ fn own_projects<S: Alter>(
     lecturer: &[u8],
     catalogue: &[Listing],
 ) -> Result<Vec<Key>, TableFault>
-    ensures keys { YieldsOf HasTables S.Store conn.old conn.new result
-        (λ db v. IsCatalogue round db.trees catalogue.now
-        → v.items ≡ own_keys_shown db.trees lecturer.now) }
-    ensures damaged { UndamagedOf (HasOwnKeys lecturer.now) S.Store conn.old conn.new result }
-    ensures reads { RunsQueriesIn round result (state S.Store conn.old) (state S.Store conn.new) }
+    ensures { MayRead round S.Store HasTables
+        (Answers (λ db v. IsCatalogue round db.trees catalogue.now
+        → v.items ≡ own_keys_shown db.trees lecturer.now)
+        (Contradicts (HasOwnKeys lecturer.now))) result conn.old conn.new }
 {
     match round {
         Round::First => Ok(keys_listed(alloc, catalogue, lecturer)?),
@@ -108,12 +106,10 @@ fn ranking_in<S: Alter>(
     round: Round,
     row: &Row,
 ) -> Result<Option<Vec<Key>>, TableFault>
-    ensures names { YieldsSound round S.Store conn.old conn.new result
-        (λ db o. option_map (λ v. v.items) o ≡ ranking_shown round db.trees row.now) }
-    ensures damaged { OverSound round S.Store conn.old conn.new
-        (result ≡ Err TableFault.Damaged
-        → IsFine (ranking_table round) (state S.Store conn.old).now.trees row.now → ⊥) }
-    ensures reads { RunsQueriesIn round result (state S.Store conn.old) (state S.Store conn.new) }
+    ensures { MayRead round S.Store IsDatabase
+        (Answers (λ db o. option_map (λ v. v.items) o ≡ ranking_shown round db.trees row.now)
+        (λ db fault. Blames fault (IsFine (ranking_table round) db.trees row.now)))
+        result conn.old conn.new }
 {
     let entry = entry_in(alloc, conn, Lists::rankings_of(round), row)?;
     Ok(list_of(entry))
@@ -160,12 +156,10 @@ pub fn lecturer_view<S: Alter>(
     row: &Row,
     catalogue: Rc<Vec<Listing>>,
 ) -> Result<LecturerView, TableFault>
-    ensures shows { YieldsOf HasTables S.Store conn.old conn.new result
-        (λ db v. IsCatalogue round db.trees catalogue.value.items
-        → v ≡ lecturer_shown round db.trees phase row.now catalogue.value.items) }
-    ensures damaged { UndamagedOf (IsReadableByLecturer round row.now)
-        S.Store conn.old conn.new result }
-    ensures reads { RunsQueriesIn round result (state S.Store conn.old) (state S.Store conn.new) }
+    ensures { MayRead round S.Store HasTables
+        (Answers (λ db v. IsCatalogue round db.trees catalogue.value.items
+        → v ≡ lecturer_shown round db.trees phase row.now catalogue.value.items)
+        (Contradicts (IsReadableByLecturer round row.now))) result conn.old conn.new }
 {
     let own = own_projects(alloc, conn, round, bytes_at(row, 0), &catalogue)?;
     let ranking = ranking_in(alloc, conn, round, row)?;

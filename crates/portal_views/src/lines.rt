@@ -3,10 +3,11 @@
 
 ghost use Rattle.std.specs.Prelude.{◌≡◌, ◌∷◌};
 ghost use Rattle.portal_views.specs.inner.Base.{[], Err, IfOk, Some, AllByRecursion, map, length};
-ghost use Rattle.portal_views.specs.inner.Base.{Row as Cells, column, bytes, state};
+ghost use Rattle.portal_views.specs.inner.Base.{Row as Cells, column, bytes, IsDatabase};
+ghost use Rattle.portal_views.specs.inner.Base.{Contradicts};
 ghost use Rattle.portal_tables.specs.inner.Placements.{HasPlacement};
-ghost use Rattle.portal_tables.specs.inner.Reading.{RunsQueriesIn, YieldsOf, YieldsSound};
-ghost use Rattle.portal_tables.specs.inner.Reading.{OverSound, UndamagedOf};
+ghost use Rattle.portal_tables.specs.Steps.{Reads};
+ghost use Rattle.portal_tables.specs.inner.Reads.{MayRead, Answers, Blames};
 ghost use Rattle.portal_tables.specs.inner.Shown.{first_cell};
 ghost use Rattle.portal_views.specs.inner.Lines.{HasTables, HasStudents, IsNamed, IsStudentKey};
 ghost use Rattle.portal_views.specs.inner.Lines.{IsTold, told_line, in_round, applicant_at};
@@ -74,12 +75,10 @@ fn line_of_round<S: Alter>(
     round: Round,
     line: ApplicantLine,
 ) -> Result<ApplicantLine, TableFault>
-    ensures told { YieldsSound round S.Store conn.old conn.new result
-        (λ db l. l ≡ in_round round db.trees line) }
-    ensures damaged { OverSound round S.Store conn.old conn.new
-        (result ≡ Err TableFault.Damaged → (c : Cells) → first_cell c ≡ line.person.key
-        → HasPlacement round (state S.Store conn.old).now.trees c → ⊥) }
-    ensures reads { RunsQueriesIn round result (state S.Store conn.old) (state S.Store conn.new) }
+    ensures { MayRead round S.Store IsDatabase
+        (Answers (λ db l. l ≡ in_round round db.trees line)
+        (λ db fault. (c : Cells) → first_cell c ≡ line.person.key
+        → Blames fault (HasPlacement round db.trees c))) result conn.old conn.new }
 {
     match round {
         Round::First => Ok(line),
@@ -100,11 +99,10 @@ fn line_in<S: Alter>(
     round: Round,
     key: &[u8],
 ) -> Result<ApplicantLine, TableFault>
-    ensures told { YieldsOf HasTables S.Store conn.old conn.new result
-        (λ db l. Some l ≡ applicant_at round db.trees key.now) }
-    ensures damaged { UndamagedOf (λ db. HasStudents round db × IsStudentKey db.trees key.now)
-        S.Store conn.old conn.new result }
-    ensures reads { RunsQueriesIn round result (state S.Store conn.old) (state S.Store conn.new) }
+    ensures { Reads round S.Store HasTables
+        (Answers (λ db l. Some l ≡ applicant_at round db.trees key.now)
+        (Contradicts (λ db. HasStudents round db × IsStudentKey db.trees key.now)))
+        result conn.old conn.new }
 {
     let lines = read_each(alloc, conn, Query::StudentTold(key))?;
     let line = only_line(lines)?;
@@ -118,13 +116,12 @@ fn lines_each<S: Alter>(
     round: Round,
     rows: &[Row],
 ) -> Result<Vec<ApplicantLine>, TableFault>
-    ensures told { YieldsOf HasTables S.Store conn.old conn.new result
-        (λ db v. map Some v.items ≡ map (λ c. applicant_at round db.trees
-        (first_cell c)) rows.now) }
-    ensures damaged { UndamagedOf (λ db. HasStudents round db
-        × AllByRecursion (λ c. IsStudentKey db.trees (first_cell c)) rows.now)
-        S.Store conn.old conn.new result }
-    ensures reads { RunsQueriesIn round result (state S.Store conn.old) (state S.Store conn.new) }
+    ensures { MayRead round S.Store HasTables
+        (Answers (λ db v. map Some v.items
+        ≡ map (λ c. applicant_at round db.trees (first_cell c)) rows.now)
+        (Contradicts (λ db. HasStudents round db
+        × AllByRecursion (λ c. IsStudentKey db.trees (first_cell c)) rows.now)))
+        result conn.old conn.new }
 {
     let mut lines = Vec::new(alloc);
     for row in rows {
@@ -142,10 +139,9 @@ pub(crate) fn lines_to<S: Alter>(
     round: Round,
     project: &Key,
 ) -> Result<Vec<ApplicantLine>, TableFault>
-    ensures told { YieldsOf HasTables S.Store conn.old conn.new result
-        (λ db v. v.items ≡ applicant_lines round db.trees project.now) }
-    ensures damaged { UndamagedOf (HasStudents round) S.Store conn.old conn.new result }
-    ensures reads { RunsQueriesIn round result (state S.Store conn.old) (state S.Store conn.new) }
+    ensures { Reads round S.Store HasTables
+        (Answers (λ db v. v.items ≡ applicant_lines round db.trees project.now)
+        (Contradicts (HasStudents round))) result conn.old conn.new }
 {
     let rows = rising(alloc, conn, Query::Choosers(round, project.as_bytes()))?;
     lines_each(alloc, conn, round, &rows)

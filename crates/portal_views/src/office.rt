@@ -3,13 +3,15 @@
 ghost use Rattle.std.specs.Prelude.{◌≡◌, ◌&&◌, if◌then◌else◌};
 ghost use Rattle.portal_core.specs.World.{is_from_ranking};
 ghost use Rattle.portal_views.specs.inner.Base.{[], Some, None, Err, IfOk, AllByRecursion, map};
-ghost use Rattle.portal_views.specs.inner.Base.{state, equals, IsLecturer, IsProject, IsStudent};
+ghost use Rattle.portal_views.specs.inner.Base.{equals, IsLecturer, IsProject, IsStudent};
+ghost use Rattle.portal_views.specs.inner.Base.{Contradicts};
 ghost use Rattle.portal_views.specs.inner.Office.{HasWholeLists, is_chosen_shown, is_wanted_shown};
 ghost use Rattle.portal_views.specs.inner.Office.{waiting_key, waiting_keys, unlisted};
 ghost use Rattle.portal_views.specs.inner.Office.{office_sees_with, office_shown, AreReadable};
 ghost use Rattle.portal_views.specs.inner.Office.{IsReadableByOffice};
 ghost use Rattle.portal_views.specs.inner.Lines.{HasKey};
-ghost use Rattle.portal_tables.specs.inner.Reading.{RunsQueriesIn, YieldsOf, UndamagedOf};
+ghost use Rattle.portal_tables.specs.Steps.{Reads, Gives};
+ghost use Rattle.portal_tables.specs.inner.Reads.{MayRead, Answers, Blames};
 ghost use Rattle.portal_tables.specs.inner.Shown.{first_cell, shown_lecturer, shown_project};
 ghost use Rattle.portal_tables.specs.inner.Shown.{shown_student};
 
@@ -31,11 +33,10 @@ fn without_list<S: Alter>(
     round: Round,
     students: &[Row],
 ) -> Result<Vec<Key>, TableFault>
-    ensures told { YieldsOf (HasWholeLists round) S.Store conn.old conn.new result
-        (λ db v. v.items ≡ unlisted round db.trees students.now) }
-    ensures damaged { AllByRecursion HasKey students.now
-        → UndamagedOf (HasWholeLists round) S.Store conn.old conn.new result }
-    ensures reads { RunsQueriesIn round result (state S.Store conn.old) (state S.Store conn.new) }
+    ensures { Reads round S.Store (HasWholeLists round)
+        (Answers (λ db v. v.items ≡ unlisted round db.trees students.now)
+        (λ db fault. Blames fault (AllByRecursion HasKey students.now)))
+        result conn.old conn.new }
 {
     let listed = read_rows(alloc, conn, Query::Listed(round))?;
     keys_not_among(alloc, round, students, &listed)
@@ -48,12 +49,12 @@ fn is_chosen_in<S: Alter>(
     lecturer: &Row,
     project: &Row,
 ) -> Result<bool, TableFault>
-    ensures told { YieldsOf (HasWholeLists round) S.Store conn.old conn.new result
-        (λ db yes. yes
-        ≡ (equals (shown_project project.now).lecturer (first_cell lecturer.now)
-        && is_chosen_shown round db.trees (shown_project project.now).key)) }
     ensures undamaged { result ≡ Err TableFault.Damaged → ⊥ }
-    ensures reads { RunsQueriesIn round result (state S.Store conn.old) (state S.Store conn.new) }
+    ensures reads { MayRead round S.Store (HasWholeLists round)
+        (Gives (λ db yes. yes
+        ≡ (equals (shown_project project.now).lecturer (first_cell lecturer.now)
+        && is_chosen_shown round db.trees (shown_project project.now).key)))
+        result conn.old conn.new }
 {
     if bytes_at(project, 1) != bytes_at(lecturer, 0) {
         return Ok(false);
@@ -68,12 +69,11 @@ fn has_applicant<S: Alter>(
     projects: &[Row],
     lecturer: &Row,
 ) -> Result<bool, TableFault>
-    ensures told { YieldsOf (HasWholeLists round) S.Store conn.old conn.new result
-        (λ db yes. yes
-        ≡ is_wanted_shown round db.trees (map shown_project projects.now)
-        (first_cell lecturer.now)) }
     ensures undamaged { result ≡ Err TableFault.Damaged → ⊥ }
-    ensures reads { RunsQueriesIn round result (state S.Store conn.old) (state S.Store conn.new) }
+    ensures reads { MayRead round S.Store (HasWholeLists round)
+        (Gives (λ db yes. yes
+        ≡ is_wanted_shown round db.trees (map shown_project projects.now)
+        (first_cell lecturer.now))) result conn.old conn.new }
 {
     for project in projects {
         if is_chosen_in(conn, round, lecturer, project)? {
@@ -91,12 +91,12 @@ fn wanted_in<S: Alter>(
     projects: &[Row],
     lecturer: &Row,
 ) -> Result<Option<Key>, TableFault>
-    ensures told { YieldsOf (HasWholeLists round) S.Store conn.old conn.new result
-        (λ db key. key
-        ≡ (if is_wanted_shown round db.trees (map shown_project projects.now)
-        (first_cell lecturer.now) then Some (first_cell lecturer.now) else None)) }
     ensures damaged { result ≡ Err TableFault.Damaged → HasKey lecturer.now → ⊥ }
-    ensures reads { RunsQueriesIn round result (state S.Store conn.old) (state S.Store conn.new) }
+    ensures reads { MayRead round S.Store (HasWholeLists round)
+        (Gives (λ db key. key
+        ≡ (if is_wanted_shown round db.trees (map shown_project projects.now)
+        (first_cell lecturer.now) then Some (first_cell lecturer.now) else None)))
+        result conn.old conn.new }
 {
     if !has_applicant(conn, round, projects, lecturer)? {
         return Ok(None);
@@ -112,11 +112,11 @@ fn waiting_in<S: Alter>(
     projects: &[Row],
     lecturer: &Row,
 ) -> Result<Option<Key>, TableFault>
-    ensures told { YieldsOf (HasWholeLists round) S.Store conn.old conn.new result
-        (λ db key. key
-        ≡ waiting_key round db.trees (map shown_project projects.now) lecturer.now) }
     ensures damaged { result ≡ Err TableFault.Damaged → HasKey lecturer.now → ⊥ }
-    ensures reads { RunsQueriesIn round result (state S.Store conn.old) (state S.Store conn.new) }
+    ensures reads { MayRead round S.Store (HasWholeLists round)
+        (Gives (λ db key. key
+        ≡ waiting_key round db.trees (map shown_project projects.now) lecturer.now))
+        result conn.old conn.new }
 {
     if has_list_in(conn, Lists::rankings_of(round), lecturer)? {
         return Ok(None);
@@ -132,11 +132,11 @@ fn all_waiting<S: Alter>(
     projects: &[Row],
     lecturers: &[Row],
 ) -> Result<Vec<Key>, TableFault>
-    ensures told { YieldsOf (HasWholeLists round) S.Store conn.old conn.new result
-        (λ db v. v.items
-        ≡ waiting_keys round db.trees (map shown_project projects.now) lecturers.now) }
     ensures damaged { result ≡ Err TableFault.Damaged → AllByRecursion HasKey lecturers.now → ⊥ }
-    ensures reads { RunsQueriesIn round result (state S.Store conn.old) (state S.Store conn.new) }
+    ensures reads { MayRead round S.Store (HasWholeLists round)
+        (Gives (λ db v. v.items
+        ≡ waiting_keys round db.trees (map shown_project projects.now) lecturers.now))
+        result conn.old conn.new }
 {
     let mut keys = Vec::new(alloc);
     for lecturer in lecturers {
@@ -155,13 +155,13 @@ fn still_to_rank<S: Alter>(
     phase: Phase,
     rolls: &Rolls,
 ) -> Result<Vec<Key>, TableFault>
-    ensures told { YieldsOf (HasWholeLists round) S.Store conn.old conn.new result
-        (λ db v. v.items
-        ≡ (if is_from_ranking phase then waiting_keys round db.trees
-        (map shown_project rolls.now.projects.items) rolls.now.lecturers.items else [])) }
     ensures damaged { result ≡ Err TableFault.Damaged
         → AllByRecursion HasKey rolls.now.lecturers.items → ⊥ }
-    ensures reads { RunsQueriesIn round result (state S.Store conn.old) (state S.Store conn.new) }
+    ensures reads { MayRead round S.Store (HasWholeLists round)
+        (Gives (λ db v. v.items
+        ≡ (if is_from_ranking phase then waiting_keys round db.trees
+        (map shown_project rolls.now.projects.items) rolls.now.lecturers.items else [])))
+        result conn.old conn.new }
 {
     if phase.is_from_ranking() {
         return all_waiting(alloc, conn, round, &rolls.projects, &rolls.lecturers);
@@ -222,14 +222,13 @@ fn view_of_rolls<S: Alter>(
     catalogue: Rc<Vec<Listing>>,
     rolls: &Rolls,
 ) -> Result<OfficeView, TableFault>
-    ensures shows { YieldsOf (HasWholeLists round) S.Store conn.old conn.new result
-        (λ db v. v
+    ensures { Reads round S.Store (HasWholeLists round)
+        (Answers (λ db v. v
         ≡ office_sees_with round db.trees office.phase office.code
         catalogue.value.items rolls.now.lecturers.items rolls.now.projects.items
-        rolls.now.students.items) }
-    ensures damaged { UndamagedOf (AreReadable round rolls.now.lecturers.items
-        rolls.now.projects.items rolls.now.students.items) S.Store conn.old conn.new result }
-    ensures reads { RunsQueriesIn round result (state S.Store conn.old) (state S.Store conn.new) }
+        rolls.now.students.items)
+        (Contradicts (AreReadable round rolls.now.lecturers.items
+        rolls.now.projects.items rolls.now.students.items))) result conn.old conn.new }
 {
     let unlisted = without_list(alloc, conn, round, &rolls.students)?;
     let waiting = still_to_rank(alloc, conn, round, office.phase, rolls)?;
@@ -249,11 +248,10 @@ pub fn office_view<S: Alter>(
     office: Office,
     catalogue: Rc<Vec<Listing>>,
 ) -> Result<OfficeView, TableFault>
-    ensures shows { YieldsOf (HasWholeLists round) S.Store conn.old conn.new result
-        (λ db v. v
-        ≡ office_shown round db.trees office.phase office.code catalogue.value.items) }
-    ensures damaged { UndamagedOf (IsReadableByOffice round) S.Store conn.old conn.new result }
-    ensures reads { RunsQueriesIn round result (state S.Store conn.old) (state S.Store conn.new) }
+    ensures { Reads round S.Store (HasWholeLists round)
+        (Answers (λ db v. v
+        ≡ office_shown round db.trees office.phase office.code catalogue.value.items)
+        (Contradicts (IsReadableByOffice round))) result conn.old conn.new }
 {
     let rolls = rolls_in(alloc, conn)?;
     view_of_rolls(alloc, conn, round, office, catalogue, &rolls)

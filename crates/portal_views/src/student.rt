@@ -1,9 +1,9 @@
 //! What a student sees, by queries of the own list and place.
 
 ghost use Rattle.std.specs.Prelude.{◌≡◌};
-ghost use Rattle.portal_views.specs.inner.Base.{Err, IfOk, column, bytes, state};
+ghost use Rattle.portal_views.specs.inner.Base.{Err, IfOk, IsDatabase};
 ghost use Rattle.portal_views.specs.inner.Callers.{IsReadable, student_sees_with, student_shown};
-ghost use Rattle.portal_tables.specs.inner.Reading.{RunsQueriesIn, YieldsSound, OverSound};
+ghost use Rattle.portal_tables.specs.inner.Reads.{MayRead, Answers, Blames};
 ghost use Rattle.portal_views.specs.inner.Lines.{IsNamed};
 
 use crate::lines::person_at;
@@ -52,12 +52,9 @@ pub fn student_view<S: Alter>(
     row: &Row,
     catalogue: Rc<Vec<Listing>>,
 ) -> Result<StudentView, TableFault>
-    ensures shows { YieldsSound round S.Store conn.old conn.new result
-        (λ db v. v ≡ student_shown round db.trees phase row.now catalogue.value.items) }
-    ensures damaged { OverSound round S.Store conn.old conn.new
-        (result ≡ Err TableFault.Damaged
-        → IsReadable round (state S.Store conn.old).now.trees row.now → ⊥) }
-    ensures reads { RunsQueriesIn round result (state S.Store conn.old) (state S.Store conn.new) }
+    ensures { MayRead round S.Store IsDatabase
+        (Answers (λ db v. v ≡ student_shown round db.trees phase row.now catalogue.value.items)
+        (λ db fault. Blames fault (IsReadable round db.trees row.now))) result conn.old conn.new }
 {
     let student = key_at(alloc, row, 0)?;
     let choices = list_in(alloc, conn, Lists::choices_of(round), &student)?;

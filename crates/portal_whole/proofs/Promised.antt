@@ -7,8 +7,7 @@ use Rattle.portal_core.specs.Good.{Good}
 use Rattle.portal_core.specs.Run.{AllAnswered}
 use Rattle.portal_wire.specs.Conversation.{Exchange, told_in}
 use Rattle.portal_desk.specs.Kept.{KeeperState}
-use Rattle.portal_desk.specs.Visits.{Finish, Ended, Stopped, Tells, Visit, Session, AllTellOf}
-use Rattle.portal_desk.specs.Headline.{AreServedOn, exchanges_in, IsEnded, AreOf, ServesEach}
+use Rattle.portal_desk.specs.Headline.{Finish, Ended, Stopped, Tells, Visit, Session, AllTellOf, AreServedOn, exchanges_in, IsEnded, AreOf, ServesEach}
 use Rattle.portal_desk.proofs.Promised.{RunsGood, StepsBest, RunsBest, stays_served, same_exchanges, upheld}
 use Rattle.portal_desk.proofs.Heeding.{session_done, are_visits, same_bytes}
 use Rattle.portal_whole.specs.Whole.{IsTold, AreTold, AreTheVisits, KeepsPromise}

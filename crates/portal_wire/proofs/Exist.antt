@@ -1,12 +1,8 @@
--- Each stream has a list of requests, an ending and a text of its ending, where something stands at the front of each rest.
-use Rattle.portal_wire.proofs.Base.{◌≡◌, ℕ, zero, suc, ◌-◌, ◌<◌, ◌≤◌, Bool, true, false, List, [], ◌∷◌, ◌++◌, length, drop, refl, sym, ap, ◌∙◌, subst, arith, if◌then◌else◌, MatchBool, Request, Asked, Item, whole, fault, over, Opens, answer_to, reply_text, request_of, closes_at, Rest, more, shut, Leads, Ends, Last, End, Refused}
-use Rattle.std.proofs.Common.{inl, inr, take, append_assoc}
-use Rattle.std.specs.Prelude.{Ok, Err, nat_le, ◌||◌}
-use Rattle.std.proofs.lemmas.List.{take-append-drop, length-append}
+-- A stream has requests, an ending and its text, if something stands at the front of each rest.
+use Rattle.portal_wire.proofs.Base.{◌≡◌, ℕ, zero, suc, ◌-◌, ◌<◌, ◌≤◌, Bool, true, false, List, [], ◌∷◌, ◌++◌, length, drop, refl, sym, ap, ◌∙◌, subst, arith, if◌then◌else◌, MatchBool, Request, Asked, Item, whole, fault, over, Opens, answer_to, reply_text, request_of, closes_at, Rest, more, shut, Leads, Ends, Last, End, Refused, inl, inr, take, append_assoc, Ok, Err, nat_le, ◌||◌, take-append-drop, length-append, asked_of, after_lines, body_length, fields_of, bad_length, bad_head, is_head}
 use Rattle.std.proofs.Math.Seq.{drop-append_seam}
 use Rattle.httparse.specs.Grammar.{RequestHead, print_request}
-use Rattle.portal_frame.specs.Stream.{asked_of, after_lines, body_length, fields_of, bad_length, bad_head, is_head}
-use Rattle.portal_wire.specs.Conversation.{last_for}
+use Rattle.portal_wire.specs.inner.Calls.{last_for}
 
 -- something stands at the front of each rest of the bytes
 abbrev pub Fronts : List ℕ → Type 0

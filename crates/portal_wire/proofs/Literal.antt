@@ -1,14 +1,8 @@
 -- A router without parameters is a table of texts.
-use Rattle.portal_wire.proofs.Base.{◌≡◌, ℕ, zero, suc, ◌-◌, Bool, true, false, List, [], ◌∷◌, length, map, refl, ap, ◌∙◌, subst, ◌<◌, ◌≤◌, arith, Option, Some, None, option_map, if◌then◌else◌, IsUtf8, bytes_eq, is_utf8, ne_eqb, IsUtf8-from_is_utf8, is_utf8-from_IsUtf8, RowsOf, Route, the_paths, route_at, the_rows}
-use Rattle.std.proofs.Common.{cond}
-use Rattle.std.specs.Prelude.{◌==◌, ◌&&◌, nat_lt, slice_index}
+use Rattle.portal_wire.proofs.Base.{◌≡◌, ℕ, zero, suc, ◌-◌, Bool, true, false, List, [], ◌∷◌, length, map, refl, ap, ◌∙◌, subst, ◌<◌, ◌≤◌, arith, Option, Some, None, option_map, if◌then◌else◌, IsUtf8, bytes_eq, is_utf8, ne_eqb, IsUtf8-from_is_utf8, is_utf8-from_IsUtf8, RowsOf, Route, the_paths, route_at, the_rows, cond, ◌==◌, ◌&&◌, nat_lt, slice_index, and_parts, ltb-true, eqb-true, IsUtf8-from_ascii, param_token, catch_all_token, step, own, or_else, has_slash, look_up}
 use Rattle.std.specs.List.{list_all}
-use Rattle.std.proofs.lemmas.Bool.{and_parts, ltb-true, eqb-true}
-use Rattle.std.proofs.lemmas.Str.{IsUtf8-from_ascii}
-use Rattle.matchit.specs.Rows.{param_token, catch_all_token}
-use Rattle.matchit.specs.Seek.{seek, step, own, or_else, param_step, has_slash}
-use Rattle.portal_wire.specs.Routes.{look_up}
-use Rattle.portal_wire.specs.inner.Routes.{row_of}
+use Rattle.matchit.specs.Seek.{seek, param_step}
+use Rattle.portal_wire.specs.inner.RouteRows.{row_of}
 
 module _ {K : Type 0} where
   -- the first row with this pattern

@@ -1,7 +1,5 @@
 -- A stream has one list of requests and one ending.
-use Rattle.portal_wire.proofs.Base.{◌≡◌, ℕ, ◌-◌, Bool, true, false, List, [], ◌∷◌, refl, sym, ap, ◌∙◌, subst, MatchBool, Request, Asked, whole, fault, over, Opens, answer_to, reply_text, request_of, closes_at, Rest, more, shut, Leads, Ends, Last, End, Refused}
-use Rattle.portal_frame.specs.Stream.{Refuses}
-use Rattle.portal_wire.specs.Conversation.{Closed, Limit}
+use Rattle.portal_wire.proofs.Base.{◌≡◌, ℕ, ◌-◌, Bool, true, false, List, [], ◌∷◌, refl, sym, ap, ◌∙◌, subst, MatchBool, Request, Asked, whole, fault, over, Opens, answer_to, reply_text, request_of, closes_at, Rest, more, shut, Leads, Ends, Last, End, Refused, Refuses, Closed, Limit}
 use Rattle.portal_frame.proofs.Unique.{Opens-unique}
 
 -- what two accounts of one stream share

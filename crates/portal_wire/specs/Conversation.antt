@@ -1,38 +1,94 @@
--- The requests of a whole stream with its one ending, the replies to them, and the replies' text.
-use Rattle.std.specs.Prelude.{◌≡◌, ℕ, ◌-◌, Bool, true, false, ◌||◌, nat_le, if◌then◌else◌, List, [], ◌∷◌, ◌++◌}
+-- The bytes of a reply, the requests of a whole stream with its ending, and the replies to them.
+use Rattle.std.specs.Prelude.{ℕ, Bool, if◌then◌else◌, ◌==◌, List, [], ◌∷◌, ◌++◌, length, codes, decimal, ◌≡◌, ◌-◌, true, false, ◌||◌, nat_le}
+use Rattle.serde_json.specs.Written.{compact_text}
+use Rattle.portal_core.specs.Answer.{Answer, Said, Json, Csv, Plain, Unavailable}
 use Rattle.std.specs.Bool.{MatchBool}
 use Rattle.portal_core.specs.World.{World}
-use Rattle.portal_core.specs.Answer.{Answer}
 use Rattle.portal_core.specs.Run.{Request, Run, end_of}
 use Rattle.portal_frame.specs.Stream.{Asked, Refuses, whole, fault, over, Opens, is_head}
 use Rattle.portal_wire.specs.declared.ending.Ending.{Ending}
 use Rattle.portal_wire.specs.declared.ending.Ending.TheVariants as ending
-use Rattle.portal_wire.specs.Refusals.{answer_to}
-use Rattle.portal_wire.specs.Text.{reply_text}
-use Rattle.portal_wire.specs.Wish.{wish_of}
+use Rattle.portal_wire.specs.Wish.{answer_to, wish_of}
 
--- the request of a run, with its marks
+-- the reason phrase of a status; any status that is not here has that of 503
+abbrev pub phrase_of : ℕ → List ℕ
+phrase_of status =
+    if status == 200 then codes "OK"
+    else (if status == 400 then codes "Bad Request"
+    else (if status == 403 then codes "Forbidden"
+    else (if status == 404 then codes "Not Found"
+    else (if status == 405 then codes "Method Not Allowed"
+    else (if status == 409 then codes "Conflict"
+    else (if status == 413 then codes "Content Too Large"
+    else (if status == 422 then codes "Unprocessable Content"
+    else (if status == 501 then codes "Not Implemented"
+    else codes "Service Unavailable"))))))))
+
+-- the content type of a body
+abbrev pub type_of : Said → List ℕ
+type_of (Csv bytes) = codes "text/csv; charset=utf-8"
+type_of (Plain bytes) = codes "text/plain; charset=utf-8"
+type_of _ = codes "application/json"
+
+-- the body of the reply after a fault of memory or the store
+unfoldable pub unavailable_body : List ℕ
+unavailable_body = codes "{\"error\":\"unavailable\"}"
+
+abbrev pub body_bytes : Said → List ℕ
+body_bytes (Json d) = compact_text d
+body_bytes (Csv bytes) = bytes
+body_bytes (Plain bytes) = bytes
+body_bytes Unavailable = unavailable_body
+
+abbrev pub crlf : List ℕ
+crlf = 13 ∷ 10 ∷ []
+
+-- the Allow line, if the reply lists methods
+abbrev pub allow_line : List ℕ → List ℕ
+allow_line [] = []
+allow_line (b ∷ allow) = codes "allow: " ++ (b ∷ allow) ++ crlf
+
+abbrev pub close_line : Bool → List ℕ
+close_line close = if close then codes "connection: close" ++ crlf else []
+
+-- the status line and the header lines that every reply has
+unfoldable pub common_lines : ℕ → Said → ℕ → List ℕ
+common_lines status body length =
+    codes "HTTP/1.1 " ++ (decimal status ++ (codes " " ++ (phrase_of status ++ (crlf
+    ++ (codes "content-type: " ++ (type_of body ++ (crlf
+    ++ (codes "content-length: " ++ (decimal length ++ crlf)))))))))
+
+-- all header lines and the empty line after them
+abbrev pub reply_lines : Answer → ℕ → Bool → List ℕ
+reply_lines reply length close =
+    common_lines reply.status reply.body length ++ allow_line reply.allow ++ close_line close ++ crlf
+
+-- the lines, then the body; a reply to HEAD omits the body but gives its length
+abbrev pub reply_text : Answer → Bool → Bool → List ℕ
+reply_text reply head_only close =
+    reply_lines reply (length (body_bytes reply.body)) close ++ (if head_only then [] else body_bytes reply.body)
+
+-- the request of a run, with its marks for HEAD and for closing
 abbrev pub request_of : Bool → Asked → Request
 request_of closes a = record { code = a.code; head = is_head a.method; closes = closes; wish = wish_of a }
 
--- whether the reply closes, where so many requests may still come
+-- whether the reply closes; at most `left` requests may be read, this one included
 abbrev pub closes_at : ℕ → Asked → Bool
 closes_at left a = a.close || nat_le left 1
 
--- what is left of a stream after its first requests: bytes, or nothing that is read, since the last
--- reply closed, as asked or not
+-- what the first requests leave: bytes, or a closed connection (true if a request asked to close)
 pub data Rest : Type 0 where
   more : List ℕ → Rest
   shut : Bool → Rest
 
--- the stream begins with these requests, of which so many may come, and this is left
+-- the stream begins with these requests, at most `left` of them, and this rest follows
 abbrev pub Leads : ℕ → List ℕ → List Request → Rest → Type 0
 Leads left bytes [] rest = rest ≡ more bytes
 Leads left bytes (r ∷ rs) rest =
     (a : Asked) × (after : List ℕ) × Opens bytes (whole a after) × (r ≡ request_of (closes_at left a) a)
     × MatchBool (closes_at left a) ((rs ≡ []) × (rest ≡ shut a.close)) (Leads (left - 1) after rs rest)
 
--- how the requests of a stream end, a refusal by its word
+-- how the requests of a stream end; `Refused` has the error word, `Limit` is after 256 requests
 pub data Last : Type 0 where
   End : Last
   Closed : Last
@@ -45,7 +101,7 @@ last ending.Closed = Closed
 last (ending.Refused word) = Refused word.now
 last ending.Limit = Limit
 
--- no request follows, and this is how the stream ends, with the text of the refusal that it ends in
+-- how a stream ends after its requests; `closing` is the text of the refusal, if it ends in one
 abbrev pub Ends : Rest → Last → List ℕ → Type 0
 Ends (more bytes) End closing = Opens bytes over × (closing ≡ [])
 Ends (more bytes) (Refused word) closing =
@@ -55,11 +111,7 @@ Ends (shut true) Closed closing = closing ≡ []
 Ends (shut false) Limit closing = closing ≡ []
 Ends _ _ closing = ⊥
 
--- the ending after a reply that closes, which was asked for or not
-abbrev pub last_for : Bool → Last
-last_for close = if close then Closed else Limit
-
--- the requests of a whole stream, its ending and the text of its ending
+-- the requests of a whole stream, its ending and its closing text
 abbrev pub Requests : List ℕ → List Request → Last → List ℕ → Type 0
 Requests bytes rs end closing = (rest : Rest) × Leads 256 bytes rs rest × Ends rest end closing
 
@@ -76,11 +128,11 @@ abbrev pub told_in : List Exchange → List Answer
 told_in [] = []
 told_in (e ∷ es) = e.reply ∷ told_in es
 
--- the text of a reply
+-- the text of a reply, as its request asks for it
 abbrev pub exchange_text : Exchange → List ℕ
 exchange_text e = reply_text e.reply e.request.head e.request.closes
 
--- of one reply after another
+-- the texts of the replies, one after another
 abbrev pub text : List Exchange → List ℕ
 text [] = []
 text (e ∷ es) = exchange_text e ++ text es

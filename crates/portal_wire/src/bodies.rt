@@ -2,10 +2,10 @@
 
 ghost use Rattle.std.specs.Prelude.{◌≡◌, map, option_map};
 ghost use Rattle.serde_json.specs.View.{view, items_view};
-ghost use Rattle.portal_wire.specs.Bodies.{json_in, member_among, item_texts, texts_in, phase_of};
-ghost use Rattle.portal_wire.specs.Bodies.{phase_named, round_named, phase_among, phase_and_round};
-ghost use Rattle.portal_wire.specs.Bodies.{move_named, empty_object, listed_in, move_in};
-ghost use Rattle.portal_wire.specs.Bodies.{nothing_in, GivesBody};
+ghost use Rattle.portal_wire.specs.Wish.{json_in, member_among, item_texts, texts_in, phase_of};
+ghost use Rattle.portal_wire.specs.Wish.{phase_named, round_named, phase_among, phase_and_round};
+ghost use Rattle.portal_wire.specs.Wish.{move_named, empty_object, listed_in, move_in, nothing_in};
+ghost use Rattle.portal_wire.specs.inner.Calls.{GivesBody};
 ghost use Rattle.portal_wire.specs.declared.bodies.BodyFault.TheVariants.{Memory as OutOfMemory};
 
 use portal_core::{Phase, Round};

@@ -3,16 +3,14 @@
 ghost use Rattle.std.specs.Prelude.{◌≡◌, ◌⊎◌, None, IfOk, IfErr};
 ghost use Rattle.portal_core.specs.Meaning.{call_model};
 ghost use Rattle.portal_core.specs.Run.{HasForm, Calls};
-ghost use Rattle.portal_rolls.specs.Rolls as roll;
+ghost use Rattle.portal_rolls.specs.Lines as roll;
 ghost use Rattle.portal_frame.specs.Stream as stream;
 ghost use Rattle.portal_frame.specs.Stream.{seen, refused};
-ghost use Rattle.portal_core.specs.AbstractCall.{AbstractCall};
+ghost use Rattle.portal_core.specs.Sight.{AbstractCall};
 ghost use Rattle.portal_wire.specs.declared.calls.CallFault.TheVariants as why;
-ghost use Rattle.portal_wire.specs.Refusals.{no_memory};
-ghost use Rattle.portal_wire.specs.Wish.{turned_away, get_at, put_at, post_at, to_move, wish_at};
-ghost use Rattle.portal_wire.specs.Wish.{wish_of, by_body, by_roll};
-ghost use Rattle.portal_wire.specs.Bodies.{move_in, nothing_in};
-ghost use Rattle.portal_wire.specs.Calls.{IsCallOf, told_by, of_body, of_roll};
+ghost use Rattle.portal_wire.specs.Wish.{no_memory, turned_away, get_at, put_at, post_at, to_move};
+ghost use Rattle.portal_wire.specs.Wish.{wish_at, wish_of, by_body, by_roll, move_in, nothing_in};
+ghost use Rattle.portal_wire.specs.inner.Calls.{IsCallOf, told_by, of_body, of_roll};
 
 use crate::bodies::{BodyFault, read_empty, read_list, read_move};
 use crate::methods::{Method, method_in};

@@ -1,7 +1,7 @@
 //! The method of a request.
 
 ghost use Rattle.std.specs.Prelude.{◌≡◌, IfOk};
-ghost use Rattle.portal_wire.specs.Method.{method_of};
+ghost use Rattle.portal_wire.specs.Wish.{method_of};
 
 use http::method::MethodError;
 use std::alloc::{AllocError, Global};

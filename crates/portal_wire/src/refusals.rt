@@ -5,7 +5,7 @@ ghost use Rattle.serde_json.specs.View.{view};
 ghost use Rattle.portal_core.specs.Answer.{HasWholeNumbers};
 ghost use Rattle.portal_core.specs.Meaning.{reply_model, body_model};
 ghost use Rattle.portal_frame.specs.Stream.{refused};
-ghost use Rattle.portal_wire.specs.Refusals.{answer_to, fault_body};
+ghost use Rattle.portal_wire.specs.Wish.{answer_to, fault_body};
 
 use portal_core::{Body, Reply};
 use portal_frame::Refusal;

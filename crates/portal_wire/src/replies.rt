@@ -3,8 +3,8 @@
 ghost use Rattle.std.specs.Prelude.{◌≡◌, IfOk, OnOk, ◌++◌, string_bytes};
 ghost use Rattle.portal_core.specs.Answer.{HasWholeNumbers};
 ghost use Rattle.portal_core.specs.Meaning.{reply_model, body_model};
-ghost use Rattle.portal_wire.specs.Text.{reply_text, phrase_of, type_of, body_bytes, reply_lines};
-ghost use Rattle.portal_wire.specs.Text.{common_lines, allow_line, close_line};
+ghost use Rattle.portal_wire.specs.Conversation.{reply_text, phrase_of, type_of, body_bytes};
+ghost use Rattle.portal_wire.specs.Conversation.{reply_lines, common_lines, allow_line, close_line};
 
 use portal_core::{Body, Reply};
 use std::alloc::{AllocError, Global};

@@ -2,8 +2,8 @@
 
 ghost use Rattle.std.specs.Prelude.{◌≡◌, IfOk, option_map};
 ghost use Rattle.matchit.specs.Seek.{first};
-ghost use Rattle.portal_wire.specs.Routes.{route_at, allow_of};
-ghost use Rattle.portal_wire.specs.inner.Routes.{the_rows, own_rows, roll_route_rows};
+ghost use Rattle.portal_wire.specs.Wish.{route_at, allow_of};
+ghost use Rattle.portal_wire.specs.inner.RouteRows.{the_rows, own_rows, roll_route_rows};
 
 use matchit::{InsertError, Router};
 use std::alloc::Global;

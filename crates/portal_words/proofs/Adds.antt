@@ -1,11 +1,9 @@
 -- What an argument and a subcommand add to what a command reads.
-use Rattle.std.proofs.Common.{◌≡◌, ◌∙◌, false, ap, ap₂}
+use Rattle.portal_words.proofs.Base.{◌≡◌, ◌∙◌, false, ap, ap₂, AddsArg, AddsSubcommand, App, Rule, rule_of, with_rule, with_subcommand, Reads}
 use Rattle.std.proofs.lemmas.Bool.{or_from}
-use Rattle.clap.specs.Words.{AddsArg, AddsSubcommand, App, Rule, rule_of, with_rule, with_subcommand}
 use Rattle.clap.specs.declared.builder.arg.Arg.{Arg}
 use Rattle.clap.specs.declared.builder.command.Command.{Command}
 use Rattle.clap.specs.declared.builder.command.Command.TheViews.{out-Command}
-use Rattle.portal_words.specs.inner.Line.{Reads}
 
 pub Reads-arg : (old : Command) (arg : Arg) (new : Command) (a : App) (r : Rule) → Reads old a → rule_of arg ≡ r → arg.global ≡ false → AddsArg old arg new → Reads new (with_rule a r)
 Reads-arg old arg new a r h is local adds = record {

@@ -1,15 +1,13 @@
 -- What the parser makes of the words that ask for `check` and `solve`.
-use Rattle.std.proofs.Common.{◌≡◌, ◌∙◌, ◌&&◌, Bool, true, false, not, Option, Some, None, List, [], ◌∷◌, refl, sym, ap, subst, inl, inr, codes, rules}
+use Rattle.portal_words.proofs.Base.{◌≡◌, ◌∙◌, ◌&&◌, Bool, true, false, not, Option, Some, None, List, [], ◌∷◌, refl, sym, ap, subst, inl, inr, codes, rules, Row, Text, is_simple, subcommand_of, takes, AsksFile, MeetsFile, TakesFile, portal_app}
 use Rattle.std.specs.Prelude.{◌==◌, IsTrue}
 use Rattle.std.specs.Str.{bytes_eq}
-use Rattle.clap.specs.Words.{Row, Text, is_simple, subcommand_of, takes}
 use Rattle.clap.specs.Lexer.{strip_byte}
 use Rattle.clap.specs.Simple.{built, entered, names_of}
 use Rattle.clap.specs.Takes.{built_takes}
 use Rattle.clap.specs.Walk.{nothing_held, stop_after}
 use Rattle.clap.proofs.OnLiterals.{clap_on_literals}
 use Rattle.portal_words.specs.Line.{is_file_word}
-use Rattle.portal_words.specs.inner.Line.{AsksFile, MeetsFile, TakesFile, portal_app}
 
 pub simple : is_simple portal_app ≡ true
 unfolding clap_on_literals

@@ -2,7 +2,7 @@
 use Rattle.std.specs.Prelude.{◌==◌, Bool, true, not, [], ◌∷◌}
 use Rattle.clap.specs.Words.{Text}
 
--- the word names a file and is no option: no hyphen stands in front
+-- the word is a file's name and no option: it does not begin with a hyphen
 abbrev pub is_file_word : Text → Bool
 is_file_word [] = true
 is_file_word (b ∷ word) = not (b == 45)

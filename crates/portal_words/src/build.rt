@@ -2,8 +2,9 @@
 
 ghost use Rattle.std.specs.Prelude.{◌≡◌, false, IfOk};
 ghost use Rattle.clap.specs.Words.{rule_of};
-ghost use Rattle.portal_words.specs.inner.Line.{Reads, file_app, database_app, port_rule};
-ghost use Rattle.portal_words.specs.inner.Line.{connections_rule, serve_app, files_app, portal_app};
+ghost use Rattle.portal_words.specs.inner.Arguments.{Reads, file_app, database_app, port_rule};
+ghost use Rattle.portal_words.specs.inner.Arguments.{connections_rule, serve_app, files_app};
+ghost use Rattle.portal_words.specs.inner.Arguments.{portal_app};
 
 use clap::builder::ValueParser;
 use clap::{Arg, Command};

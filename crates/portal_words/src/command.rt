@@ -5,7 +5,7 @@ ghost use Rattle.std.specs.Prelude.{Option, Some, None};
 ghost use Rattle.clap.specs.Words.{Text, first_of, found_of, kind_of, rows_of, subcommand_rows_of};
 ghost use Rattle.portal_words.specs.inner.Asks.{Asks, ChecksFile, SolvesFile};
 ghost use Rattle.portal_words.specs.Line.{is_file_word};
-ghost use Rattle.portal_words.specs.inner.Line.{AsksFile, MeetsFile};
+ghost use Rattle.portal_words.specs.inner.Arguments.{AsksFile, MeetsFile};
 
 use crate::build::portal;
 use clap::error::ErrorKind;

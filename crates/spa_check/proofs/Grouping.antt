@@ -1,30 +1,19 @@
 -- Groups of students, one student after the other.
-use Rattle.spa_check.proofs.Base.{◌≡◌, ◌↔◌, ◌⊎◌, inl, inr, ℕ, ◌+◌, ◌<◌, false, List, length, take, get_or, Option, Some, None, refl, sym, ◌∙◌, ap, arith, cases_lt, Spa, IsWith, IsBefore, SomeWorseWith, place, ranking_of, lecturer_of, project_of, at_lecturer, Group, IsGroup}
-use Rattle.std.proofs.Common.{max, set}
-use Rattle.std.proofs.lemmas.Bool.{cases_eq, eq-eqb, ne_eqb}
-use Rattle.std.proofs.lemmas.List.{length-set, get_or-set_same, get_or-set_other}
+use Rattle.spa_check.proofs.Base.{◌≡◌, ◌↔◌, ◌⊎◌, inl, inr, ℕ, ◌+◌, ◌<◌, false, List, length, take, get_or, Option, Some, None, refl, sym, ◌∙◌, ap, arith, cases_lt, Spa, IsWith, IsBefore, SomeWorseWith, place, ranking_of, lecturer_of, project_of, at_lecturer, Group, IsGroup, rules, max, set, cases_eq, eq-eqb, ne_eqb, length-set, get_or-set_same, get_or-set_other, IsOn, IsLawful, IsMatching, is_project, is_lecturer, at_project}
 use Rattle.std.proofs.lemmas.List.Sums.{count_by_more_yes, count_by_more_no}
 use Rattle.std.proofs.lemmas.Option.{same_Some}
-use Rattle.spa_model.specs.Spa.{IsOn, IsLawful, IsMatching, is_project, is_lecturer, at_project}
 use Rattle.spa_model.proofs.Counts.{off_project}
 
 -- the same students
 pub group_same : (list : List ℕ) (IsIn IsNow : ℕ → Type 0) (n k : ℕ) (g : Group) → ((t : ℕ) → IsIn t → IsNow t) → ((t : ℕ) → IsNow t → IsIn t) → k ≡ n → IsGroup list IsIn n g → IsGroup list IsNow k g
-group_same list IsIn IsNow n k g to from same group = record {
-  count = group.count ∙ sym same;
-  none_deeper = λ t h. group.none_deeper t (from t h);
-  reached = λ deep. let last = group.reached deep in (last.0, to last.0 last.1, last.2);
-}
+group_same list IsIn IsNow n k g to from same group = search rules
 
 -- one more
 pub group_joined : (list : List ℕ) (IsIn IsNow : ℕ → Type 0) (n k s depth : ℕ) (g h : Group) → ((t : ℕ) → IsIn t → IsNow t) → ((t : ℕ) → IsNow t → IsIn t ⊎ (t ≡ s)) → IsNow s → k ≡ n + 1 → depth ≡ place list s + 1 → h.count ≡ g.count + 1 → h.depth ≡ max g.depth depth
     → IsGroup list IsIn n g → IsGroup list IsNow k h
 group_joined list IsIn IsNow n k s depth g h to from new more deep count_is depth_is group = record {
   count = omega (arith, group.count);
-  none_deeper = λ t there. elim (from t there) [
-    | inl before ↦ omega (arith, group.none_deeper t before)
-    | inr here ↦ omega (arith, ap (place list) here)
-  ];
+  none_deeper = λ t there. grind arith;
   reached = λ _. elim (cases_lt g.depth depth) [
     | inl below ↦ (s, new, omega arith)
     | inr above ↦ let last = group.reached (omega arith) in (last.0, to last.0 last.1, omega (arith, last.2))
@@ -33,9 +22,7 @@ group_joined list IsIn IsNow n k s depth g h to from new more deep count_is dept
 
 -- some member stands after s, where the group reaches further down
 pub worse_from_depth : (list : List ℕ) (IsIn : ℕ → Type 0) (n s depth : ℕ) (g : Group) → IsGroup list IsIn n g → ((t : ℕ) → IsIn t → IsOn list t) → depth ≡ place list s + 1 → depth < g.depth → (t : ℕ) × IsIn t × IsBefore list s t
-worse_from_depth list IsIn n s depth g group listed is deeper =
-    let last = group.reached (omega arith) in
-    (last.0, last.1, (omega (arith, last.2), listed last.0 last.1))
+worse_from_depth list IsIn n s depth g group listed is deeper = search rules
 
 pub depth_from_worse : (list : List ℕ) (IsIn : ℕ → Type 0) (n s depth t : ℕ) (g : Group) → IsGroup list IsIn n g → depth ≡ place list s + 1 → IsIn t → IsBefore list s t → depth < g.depth
 depth_from_worse list IsIn n s depth t g group is there before = omega (arith, group.none_deeper t there, before.0)
@@ -46,10 +33,7 @@ listed_with i m l lawful fits t (q, e, same) = rw same at (lawful.ranked t q (fi
 
 -- some student with l stands after s, by depth
 pub worse_with : (i : Spa) (m : List (Option ℕ)) (l s depth : ℕ) (g : Group) → IsLawful i → IsMatching i m → IsGroup (ranking_of i l) (IsWith i m l) (at_lecturer i m l) g → depth ≡ place (ranking_of i l) s + 1 → (depth < g.depth) ↔ SomeWorseWith i m l s
-worse_with i m l s depth g lawful fits group is = (
-  λ deeper. worse_from_depth (ranking_of i l) (IsWith i m l) (at_lecturer i m l) s depth g group (listed_with i m l lawful fits) is deeper,
-  λ (t, there, before). depth_from_worse (ranking_of i l) (IsWith i m l) (at_lecturer i m l) s depth t g group is there before,
-)
+worse_with i m l s depth g lawful fits group is = search (rules, worse_from_depth, listed_with, depth_from_worse)
 
 -- the groups of the first n students
 abbrev pub IsAtBefore : List (Option ℕ) → ℕ → ℕ → ℕ → Type 0

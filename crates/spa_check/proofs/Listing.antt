@@ -1,12 +1,9 @@
 -- The list of blocking pairs, pair by pair.
-use Rattle.spa_check.proofs.Base.{◌≡◌, ℕ, ◌+◌, ◌<◌, ◌≤◌, ◌⊎◌, inl, inr, List, [], ◌∷◌, Option, Some, None, refl, arith, false, cases_lt, Letter, Spa, Blocks, Wants, AreBlocksBefore}
-use Rattle.std.proofs.Common.{◌++◌, MatchOption, is_some}
-use Rattle.std.proofs.lemmas.List.Elements.{All-push, All-weaker, Contains-append_left, Contains-push}
+use Rattle.spa_check.proofs.Base.{◌≡◌, ℕ, ◌+◌, ◌<◌, ◌≤◌, ◌⊎◌, inl, inr, List, [], ◌∷◌, Option, Some, None, refl, arith, false, cases_lt, Letter, Spa, Blocks, Wants, AreBlocksBefore, ◌++◌, MatchOption, is_some, All-push, All-weaker, Contains-append_left, Contains-push, IsEarlier, IsPassed}
 use Rattle.std.proofs.lemmas.List.Quantifiers.{all_pairs_push}
 use Rattle.spa_model.specs.declared.letter.Letter.TheVariants.{A, B, C}
 use Rattle.spa_model.proofs.OneOnly.{one_letter}
 use Rattle.spa_check.specs.declared.block.Block.{Block}
-use Rattle.spa_check.specs.Listed.{IsEarlier, IsPassed}
 
 -- a pair that blocks is wanted
 pub blocks_wants : (i : Spa) (m : List (Option ℕ)) (s p : ℕ) (x : Letter) → Blocks i m s p x → Wants i m s p

@@ -1,13 +1,6 @@
 -- What a student wants, as a front of the student's list.
-use Rattle.spa_check.proofs.Base.{◌≡◌, ◌↔◌, ◌⊎◌, inl, inr, ℕ, ◌+◌, ◌<◌, ◌≤◌, false, eqb, List, [], ◌∷◌, length, take, get_or, Option, Some, None, refl, sym, ◌∙◌, ap, arith, Contains, position, cases_lt, get_or_default, Spa, Wants, choices_of, project_of, place}
-use Rattle.std.proofs.Common.{zero, suc, Bool, true, not, cond, ltb, nat_le}
-use Rattle.std.specs.List.{position_or_len, filter}
-use Rattle.std.proofs.lemmas.Bool.{ltb-false, le-leb, leb-true}
-use Rattle.std.proofs.lemmas.List.{length-take-le, get_or-take, take_all}
-use Rattle.std.proofs.lemmas.List.Elements.{All-contains, All-contains_itself, All-filter, filter_passes}
-use Rattle.spa_model.specs.Spa.{Improves, IsAcceptable}
+use Rattle.spa_check.proofs.Base.{◌≡◌, ◌↔◌, ◌⊎◌, ℕ, ◌+◌, ◌<◌, ◌≤◌, false, eqb, List, [], ◌∷◌, length, take, get_or, Option, Some, None, refl, sym, ◌∙◌, ap, arith, Contains, position, get_or_default, Spa, Wants, choices_of, project_of, place, rules, zero, suc, Bool, true, not, cond, ltb, nat_le, position_or_len, filter, ltb-false, le-leb, leb-true, length-take-le, get_or-take, take_all, All-contains, All-contains_itself, All-filter, filter_passes, Improves, IsAcceptable, not_below, IsLeastIn}
 use Rattle.spa_model.proofs.Places.{place-get_or-le, get_or-place, place-le-length}
-use Rattle.spa_check.specs.Listed.{not_below, IsLeastIn}
 
 -- the first place that holds x
 pub place-position : (xs : List ℕ) (x : ℕ) → position_or_len (λ y. eqb y x) xs ≡ place xs x
@@ -31,10 +24,7 @@ front_holds xs n p h =
 
 -- all of the list is wanted by who has no project
 pub wanted_all : (i : Spa) (m : List (Option ℕ)) (s p : ℕ) → project_of m s ≡ None → Contains (choices_of i s) p ↔ Wants i m s p
-wanted_all i m s p none =
-    let front = front_holds (choices_of i s) (length (choices_of i s)) p (omega arith) in
-    let all : take (length (choices_of i s)) (choices_of i s) ≡ choices_of i s = take_all (length (choices_of i s)) (choices_of i s) (omega arith) in
-    (λ on. (front.0 (rw all on), rw none tt), λ w. rw all at (front.1 w.0))
+wanted_all i m s p none = search (rules, front_holds, take_all)
 
 -- what stands before the own project is wanted
 pub wanted_front : (i : Spa) (m : List (Option ℕ)) (s own p : ℕ) → project_of m s ≡ Some own → IsAcceptable i s own → Contains (take (place (choices_of i s) own) (choices_of i s)) p ↔ Wants i m s p
@@ -92,14 +82,8 @@ module _ (i : Spa) (m : List (Option ℕ)) (s from : ℕ) (list : List ℕ) (wan
 
   -- nothing wanted lies between
   pub apart_from : (p : ℕ) → IsLeastIn (not_below from list) p → (q : ℕ) → Wants i m s q → (q < from) ⊎ (p ≤ q)
-  apart_from p least q w = elim (cases_lt q from) [
-    | inl below ↦ inl below
-    | inr above ↦ inr (All-contains (λ r. p ≤ r) (not_below from list) q least.1 (kept q w above))
-  ]
+  apart_from p least q w = search (rules, kept)
 
   -- nothing wanted is left
   pub below_from : length (not_below from list) ≡ 0 → (q : ℕ) → Wants i m s q → q < from
-  below_from nothing q w = elim (cases_lt q from) [
-    | inl below ↦ below
-    | inr above ↦ let there = kept q w above in absurd (omega (arith, there.1))
-  ]
+  below_from nothing q w = search (rules, kept)

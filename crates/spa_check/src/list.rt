@@ -3,8 +3,9 @@
 ghost use Rattle.std.specs.Prelude.{◌≡◌, ◌+◌, ◌<◌, IfOk, OnOk, MatchOption, length};
 ghost use Rattle.spa_model.specs.declared.letter.Letter.{Letter};
 ghost use Rattle.spa_model.specs.Spa.{IsMatching, Blocks, Wants};
-ghost use Rattle.spa_check.specs.Listed.{AreAllBlocks, AreBlocksBefore};
-ghost use Rattle.spa_check.specs.inner.Groups.{AreProjectGroups, AreLecturerGroups};
+ghost use Rattle.spa_check.specs.Listed.{AreAllBlocks};
+ghost use Rattle.spa_check.specs.inner.Groups.{AreBlocksBefore, AreProjectGroups};
+ghost use Rattle.spa_check.specs.inner.Groups.{AreLecturerGroups};
 
 use crate::block::Block;
 use crate::groups::{Group, depth_of, lecturer_groups, project_groups};

@@ -2,7 +2,7 @@
 
 ghost use Rattle.std.specs.Prelude.{◌≡◌, ◌<◌, ◌↔◌, ℕ, Contains, MatchOption, length};
 ghost use Rattle.spa_model.specs.Spa.{IsMatching, Wants, place};
-ghost use Rattle.spa_check.specs.Listed.{not_below, IsLeastIn};
+ghost use Rattle.spa_check.specs.inner.Groups.{not_below, IsLeastIn};
 
 use spa_model::{Instance, Matching};
 

@@ -1,8 +1,5 @@
 -- In any two stable matchings the same students have a project, and each lecturer has as many.
-use Rattle.spa_honest.proofs.Base.{◌≡◌, ◌⊎◌, inl, inr, ℕ, zero, suc, ◌+◌, ◌<◌, ◌≤◌, Bool, true, false, cond, eqb, List, [], ◌∷◌, length, get_or, Option, Some, None, refl, sym, ◌∙◌, ap, subst, arith, count_by, eqb-true, eq-eqb, ne_eqb, cases_lt, A, Spa, is_lecturer, at_project, at_lecturer, project_of, lecturer_of, IsAcceptable, IsAsGood, Wants, IsStable, IsBest, one_if, count_by-cons, sum_below, sum_below-lt, IsRanked, student_in_range}
-use Rattle.spa_model.proofs.Counts.{count_by-le, sum_below-le, sum_below-add, sum_below-same, sum_below-zero, sum_below-one, share, at_lecturer-sum}
-use Rattle.spa_student.proofs.Machine.{no_more}
-use Rattle.spa_honest.specs.Honest.{AssignTheSame}
+use Rattle.spa_honest.proofs.Base.{◌≡◌, ◌⊎◌, inl, inr, ℕ, zero, suc, ◌+◌, ◌<◌, ◌≤◌, Bool, true, false, cond, eqb, List, [], ◌∷◌, length, get_or, Option, Some, None, refl, sym, ◌∙◌, ap, subst, arith, count_by, eqb-true, eq-eqb, ne_eqb, cases_lt, A, Spa, is_lecturer, at_project, at_lecturer, project_of, lecturer_of, IsAcceptable, IsAsGood, Wants, IsStable, IsBest, one_if, count_by-cons, sum_below, sum_below-lt, IsRanked, student_in_range, count_by-le, sum_below-le, sum_below-add, sum_below-same, sum_below-zero, sum_below-one, share, at_lecturer-sum, one_le, no_more, AssignTheSame}
 use Rattle.spa_honest.proofs.Exists.{has_project, greatest, best_of}
 
 -- who has a project
@@ -18,11 +15,6 @@ count_by-lt p (x ∷ m) (y ∷ n) zero e h l off on =
     omega (arith, count_by-cons p x m, count_by-cons p y n, ap one_if off, ap one_if on, count_by-le p m n (omega arith) (λ s. h (suc s)))
 count_by-lt p (x ∷ m) (y ∷ n) (suc j) e h l off on =
     omega (arith, count_by-cons p x m, count_by-cons p y n, one_le (p x) (p y) (h 0), count_by-lt p m n j (omega arith) (λ s. h (suc s)) (omega arith) off on)
-  where
-    one_le : (a b : Bool) → (a ≡ true → b ≡ true) → one_if a ≤ one_if b
-    one_le true true f = omega arith
-    one_le true false f = let wrong = f refl in cc
-    one_le false b f = omega arith
 
 -- one student adds to one lecturer
 one_lecturer : (i : Spa) (n : ℕ) (o : Option ℕ) → ((q : ℕ) → o ≡ Some q → lecturer_of i q < n) → sum_below (λ l. one_if (is_lecturer i l o)) n ≡ one_if (has_one o)
@@ -70,10 +62,7 @@ one_there i m n u same more =
     ]
   where
     test : (s : ℕ) → ((project_of m s ≡ Some u) × (project_of n s ≡ Some u → ⊥)) ⊎ ((project_of m s ≡ Some u) × (project_of n s ≡ Some u → ⊥) → ⊥)
-    test s = elim (has_project u (project_of m s)) [
-      | inr elsewhere ↦ inr (λ e. elsewhere e.0)
-      | inl at ↦ elim (has_project u (project_of n s)) [ inl both ↦ inr (λ e. e.1 both) | inr alone ↦ inl (at, alone) ]
-    ]
+    test s = grind (arith, has_project)
 
     stays : (s : ℕ) → project_of m s ≡ Some u → ((x : ℕ) → x < length m → (project_of m x ≡ Some u) × (project_of n x ≡ Some u → ⊥) → ⊥) → (project_of n s ≡ Some u) ⊎ (project_of n s ≡ Some u → ⊥) → project_of n s ≡ Some u
     stays s at none (inl both) = both

@@ -1,5 +1,5 @@
 -- A stable matching of one instance in another that differs in some lists.
-use Rattle.spa_honest.proofs.Base.{◌≡◌, ◌⊎◌, inl, inr, ℕ, List, get_or, Option, Some, None, refl, sym, ◌∙◌, ap, subst, arith, count_by, cases_eq, Letter, A, B, C, Spa, is_lecturer, at_lecturer, project_of, choices_of, lecturer_of, ranking_of, capacity_of, limit_of, IsBefore, IsAcceptable, IsMatching, Improves, Wants, Blocks, IsStable, IsRanked, HasRoom, DifferInLists, DifferInOneList}
+use Rattle.spa_honest.proofs.Base.{◌≡◌, ◌⊎◌, inl, inr, ℕ, List, get_or, Option, Some, None, refl, sym, ◌∙◌, ap, subst, arith, count_by, cases_eq, Letter, A, B, C, Spa, is_lecturer, at_lecturer, project_of, choices_of, lecturer_of, ranking_of, capacity_of, limit_of, IsBefore, IsAcceptable, IsMatching, Improves, Wants, Blocks, IsStable, IsRanked, HasRoom, DifferInLists, DifferInOneList, rules}
 
 module _ (i j : Spa) (May : ℕ → Type 0) (m : List (Option ℕ)) (differ : DifferInLists i j May) where
   same_lecturer : (p : ℕ) → lecturer_of j p ≡ lecturer_of i p
@@ -15,10 +15,7 @@ module _ (i j : Spa) (May : ℕ → Type 0) (m : List (Option ℕ)) (differ : Di
   same_count l = ap (λ list. count_by (is_lecturer (record i { lecturers = list }) l) m) differ.lecturers
 
   same_room_too : (p : ℕ) → HasRoom j m p → HasRoom i m p
-  same_room_too p room = (
-    omega (arith, room.0, same_capacity p),
-    omega (arith, rw (same_lecturer p) at room.1, same_count (lecturer_of i p), same_limit (lecturer_of i p)),
-  )
+  same_room_too p room = search (rules, same_capacity, same_lecturer, same_count, same_limit)
 
   -- whose list is the same wants the same
   pub wanted_too : (t u : ℕ) → (May t → ⊥) → Wants i m t u → Wants j m t u
@@ -31,10 +28,7 @@ module _ (i j : Spa) (May : ℕ → Type 0) (m : List (Option ℕ)) (differ : Di
 module _ (i j : Spa) (May : ℕ → Type 0) (m : List (Option ℕ)) (differ : DifferInLists i j May) (law : IsRanked j) (stable : IsStable j m) where
   -- who stands after t for a lecturer stood so before
   worse : (t u : ℕ) → Wants j m t u → (x q : ℕ) → project_of m x ≡ Some q → lecturer_of i q ≡ lecturer_of i u → IsBefore (ranking_of i (lecturer_of i u)) t x → IsBefore (ranking_of j (lecturer_of j u)) t x
-  worse t u w x q e own before =
-      let l_u : lecturer_of j u ≡ lecturer_of i u = same_lecturer i j May m differ u in
-      let l_q : lecturer_of j q ≡ lecturer_of i u = same_lecturer i j May m differ q ∙ own in
-      rw l_u (differ.orders (lecturer_of i u) t x (rw l_u at (law.ranked t u w.0)) (rw l_q at (law.ranked x q (stable.matching.acceptable x q e))) before)
+  worse t u w x q e own before = search (rules, same_lecturer)
 
   -- no pair blocks it that is wanted there too
   pub unblocked_too : (t u : ℕ) → (Wants i m t u → Wants j m t u) → (x : Letter) → Blocks i m t u x → ⊥
@@ -43,21 +37,13 @@ module _ (i j : Spa) (May : ℕ → Type 0) (m : List (Option ℕ)) (differ : Di
     wanted b.0,
     omega (arith, b.1, same_capacity i j May m differ u),
     rw (same_lecturer i j May m differ u) (same_count i j May m differ (lecturer_of i u) ∙ b.2 ∙ sym (same_limit i j May m differ (lecturer_of i u))),
-    elim (b.3) [
-      | inl own ↦ inl (own.0, own.1, same_lecturer i j May m differ own.0 ∙ own.2 ∙ sym (same_lecturer i j May m differ u))
-      | inr after ↦ inr (after.0, (after.1.0, after.1.1, same_lecturer i j May m differ after.1.0 ∙ after.1.2 ∙ sym (same_lecturer i j May m differ u)), worse t u (wanted b.0) after.0 after.1.0 after.1.1 after.1.2 after.2)
-    ],
+    grind (arith, same_lecturer, worse),
   )
   unblocked_too t u wanted C b = stable.unblocked t u C (wanted b.0, b.1 ∙ sym (same_capacity i j May m differ u), (b.2.0, b.2.1, worse t u (wanted b.0) b.2.0 u b.2.1 refl b.2.2))
 
   -- where those whose lists may differ have what stands on them, it is a matching there
   pub matches_too : ((t : ℕ) → May t ⊎ (May t → ⊥)) → ((t q : ℕ) → May t → project_of m t ≡ Some q → IsAcceptable i t q) → IsMatching i m
-  matches_too may on = record {
-    students = stable.matching.students ∙ differ.students;
-    acceptable = λ t q e. elim (may t) [ inl one ↦ on t q one e | inr other ↦ rw (sym (differ.others t other)) (stable.matching.acceptable t q e) ];
-    projects = λ p. omega (arith, stable.matching.projects p, same_capacity i j May m differ p);
-    lecturers = λ l. omega (arith, stable.matching.lecturers l, same_count i j May m differ l, same_limit i j May m differ l);
-  }
+  matches_too may on = search (rules, same_capacity, same_count, same_limit)
 
 -- of one list
 pub same_room : (i j : Spa) (s : ℕ) (m : List (Option ℕ)) → DifferInOneList i j s → (p : ℕ) → HasRoom j m p → HasRoom i m p

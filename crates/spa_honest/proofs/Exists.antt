@@ -1,9 +1,5 @@
--- Each ranked instance has a best matching: students propose along their lists, and each pair before a cursor is deleted.
-use Rattle.spa_honest.proofs.Base.{◌≡◌, ◌≢◌, ◌⊎◌, inl, inr, ℕ, zero, suc, ◌+◌, ◌<◌, ◌≤◌, cond, eqb, List, length, get_or, set, replicate, Option, Some, None, refl, sym, ◌∙◌, ap, subst, arith, length-set, get_or-set_same, get_or-set_other, eq-eqb, ne_eqb, cases_lt, cases_eq, Spa, place, at_project, at_lecturer, project_of, choices_of, lecturer_of, capacity_of, limit_of, IsBefore, IsAcceptable, IsBest, place-injective, sum_below, sum_below-lt, IsRanked, rank_of, IsSpent, Holds, student_in_range, put_same, put_cases, place_holds, delete_holds, best_at_end, nobody_matches, acceptable_in_range}
-use Rattle.std.proofs.Common.{◌-◌}
-use Rattle.spa_model.specs.Spa.{IsWith}
-use Rattle.spa_model.proofs.Places.{place-get_or}
-use Rattle.spa_student.proofs.Machine.{swap_at_project_holds, swap_at_lecturer_holds}
+-- A ranked instance has a best matching: students propose in order; pairs before a cursor are gone.
+use Rattle.spa_honest.proofs.Base.{◌≡◌, ◌≢◌, ◌⊎◌, inl, inr, ℕ, zero, suc, ◌+◌, ◌<◌, ◌≤◌, cond, eqb, List, length, get_or, set, replicate, Option, Some, None, refl, sym, ◌∙◌, ap, subst, arith, get_or-set_same, get_or-set_other, eq-eqb, ne_eqb, cases_lt, cases_eq, Spa, place, at_project, at_lecturer, project_of, choices_of, lecturer_of, capacity_of, limit_of, IsBefore, IsAcceptable, IsBest, place-injective, sum_below, sum_below-lt, IsRanked, rank_of, IsSpent, Holds, student_in_range, put_same, put_cases, place_holds, delete_holds, best_at_end, nobody_matches, acceptable_in_range, rules, ◌-◌, IsWith, place-get_or, swap_at_project_holds, swap_at_lecturer_holds}
 use Rattle.spa_student.proofs.Start.{none_there}
 
 -- of the numbers below n with a property, one of the greatest rank; or there is none
@@ -92,10 +88,7 @@ module _ (i : Spa) (law : IsRanked i) (m : List (Option ℕ)) (c : ℕ → ℕ) 
 
   -- s is put
   put_turns : (k : ℕ) → turns i (set m s (Some p)) c k ≤ turns i m c k
-  put_turns k = elim (cases_eq k s) [
-    | inl same ↦ rw (same, put_same i m s p next.in_range next.free, next.free) (omega arith)
-    | inr other ↦ rw (get_or-set_other m s k (Some p) None other) (omega arith)
-  ]
+  put_turns k = search (rules, put_same, get_or-set_other)
 
   put_less : turns i (set m s (Some p)) c s + 1 ≤ turns i m c s
   put_less = rw (put_same i m s p next.in_range next.free, next.free) (omega arith)
@@ -123,40 +116,15 @@ module _ (i : Spa) (law : IsRanked i) (m : List (Option ℕ)) (c : ℕ → ℕ) 
     ];
   } where
     new : (x q : ℕ) → Passed i (moved c w) x q → Passed i c x q ⊎ IsSpent i (set (set m s (Some p)) w None) x q
-    new x q passed = elim (cases_eq x w) [
-      | inr other ↦ inl (passed.0, rw (moved_other c w x other) at passed.1)
-      | inl same ↦ elim (cases_lt (place (choices_of i x) q) (c x)) [
-        | inl old ↦ inl (passed.0, old)
-        | inr now ↦
-            let w_passed : place (choices_of i w) q < suc (c w) = rw (same, moved_same c w) at passed.1 in
-            let w_now : c w ≤ place (choices_of i w) q = rw same at now in
-            let is : u ≡ q = place-injective (choices_of i w) u q w_on (omega (arith, w_cursor)) in
-            inr (rw (same, sym is) spent)
-      ]
-    ]
+    new x q passed = grind (arith, moved_other, moved_same, place-injective, w_on, w_cursor)
 
   go_turns : (k : ℕ) → turns i (set (set m s (Some p)) w None) (moved c w) k ≤ turns i m c k
-  go_turns k = elim (cases_eq k w) [
-    | inl same ↦ elim (cases_eq w s) [
-      | inl self ↦ rw (same, moved_same c w, w_free) (rw self (rw next.free (omega arith)))
-      | inr other ↦
-          let was : project_of m w ≡ Some u = sym (get_or-set_other m s w (Some p) None other) ∙ has in
-          rw (same, moved_same c w, w_free, was) (omega (arith, w_cursor, w_on))
-    ]
-    | inr apart ↦ rw (gone_other k apart, moved_other c w k apart) (put_turns i law m c state s p next on here k)
-  ]
+  go_turns k = search (rules, moved_same, w_free, get_or-set_other, w_cursor, w_on, gone_other, moved_other, put_turns, state)
 
   go_less : turns i (set (set m s (Some p)) w None) (moved c w) s + 1 ≤ turns i m c s
-  go_less = elim (cases_eq s w) [
-    | inl same ↦
-        let after : project_of (set (set m s (Some p)) w None) s ≡ None = subst (λ x. project_of (set (set m s (Some p)) w None) x ≡ None) (sym same) w_free in
-        let now : moved c w s ≡ suc (c s) = rw same (moved_same c w) in
-        let left : c s < length (choices_of i s) = next.left in
-        rw (now, after, next.free) (omega arith)
-    | inr apart ↦ rw (gone_other s apart, moved_other c w s apart) (put_less i law m c state s p next on here)
-  ]
+  go_less = search (rules, w_free, moved_same, gone_other, moved_other, put_less, state)
 
--- the state after a turn of s: no cursor goes back, one moves only where its student is let go, and whoever else was free is so still
+-- after a turn of s: no cursor goes back, it moves only if its student is let go, others stay free
 pub record Turned (i : Spa) (m : List (Option ℕ)) (c : ℕ → ℕ) (s : ℕ) : Type 0 where
   pub after : List (Option ℕ)
   pub cursors : ℕ → ℕ
@@ -171,7 +139,6 @@ turn i law m c state s p next on here =
     let l : ℕ = lecturer_of i p in
     let n : ℕ = length i.choices in
     let s_in : s < n = acceptable_in_range i s p on in
-    let same : length (set m s (Some p)) ≡ n = length-set m s (Some p) ∙ state.holds.matching.students in
     elim (cases_lt (at_project m p) (capacity_of i p)) [
       | inl room ↦ elim (cases_lt (at_lecturer i m l) (limit_of i l)) [
         | inl room_l ↦ record {
@@ -260,10 +227,7 @@ next_or_done i m c Still still =
     ]
 
     past : (x p : ℕ) → (Still x → ⊥) → project_of m x ≡ None → IsAcceptable i x p → ((z : ℕ) → z < length i.choices → HasTurn i m c Still z → ⊥) → place (choices_of i x) p < c x
-    past x p moves free on none = elim (cases_lt (place (choices_of i x) p) (c x)) [
-      | inl passed ↦ passed
-      | inr ahead ↦ absurd (none x (acceptable_in_range i x p on) (moves, free, omega arith))
-    ]
+    past x p moves free on none = grind (arith, moves, free, acceptable_in_range)
 
 -- nobody keeps still
 abbrev pub Never : ℕ → Type 0

@@ -1,13 +1,11 @@
 -- No group of students gains by other lists, and so no student.
-use Rattle.spa_honest.proofs.Base.{◌≡◌, ◌⊎◌, inl, inr, ℕ, zero, suc, ◌<◌, ◌≤◌, true, false, List, [], ◌∷◌, length, get_or, Option, Some, None, sym, ◌∙◌, ap, subst, arith, cases_Bool, cases_lt, cases_eq, Letter, Spa, place, choices_of, project_of, IsOn, IsAcceptable, IsMatching, Blocks, IsStable, IsBest, IsRanked, DifferInLists, DifferInOneList}
-use Rattle.spa_model.proofs.Places.{get_or-place, place-get_or-le}
-use Rattle.spa_honest.specs.Honest.{IsNoWorse}
+use Rattle.spa_honest.proofs.Base.{◌≡◌, ◌⊎◌, inl, inr, ℕ, zero, suc, ◌<◌, ◌≤◌, true, false, List, [], ◌∷◌, length, get_or, Option, Some, None, sym, ◌∙◌, ap, subst, arith, cases_lt, cases_eq, Letter, Spa, place, choices_of, project_of, IsOn, IsAcceptable, IsMatching, Blocks, IsStable, IsBest, IsRanked, DifferInLists, DifferInOneList, get_or-place, place-get_or-le, IsNoWorse}
 use Rattle.spa_honest.proofs.Lists.{one_on, on_one}
 use Rattle.spa_honest.proofs.Outside.{outside}
 use Rattle.spa_honest.proofs.Last.{better, not_better, gains, turned_away}
 use Rattle.spa_honest.proofs.Carry.{wanted_too, unblocked_too, matches_too}
 
--- WHERE SOMEBODY LIKES A MATCHING BETTER than what the best one gives, somebody who does not blocks it
+-- WHERE SOMEBODY LIKES A MATCHING BETTER than the best one, somebody who does not blocks it
 pub blocked_outside : (i : Spa) → IsRanked i → (best : List (Option ℕ)) → IsBest i best → (x : List (Option ℕ)) → IsMatching i x → (s : ℕ) → gains i best x s ≡ true → ((t u : ℕ) (k : Letter) → gains i best x t ≡ false → Blocks i x t u k → ⊥) → ⊥
 blocked_outside i law best is_best x there s meets unblocked =
     let y = turned_away i law best is_best x there s meets in
@@ -36,10 +34,7 @@ module _ (i : Spa) (m n : List (Option ℕ)) (best : IsBest i m) where
       by_own None = inl (λ p e on. absurd (cc))
       by_own (Some p) = elim (cases_lt (place (choices_of i s) p) (length (choices_of i s))) [
         | inr off ↦ inl (λ q e on. let is : p ≡ q = cc in absurd (omega (arith, on, ap (place (choices_of i s)) is)))
-        | inl on ↦ elim (cases_Bool (better i s (Some p) (project_of m s))) [
-          | inl meets ↦ inr ((λ q e. let is : p ≡ q = cc in rw (sym is) on), meets)
-          | inr misses ↦ inl (λ q e on_q. let is : p ≡ q = cc in rw (sym is) (not_better i s (Some p) (project_of m s) (λ r f. let is : p ≡ r = cc in rw (sym is) on) (λ r f. best.stable.matching.acceptable s r f) misses))
-        ]
+        | inl on ↦ grind (arith, not_better)
       ]
 
 -- NO GROUP GAINS
@@ -71,5 +66,4 @@ honest_is_best i j s m n lawful law differ best stable =
       others = λ t other. differ.others t (λ same. other (rw same (on_one s)));
       orders = differ.orders;
     }) best stable in
-    let is : s ≡ one.0 = one_on s one.0 one.1 in
-    subst (λ t. IsNoWorse i t (project_of m t) (project_of n t)) (sym is) one.2
+    subst (λ t. IsNoWorse i t (project_of m t) (project_of n t)) (sym (one_on s one.0 one.1)) one.2

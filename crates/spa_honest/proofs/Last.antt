@@ -1,8 +1,5 @@
--- The method, stopped when the last of those who like a matching x better than the best one is turned away from what x gives.
-use Rattle.spa_honest.proofs.Base.{◌≡◌, ◌⊎◌, inl, inr, ℕ, zero, suc, ◌<◌, ◌≤◌, Bool, true, false, List, length, replicate, Option, Some, None, refl, sym, ◌∙◌, ap, subst, arith, cases_Bool, cases_lt, cases_eq, Spa, place, project_of, choices_of, IsAcceptable, IsMatching, IsAsGood, IsBest, place-injective, sum_below, IsRanked, best_at_end, student_in_range}
-use Rattle.std.proofs.Common.{ltb}
-use Rattle.std.proofs.lemmas.Bool.{ltb-true, ltb-false}
-use Rattle.spa_student.proofs.Machine.{as_good_as_stable}
+-- The method stops when the last who likes x better than the best matching loses what x gives.
+use Rattle.spa_honest.proofs.Base.{◌≡◌, ◌⊎◌, inl, inr, ℕ, zero, suc, ◌<◌, ◌≤◌, Bool, true, false, List, length, replicate, Option, Some, None, refl, sym, ◌∙◌, ap, subst, arith, cases_Bool, cases_lt, cases_eq, Spa, place, project_of, choices_of, IsAcceptable, IsMatching, IsAsGood, IsBest, place-injective, sum_below, IsRanked, best_at_end, student_in_range, rules, ltb, ltb-true, ltb-false, as_good_as_stable}
 use Rattle.spa_honest.proofs.Exists.{greatest, Passed, UnderWay, turns, Turned, turn_of, next_or_done, Never, never, start}
 use Rattle.spa_honest.proofs.Outside.{TurnsAway}
 
@@ -16,29 +13,19 @@ better i s (Some p) (Some q) = ltb (place (choices_of i s) p) (place (choices_of
 pub not_better : (i : Spa) (s : ℕ) (mine other : Option ℕ) → ((p : ℕ) → mine ≡ Some p → IsAcceptable i s p) → ((q : ℕ) → other ≡ Some q → IsAcceptable i s q) → better i s mine other ≡ false → IsAsGood i s other mine
 not_better i s None other on_mine on_other misses = tt
 not_better i s (Some p) None on_mine on_other misses = absurd (cc)
-not_better i s (Some p) (Some q) on_mine on_other misses =
-    let le : place (choices_of i s) q ≤ place (choices_of i s) p = ltb-false (place (choices_of i s) p) (place (choices_of i s) q) misses in
-    elim (cases_eq (place (choices_of i s) q) (place (choices_of i s) p)) [
-      | inl level ↦ inl (place-injective (choices_of i s) q p (on_other q refl) level)
-      | inr apart ↦ inr (omega arith, on_mine p refl)
-    ]
+not_better i s (Some p) (Some q) on_mine on_other misses = search (rules, place-injective, ltb-false)
 
 -- and where it is, the other is not
 pub better_not : (i : Spa) (s : ℕ) (mine other : Option ℕ) → better i s mine other ≡ true → IsAsGood i s other mine → ⊥
 better_not i s None other meets good = cc
 better_not i s (Some p) None meets good = good
-better_not i s (Some p) (Some q) meets good =
-    let less : place (choices_of i s) p < place (choices_of i s) q = ltb-true (place (choices_of i s) p) (place (choices_of i s) q) meets in
-    elim good [ inl same ↦ omega (arith, ap (place (choices_of i s)) same) | inr before ↦ omega (arith, before.0) ]
+better_not i s (Some p) (Some q) meets good = search (rules, ltb-true)
 
 pub as_good_trans : (i : Spa) (s : ℕ) (a b c : Option ℕ) → IsAsGood i s a b → IsAsGood i s b c → IsAsGood i s a c
 as_good_trans i s a b None ab bc = tt
 as_good_trans i s a None (Some r) ab bc = absurd bc
 as_good_trans i s None (Some q) (Some r) ab bc = absurd ab
-as_good_trans i s (Some p) (Some q) (Some r) ab bc = elim ab [
-  | inl same ↦ rw same bc
-  | inr first ↦ elim bc [ inl same ↦ inr (rw (sym same) first) | inr next ↦ inr (omega (arith, first.0, next.0), next.1) ]
-]
+as_good_trans i s (Some p) (Some q) (Some r) ab bc = search rules
 
 -- the place of a project on the list of s
 abbrev spot : Spa → ℕ → Option ℕ → ℕ
@@ -110,8 +97,7 @@ module _ (i : Spa) (law : IsRanked i) (best : List (Option ℕ)) (is_best : IsBe
       each : (o : Option ℕ) → project_of m s ≡ o → ⊥
       each None e =
           let has = gains_some s (project_of x s) wait.0 in
-          let passed = done s has.0 e (there.acceptable s has.0 has.1) in
-          omega (arith, passed.1, wait.1, ap (spot i s) has.1)
+          omega (arith, (done s has.0 e (there.acceptable s has.0 has.1)).1, wait.1, ap (spot i s) has.1)
       each (Some q) e =
           let has = gains_some s (project_of x s) wait.0 in
           let p : ℕ = has.0 in

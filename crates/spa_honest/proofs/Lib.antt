@@ -2,12 +2,10 @@ pub mod Base
 pub mod Exists
 pub mod Assigned
 pub mod Lists
-pub mod Only
 pub mod Outside
 pub mod Last
 pub mod Carry
 pub mod Gains
+pub mod Tested
 pub mod Worked
-pub mod Told
 pub mod Waits
-pub mod Waited

@@ -1,5 +1,5 @@
 -- A list of one entry, and an instance with another list of one student.
-use Rattle.spa_honest.proofs.Base.{◌≡◌, ◌≢◌, inl, inr, ℕ, zero, suc, ◌+◌, ◌<◌, ◌≤◌, Bool, true, false, cond, eqb, List, [], ◌∷◌, length, get_or, set, refl, sym, ◌∙◌, ap, subst, arith, get_or-set_same, get_or-set_other, eqb-true, eq-eqb, cases_eq, Spa, place, choices_of, IsOn, IsAcceptable, IsDistinct, IsRanked}
+use Rattle.spa_honest.proofs.Base.{◌≡◌, ◌≢◌, ℕ, ◌+◌, ◌<◌, Bool, true, false, cond, eqb, List, [], ◌∷◌, length, set, refl, arith, get_or-set_same, get_or-set_other, eqb-true, eq-eqb, Spa, choices_of, IsOn, IsAcceptable, IsDistinct, IsRanked, rules}
 
 -- a list of one
 pub one_distinct : (p : ℕ) → IsDistinct (p ∷ [])
@@ -28,18 +28,7 @@ module _ (i : Spa) (s : ℕ) (list : List ℕ) (in_range : s < length i.choices)
 
   -- what is acceptable with a shorter list was so before
   pub was_acceptable : ((q : ℕ) → IsOn list q → IsAcceptable i s q) → (t q : ℕ) → IsAcceptable (with_list i s list) t q → IsAcceptable i t q
-  was_acceptable within t q on = elim (cases_eq t s) [
-    | inl same ↦ subst (λ x. IsAcceptable i x q) (sym same) (within q (rw list_same at (subst (λ x. IsAcceptable (with_list i s list) x q) same on)))
-    | inr other ↦ rw (list_other t other) at on
-  ]
+  was_acceptable within t q on = search (rules, list_same, list_other)
 
   pub list_ranked : IsRanked i → ((q : ℕ) → IsOn list q → IsAcceptable i s q) → IsDistinct list → IsRanked (with_list i s list)
-  list_ranked lawful within distinct = record {
-    known = λ t q on. lawful.known t q (was_acceptable within t q on);
-    offered = lawful.offered;
-    ranked = λ t q on. lawful.ranked t q (was_acceptable within t q on);
-    choices_distinct = λ t. elim (cases_eq t s) [
-      | inl same ↦ subst IsDistinct (sym list_same ∙ ap (choices_of (with_list i s list)) (sym same)) distinct
-      | inr other ↦ subst IsDistinct (sym (list_other t other)) (lawful.choices_distinct t)
-    ];
-  }
+  list_ranked lawful within distinct = search (rules, was_acceptable, list_same, list_other)

@@ -1,9 +1,67 @@
--- A matching x that some students, those of r, like better than what they can have: somebody else blocks it.
--- For that, y is a matching in which all of r were turned away from what x gives, one of them has nothing, and everybody else has no worse than in x.
-use Rattle.spa_honest.proofs.Base.{◌≡◌, inl, inr, ℕ, ◌+◌, ◌<◌, ◌≤◌, Bool, true, false, List, length, Option, Some, None, refl, sym, ◌∙◌, ap, subst, arith, count_by, cases_lt, Letter, A, B, C, Spa, is_lecturer, at_project, at_lecturer, project_of, lecturer_of, ranking_of, capacity_of, limit_of, IsOn, IsMatching, IsAsGood, Wants, Blocks, sum_below, IsRanked, rank_of, IsSpent, student_in_range}
-use Rattle.spa_model.specs.Spa.{is_project}
+-- If the students of r like a matching x better than what they can have, somebody else blocks x.
+-- The matching y turns all of r away from their places in x, one has none, and others do no worse.
+use Rattle.spa_honest.proofs.Base.{◌≡◌, inl, inr, ℕ, ◌+◌, ◌<◌, ◌≤◌, Bool, true, false, List, length, Option, Some, None, refl, sym, ◌∙◌, ap, subst, arith, count_by, cases_lt, Letter, A, B, C, Spa, is_lecturer, at_project, at_lecturer, project_of, lecturer_of, ranking_of, capacity_of, limit_of, IsOn, IsMatching, IsAsGood, Wants, Blocks, sum_below, IsRanked, rank_of, IsSpent, student_in_range, rules, zero, suc, cond, [], ◌∷◌, one_if, count_by-cons, is_project}
 use Rattle.spa_honest.proofs.Assigned.{has_one, count_by-lt, all_lecturers, greater_term, more_at, one_there, wants_best}
-use Rattle.spa_honest.proofs.Only.{only, others, only_length, only_has, only_keeps, others_not, both_counted}
+
+-- A matching with the projects of some students alone.
+
+-- the students of r keep their projects
+abbrev pub only : (ℕ → Bool) → List (Option ℕ) → List (Option ℕ)
+only r [] = []
+only r (o ∷ m) = cond (r 0) o None ∷ only (λ s. r (suc s)) m
+
+-- all but those of r
+abbrev pub others : (ℕ → Bool) → ℕ → Bool
+others r s = cond (r s) false true
+
+pub only_length : (r : ℕ → Bool) (m : List (Option ℕ)) → length (only r m) ≡ length m
+only_length r [] = refl
+only_length r (o ∷ m) = omega (arith, only_length (λ s. r (suc s)) m)
+
+only_at : (r : ℕ → Bool) (m : List (Option ℕ)) (s : ℕ) → project_of (only r m) s ≡ cond (r s) (project_of m s) None
+only_at r [] s = nothing (r s)
+  where
+    nothing : (b : Bool) → ◌≡◌ {A = Option ℕ} None (cond b None None)
+    nothing true = refl
+    nothing false = refl
+only_at r (o ∷ m) zero = refl
+only_at r (o ∷ m) (suc s) = only_at (λ k. r (suc k)) m s
+
+-- who keeps a project is of r and has it
+pub only_has : (r : ℕ → Bool) (m : List (Option ℕ)) (s q : ℕ) → project_of (only r m) s ≡ Some q → (r s ≡ true) × (project_of m s ≡ Some q)
+only_has r m s q e = by_test (r s) refl (rw only_at at e)
+  where
+    by_test : (b : Bool) → r s ≡ b → cond b (project_of m s) None ≡ Some q → (r s ≡ true) × (project_of m s ≡ Some q)
+    by_test true is e = (is, e)
+    by_test false is e = absurd (cc)
+
+pub only_keeps : (r : ℕ → Bool) (m : List (Option ℕ)) (s : ℕ) → r s ≡ true → project_of (only r m) s ≡ project_of m s
+only_keeps r m s is = rw only_at (rw is refl)
+
+-- who is of the others is not of r
+pub others_not : (r : ℕ → Bool) (s : ℕ) → others r s ≡ true → r s ≡ false
+others_not r s is = by_test (r s) is
+  where
+    by_test : (b : Bool) → cond b false true ≡ true → b ≡ false
+    by_test true is = absurd (cc)
+    by_test false is = refl
+
+-- a count over all is that over those of r and that over the others
+pub both_counted : (f : Option ℕ → Bool) → f None ≡ false → (r : ℕ → Bool) (m : List (Option ℕ)) → count_by f m ≡ count_by f (only r m) + count_by f (only (others r) m)
+both_counted f off r [] = refl
+both_counted f off r (o ∷ m) =
+    omega (
+      arith,
+      count_by-cons f o m,
+      count_by-cons f (cond (r 0) o None) (only (λ s. r (suc s)) m),
+      count_by-cons f (cond (others r 0) o None) (only (λ s. others r (suc s)) m),
+      one (r 0),
+      both_counted f off (λ s. r (suc s)) m,
+    )
+  where
+    one : (b : Bool) → one_if (f o) ≡ one_if (f (cond b o None)) + one_if (f (cond (cond b false true) o None))
+    one true = omega (arith, ap one_if off)
+    one false = omega (arith, ap one_if off)
 
 -- what y is to x
 pub record TurnsAway (i : Spa) (r : ℕ → Bool) (x y : List (Option ℕ)) : Type 0 where
@@ -18,12 +76,9 @@ module _ (i : Spa) (law : IsRanked i) (r : ℕ → Bool) (x y : List (Option ℕ
   same = turns.there.students ∙ sym turns.here.students
 
   spent : (s p : ℕ) → r s ≡ true → project_of x s ≡ Some p → IsSpent i y s p
-  spent s p of e =
-      let why = turns.away s of in
-      let is : why.0 ≡ p = cc in
-      subst (λ q. IsSpent i y s q) is why.2
+  spent s p of e = search rules
 
-  -- t, who is not of r, has u in y and not in x; s is later with the lecturer, who has s in x; and where u is full in x, so is somebody there
+  -- t, outside r, has u in y, not in x; u's lecturer has s in x, after t; a full u has one after t
   blocks : (t u : ℕ) → r t ≡ false → project_of y t ≡ Some u → (project_of x t ≡ Some u → ⊥)
       → (s q : ℕ) → project_of x s ≡ Some q → lecturer_of i q ≡ lecturer_of i u → rank_of i (lecturer_of i u) t < rank_of i (lecturer_of i u) s
       → (at_project x u ≡ capacity_of i u → (z : ℕ) × (project_of x z ≡ Some u) × (rank_of i (lecturer_of i u) t < rank_of i (lecturer_of i u) z)) → ⊥

@@ -1,6 +1,6 @@
--- Who is left finds no room on the own list, and what has room after a stable matching gains nobody anything.
-use Rattle.spa_honest.proofs.Base.{◌≡◌, ◌≢◌, inl, inr, ℕ, ◌<◌, ◌≤◌, List, [], ◌∷◌, length, set, Option, Some, None, refl, sym, ◌∙◌, ap, subst, arith, length-set, get_or-set_other, cases_eq, Letter, A, B, C, Spa, at_project, at_lecturer, project_of, choices_of, lecturer_of, capacity_of, limit_of, IsOn, IsBefore, IsAcceptable, IsAsGood, Improves, Wants, Blocks, IsStable, IsBest, IsRanked, put_same, put_cases, acceptable_in_range, HasRoom, DifferInOneList}
-use Rattle.spa_student.proofs.Machine.{put_at_project, put_at_lecturer, one_here, none_there}
+-- Who is left finds no room on the own list; room after a stable matching gains nobody anything.
+use Rattle.spa_honest.proofs.Base.{◌≡◌, ◌≢◌, inl, inr, ℕ, ◌<◌, ◌≤◌, List, [], ◌∷◌, length, set, Option, Some, None, refl, sym, ◌∙◌, ap, subst, arith, length-set, get_or-set_other, cases_eq, Letter, A, B, C, Spa, at_project, at_lecturer, project_of, choices_of, lecturer_of, capacity_of, limit_of, IsOn, IsAcceptable, IsAsGood, Improves, Wants, Blocks, IsStable, IsBest, IsRanked, put_same, put_cases, acceptable_in_range, HasRoom, DifferInOneList, rules, put_at_project, put_at_lecturer, one_here}
+use Rattle.spa_student.proofs.Machine.{none_there}
 use Rattle.spa_honest.proofs.Lists.{one_distinct, one_on, on_one, with_list, list_same, list_other, list_ranked}
 use Rattle.spa_honest.proofs.Carry.{same_room, carried}
 use Rattle.spa_honest.proofs.Gains.{honest_is_best}
@@ -9,7 +9,7 @@ use Rattle.spa_honest.proofs.Gains.{honest_is_best}
 pub left_finds_none : (i : Spa) (m : List (Option ℕ)) (s p : ℕ) → IsStable i m → project_of m s ≡ None → IsAcceptable i s p → HasRoom i m p → ⊥
 left_finds_none i m s p stable left on room = stable.unblocked s p A ((on, rw left tt), room.0, room.1)
 
--- s, whose list in i holds p, is left by a matching of i without the list of s, which is stable there and in which p has room
+-- s, who lists p in i, is left by n, a stable matching without the list of s in which p has room
 module _ (i : Spa) (s p : ℕ) (n : List (Option ℕ)) (in_range : s < length i.choices) (stable : IsStable (with_list i s []) n) (left : project_of n s ≡ None) (room : HasRoom i n p) where
   n_range : s < length n
   n_range = omega (arith, in_range, stable.matching.students, length-set i.choices s [])
@@ -30,12 +30,7 @@ module _ (i : Spa) (s p : ℕ) (n : List (Option ℕ)) (in_range : s < length i.
 
   -- s is where s wants to be
   content : (u : ℕ) → Wants (with_list i s (p ∷ [])) (set n s (Some p)) s u → ⊥
-  content u w =
-      let same : project_of (set n s (Some p)) s ≡ Some p = put_same (with_list i s []) n s p n_range left in
-      let before : IsBefore (p ∷ []) u p = rw (list_same i s (p ∷ []) in_range) at (subst (Improves (with_list i s (p ∷ [])) s u) same w.1) in
-      let is : p ≡ u = one_on p u (rw (list_same i s (p ∷ []) in_range) at w.0) in
-      let again : IsBefore (p ∷ []) p p = subst (λ x. IsBefore (p ∷ []) x p) (sym is) before in
-      omega (arith, again.0)
+  content u w = search (rules, put_same, n_range, list_same, one_on)
 
   -- nobody else would take the place of s
   nobody_for_p : (t u : ℕ) → Wants (with_list i s []) n t u → at_project n u < capacity_of i u → lecturer_of i p ≡ lecturer_of i u → ⊥
@@ -64,13 +59,7 @@ module _ (i : Spa) (s p : ℕ) (n : List (Option ℕ)) (in_range : s < length i.
           w,
           free,
           sym (as_many_with (lecturer_of i u) apart) ∙ b.2,
-          elim (b.3) [
-            | inl own ↦ inl (own.0, sym (other_place t other) ∙ own.1, own.2)
-            | inr after ↦ elim (put_cases (with_list i s []) n s p n_range left after.0 after.1.0 after.1.1) [
-              | inl new ↦ absurd (apart (ap (lecturer_of i) (sym new.1) ∙ after.1.2))
-              | inr old ↦ inr (after.0, (after.1.0, old, after.1.2), after.2)
-            ]
-          ],
+          grind (arith, other_place, put_cases, n_range),
         )
       ]
   blocked t u C other b =
@@ -88,13 +77,7 @@ module _ (i : Spa) (s p : ℕ) (n : List (Option ℕ)) (in_range : s < length i.
   put_stable = record {
     matching = record {
       students = length-set n s (Some p) ∙ stable.matching.students ∙ length-set i.choices s [] ∙ sym (length-set i.choices s (p ∷ []));
-      acceptable = λ t q e. elim (cases_eq t s) [
-        | inl same ↦ elim (put_cases (with_list i s []) n s p n_range left t q e) [
-          | inl new ↦ rw (new.0, new.1) (rw (list_same i s (p ∷ []) in_range) (on_one p))
-          | inr old ↦ absurd (let none : project_of n t ≡ None = rw same left in cc)
-        ]
-        | inr other ↦ rw (other_list t other) (stable.matching.acceptable t q (sym (other_place t other) ∙ e))
-      ];
+      acceptable = λ t q e. grind (arith, put_cases, n_range, list_same, on_one, other_list, other_place);
       projects = λ q. elim (cases_eq p q) [
         | inl same ↦ rw (sym same) (omega (arith, put_at_project (with_list i s []) n s p n_range left p, one_here p, room.0))
         | inr apart ↦ omega (arith, as_many_at q apart, stable.matching.projects q)

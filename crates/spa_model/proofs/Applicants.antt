@@ -1,10 +1,7 @@
 -- Lemmas on the faults that speak of applicants, by number.
-use Rattle.spa_model.proofs.Base.{◌≡◌, ◌⊎◌, inl, inr, ◌↔◌, IsTrue, ℕ, ◌+◌, ◌<◌, Bool, true, false, List, [], length, get_or, Option, Some, None, refl, sym, ◌∙◌, ap, subst, arith, cases_lt, false≢true, get_or_default, Text, IsLeastOf, IsKeyOf, map_at, Student, Project, Lecturer, Rise, HasKey, student_keys, choices_at, lecturer_at, row_at, rank_at, Finds, IsApplicantOf, Misses, MissesBelow}
-use Rattle.std.specs.Prelude.{not}
+use Rattle.spa_model.proofs.Base.{◌≡◌, ◌⊎◌, inl, inr, ◌↔◌, IsTrue, ℕ, ◌+◌, ◌<◌, Bool, true, false, List, [], length, get_or, Option, Some, None, refl, sym, ◌∙◌, ap, subst, arith, cases_lt, false≢true, get_or_default, Text, IsLeastOf, IsKeyOf, map_at, Student, Project, Lecturer, Rise, HasKey, student_keys, choices_at, lecturer_at, row_at, rank_at, Finds, IsApplicantOf, Misses, MissesBelow, rules, not, lesser_row, least_either}
 use Rattle.std.specs.Option.{is_some}
 use Rattle.spa_rows.specs.Lines
-use Rattle.spa_rows.specs.Least.{lesser_row}
-use Rattle.spa_rows.proofs.LeastRow.{least_either}
 use Rattle.spa_model.proofs.Keys.{one_number, is_key_of}
 
 -- rows at a place
@@ -22,8 +19,7 @@ rank_here lecturers l s x h at = ap (λ ranks. get_or ranks s None) (map_at (λ 
 
 -- the student with the key is an applicant if a choice is the lecturer's
 pub applicant_iff : (lines : List Lines.Student) (students : List Student) (projects : List Project) (l : ℕ) (text : Text) (k : ℕ) (b : Bool) → Rise (student_keys lines) → HasKey (student_keys lines) k text → (IsTrue b ↔ Finds projects (choices_at students k) l) → (IsTrue b ↔ IsApplicantOf lines students projects l text)
-applicant_iff lines students projects l text k b rise key iff =
-    (λ t. (k, key, iff.0 t), λ h. iff.1 (subst (λ n. Finds projects (choices_at students n) l) (one_number (student_keys lines) h.0 k text rise h.1 key) h.2))
+applicant_iff lines students projects l text k b rise key iff = search (rules, one_number)
 
 pub no_applicant : (lines : List Lines.Student) (students : List Student) (projects : List Project) (l : ℕ) (text : Text) → (IsKeyOf lines (λ x. x.key) text → ⊥) → (IsTrue false ↔ IsApplicantOf lines students projects l text)
 no_applicant lines students projects l text none =

@@ -1,6 +1,5 @@
 -- Pairs that are put together, one after the other.
-use Rattle.spa_model.proofs.Base.{◌≡◌, ◌≢◌, inl, inr, ℕ, zero, suc, ◌+◌, ◌<◌, ◌≤◌, eqb, List, [], ◌∷◌, ◌++◌, map, length, take, set, get_or, Option, Some, None, refl, sym, ◌∙◌, ap, arith, All, Any, count_by, cases_lt, cases_eq, cases_Bool, eqb-true, get_or_default, get_or-take, length-map, length-take-le, length-set, get_or-set_same, get_or-set_other, take_more, take_all, count_by_more_no, Pair, NoSuchStudent, NotAcceptable, StudentTwice, ProjectOver, LecturerOver, Spa, IsLawful, IsDistinct, IsMatching, IsAcceptable, place, choices_of, lecturer_of, capacity_of, limit_of, project_of, is_project, is_lecturer, at_project, at_lecturer, student_in, project_in, lecturer_in, HasPairs, AreSound, AreAssigned}
-use Rattle.std.proofs.lemmas.List.Sums.{sum_by_push}
+use Rattle.spa_model.proofs.Base.{◌≡◌, ◌≢◌, inl, inr, ℕ, zero, suc, ◌+◌, ◌<◌, ◌≤◌, eqb, List, [], ◌∷◌, ◌++◌, map, length, take, set, get_or, Option, Some, None, refl, sym, ◌∙◌, ap, arith, All, Any, count_by, cases_lt, cases_Bool, eqb-true, get_or_default, get_or-take, length-map, length-take-le, length-set, get_or-set_same, get_or-set_other, take_more, take_all, count_by_more_no, Pair, NoSuchStudent, NotAcceptable, StudentTwice, ProjectOver, LecturerOver, Spa, IsLawful, IsDistinct, IsMatching, IsAcceptable, place, choices_of, lecturer_of, capacity_of, limit_of, project_of, is_project, is_lecturer, at_project, at_lecturer, student_in, project_in, lecturer_in, HasPairs, AreSound, AreAssigned, rules, sum_by_push}
 use Rattle.std.proofs.lemmas.Option.{same_Some}
 use Rattle.spa_model.proofs.Counts.{count_by-set, one_if}
 use Rattle.spa_model.proofs.PairFaults.{number_at, good_pair, student_there, same_student, count_by-map}
@@ -11,7 +10,6 @@ pub assigned_more : (n : ℕ) (students projects : List ℕ) (m : List (Option �
 assigned_more n students projects m j s p apart h size s_is p_is below so_far =
     let front : length (take j students) ≡ j = length-take-le j students (omega arith) in
     let more : length (take (j + 1) students) ≡ j + 1 = length-take-le (j + 1) students (omega arith) in
-    let old : get_or m s None ≡ None = unassigned (get_or m s None) refl in
     record {
       count = length-set m s (Some p) ∙ so_far.count;
       each = λ k l. elim (cases_lt k j) [
@@ -23,24 +21,12 @@ assigned_more n students projects m j s p apart h size s_is p_is below so_far =
             let same : k ≡ j = omega arith in
             rw (same, get_or-take (j + 1) students j 0 (omega arith), get_or-take (j + 1) projects j 0 (omega arith), s_is, p_is) (get_or-set_same m s (Some p) None (omega (arith, so_far.count)))
       ];
-      no_other = λ t q e. elim (cases_eq t s) [
-        | inl same ↦
-            let is_p : p ≡ q = same_Some _ _ (sym (get_or-set_same m s (Some p) None (omega (arith, so_far.count))) ∙ rw same at e) in
-            (j, omega arith, get_or-take (j + 1) students j 0 (omega arith) ∙ s_is ∙ sym same, get_or-take (j + 1) projects j 0 (omega arith) ∙ p_is ∙ is_p)
-        | inr other ↦
-            let found = so_far.no_other t q (sym (get_or-set_other m s t (Some p) None other) ∙ e) in (
-              found.0,
-              omega (arith, found.1),
-              get_or-take (j + 1) students found.0 0 (omega (arith, found.1)) ∙ sym (get_or-take j students found.0 0 (omega (arith, found.1))) ∙ found.2,
-              get_or-take (j + 1) projects found.0 0 (omega (arith, found.1)) ∙ sym (get_or-take j projects found.0 0 (omega (arith, found.1))) ∙ found.3,
-            )
-      ];
+      no_other = λ t q e. grind (arith, same_Some, get_or-set_same, get_or-take, get_or-set_other);
       counted = λ test out.
           let changed : count_by test (set m s (Some p)) + one_if (test (get_or m s None)) ≡ count_by test m + one_if (test (Some p)) = count_by-set test m s (Some p) (omega (arith, so_far.count)) in
-          let nothing : one_if (test (get_or m s None)) ≡ 0 = ap (λ o. one_if (test o)) old ∙ ap one_if out in
+          let nothing : one_if (test (get_or m s None)) ≡ 0 = ap (λ o. one_if (test o)) (unassigned (get_or m s None) refl) ∙ ap one_if out in
           let last : take (j + 1) projects ≡ take j projects ++ p ∷ [] = take_more projects j 0 (omega arith) ∙ ap (λ x. take j projects ++ x ∷ []) p_is in
-          let sum : count_by (λ q. test (Some q)) (take j projects ++ p ∷ []) ≡ count_by (λ q. test (Some q)) (take j projects) + one_if (test (Some p)) = sum_by_push (λ q. one_if (test (Some q))) (take j projects) p in
-          omega (arith, so_far.counted test out, ap (count_by (λ q. test (Some q))) last);
+          omega (arith, so_far.counted test out, ap (count_by (λ q. test (Some q))) last, sum_by_push (λ q. one_if (test (Some q))) (take j projects) p);
     }
   where
     unassigned : (o : Option ℕ) → project_of m s ≡ o → o ≡ None
@@ -84,9 +70,8 @@ within lines number limit q good (suc n) h =
     let here : get_or lines n x ≡ x = get_or_default lines n x (record { row = 0; student = []; project = [] }) (omega arith) in
     elim (cases_Bool (eqb (number x) q)) [
       | inl yes' ↦
-          let is_q : number x ≡ q = eqb-true (number x) q yes' in
           elim (cases_lt (limit q) (count_by (λ y. eqb (number y) q) (take (suc n) lines))) [
-            | inl over ↦ absurd (good n x (omega arith) here (rw (is_q, one-add' n) over))
+            | inl over ↦ absurd (good n x (omega arith) here (rw ((eqb-true (number x) q yes'), one-add' n) over))
             | inr fits ↦ fits
           ]
       | inr no' ↦
@@ -106,9 +91,8 @@ module _ (i : Spa) (lines : List Pair) (students projects : List ℕ) (m : List 
   -- what stands for a pair
   stands : (j : ℕ) (x : Pair) → j < length lines → get_or lines j x ≡ x → project_of m (student_in i x) ≡ Some (project_in i x)
   stands j x h e =
-      let s : get_or students j 0 ≡ student_in i x = number_at (student_in i) lines students j x students_are h e in
       let p : get_or projects j 0 ≡ project_in i x = number_at (project_in i) lines projects j x projects_are h e in
-      rw (← s, ← p) (put.each j (omega (arith, long)))
+      rw (← (number_at (student_in i) lines students j x students_are h e), ← p) (put.each j (omega (arith, long)))
 
   from_pair : (s p : ℕ) → project_of m s ≡ Some p → Any (λ x. (student_in i x ≡ s) × (project_in i x ≡ p)) lines
   from_pair s p e =
@@ -130,17 +114,15 @@ module _ (i : Spa) (lines : List Pair) (students projects : List ℕ) (m : List 
   at_most p =
       let count : at_project m p ≡ count_by (λ q. eqb q p) projects = put.counted (is_project p) refl in
       let pairs : count_by (λ q. eqb q p) projects ≡ count_by (λ y. eqb (project_in i y) p) lines = ap (count_by (λ q. eqb q p)) projects_are ∙ count_by-map (λ q. eqb q p) (project_in i) lines in
-      let all : take (length lines) lines ≡ lines = take_all (length lines) lines (omega arith) in
       let fits : count_by (λ y. eqb (project_in i y) p) (take (length lines) lines) ≤ capacity_of i p = within lines (project_in i) (capacity_of i) p (good_pair i lines ProjectOver (sound ProjectOver)) (length lines) (omega arith) in
-      omega (arith, ap (count_by (λ y. eqb (project_in i y) p)) all)
+      omega (arith, ap (count_by (λ y. eqb (project_in i y) p)) (take_all (length lines) lines (omega arith)))
 
   with_most : (l : ℕ) → at_lecturer i m l ≤ limit_of i l
   with_most l =
       let count : at_lecturer i m l ≡ count_by (λ q. eqb (lecturer_of i q) l) projects = put.counted (is_lecturer i l) refl in
       let pairs : count_by (λ q. eqb (lecturer_of i q) l) projects ≡ count_by (λ y. eqb (lecturer_in i y) l) lines = ap (count_by (λ q. eqb (lecturer_of i q) l)) projects_are ∙ count_by-map (λ q. eqb (lecturer_of i q) l) (project_in i) lines in
-      let all : take (length lines) lines ≡ lines = take_all (length lines) lines (omega arith) in
       let fits : count_by (λ y. eqb (lecturer_in i y) l) (take (length lines) lines) ≤ limit_of i l = within lines (lecturer_in i) (limit_of i) l (good_pair i lines LecturerOver (sound LecturerOver)) (length lines) (omega arith) in
-      omega (arith, ap (count_by (λ y. eqb (lecturer_in i y) l)) all)
+      omega (arith, ap (count_by (λ y. eqb (lecturer_in i y) l)) (take_all (length lines) lines (omega arith)))
 
   listed : (s p : ℕ) → project_of m s ≡ Some p → IsAcceptable i s p
   listed s p e = elim (cases_lt (place (choices_of i s) p) (length (choices_of i s))) [
@@ -152,9 +134,4 @@ module _ (i : Spa) (lines : List Pair) (students projects : List ℕ) (m : List 
 
   -- they are a matching
   pub is_matching : IsMatching i m
-  is_matching = record {
-    students = put.count;
-    acceptable = listed;
-    projects = at_most;
-    lecturers = with_most;
-  }
+  is_matching = search (rules, listed, at_most, with_most)

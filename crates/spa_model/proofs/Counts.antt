@@ -1,6 +1,5 @@
 -- Lemmas on how many students a project or a lecturer has.
-use Rattle.spa_model.proofs.Base.{◌≡◌, ◌≢◌, inl, inr, ℕ, zero, suc, ◌+◌, ◌<◌, ◌≤◌, Bool, true, false, eqb, cond, List, [], ◌∷◌, length, refl, sym, ◌∙◌, ap, arith, get_or, set, Option, Some, None, count_by, sum_by-cons, eq-eqb, ne_eqb, cases_lt, Spa, is_project, is_lecturer, at_project, at_lecturer, project_of, lecturer_of}
-use Rattle.std.proofs.lemmas.List.Sums.{sum_by-set}
+use Rattle.spa_model.proofs.Base.{◌≡◌, ◌≢◌, inl, inr, ℕ, zero, suc, ◌+◌, ◌<◌, ◌≤◌, Bool, true, false, eqb, cond, List, [], ◌∷◌, length, refl, sym, ◌∙◌, ap, arith, get_or, set, Option, Some, None, count_by, sum_by-cons, eq-eqb, ne_eqb, cases_lt, Spa, is_project, is_lecturer, at_project, at_lecturer, project_of, lecturer_of, sum_by-set}
 
 -- 1 where the test holds
 abbrev pub one_if : Bool → ℕ
@@ -23,19 +22,18 @@ pub count_by-none : (p : Option ℕ → Bool) (m : List (Option ℕ)) → ((s : 
 count_by-none p [] h = refl
 count_by-none p (o ∷ m) h = omega (arith, count_by-cons p o m, ap one_if (h 0), count_by-none p m (λ s. h (suc s)))
 
+pub one_le : (a b : Bool) → (a ≡ true → b ≡ true) → one_if a ≤ one_if b
+one_le true true f = omega arith
+one_le true false f = let wrong = f refl in cc
+one_le false b f = omega arith
+
 -- where each that counts in m counts in n, m has no more
 pub count_by-le : (p : Option ℕ → Bool) (m n : List (Option ℕ)) → length m ≡ length n → ((s : ℕ) → p (get_or m s None) ≡ true → p (get_or n s None) ≡ true) → count_by p m ≤ count_by p n
 count_by-le p [] [] e h = omega arith
 count_by-le p [] (y ∷ n) e h = absurd (omega arith)
 count_by-le p (x ∷ m) [] e h = absurd (omega arith)
 count_by-le p (x ∷ m) (y ∷ n) e h =
-    let rest : count_by p m ≤ count_by p n = count_by-le p m n (omega arith) (λ s. h (suc s)) in
-    omega (arith, count_by-cons p x m, count_by-cons p y n, one_le (p x) (p y) (h 0), rest)
-  where
-    one_le : (a b : Bool) → (a ≡ true → b ≡ true) → one_if a ≤ one_if b
-    one_le true true f = omega arith
-    one_le true false f = let wrong = f refl in cc
-    one_le false b f = omega arith
+    omega (arith, count_by-cons p x m, count_by-cons p y n, one_le (p x) (p y) (h 0), count_by-le p m n (omega arith) (λ s. h (suc s)))
 
 -- the sum of f at each number below n
 abbrev pub sum_below : (ℕ → ℕ) → ℕ → ℕ

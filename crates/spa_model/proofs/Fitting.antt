@@ -1,21 +1,16 @@
 -- Lemmas on matchings that fit.
-use Rattle.spa_model.proofs.Base.{◌≡◌, ◌↔◌, inl, inr, ℕ, ◌<◌, ◌≤◌, Bool, true, false, eqb, List, length, get_or, Option, Some, None, refl, sym, ◌∙◌, arith, eqb-true, eq-eqb, ne_eqb, cases_lt, true≢false, Spa, place, IsOn, is_project, is_lecturer, at_project, at_lecturer, project_of, lecturer_of, capacity_of, limit_of, IsLawful}
-use Rattle.std.specs.List.{IsAnyAnswer}
-use Rattle.spa_model.specs.inner.Fitting.{AreAcceptable}
+use Rattle.spa_model.proofs.Base.{◌≡◌, ◌↔◌, inl, inr, ℕ, ◌<◌, ◌≤◌, Bool, true, false, eqb, List, length, get_or, Option, Some, None, refl, sym, ◌∙◌, arith, eqb-true, eq-eqb, ne_eqb, cases_lt, true≢false, Spa, place, IsOn, is_project, is_lecturer, at_project, at_lecturer, project_of, lecturer_of, capacity_of, limit_of, IsLawful, IsAnyAnswer, AreAcceptable}
 use Rattle.spa_model.proofs.Places.{place-get_or-le, get_or-place}
 use Rattle.spa_model.proofs.Counts.{count_by-none}
 
 -- what a search of a list answers
 pub on_from_answer : (xs : List ℕ) (x : ℕ) (r : Bool) → IsAnyAnswer (λ y b. eqb y x ≡ b) xs r → (r ≡ true) ↔ IsOn xs x
 on_from_answer xs x true (k, h, at) =
-    let is_x : get_or xs k 0 ≡ x = eqb-true (get_or xs k 0) x (at 0) in
-    let le : place xs x ≤ k = rw is_x at (place-get_or-le xs k 0 h) in
-    (λ _. omega arith, λ _. refl)
+    (λ _. omega (arith, rw (eqb-true (get_or xs k 0) x (at 0)) at (place-get_or-le xs k 0 h)), λ _. refl)
 on_from_answer xs x false none = (
   λ e. absurd (true≢false (sym e)),
   λ on.
-      let is_x : get_or xs (place xs x) 0 ≡ x = get_or-place xs x 0 on in
-      absurd (true≢false (sym (eq-eqb (get_or xs (place xs x) 0) x is_x) ∙ none (place xs x) 0 (omega arith) on)),
+      absurd (true≢false (sym (eq-eqb (get_or xs (place xs x) 0) x (get_or-place xs x 0 on)) ∙ none (place xs x) 0 (omega arith) on)),
 )
 
 -- nobody is at a project that is not there

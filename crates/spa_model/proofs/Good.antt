@@ -1,11 +1,6 @@
 -- What the absence of faults says of lines.
-use Rattle.spa_model.proofs.Base.{◌≡◌, inl, inr, ℕ, ◌<◌, ◌≤◌, true, false, List, length, get_or, map, take, All, Any, Ordering, Less, Equal, Greater, refl, sym, ◌∙◌, ap, arith, nat_cmp, is_lt, slice_cmp, nat_list_cmp_total, cases_lt, get_or_default, get_or-take, length-take, length-map, Text, Rows, BadAt, HasNoneBefore, IsKeyOf, NamesNone, Repeats, TooMany, BadKey, KeyTwice, BadCapacity, NoSuchLecturer, RepeatInList, ListTooLong, NotApplicant, at_place, map_at, Rise, student_keys, project_keys, lecturer_keys}
-use Rattle.std.proofs.Common.{IsSortedByKey}
+use Rattle.spa_model.proofs.Base.{◌≡◌, inl, inr, ℕ, ◌<◌, ◌≤◌, true, false, List, length, get_or, map, take, All, Any, Ordering, Less, Equal, Greater, refl, sym, ◌∙◌, ap, arith, nat_cmp, is_lt, slice_cmp, nat_list_cmp_total, cases_lt, get_or_default, get_or-take, length-take, length-map, Text, Rows, BadAt, HasNoneBefore, IsKeyOf, NamesNone, Repeats, TooMany, BadKey, KeyTwice, BadCapacity, NoSuchLecturer, RepeatInList, ListTooLong, NotApplicant, at_place, map_at, Rise, student_keys, project_keys, lecturer_keys, IsSortedByKey, ranks_by, sorted_far, true_from_ne_false, is_key, IsBadCapacity}
 use Rattle.std.proofs.lemmas.Map.Lookups.{exact_bytes}
-use Rattle.std.proofs.lemmas.List.Sorted.{ranks_by, sorted_far}
-use Rattle.std.proofs.lemmas.Bool.{true_from_ne_false}
-use Rattle.spa_rows.specs.Form.{is_key}
-use Rattle.spa_rows.specs.Faults.{IsBadCapacity}
 use Rattle.spa_rows.specs.declared.faults.InstanceFault.TheVariants.{NoSuchProject}
 
 -- lines that are not bad
@@ -18,20 +13,17 @@ rise_from_sorted {X} key lines sorted apart i j d less h =
     let low : j < length lines = omega (arith, length-map lines key) in
     let x = at_place lines i (omega arith) in
     let y = at_place lines j low in
-    let is_x : get_or (map key lines) i d ≡ key x.0 = map_at key lines i x.0 d (omega arith) x.1 in
     let is_y : get_or (map key lines) j d ≡ key y.0 = map_at key lines j y.0 d low y.1 in
     let far : is_lt (slice_cmp nat_cmp (key (get_or lines j y.0)) (key (get_or lines i y.0))) ≡ false = sorted_far (λ a b. is_lt (slice_cmp nat_cmp (key a) (key b))) (ranks_by nat_list_cmp_total key) lines sorted i j y.0 (omega arith) low in
-    let same_x : get_or lines i y.0 ≡ x.0 = get_or_default lines i y.0 x.0 (omega arith) ∙ x.1 in
-    let back : is_lt (slice_cmp nat_cmp (key y.0) (key x.0)) ≡ false = rw (y.1, same_x) at far in
+    let back : is_lt (slice_cmp nat_cmp (key y.0) (key x.0)) ≡ false = rw (y.1, get_or_default lines i y.0 x.0 (omega arith) ∙ x.1) at far in
     let differ : key x.0 ≡ key y.0 → ⊥ = λ same. apart j y.0 low (i, x.0, omega (arith, length-take j lines), get_or-take j lines i x.0 less ∙ x.1, same ∙ ap key (sym y.1)) in
-    rw (is_x, is_y) (by_order (key x.0) (key y.0) (slice_cmp nat_cmp (key x.0) (key y.0)) refl back differ)
+    rw ((map_at key lines i x.0 d (omega arith) x.1), is_y) (by_order (key x.0) (key y.0) (slice_cmp nat_cmp (key x.0) (key y.0)) refl back differ)
   where
     by_order : (a b : Text) (o : Ordering) → slice_cmp nat_cmp a b ≡ o → is_lt (slice_cmp nat_cmp b a) ≡ false → (a ≡ b → ⊥) → slice_cmp nat_cmp a b ≡ Less
     by_order a b Less e back differ = e
     by_order a b Equal e back differ = absurd (differ (exact_bytes a b e))
     by_order a b Greater e back differ =
         let turned : slice_cmp nat_cmp b a ≡ Less = rw (nat_list_cmp_total.antisymm b a, e) refl in
-        let wrong : is_lt Less ≡ false = rw turned at back in
         cc
 
 in_range : (n : ℕ) → (IsBadCapacity n → ⊥) → (1 ≤ n) × (n ≤ 200)

@@ -1,5 +1,5 @@
 -- Lemmas on keys that rise.
-use Rattle.spa_model.proofs.Base.{◌≡◌, inl, inr, ℕ, ◌<◌, List, [], ◌∷◌, length, get_or, map, Less, Equal, sym, ◌∙◌, arith, nat_cmp, slice_cmp, nat_list_cmp_total, tied_itself, cases_lt, get_or-map, length-map, Text, IsKeyOf, at_place, map_at, Rise, HasKey}
+use Rattle.spa_model.proofs.Base.{◌≡◌, inl, inr, ℕ, ◌<◌, List, [], ◌∷◌, length, get_or, map, sym, ◌∙◌, arith, nat_list_cmp_total, tied_itself, cases_lt, get_or-map, length-map, Text, IsKeyOf, at_place, map_at, Rise, HasKey}
 
 -- the key at a place
 pub has_key : {X : Type 0} (key : X → Text) (lines : List X) (k : ℕ) (text : Text) → k < length lines → ((d : X) → key (get_or lines k d) ≡ text) → HasKey (map key lines) k text
@@ -18,10 +18,7 @@ one_number keys m n text rise h k = elim (cases_lt m n) [
   where
     apart : (a b : ℕ) → a < b → b < length keys → get_or keys a [] ≡ text → get_or keys b [] ≡ text → ⊥
     apart a b less l e f =
-        let below : slice_cmp nat_cmp (get_or keys a []) (get_or keys b []) ≡ Less = rise a b [] less l in
-        let tied : slice_cmp nat_cmp text text ≡ Equal = tied_itself nat_list_cmp_total text in
-        let wrong : slice_cmp nat_cmp text text ≡ Less = rw (e, f) at below in
-        cc
+        cc (tied_itself nat_list_cmp_total text, rw (e, f) at (rise a b [] less l))
 
 -- a number's key is there
 pub is_key_of : {X : Type 0} (key : X → Text) (lines : List X) (n : ℕ) (text : Text) → HasKey (map key lines) n text → IsKeyOf lines key text

@@ -1,7 +1,5 @@
 -- The numbered rows of good lines are a lawful instance, which stands for the lines.
-use Rattle.spa_model.proofs.Base.{◌≡◌, ◌⊎◌, inl, inr, ℕ, ◌<◌, ◌≤◌, true, eqb, List, [], ◌∷◌, length, get_or, map, None, Any, refl, sym, ◌∙◌, ap, subst, arith, AllZip, cases_lt, cases_Bool, eqb-true, eq-eqb, get_or_default, get_or_past, length-map, Any-from_list_any, AllZip-long, Text, Rows, HasNoneBefore, Repeats, NotApplicant, ApplicantMissing, Memory, at_place, map_at, Student, Project, Lecturer, Spa, place, IsOn, IsDistinct, IsLawful, capacity_of, limit_of, HasKey, keys_at, StandsFor, StandsStudent, StandsProject, StandsLecturer, student_keys, project_keys, lecturer_keys, AreNumbers, IsStudentOf, IsProjectOf, IsLecturerOf, choices_at, lecturer_at, row_at, rank_at, Finds, MissesBelow}
-use Rattle.std.specs.List.{list_any}
-use Rattle.std.proofs.lemmas.List.Folds.{list_any-from_Any}
+use Rattle.spa_model.proofs.Base.{◌≡◌, ◌⊎◌, inl, inr, ℕ, ◌<◌, ◌≤◌, true, eqb, List, [], ◌∷◌, length, get_or, map, None, Any, refl, sym, ◌∙◌, ap, subst, arith, AllZip, cases_lt, cases_Bool, eqb-true, eq-eqb, get_or_default, get_or_past, length-map, Any-from_list_any, AllZip-long, Text, Rows, HasNoneBefore, Repeats, NotApplicant, ApplicantMissing, Memory, at_place, map_at, Student, Project, Lecturer, Spa, place, IsOn, IsDistinct, IsLawful, capacity_of, limit_of, HasKey, keys_at, StandsFor, StandsStudent, StandsProject, StandsLecturer, student_keys, project_keys, lecturer_keys, AreNumbers, IsStudentOf, IsProjectOf, IsLecturerOf, choices_at, lecturer_at, row_at, rank_at, Finds, MissesBelow, rules, list_any, list_any-from_Any}
 use Rattle.spa_rows.specs.Lines
 use Rattle.spa_model.specs.inner.Inside.{spa_of, AreRanks, HaveRanks}
 use Rattle.spa_model.proofs.Places.{get_or-place, place-get_or-le}
@@ -24,7 +22,7 @@ keys_same keys (t ∷ ts) (n ∷ ns) h = let here : get_or keys n [] ≡ t = h.0
 on_at : (list : List ℕ) (p : ℕ) → IsOn list p → get_or list (place list p) p ≡ p
 on_at list p on = get_or-place list p p on
 
-at_on : (list : List ℕ) (k p : ℕ) → k < length list → get_or list k p ≡ p → IsOn list p
+pub at_on : (list : List ℕ) (k p : ℕ) → k < length list → get_or list k p ≡ p → IsOn list p
 at_on list k p h at = let low : place list (get_or list k p) ≤ k = place-get_or-le list k p h in omega (arith, ap (place list) at)
 
 -- one of the numbers passes, or none does
@@ -80,25 +78,14 @@ module _ (rows : Rows) (students : List Student) (projects : List Project) (lect
     ranking_here : (l : ℕ) (y : Lines.Lecturer) → l < length rows.lecturers → get_or rows.lecturers l y ≡ y → AreNumbers (student_keys rows.students) y.list (ranking_at l)
     ranking_here l y h at =
         let z = Missing.row_of rows students projects lecturers so lists l y h at in
-        let here : get_or (map (λ w. w.ranking.items) lecturers) l [] ≡ z.0.ranking.items = map_at (λ w. w.ranking.items) lecturers l z.0 [] (omega (arith, n_lecturers)) z.1 in
-        rw here z.2.ranking
+        rw (map_at (λ w. w.ranking.items) lecturers l z.0 [] (omega (arith, n_lecturers)) z.1) z.2.ranking
 
     -- who has choices is there
     choices_there : (s p : ℕ) → IsOn (choices_at students s) p → s < length rows.students
-    choices_there s p on = elim (cases_lt s (length rows.students)) [
-      | inl low ↦ low
-      | inr past ↦
-          let none : choices_at students s ≡ [] = get_or_past (map (λ x. x.choices.items) students) s [] (omega (arith, length-map students (λ x. x.choices.items), n_students)) in
-          absurd (omega (arith, ap length none))
-    ]
+    choices_there s p on = search (rules, get_or_past, length-map, n_students)
 
     ranking_there : (l s : ℕ) → IsOn (ranking_at l) s → l < length rows.lecturers
-    ranking_there l s on = elim (cases_lt l (length rows.lecturers)) [
-      | inl low ↦ low
-      | inr past ↦
-          let none : get_or (map (λ z. z.ranking.items) lecturers) l [] ≡ [] = get_or_past (map (λ z. z.ranking.items) lecturers) l [] (omega (arith, length-map lecturers (λ z. z.ranking.items), n_lecturers)) in
-          absurd (omega (arith, ap length none))
-    ]
+    ranking_there l s on = search (rules, get_or_past, length-map, n_lecturers)
 
     known : (s p : ℕ) → IsOn (choices_at students s) p → p < length rows.projects
     known s p on =
@@ -177,22 +164,19 @@ module _ (rows : Rows) (students : List Student) (projects : List Project) (lect
     capacity_ok : (p : ℕ) → p < length rows.projects → (1 ≤ capacity_of built p) × (capacity_of built p ≤ 200)
     capacity_ok p low =
         let x = at_place rows.projects p low in
-        let here : capacity_of built p ≡ x.0.capacity = ap (λ column. get_or column p 0) capacity_column ∙ map_at (λ y. y.capacity) rows.projects p x.0 0 low x.1 in
-        rw (here, ← x.1) (good.capacities p x.0 low)
+        rw ((ap (λ column. get_or column p 0) capacity_column ∙ map_at (λ y. y.capacity) rows.projects p x.0 0 low x.1), ← x.1) (good.capacities p x.0 low)
 
     limit_ok : (l : ℕ) → l < length rows.lecturers → (1 ≤ limit_of built l) × (limit_of built l ≤ 200)
     limit_ok l low =
         let x = at_place rows.lecturers l low in
-        let here : limit_of built l ≡ x.0.capacity = ap (λ column. get_or column l 0) limit_column ∙ map_at (λ y. y.capacity) rows.lecturers l x.0 0 low x.1 in
-        rw (here, ← x.1) (good.limits l x.0 low)
+        rw ((ap (λ column. get_or column l 0) limit_column ∙ map_at (λ y. y.capacity) rows.lecturers l x.0 0 low x.1), ← x.1) (good.limits l x.0 low)
 
     short : (s : ℕ) → length (choices_at students s) ≤ 20
     short s = elim (cases_lt s (length rows.students)) [
       | inl low ↦
           let x = at_place rows.students s low in
           let size : length (choices_at students s) ≡ length x.0.list = AllZip-long (λ t n. HasKey (project_keys rows.projects) n t) x.0.list (choices_at students s) (Numbered.choices_numbered rows students projects so s x.0 low x.1) in
-          let few : length x.0.list ≤ 20 = subst (λ y. length y.list ≤ 20) x.1 (good.short s x.0 low) in
-          omega arith
+          omega (arith, subst (λ y. length y.list ≤ 20) x.1 (good.short s x.0 low))
       | inr past ↦
           let none : choices_at students s ≡ [] = get_or_past (map (λ x. x.choices.items) students) s [] (omega (arith, length-map students (λ x. x.choices.items), n_students)) in
           omega (arith, ap length none)
@@ -230,33 +214,20 @@ module _ (rows : Rows) (students : List Student) (projects : List Project) (lect
 
     stands_student : (k : ℕ) (x : Lines.Student) → k < length rows.students → get_or rows.students k x ≡ x → StandsStudent built x
     stands_student k x h at =
-        let key : HasKey (student_keys rows.students) k x.key = key_number (λ y. y.key) rows.students k x h at in
-        let mine : HasKey built.student_keys k x.key = rw student_column key in
         let same : keys_at (project_keys rows.projects) (choices_at students k) ≡ x.list = keys_same (project_keys rows.projects) x.list (choices_at students k) (Numbered.choices_numbered rows students projects so k x h at) in
-        (k, mine, rw project_column same)
+        (k, rw student_column (key_number (λ y. y.key) rows.students k x h at), rw project_column same)
 
     stands_project : (k : ℕ) (x : Lines.Project) → k < length rows.projects → get_or rows.projects k x ≡ x → StandsProject built x
     stands_project k x h at =
-        let key : HasKey (project_keys rows.projects) k x.key = key_number (λ y. y.key) rows.projects k x h at in
-        let mine : HasKey built.project_keys k x.key = rw project_column key in
-        let capacity : capacity_of built k ≡ x.capacity = ap (λ column. get_or column k 0) capacity_column ∙ map_at (λ y. y.capacity) rows.projects k x 0 h at in
+        let mine : HasKey built.project_keys k x.key = rw project_column (key_number (λ y. y.key) rows.projects k x h at) in
         let lecturer : HasKey (lecturer_keys rows.lecturers) (lecturer_at projects k) x.lecturer = Numbered.lecturer_numbered rows students projects so k x h at in
-        (k, mine, capacity, rw lecturer_column lecturer.1)
+        (k, mine, ap (λ column. get_or column k 0) capacity_column ∙ map_at (λ y. y.capacity) rows.projects k x 0 h at, rw lecturer_column lecturer.1)
 
     stands_lecturer : (k : ℕ) (x : Lines.Lecturer) → k < length rows.lecturers → get_or rows.lecturers k x ≡ x → StandsLecturer built x
     stands_lecturer k x h at =
-        let key : HasKey (lecturer_keys rows.lecturers) k x.key = key_number (λ y. y.key) rows.lecturers k x h at in
-        let mine : HasKey built.lecturer_keys k x.key = rw lecturer_column key in
-        let limit : limit_of built k ≡ x.capacity = ap (λ column. get_or column k 0) limit_column ∙ map_at (λ y. y.capacity) rows.lecturers k x 0 h at in
+        let mine : HasKey built.lecturer_keys k x.key = rw lecturer_column (key_number (λ y. y.key) rows.lecturers k x h at) in
         let same : keys_at (student_keys rows.students) (ranking_at k) ≡ x.list = keys_same (student_keys rows.students) x.list (ranking_at k) (ranking_here k x h at) in
-        (k, mine, limit, rw student_column same)
+        (k, mine, ap (λ column. get_or column k 0) limit_column ∙ map_at (λ y. y.capacity) rows.lecturers k x 0 h at, rw student_column same)
 
     pub stands_for : StandsFor rows (spa_of students projects lecturers)
-    stands_for = record {
-      students = λ k d h. stands_student k (get_or rows.students k d) h (get_or_default rows.students k (get_or rows.students k d) d h);
-      student_count = length-map students (λ x. x.key) ∙ n_students;
-      projects = λ k d h. stands_project k (get_or rows.projects k d) h (get_or_default rows.projects k (get_or rows.projects k d) d h);
-      project_count = length-map projects (λ x. x.key) ∙ n_projects;
-      lecturers = λ k d h. stands_lecturer k (get_or rows.lecturers k d) h (get_or_default rows.lecturers k (get_or rows.lecturers k d) d h);
-      lecturer_count = length-map lecturers (λ x. x.key) ∙ n_lecturers;
-    }
+    stands_for = search (rules, stands_student, get_or_default, length-map, n_students, stands_project, n_projects, stands_lecturer, n_lecturers)

@@ -17,5 +17,4 @@ pub mod Lawful
 pub mod Stages
 pub mod Sorted
 pub mod OneOnly
-pub mod Rising
 pub mod OneInstance

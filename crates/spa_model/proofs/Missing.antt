@@ -1,9 +1,6 @@
 -- Numbered lecturers and the lines that they come from say the same of who is missing on a list.
-use Rattle.spa_model.proofs.Base.{◌≡◌, inl, inr, ℕ, ◌<◌, ◌≤◌, true, false, List, [], length, get_or, Some, None, Any, refl, sym, ◌∙◌, ap, arith, AllZip, cases_lt, length-map, AllZip-long, Rows, HasFault, ApplicantMissing, at_place, Student, Project, Lecturer, place, IsOn, HasKey, student_keys, IsLecturerOf, choices_at, lecturer_at, row_at, rank_at, Finds, MissesBelow}
-use Rattle.std.proofs.Common.{ltb}
-use Rattle.std.proofs.lemmas.Bool.Decides.{nat_tests}
+use Rattle.spa_model.proofs.Base.{◌≡◌, ℕ, ◌<◌, true, List, [], length, get_or, Some, None, Any, refl, sym, ◌∙◌, ap, arith, AllZip, length-map, AllZip-long, Rows, HasFault, ApplicantMissing, at_place, Student, Project, Lecturer, place, IsOn, HasKey, student_keys, IsLecturerOf, choices_at, lecturer_at, row_at, rank_at, Finds, MissesBelow, rules, ltb, nat_tests, rank_in}
 use Rattle.spa_rows.specs.Lines
-use Rattle.spa_model.specs.Spa.{rank_in}
 use Rattle.spa_model.proofs.Places.{get_or-place, place-get_or-le}
 use Rattle.spa_model.proofs.Keys.{one_number, key_number}
 use Rattle.spa_model.proofs.Zips.{zip_at}
@@ -16,10 +13,7 @@ pub ranked : (list : List ℕ) (s : ℕ) → IsOn list s → rank_in list s ≡ 
 ranked list s on none = let test : ltb (place list s) (length list) ≡ true = grind (arith, nat_tests) in let some : rank_in list s ≡ Some (place list s) = rw test refl in cc
 
 pub unranked : (list : List ℕ) (s : ℕ) → (IsOn list s → ⊥) → rank_in list s ≡ None
-unranked list s off = elim (cases_lt (place list s) (length list)) [
-  | inl on ↦ absurd (off on)
-  | inr past ↦ let test : ltb (place list s) (length list) ≡ false = grind (arith, nat_tests) in rw test refl
-]
+unranked list s off = search (rules, nat_tests)
 
 module _ (rows : Rows) (students : List Student) (projects : List Project) (lecturers : List Lecturer) (so : AreNumbered rows students projects) (lists : AllZip (IsLecturerOf (student_keys rows.students)) rows.lecturers lecturers) where
   pub lecturer_count : length lecturers ≡ length rows.lecturers
@@ -29,8 +23,7 @@ module _ (rows : Rows) (students : List Student) (projects : List Project) (lect
   pub row_of : (l : ℕ) (y : Lines.Lecturer) → l < length rows.lecturers → get_or rows.lecturers l y ≡ y → (z : Lecturer) × (get_or lecturers l z ≡ z) × IsLecturerOf (student_keys rows.students) y z
   row_of l y h at =
       let row = at_place lecturers l (omega (arith, lecturer_count)) in
-      let both : IsLecturerOf (student_keys rows.students) (get_or rows.lecturers l y) (get_or lecturers l row.0) = zip_at (IsLecturerOf (student_keys rows.students)) rows.lecturers lecturers l y row.0 h lists in
-      (row.0, row.1, rw (at, row.1) at both)
+      (row.0, row.1, rw (at, row.1) at (zip_at (IsLecturerOf (student_keys rows.students)) rows.lecturers lecturers l y row.0 h lists))
 
   module _ (y : Lines.Lecturer) (z : Lecturer) (is_z : IsLecturerOf (student_keys rows.students) y z) (s : ℕ) (x : Lines.Student) (low : s < length rows.students) (is_x : get_or rows.students s x ≡ x) where
     key_x : HasKey (student_keys rows.students) s x.key
@@ -44,8 +37,7 @@ module _ (rows : Rows) (students : List Student) (projects : List Project) (lect
     on_number (i, text, under, is_text, same) =
         let mine : HasKey (student_keys rows.students) (get_or z.ranking.items i 0) (get_or y.list i text) = zip_at (λ t n. HasKey (student_keys rows.students) n t) y.list z.ranking.items i text 0 under is_z.ranking in
         let is_s : get_or z.ranking.items i 0 ≡ s = one_number (student_keys rows.students) (get_or z.ranking.items i 0) s x.key so.rise_students (mine.0, mine.1 ∙ is_text ∙ same) key_x in
-        let here : place z.ranking.items (get_or z.ranking.items i 0) ≤ i = place-get_or-le z.ranking.items i 0 (omega (arith, long)) in
-        omega (arith, long, ap (place z.ranking.items) is_s)
+        omega (arith, long, ap (place z.ranking.items) is_s, place-get_or-le z.ranking.items i 0 (omega (arith, long)))
 
     pub on_text : IsOn z.ranking.items s → Any (λ text. text ≡ x.key) y.list
     on_text on =

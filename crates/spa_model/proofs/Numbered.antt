@@ -1,7 +1,6 @@
 -- Numbered rows and the lines that they come from say the same of applicants.
-use Rattle.spa_model.proofs.Base.{◌≡◌, ℕ, ◌<◌, List, [], length, get_or, Any, sym, ◌∙◌, ap, arith, AllZip, get_or_default, length-map, AllZip-long, Text, Rows, BadAt, HasFault, NotApplicant, at_place, Student, Project, Rise, HasKey, student_keys, project_keys, lecturer_keys, AreNumbers, IsStudentOf, IsProjectOf, choices_at, lecturer_at, Finds, IsApplicantOf}
+use Rattle.spa_model.proofs.Base.{◌≡◌, ℕ, ◌<◌, List, [], length, get_or, Any, sym, ◌∙◌, ap, arith, AllZip, get_or_default, length-map, AllZip-long, Text, Rows, BadAt, HasFault, NotApplicant, at_place, Student, Project, Rise, HasKey, student_keys, project_keys, lecturer_keys, AreNumbers, IsStudentOf, IsProjectOf, choices_at, lecturer_at, Finds, IsApplicantOf, FindsOne, IsApplicant}
 use Rattle.spa_rows.specs.Lines
-use Rattle.spa_rows.specs.Faults.{FindsOne, IsApplicant}
 use Rattle.spa_model.proofs.Keys.{one_number, key_number}
 use Rattle.spa_model.proofs.Ranks.{numbers_below}
 use Rattle.spa_model.proofs.Zips.{zip_at}
@@ -27,18 +26,14 @@ module _ (rows : Rows) (students : List Student) (projects : List Project) (so :
   choices_numbered s x h at =
       let row = at_place students s (omega (arith, student_count)) in
       let both : IsStudentOf (project_keys rows.projects) (get_or rows.students s x) (get_or students s row.0) = zip_at (IsStudentOf (project_keys rows.projects)) rows.students students s x row.0 h so.choices in
-      let here : choices_at students s ≡ row.0.choices.items = choices_here students s row.0 (omega (arith, student_count)) (sym row.1) in
-      let there : IsStudentOf (project_keys rows.projects) x row.0 = rw (at, row.1) at both in
-      rw here there.choices
+      rw (choices_here students s row.0 (omega (arith, student_count)) (sym row.1)) (rw (at, row.1) at both).choices
 
   -- the lecturer of a project has the text of the line
   pub lecturer_numbered : (p : ℕ) (x : Lines.Project) → p < length rows.projects → get_or rows.projects p x ≡ x → HasKey (lecturer_keys rows.lecturers) (lecturer_at projects p) x.lecturer
   lecturer_numbered p x h at =
       let row = at_place projects p (omega (arith, project_count)) in
       let both : IsProjectOf (lecturer_keys rows.lecturers) (get_or rows.projects p x) (get_or projects p row.0) = zip_at (IsProjectOf (lecturer_keys rows.lecturers)) rows.projects projects p x row.0 h so.offers in
-      let here : lecturer_at projects p ≡ row.0.lecturer = lecturer_here projects p row.0 (omega (arith, project_count)) (sym row.1) in
-      let there : IsProjectOf (lecturer_keys rows.lecturers) x row.0 = rw (at, row.1) at both in
-      rw here there.lecturer
+      rw (lecturer_here projects p row.0 (omega (arith, project_count)) (sym row.1)) (rw (at, row.1) at both).lecturer
 
   -- a choice is a project
   pub choice_known : (s k p : ℕ) (x : Lines.Student) → s < length rows.students → get_or rows.students s x ≡ x → k < length (choices_at students s) → get_or (choices_at students s) k p ≡ p → p < length rows.projects
@@ -50,8 +45,7 @@ module _ (rows : Rows) (students : List Student) (projects : List Project) (so :
   pub lecturer_known : (p : ℕ) → p < length rows.projects → lecturer_at projects p < length rows.lecturers
   lecturer_known p low =
       let x = at_place rows.projects p low in
-      let key : HasKey (lecturer_keys rows.lecturers) (lecturer_at projects p) x.0.lecturer = lecturer_numbered p x.0 low x.1 in
-      omega (arith, key.0, length-map rows.lecturers (λ q. q.key))
+      omega (arith, (lecturer_numbered p x.0 low x.1).0, length-map rows.lecturers (λ q. q.key))
 
   module _ (l : ℕ) (y : Lines.Lecturer) (low : l < length rows.lecturers) (is_y : get_or rows.lecturers l y ≡ y) where
     key_y : HasKey (lecturer_keys rows.lecturers) l y.key
@@ -93,8 +87,7 @@ module _ (rows : Rows) (students : List Student) (projects : List Project) (so :
     applicant_text text (s, key, finds) =
         let known : s < length rows.students = omega (arith, key.0, length-map rows.students (λ q. q.key)) in
         let x = at_place rows.students s known in
-        let its : HasKey (student_keys rows.students) s x.0.key = key_number (λ q. q.key) rows.students s x.0 known x.1 in
-        (s, x.0, known, x.1, (sym its.1 ∙ key.1, finds_text s x.0 known x.1 finds))
+        (s, x.0, known, x.1, (sym (key_number (λ q. q.key) rows.students s x.0 known x.1).1 ∙ key.1, finds_text s x.0 known x.1 finds))
 
   -- the fault NotApplicant, by number
   abbrev pub OthersAt : ℕ → Type 0

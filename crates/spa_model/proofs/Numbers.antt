@@ -1,8 +1,6 @@
 -- The number of a key, among keys that rise.
-use Rattle.spa_model.proofs.Base.{◌≡◌, ℕ, zero, suc, ◌+◌, ◌<◌, ◌≤◌, inl, inr, true, false, List, [], ◌∷◌, map, length, get_or, refl, sym, ◌∙◌, ap, arith, Contains, Less, Equal, Greater, Ordering, nat_cmp, is_lt, slice_cmp, bytes_eq, nat_list_cmp_total, length-map, get_or-map, bytes_eq-Decides, cases_lt, true≢false, Text, Rise, number_in}
+use Rattle.spa_model.proofs.Base.{◌≡◌, ℕ, zero, suc, ◌+◌, ◌<◌, ◌≤◌, true, false, List, [], ◌∷◌, map, length, get_or, refl, sym, ◌∙◌, ap, arith, Contains, Less, Equal, Greater, Ordering, nat_cmp, is_lt, slice_cmp, bytes_eq, nat_list_cmp_total, length-map, get_or-map, bytes_eq-Decides, true≢false, Text, Rise, number_in, rules, is_eq, ordering_reverse, position_or_len_is, passes_at_first, fails_before_first}
 use Rattle.std.specs.List.Sorted.{IsSortedBy}
-use Rattle.std.specs.Ordering.{is_eq, ordering_reverse}
-use Rattle.std.proofs.lemmas.List.Sums.{position_or_len_is, passes_at_first, fails_before_first}
 use Rattle.std.proofs.lemmas.Map.Text.{is_eq-slice_cmp}
 
 -- what holds of a row's key holds of the key at its place
@@ -41,10 +39,7 @@ pub number_none : {X : Type 0} (key : X → Text) (rows : List X) (text : Text) 
 number_none key rows text n below above =
     let size = length-map rows key in
     sym (position_or_len_is (λ t. bytes_eq t text) (map key rows) (length rows) [] (omega arith)
-    (λ k h. at_map key rows (λ t. bytes_eq t text ≡ false) k h (λ d. elim (cases_lt k n) [
-      | inl before ↦ not_equal (key (get_or rows k d)) text Less (below k d before) refl
-      | inr after ↦ not_equal (key (get_or rows k d)) text Greater (above k d after h) refl
-    ]))
+    (λ k h. at_map key rows (λ t. bytes_eq t text ≡ false) k h (λ d. grind (arith, at_map, not_equal)))
     (λ past. absurd (omega arith)))
 
 -- a number below the count is that of the text
@@ -53,10 +48,7 @@ number_is keys text h = (bytes_eq-Decides (get_or keys (number_in keys text) [])
 
 -- a key has a number below the count
 pub number_known : (keys : List Text) (text : Text) → Contains keys text → number_in keys text < length keys
-number_known keys text (k, h, e) = elim (cases_lt (number_in keys text) (length keys)) [
-  | inl less ↦ less
-  | inr past ↦ absurd (true≢false (sym ((bytes_eq-Decides (get_or keys k text) text).1 e) ∙ fails_before_first (λ t. bytes_eq t text) keys k text (omega arith)))
-]
+number_known keys text (k, h, e) = search (rules, true≢false, bytes_eq-Decides, fails_before_first)
 
 -- a number below the count is that of a key
 pub known_number : (keys : List Text) (text : Text) → number_in keys text < length keys → Contains keys text

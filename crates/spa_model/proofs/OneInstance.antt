@@ -1,18 +1,57 @@
 -- Of rows without a fault one instance alone is made.
-use Rattle.spa_model.proofs.Base.{◌≡◌, ◌≢◌, inl, inr, ℕ, zero, suc, ◌<◌, ◌≤◌, Bool, true, false, List, [], ◌∷◌, map, length, get_or, All, Contains, refl, sym, subst, ◌∙◌, ap, arith, bytes_eq, cases_lt, ext_get_or, get_or_default, get_or_past, get_or-take, length-map, length-take, IsDistinct-from_AllPairs, bytes_eq-Decides, Text, Rows, HasNoneBefore, KeyTwice, Memory, at_place, map_at, Spa, Rise, IsLawful, IsOn, place, choices_of, lecturer_of, capacity_of, limit_of, HasKey, keys_at, StandsFor, StandsStudent, StandsProject, StandsLecturer, number_in}
-use Rattle.std.specs.Prelude.{◌||◌, AllPairs}
-use Rattle.std.specs.List.{AllByRecursion, IsDistinct}
+use Rattle.spa_model.proofs.Base.{◌≡◌, ◌≢◌, inl, inr, ℕ, zero, suc, ◌<◌, ◌≤◌, Bool, true, false, List, [], ◌∷◌, map, length, get_or, All, Contains, refl, sym, subst, ◌∙◌, ap, arith, bytes_eq, cases_lt, ext_get_or, get_or_default, get_or_past, get_or-take, length-map, length-take, IsDistinct-from_AllPairs, bytes_eq-Decides, Text, Rows, HasNoneBefore, KeyTwice, Memory, at_place, map_at, Spa, Rise, IsLawful, IsOn, place, choices_of, lecturer_of, capacity_of, limit_of, HasKey, keys_at, StandsFor, StandsStudent, StandsProject, StandsLecturer, number_in, rules, ◌+◌, Less, Equal, Greater, nat_cmp, slice_cmp, nat_list_cmp_total, tied_itself, ◌||◌, AllByRecursion, nat_list_eq_equiv, is_member-Decides, length-le_from_is_member, IsEarlierKey, ranking_of, ◌-◌}
+use Rattle.std.specs.Prelude.{AllPairs}
+use Rattle.std.specs.List.{IsDistinct}
 use Rattle.std.specs.Set.{is_member}
-use Rattle.std.proofs.lemmas.Cmp.{nat_list_eq_equiv}
 use Rattle.std.proofs.lemmas.Map.Keys.{IsDistinct-cons}
-use Rattle.std.proofs.lemmas.Map.Made.{is_member-Decides, length-le_from_is_member}
 use Rattle.spa_rows.specs.Lines.{Lecturer, Project, Student}
-use Rattle.spa_rows.specs.Faults.{IsEarlierKey}
-use Rattle.spa_model.specs.Spa.{ranking_of}
 use Rattle.spa_model.proofs.Keys.{one_number}
 use Rattle.spa_model.proofs.Numbers.{number_is, number_known}
 use Rattle.spa_model.proofs.Places.{place-get_or-le}
-use Rattle.spa_model.proofs.Rising
+
+-- When two lists of keys that rise are one.
+never_both : (a b : Text) → slice_cmp nat_cmp a b ≡ Less → slice_cmp nat_cmp b a ≡ Less → ⊥
+never_both a b h g = let turned : slice_cmp nat_cmp b a ≡ Greater = rw (nat_list_cmp_total.antisymm b a, h) refl in cc
+
+pub never_itself : (a : Text) → slice_cmp nat_cmp a a ≡ Less → ⊥
+never_itself a h = let tied : slice_cmp nat_cmp a a ≡ Equal = tied_itself nat_list_cmp_total a in cc
+
+-- two lists that rise, as long as each other, where each of ys stands in xs
+module _ (xs ys : List Text) (up : Rise xs) (rise : Rise ys) (long : length xs ≡ length ys)
+    (there : (k : ℕ) → k < length ys → (m : ℕ) × (m < length xs) × (get_or xs m [] ≡ get_or ys k [])) where
+  strict : (k l : ℕ) (h : k < length ys) (g : l < length ys) → k < l → (there k h).0 < (there l g).0
+  strict k l h g low = elim (cases_lt (there k h).0 (there l g).0) [
+    | inl before ↦ before
+    | inr not ↦
+        let m = there k h in
+        let n = there l g in
+        let below : slice_cmp nat_cmp (get_or ys k []) (get_or ys l []) ≡ Less = rise k l [] low g in
+        grind (arith, never_both, never_itself)
+  ]
+
+  not_before : (k : ℕ) (h : k < length ys) → k ≤ (there k h).0
+  not_before zero h = omega arith
+  not_before (suc k) h =
+      let g : k < length ys = omega arith in
+      let before : k ≤ (there k g).0 = not_before k g in
+      omega (arith, strict k (suc k) g h (omega arith))
+
+  not_after : (d k : ℕ) (h : k < length ys) → k + d + 1 ≡ length ys → (there k h).0 + d + 1 ≤ length xs
+  not_after zero k h e = let in_range : (there k h).0 < length xs = (there k h).1 in omega arith
+  not_after (suc d) k h e =
+      let g : k + 1 < length ys = omega arith in
+      let step : (there k h).0 < (there (k + 1) g).0 = strict k (k + 1) h g (omega arith) in
+      omega (arith, not_after d (k + 1) g (omega arith))
+
+  own_place : (k : ℕ) (h : k < length ys) → (there k h).0 ≡ k
+  own_place k h =
+      let low : k ≤ (there k h).0 = not_before k h in
+      omega (arith, not_after (length ys - (k + 1)) k h (omega arith))
+
+  pub same_keys : xs ≡ ys
+  same_keys = ext_get_or [] xs ys long (λ k h.
+      let g : k < length ys = omega arith in
+      sym (ap (λ i. get_or xs i []) (own_place k g)) ∙ (there k g).2)
 
 -- ---- keys and numbers
 
@@ -30,15 +69,13 @@ pub numbers_back : (keys : List Text) (list : List ℕ) → Rise keys → All (�
 numbers_back keys [] rise all = refl
 numbers_back keys (n ∷ ns) rise all =
     let here : number_in keys (get_or keys n []) ≡ n = own_number keys n rise (all zero n (omega arith)) in
-    let rest : map (number_in keys) (keys_at keys ns) ≡ ns = numbers_back keys ns rise (λ k d h. all (suc k) d (omega arith)) in
-    cc
+    cc (numbers_back keys ns rise (λ k d h. all (suc k) d (omega arith)))
 
 -- two lists of numbers that have the same keys are one
 numbers_one : (keys others : List Text) (ns ms : List ℕ) → keys ≡ others → Rise keys → All (λ n. n < length keys) ns → All (λ n. n < length others) ms → keys_at keys ns ≡ keys_at others ms → ns ≡ ms
 numbers_one keys others ns ms same rise low below e =
     let low_too : All (λ n. n < length keys) ms = subst (λ (ks : List Text). All (λ n. n < length ks) ms) (sym same) below in
-    let here : keys_at keys ns ≡ keys_at keys ms = e ∙ ap (λ ks. keys_at ks ms) (sym same) in
-    sym (numbers_back keys ns rise low) ∙ ap (map (number_in keys)) here ∙ numbers_back keys ms rise low_too
+    sym (numbers_back keys ns rise low) ∙ ap (map (number_in keys)) (e ∙ ap (λ ks. keys_at ks ms) (sym same)) ∙ numbers_back keys ms rise low_too
 
 -- what is known of those on a list is known at each place
 pub all_on : (P : ℕ → Type 0) (list : List ℕ) → ((n : ℕ) → IsOn list n → P n) → All P list
@@ -95,50 +132,36 @@ module _ {X : Type 0} (key : X → Text) (lines : List X) (keys : List Text) (lo
           absurd (omega (arith, length-map lines key))
 
 -- keys that rise, and hold each key of others that rise, as many as they are, are these
-keys_one : (ks ls : List Text) → Rise ks → Rise ls → length ks ≡ length ls → ((text : Text) → Contains ls text → Contains ks text) → ks ≡ ls
-keys_one ks ls up rise long into = Rising.same_keys ks ls up rise long (λ k h.
+pub keys_one : (ks ls : List Text) → Rise ks → Rise ls → length ks ≡ length ls → ((text : Text) → Contains ls text → Contains ks text) → ks ≡ ls
+keys_one ks ls up rise long into = same_keys ks ls up rise long (λ k h.
     let c : Contains ks (get_or ls k []) = into (get_or ls k []) (own_key ls k h) in
     (c.0, c.1, get_or_default ks c.0 [] (get_or ls k []) c.1 ∙ c.2))
 
 -- ---- the lines of an instance
 
 module _ (rows : Rows) (i : Spa) (lawful : IsLawful i) (for : StandsFor rows i) where
-  stands_student : (k : ℕ) (x : Student) → k < length rows.students → get_or rows.students k x ≡ x → StandsStudent i x
-  stands_student k x low at = rw at at (for.students k x low)
+  -- what holds of each line holds of the line at a place
+  here : {X : Type 0} (P : X → Type 0) (lines : List X) → All P lines → (k : ℕ) (x : X) → k < length lines → get_or lines k x ≡ x → P x
+  here P lines all k x low at = rw at at (all k x low)
 
-  stands_project : (k : ℕ) (x : Project) → k < length rows.projects → get_or rows.projects k x ≡ x → StandsProject i x
-  stands_project k x low at = rw at at (for.projects k x low)
+  pub student_there : (k : ℕ) (x : Student) → k < length rows.students → get_or rows.students k x ≡ x → Contains i.student_keys x.key
+  student_there k x low at = let s = here (StandsStudent i) rows.students for.students k x low at in known_key i.student_keys s.0 x.key s.1
 
-  stands_lecturer : (k : ℕ) (x : Lecturer) → k < length rows.lecturers → get_or rows.lecturers k x ≡ x → StandsLecturer i x
-  stands_lecturer k x low at = rw at at (for.lecturers k x low)
+  pub project_there : (k : ℕ) (x : Project) → k < length rows.projects → get_or rows.projects k x ≡ x → Contains i.project_keys x.key
+  project_there k x low at = let s = here (StandsProject i) rows.projects for.projects k x low at in known_key i.project_keys s.0 x.key s.1
 
-  student_there : (k : ℕ) (x : Student) → k < length rows.students → get_or rows.students k x ≡ x → Contains i.student_keys x.key
-  student_there k x low at = let s = stands_student k x low at in known_key i.student_keys s.0 x.key s.1
-
-  project_there : (k : ℕ) (x : Project) → k < length rows.projects → get_or rows.projects k x ≡ x → Contains i.project_keys x.key
-  project_there k x low at = let s = stands_project k x low at in known_key i.project_keys s.0 x.key s.1
-
-  lecturer_there : (k : ℕ) (x : Lecturer) → k < length rows.lecturers → get_or rows.lecturers k x ≡ x → Contains i.lecturer_keys x.key
-  lecturer_there k x low at = let s = stands_lecturer k x low at in known_key i.lecturer_keys s.0 x.key s.1
+  pub lecturer_there : (k : ℕ) (x : Lecturer) → k < length rows.lecturers → get_or rows.lecturers k x ≡ x → Contains i.lecturer_keys x.key
+  lecturer_there k x low at = let s = here (StandsLecturer i) rows.lecturers for.lecturers k x low at in known_key i.lecturer_keys s.0 x.key s.1
 
   -- what a line says, at the number of its key
-  student_says : (k : ℕ) (x : Student) (n : ℕ) → k < length rows.students → get_or rows.students k x ≡ x → HasKey i.student_keys n x.key → keys_at i.project_keys (choices_of i n) ≡ x.list
-  student_says k x n low at own =
-      let s = stands_student k x low at in
-      let one : s.0 ≡ n = one_number i.student_keys s.0 n x.key lawful.student_keys_rise s.1 own in
-      rw one at s.2
+  pub student_says : (k : ℕ) (x : Student) (n : ℕ) → k < length rows.students → get_or rows.students k x ≡ x → HasKey i.student_keys n x.key → keys_at i.project_keys (choices_of i n) ≡ x.list
+  student_says k x n low at own = search (rules, here (StandsStudent i) rows.students for.students, one_number)
 
-  project_says : (k : ℕ) (x : Project) (n : ℕ) → k < length rows.projects → get_or rows.projects k x ≡ x → HasKey i.project_keys n x.key → (capacity_of i n ≡ x.capacity) × (get_or i.lecturer_keys (lecturer_of i n) [] ≡ x.lecturer)
-  project_says k x n low at own =
-      let s = stands_project k x low at in
-      let one : s.0 ≡ n = one_number i.project_keys s.0 n x.key lawful.project_keys_rise s.1 own in
-      (rw one at s.2, rw one at s.3)
+  pub project_says : (k : ℕ) (x : Project) (n : ℕ) → k < length rows.projects → get_or rows.projects k x ≡ x → HasKey i.project_keys n x.key → (capacity_of i n ≡ x.capacity) × (get_or i.lecturer_keys (lecturer_of i n) [] ≡ x.lecturer)
+  project_says k x n low at own = search (rules, here (StandsProject i) rows.projects for.projects, one_number)
 
-  lecturer_says : (k : ℕ) (x : Lecturer) (n : ℕ) → k < length rows.lecturers → get_or rows.lecturers k x ≡ x → HasKey i.lecturer_keys n x.key → (limit_of i n ≡ x.capacity) × (keys_at i.student_keys (ranking_of i n) ≡ x.list)
-  lecturer_says k x n low at own =
-      let s = stands_lecturer k x low at in
-      let one : s.0 ≡ n = one_number i.lecturer_keys s.0 n x.key lawful.lecturer_keys_rise s.1 own in
-      (rw one at s.2, rw one at s.3)
+  pub lecturer_says : (k : ℕ) (x : Lecturer) (n : ℕ) → k < length rows.lecturers → get_or rows.lecturers k x ≡ x → HasKey i.lecturer_keys n x.key → (limit_of i n ≡ x.capacity) × (keys_at i.student_keys (ranking_of i n) ≡ x.list)
+  lecturer_says k x n low at own = search (rules, here (StandsLecturer i) rows.lecturers for.lecturers, one_number)
 
 -- ---- what numbers are on the lists of a lawful instance
 
@@ -147,10 +170,7 @@ module _ (i : Spa) (lawful : IsLawful i) where
   choices_below s = all_on (λ p. p < length i.project_keys) (choices_of i s) (λ p on. omega (arith, lawful.known s p on, lawful.project_key_rows))
 
   has_list : (s p : ℕ) → IsOn (choices_of i s) p → s < length i.choices
-  has_list s p on = elim (cases_lt s (length i.choices)) [
-    | inl low ↦ low
-    | inr past ↦ let none : choices_of i s ≡ [] = get_or_past i.choices s [] past in absurd (omega (arith, ap length none))
-  ]
+  has_list s p on = search (rules, get_or_past)
 
   pub ranking_below : (l : ℕ) → All (λ s. s < length i.student_keys) (ranking_of i l)
   ranking_below l = all_on (λ s. s < length i.student_keys) (ranking_of i l) (λ s on.
@@ -237,13 +257,4 @@ module _ (rows : Rows) (none : HasNoneBefore rows Memory) (i j : Spa) (li : IsLa
   same_limits = ext_get_or 0 i.limits j.limits (li.lecturer_rows ∙ as_many_lecturers ∙ sym lj.lecturer_rows) (λ l h. (lecturer_at l (omega (arith, li.lecturer_rows))).0)
 
   pub instance_is_one : i ≡ j
-  instance_is_one = λ k. record {
-    student_keys = same_students k;
-    choices = same_choices k;
-    project_keys = same_projects k;
-    lecturers = same_offers k;
-    capacities = same_capacities k;
-    lecturer_keys = same_lecturers k;
-    rankings = same_rankings k;
-    limits = same_limits k;
-  }
+  instance_is_one = search (rules, same_students, same_choices, same_projects, same_offers, same_capacities, same_lecturers, same_rankings, same_limits)

@@ -1,6 +1,5 @@
 -- At most one letter, and one best matching.
-use Rattle.spa_model.proofs.Base.{◌≡◌, ◌∙◌, inl, inr, ℕ, List, Option, Some, None, refl, sym, ap, arith, ext_get_or, Spa, project_of}
-use Rattle.spa_model.specs.Spa.{Blocks, IsAsGood, IsBest}
+use Rattle.spa_model.proofs.Base.{◌≡◌, ◌∙◌, inl, inr, ℕ, List, Option, Some, None, refl, sym, ap, arith, ext_get_or, Spa, project_of, Blocks, IsAsGood, IsBest}
 use Rattle.spa_model.specs.declared.letter.Letter.{Letter}
 use Rattle.spa_model.specs.declared.letter.Letter.TheVariants.{A, B, C}
 
@@ -8,12 +7,7 @@ pub one_letter : (i : Spa) (m : List (Option ℕ)) (s p : ℕ) (x y : Letter) �
 one_letter i m s p A A a b = refl
 one_letter i m s p B B a b = refl
 one_letter i m s p C C a b = refl
-one_letter i m s p A B a b = absurd (omega (arith, a.2, b.2))
-one_letter i m s p A C a b = absurd (omega (arith, a.1, b.1))
-one_letter i m s p B A a b = absurd (omega (arith, a.2, b.2))
-one_letter i m s p B C a b = absurd (omega (arith, a.1, b.1))
-one_letter i m s p C A a b = absurd (omega (arith, a.1, b.1))
-one_letter i m s p C B a b = absurd (omega (arith, a.1, b.1))
+one_letter i m s p x y a b = absurd (omega arith)
 
 pub best_is_one : (i : Spa) (m n : List (Option ℕ)) → IsBest i m → IsBest i n → m ≡ n
 best_is_one i m n a b = ext_get_or None m n (a.stable.matching.students ∙ sym b.stable.matching.students) (λ s h. each s (project_of m s) (project_of n s) (a.best n b.stable s) (b.best m a.stable s))

@@ -1,11 +1,7 @@
 -- The faults of pairs, among the first rows.
-use Rattle.spa_model.proofs.Base.{◌≡◌, ◌↔◌, inl, inr, ℕ, ◌+◌, ◌<◌, ◌≤◌, Bool, true, false, cond, eqb, List, [], ◌∷◌, ◌++◌, map, length, take, set, get_or, Option, Some, refl, sym, ◌∙◌, ap, arith, Contains, Any, count_by, cases_lt, cases_eq, eq-eqb, ne_eqb, get_or-map, get_or_default, get_or-take, length-map, length-take-le, length-set, get_or-set_same, get_or-set_other, take_more, count_by_more_no, sum_by-cons, Pair, IsLeastOf, BadBelow, MatchingFault, NoSuchStudent, NoSuchProject, NotAcceptable, StudentTwice, ProjectOver, LecturerOver, Spa, IsLawful, IsAcceptable, lecturer_of, capacity_of, limit_of, number_in, student_in, project_in, lecturer_in, HasNone}
-use Rattle.std.proofs.lemmas.List.{take-map}
+use Rattle.spa_model.proofs.Base.{◌≡◌, ◌↔◌, inl, inr, ℕ, ◌+◌, ◌<◌, ◌≤◌, Bool, true, false, cond, eqb, List, [], ◌∷◌, ◌++◌, map, length, take, set, get_or, Option, Some, refl, sym, ◌∙◌, ap, arith, Contains, Any, count_by, cases_lt, cases_eq, eq-eqb, ne_eqb, get_or-map, get_or_default, get_or-take, length-map, length-take-le, length-set, get_or-set_same, get_or-set_other, take_more, count_by_more_no, sum_by-cons, Pair, IsLeastOf, BadBelow, MatchingFault, NoSuchStudent, NoSuchProject, NotAcceptable, StudentTwice, ProjectOver, LecturerOver, Spa, IsLawful, IsAcceptable, lecturer_of, capacity_of, limit_of, number_in, student_in, project_in, lecturer_in, HasNone, rules, take-map, count_by_more_yes, least_row, least_skip, least_take}
 use Rattle.std.proofs.lemmas.List.Elements.{Contains-push, Contains-append_left, Contains-push_cases}
-use Rattle.std.proofs.lemmas.List.Sums.{count_by_more_yes}
-use Rattle.spa_rows.specs.Least.{least_row}
 use Rattle.spa_model.specs.declared.matching.MatchingFault.TheVariants.{Memory}
-use Rattle.spa_rows.proofs.LeastRow.{least_skip, least_take}
 use Rattle.spa_model.proofs.Numbers.{number_known, known_number, number_is}
 
 -- the pair at j has the fault
@@ -71,9 +67,7 @@ project_there i lines numbers lawful none is n x h e =
 pub same_student : (i : Spa) (x y : Pair) → IsLawful i → student_in i x < length i.choices → student_in i y ≡ student_in i x → y.student ≡ x.student
 same_student i x y lawful h e =
     let below : student_in i x < length i.student_keys = omega (arith, lawful.student_rows) in
-    let here : get_or i.student_keys (student_in i x) [] ≡ x.student = number_is i.student_keys x.student below in
-    let there : get_or i.student_keys (student_in i y) [] ≡ y.student = number_is i.student_keys y.student (rw e below) in
-    sym there ∙ ap (λ n. get_or i.student_keys n []) e ∙ here
+    sym (number_is i.student_keys y.student (rw e below)) ∙ ap (λ n. get_or i.student_keys n []) e ∙ number_is i.student_keys x.student below
 
 -- a student of an earlier pair, by the text and by the number
 pub stands_before : (i : Spa) (lines : List Pair) (numbers : List ℕ) (n : ℕ) (x : Pair) → numbers ≡ map (student_in i) lines → n < length lines → Any (λ y. y.student ≡ x.student) (take n lines) → Contains (take n numbers) (student_in i x)
@@ -102,10 +96,8 @@ AreMarks seen numbers n = (s : ℕ) → s < length seen → (get_or seen s false
 
 pub marks_more : (seen : List Bool) (numbers : List ℕ) (n t : ℕ) → n < length numbers → get_or numbers n 0 ≡ t → t < length seen → AreMarks seen numbers n → AreMarks (set seen t true) numbers (n + 1)
 marks_more seen numbers n t h e below marks s k =
-    let more : take (n + 1) numbers ≡ take n numbers ++ t ∷ [] = take_more numbers n 0 h ∙ ap (λ x. take n numbers ++ x ∷ []) e in
-    let size : length (set seen t true) ≡ length seen = length-set seen t true in
-    let old = marks s (omega arith) in
-    rw more (elim (cases_eq s t) [
+    let old = marks s (omega (arith, length-set seen t true)) in
+    rw (take_more numbers n 0 h ∙ ap (λ x. take n numbers ++ x ∷ []) e) (elim (cases_eq s t) [
       | inl same ↦ rw same (λ _. Contains-push (take n numbers) t, λ _. get_or-set_same seen t true false below)
       | inr other ↦ (
         λ now. Contains-append_left (take n numbers) (t ∷ []) s (old.0 (rw (get_or-set_other seen t s true false other) at now)),
@@ -121,12 +113,7 @@ abbrev pub AreCounts : List ℕ → List ℕ → ℕ → Type 0
 AreCounts counts numbers n = (q : ℕ) → q < length counts → get_or counts q 0 ≡ count_by (λ k. eqb k q) (take n numbers)
 
 pub counts_more : (counts numbers : List ℕ) (n t : ℕ) → n < length numbers → get_or numbers n 0 ≡ t → t < length counts → AreCounts counts numbers n → AreCounts (set counts t (get_or counts t 0 + 1)) numbers (n + 1)
-counts_more counts numbers n t h e below are q k =
-    let size : length (set counts t (get_or counts t 0 + 1)) ≡ length counts = length-set counts t (get_or counts t 0 + 1) in
-    elim (cases_eq q t) [
-      | inl same ↦ rw same (get_or-set_same counts t (get_or counts t 0 + 1) 0 below ∙ ap (λ x. x + 1) (are t below) ∙ sym (count_by_more_yes (λ x. eqb x t) numbers n 0 h (eq-eqb (get_or numbers n 0) t e)))
-      | inr other ↦ get_or-set_other counts t q (get_or counts t 0 + 1) 0 other ∙ are q (omega arith) ∙ sym (count_by_more_no (λ x. eqb x q) numbers n 0 h (ne_eqb (get_or numbers n 0) q (λ f. other (sym f ∙ e))))
-    ]
+counts_more counts numbers n t h e below are q k = search (rules, length-set, get_or-set_same, count_by_more_yes, eq-eqb, get_or-set_other, count_by_more_no, ne_eqb)
 
 -- a count over a mapped list
 pub count_by-map : {X Y : Type 0} (p : Y → Bool) (f : X → Y) (xs : List X) → count_by p (map f xs) ≡ count_by (λ x. p (f x)) xs

@@ -1,7 +1,6 @@
 -- Lemmas on the table of places.
-use Rattle.spa_model.proofs.Base.{◌≡◌, ◌≢◌, inl, inr, ℕ, ◌+◌, ◌<◌, ◌≤◌, true, eqb, List, [], length, length-set, get_or, set, Option, Some, None, All, sym, ◌∙◌, ap, subst, arith, AllPairs, cases_lt, cases_eq, eqb-true, get_or-set_same, get_or-set_other, get_or_default, get_or-take, length-take, Any-from_list_any, IsDistinct-from_AllPairs, AllZip-long, Text, Repeats, place, HasKey, AreNumbers}
+use Rattle.spa_model.proofs.Base.{◌≡◌, ◌≢◌, inl, inr, ℕ, ◌+◌, ◌<◌, ◌≤◌, true, eqb, List, [], length, length-set, get_or, set, Option, Some, None, All, sym, ◌∙◌, ap, subst, arith, AllPairs, cases_lt, cases_eq, eqb-true, get_or-set_same, get_or-set_other, get_or_default, get_or-take, length-take, Any-from_list_any, IsDistinct-from_AllPairs, AllZip-long, Text, Repeats, place, HasKey, AreNumbers, Decides-eqb}
 use Rattle.std.specs.List.{Any}
-use Rattle.std.proofs.lemmas.Bool.Decides.{Decides-eqb}
 use Rattle.std.proofs.lemmas.Map.Steps.{length-le_from_distinct_below}
 use Rattle.spa_model.proofs.Places.{place-injective, place-get_or}
 use Rattle.spa_model.proofs.Zips.{zip_at, zip_all}
@@ -15,7 +14,6 @@ pub record AreRanksBelow (n : ℕ) (list : List ℕ) (i : ℕ) (ranks : List (Op
 pub one_rank : (n : ℕ) (list : List ℕ) (i s : ℕ) (ranks : List (Option ℕ)) → AllPairs (λ a b. a ≢ b) list → i < length list → s ≡ get_or list i s → s < n → AreRanksBelow n list i ranks → AreRanksBelow n list (i + 1) (set ranks s (Some i))
 one_rank n list i s ranks apart h at l so =
     let here : place list s ≡ i = subst (λ t. place list t ≡ i) (sym at) (place-get_or list i s apart h) in
-    let long : length ranks ≡ n = so.count in
     let mine : get_or (set ranks s (Some i)) s None ≡ Some i = get_or-set_same ranks s (Some i) None (omega arith) in
     record {
       count = length-set ranks s (Some i) ∙ so.count;
@@ -24,8 +22,7 @@ one_rank n list i s ranks apart h at l so =
         | inr other ↦ get_or-set_other ranks s t (Some i) None other ∙ so.before t k (before_here t k b other)
       ];
       after = λ t k b.
-          let other : t ≢ s = λ same. absurd (omega (arith, ap (place list) same)) in
-          get_or-set_other ranks s t (Some i) None other ∙ so.after t k (omega arith);
+          get_or-set_other ranks s t (Some i) None (λ same. absurd (omega (arith, ap (place list) same))) ∙ so.after t k (omega arith);
     }
   where
     before_here : (t : ℕ) → t < n → place list t < i + 1 → t ≢ s → place list t < i
@@ -40,9 +37,7 @@ one_rank n list i s ranks apart h at l so =
 pub at_most : (list : List ℕ) (n : ℕ) → AllPairs (λ a b. a ≢ b) list → All (λ s. s < n) list → length list ≤ n
 at_most list n apart below = length-le_from_distinct_below list n (IsDistinct-from_AllPairs Decides-eqb list apart) (λ q any.
     let on : Any (λ x. eqb q x ≡ true) list = Any-from_list_any (eqb q) list any in
-    let same : q ≡ on.1 = eqb-true q on.1 on.4 in
-    let low : get_or list on.0 on.1 < n = below on.0 on.1 on.2 in
-    omega (arith, on.3))
+    omega (arith, on.3, eqb-true q on.1 on.4))
 
 -- texts, none twice, have numbers, none twice
 pub distinct_numbers : (keys : List Text) (texts : List Text) (numbers : List ℕ) → AreNumbers keys texts numbers → (Repeats texts → ⊥) → AllPairs (λ a b. a ≢ b) numbers

@@ -1,23 +1,12 @@
 -- What is said of sorted rows holds of the rows.
-use Rattle.spa_model.proofs.Base.{ℕ, ◌∙◌, arith, Rows, HasNoneBefore, IsRefusal, TooMany, BadKey, KeyTwice, BadCapacity, NoSuchLecturer, RepeatInList, ListTooLong, NotApplicant, ApplicantMissing, Memory, SameLines, same_lines_sym, none_before_carry, Spa, StandsFor, StandsStudent, StandsProject, StandsLecturer}
-use Rattle.std.proofs.lemmas.List.Sorted.{All-permutation, IsPermutation-sym, length_permutation}
+use Rattle.spa_model.proofs.Base.{ℕ, ◌∙◌, arith, Rows, HasNoneBefore, IsRefusal, KeyTwice, NoSuchLecturer, Memory, SameLines, same_lines_sym, none_before_carry, Spa, StandsFor, StandsStudent, StandsProject, StandsLecturer, All-permutation, IsPermutation-sym, length_permutation, first_fault_carry}
 use Rattle.spa_rows.specs.declared.faults.InstanceFault.{InstanceFault}
-use Rattle.spa_rows.specs.declared.faults.InstanceFault.TheVariants.{NoSuchProject}
-use Rattle.spa_rows.proofs.Carry.{first_fault_carry}
 
 -- the sorted rows are refused as the rows are
 pub refusal_of_rows : (rows sorted : Rows) → SameLines rows sorted → HasNoneBefore rows NoSuchLecturer → (fault : InstanceFault) (r : ℕ) → IsRefusal sorted fault r → IsRefusal rows fault r
-refusal_of_rows rows sorted same none TooMany r first = first_fault_carry sorted rows (same_lines_sym rows sorted same) TooMany (λ e. cc) r first
-refusal_of_rows rows sorted same none BadKey r first = first_fault_carry sorted rows (same_lines_sym rows sorted same) BadKey (λ e. cc) r first
 refusal_of_rows rows sorted same none KeyTwice r first = absurd (none_before_carry rows sorted same NoSuchLecturer none KeyTwice (omega arith) r first.here)
-refusal_of_rows rows sorted same none BadCapacity r first = first_fault_carry sorted rows (same_lines_sym rows sorted same) BadCapacity (λ e. cc) r first
-refusal_of_rows rows sorted same none NoSuchLecturer r first = first_fault_carry sorted rows (same_lines_sym rows sorted same) NoSuchLecturer (λ e. cc) r first
-refusal_of_rows rows sorted same none NoSuchProject r first = first_fault_carry sorted rows (same_lines_sym rows sorted same) NoSuchProject (λ e. cc) r first
-refusal_of_rows rows sorted same none RepeatInList r first = first_fault_carry sorted rows (same_lines_sym rows sorted same) RepeatInList (λ e. cc) r first
-refusal_of_rows rows sorted same none ListTooLong r first = first_fault_carry sorted rows (same_lines_sym rows sorted same) ListTooLong (λ e. cc) r first
-refusal_of_rows rows sorted same none NotApplicant r first = first_fault_carry sorted rows (same_lines_sym rows sorted same) NotApplicant (λ e. cc) r first
-refusal_of_rows rows sorted same none ApplicantMissing r first = first_fault_carry sorted rows (same_lines_sym rows sorted same) ApplicantMissing (λ e. cc) r first
 refusal_of_rows rows sorted same none Memory r first = first
+refusal_of_rows rows sorted same none fault r first = first_fault_carry sorted rows (same_lines_sym rows sorted same) fault (λ e. cc) r first
 
 -- an instance stands for the rows as for the sorted ones
 pub stands_for_rows : (rows sorted : Rows) → SameLines rows sorted → (i : Spa) → StandsFor sorted i → StandsFor rows i

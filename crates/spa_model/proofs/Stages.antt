@@ -1,5 +1,5 @@
 -- What one stage of building hands to the next.
-use Rattle.spa_model.proofs.Base.{◌≡◌, ℕ, ◌<◌, List, length, get_or, Option, All, refl, sym, ◌∙◌, subst, arith, AllZip, get_or_default, length-map, Rows, IsLeastOf, HasFault, HasNoneBefore, NamesNone, NotApplicant, ApplicantMissing, Student, Project, Lecturer, student_keys, project_keys, lecturer_keys, IsStudentOf, IsProjectOf, IsLecturerOf, MissesBelow}
+use Rattle.spa_model.proofs.Base.{◌≡◌, ℕ, ◌<◌, List, length, get_or, Option, All, refl, sym, ◌∙◌, subst, arith, AllZip, get_or_default, length-map, Rows, IsLeastOf, HasFault, HasNoneBefore, NamesNone, NotApplicant, ApplicantMissing, Student, Project, Lecturer, student_keys, project_keys, lecturer_keys, IsStudentOf, IsProjectOf, IsLecturerOf, MissesBelow, rules}
 use Rattle.spa_rows.specs.Lines
 use Rattle.spa_model.proofs.Keys.{is_key_of}
 use Rattle.spa_model.proofs.Zips.{zip_all}
@@ -11,13 +11,7 @@ use Rattle.spa_model.proofs.Numbered
 use Rattle.spa_model.proofs.Missing
 
 pub numbered : (rows : Rows) (students : List Student) (projects : List Project) → AreGood rows → AllZip (IsStudentOf (project_keys rows.projects)) rows.students students → AllZip (IsProjectOf (lecturer_keys rows.lecturers)) rows.projects projects → AreNumbered rows students projects
-numbered rows students projects good choices offers = record {
-  rise_students = good.rise_students;
-  rise_projects = good.rise_projects;
-  rise_lecturers = good.rise_lecturers;
-  choices = choices;
-  offers = offers;
-}
+numbered rows students projects good choices offers = search rules
 
 module _ (rows : Rows) (students : List Student) (projects : List Project) (so : AreNumbered rows students projects) where
   -- choices are projects

@@ -1,7 +1,6 @@
 -- Lemmas on two lists, place by place.
-use Rattle.spa_model.proofs.Base.{◌≡◌, ℕ, zero, suc, ◌+◌, ◌<◌, List, [], ◌∷◌, ◌++◌, length, get_or, take, map, refl, sym, ◌∙◌, ap, subst, arith, AllZip, at_place, map_at, take_more, get_or-map, length-map}
+use Rattle.spa_model.proofs.Base.{◌≡◌, ℕ, zero, suc, ◌+◌, ◌<◌, List, [], ◌∷◌, ◌++◌, length, get_or, take, map, refl, sym, ◌∙◌, ap, subst, arith, AllZip, at_place, map_at, take_more, get_or-map, length-map, all_zipped_more}
 use Rattle.std.specs.List.{Any}
-use Rattle.std.proofs.lemmas.Slice.Zip.{all_zipped_more}
 
 -- one more of each
 pub zip_more : {A B : Type 0} (R : A → B → Type 0) (xs : List A) (ys : List B) (i : ℕ) (x : A) (y : B) → i < length xs → x ≡ get_or xs i x → AllZip R (take i xs) ys → R x y → AllZip R (take (i + 1) xs) (ys ++ y ∷ [])
@@ -48,5 +47,4 @@ pub any_unmap : {A B : Type 0} (P : B → Type 0) (f : A → B) (xs : List A) �
 any_unmap P f xs (k, y, h, at, p) =
     let long : k < length xs = omega (arith, length-map xs f) in
     let found = at_place xs k long in
-    let same : y ≡ f found.0 = sym at ∙ map_at f xs k found.0 y long found.1 in
-    (k, found.0, long, found.1, subst P same p)
+    (k, found.0, long, found.1, subst P (sym at ∙ map_at f xs k found.0 y long found.1) p)

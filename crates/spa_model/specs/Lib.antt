@@ -1,9 +1,5 @@
-pub use Rattle.spa_rows.specs.Form
 pub use Rattle.spa_rows.specs.Lines
-pub use Rattle.spa_rows.specs.Least
 pub use Rattle.spa_rows.specs.Faults
 pub mod Spa
-pub mod Built
 pub mod Pairs
-pub mod Assigned
 pub mod inner

@@ -1,15 +1,41 @@
--- What can be wrong with the pairs of a matching, and when a matching has exactly these pairs.
-use Rattle.std.specs.Prelude.{◌≡◌, ◌<◌, ◌≤◌, ◌+◌, ◌==◌, ℕ, List, Option, Some, All, Any, Contains, length, take, count_by}
+-- When an instance stands for rows, what can be wrong with pairs, and when they make a matching.
+use Rattle.std.specs.Prelude.{◌≡◌, ◌<◌, ℕ, List, [], All, map, length, slice_index_or, ◌≤◌, ◌+◌, ◌==◌, Option, Some, Any, Contains, take, count_by}
+use Rattle.spa_rows.specs.Lines.{Text, Lecturer, Project, Student, Rows, Pair}
+use Rattle.spa_model.specs.Spa.{Spa, choices_of, lecturer_of, capacity_of, ranking_of, limit_of, project_of, IsAcceptable}
 use Rattle.std.specs.List.{position_or_len}
 use Rattle.std.specs.Str.{bytes_eq}
-use Rattle.spa_rows.specs.Lines.{Text, Pair}
-use Rattle.spa_rows.specs.Least.{BadAt}
-use Rattle.spa_model.specs.Spa.{Spa, lecturer_of, capacity_of, limit_of, project_of, IsAcceptable}
+use Rattle.spa_rows.specs.Faults.{BadAt}
 use Rattle.spa_model.specs.declared.matching.MatchingFault.{MatchingFault}
-use Rattle.spa_model.specs.declared.matching.MatchingFault.TheVariants.{NoSuchStudent, NoSuchProject, NotAcceptable, StudentTwice, ProjectOver}
-use Rattle.spa_model.specs.declared.matching.MatchingFault.TheVariants.{LecturerOver, Memory}
+use Rattle.spa_model.specs.declared.matching.MatchingFault.TheVariants.{NoSuchStudent, NoSuchProject, NotAcceptable, StudentTwice, ProjectOver, LecturerOver, Memory}
 
--- the number of a key; the count of keys where the text is none
+-- the text is the key with this number
+abbrev pub HasKey : List Text → ℕ → Text → Type 0
+HasKey keys n text = (n < length keys) × (slice_index_or keys n [] ≡ text)
+
+-- the keys of the numbers on a list
+abbrev pub keys_at : List Text → List ℕ → List Text
+keys_at keys list = map (λ n. slice_index_or keys n []) list
+
+abbrev pub StandsStudent : Spa → Student → Type 0
+StandsStudent i x = (s : ℕ) × HasKey i.student_keys s x.key × (keys_at i.project_keys (choices_of i s) ≡ x.list)
+
+abbrev pub StandsProject : Spa → Project → Type 0
+StandsProject i x =
+    (p : ℕ) × HasKey i.project_keys p x.key × (capacity_of i p ≡ x.capacity) × (slice_index_or i.lecturer_keys (lecturer_of i p) [] ≡ x.lecturer)
+
+abbrev pub StandsLecturer : Spa → Lecturer → Type 0
+StandsLecturer i x = (l : ℕ) × HasKey i.lecturer_keys l x.key × (limit_of i l ≡ x.capacity) × (keys_at i.student_keys (ranking_of i l) ≡ x.list)
+
+-- the instance has exactly the lines of the rows; only one lawful instance has, as its keys rise
+pub record StandsFor (rows : Rows) (i : Spa) : Type 0 where
+  pub students : All (StandsStudent i) rows.students
+  pub student_count : length i.student_keys ≡ length rows.students
+  pub projects : All (StandsProject i) rows.projects
+  pub project_count : length i.project_keys ≡ length rows.projects
+  pub lecturers : All (StandsLecturer i) rows.lecturers
+  pub lecturer_count : length i.lecturer_keys ≡ length rows.lecturers
+
+-- the number of a key, from 0; if the text is no key, the number of keys
 abbrev pub number_in : List Text → Text → ℕ
 number_in keys text = position_or_len (λ key. bytes_eq key text) keys
 
@@ -23,7 +49,7 @@ project_in i x = number_in i.project_keys x.project
 abbrev pub lecturer_in : Spa → Pair → ℕ
 lecturer_in i x = lecturer_of i (project_in i x)
 
--- the row r has the fault; a project or lecturer is over capacity from the row on that goes over
+-- row r has the fault; capacities are compared with the pairs up to and including the row
 abbrev pub HasPairFault : Spa → List Pair → MatchingFault → ℕ → Type 0
 HasPairFault i lines NoSuchStudent r = BadAt lines (λ x. x.row) (λ _ x. Contains i.student_keys x.student → ⊥) r
 HasPairFault i lines NoSuchProject r = BadAt lines (λ x. x.row) (λ _ x. Contains i.project_keys x.project → ⊥) r
@@ -35,7 +61,7 @@ HasPairFault i lines LecturerOver r =
     BadAt lines (λ x. x.row) (λ j x. limit_of i (lecturer_in i x) < count_by (λ y. lecturer_in i y == lecturer_in i x) (take (j + 1) lines)) r
 HasPairFault i lines Memory r = ⊥
 
--- the faults in their order
+-- the order of the faults: the least number is reported
 abbrev pub number_of_pair_fault : MatchingFault → ℕ
 number_of_pair_fault NoSuchStudent = 1
 number_of_pair_fault NoSuchProject = 2
@@ -45,16 +71,11 @@ number_of_pair_fault ProjectOver = 5
 number_of_pair_fault LecturerOver = 6
 number_of_pair_fault Memory = 7
 
--- no row has a fault of a lesser number
-abbrev pub HasNoPairFaultBefore : Spa → List Pair → MatchingFault → Type 0
-HasNoPairFaultBefore i lines fault = (f : MatchingFault) → number_of_pair_fault f < number_of_pair_fault fault → (q : ℕ) → HasPairFault i lines f q → ⊥
-
--- what is answered: the fault of the least number, at the least row that has it; memory needs no
--- cause
+-- the reported fault: the least number, at its least row; `Memory`, at row 0, needs no cause
 pub record IsFirstPairFault (i : Spa) (lines : List Pair) (fault : MatchingFault) (r : ℕ) : Type 0 where
   pub here : HasPairFault i lines fault r
   pub least : (q : ℕ) → HasPairFault i lines fault q → r ≤ q
-  pub none_before : HasNoPairFaultBefore i lines fault
+  pub none_before : (f : MatchingFault) → number_of_pair_fault f < number_of_pair_fault fault → (q : ℕ) → HasPairFault i lines f q → ⊥
 
 abbrev pub IsPairRefusal : Spa → List Pair → MatchingFault → ℕ → Type 0
 IsPairRefusal i lines Memory r = r ≡ 0
@@ -65,3 +86,11 @@ pub record HasPairs (i : Spa) (lines : List Pair) (m : List (Option ℕ)) : Type
   pub students : length m ≡ length i.choices
   pub each : All (λ x. project_of m (student_in i x) ≡ Some (project_in i x)) lines
   pub no_other : (s p : ℕ) → project_of m s ≡ Some p → Any (λ x. (student_in i x ≡ s) × (project_in i x ≡ p)) lines
+
+-- no row has the fault
+abbrev pub HasNone : Spa → List Pair → MatchingFault → Type 0
+HasNone i lines fault = (r : ℕ) → HasPairFault i lines fault r → ⊥
+
+-- no row has any fault
+abbrev pub AreSound : Spa → List Pair → Type 0
+AreSound i lines = (fault : MatchingFault) → HasNone i lines fault

@@ -1,5 +1,4 @@
--- Student-project allocation with lecturer preferences over students: instances, matchings,
--- blocking pairs. Students, projects and lecturers are numbers from 0, in the order of their keys.
+-- Student-project allocation with lecturer preferences over students: instances, stable matchings.
 use Rattle.std.specs.Prelude.{◌≡◌, ◌≢◌, ℕ, ◌+◌, ◌<◌, ◌≤◌, ◌==◌, nat_lt, ◌⊎◌, ⊤, Bool, false, if◌then◌else◌, List, [], ◌∷◌, length, Option, Some, None, count_by, slice_index_or, AllPairs, codes}
 use Rattle.std.specs.declared.cmp.Ordering.TheVariants.{Less}
 use Rattle.std.specs.Ordering.{nat_cmp}
@@ -8,7 +7,7 @@ use Rattle.spa_rows.specs.Lines.{Text}
 use Rattle.spa_model.specs.declared.letter.Letter.{Letter}
 use Rattle.spa_model.specs.declared.letter.Letter.TheVariants.{A, B, C}
 
--- an instance: an entry of each list belongs to the student, project or lecturer of that number
+-- an instance; entry n of a list is that of student, project or lecturer n, from 0 in key order
 pub record Spa : Type 0 where
   pub student_keys : List Text
   pub choices : List (List ℕ)
@@ -37,7 +36,7 @@ ranking_of i l = slice_index_or i.rankings l []
 abbrev pub limit_of : Spa → ℕ → ℕ
 limit_of i l = slice_index_or i.limits l 0
 
--- how many stand before x on a list; the list's length where x is not on it
+-- the number of entries before x on a list; the list's length if x is not on it
 abbrev pub place : List ℕ → ℕ → ℕ
 place [] x = 0
 place (y ∷ ys) x = if y == x then 0 else 1 + place ys x
@@ -45,19 +44,19 @@ place (y ∷ ys) x = if y == x then 0 else 1 + place ys x
 abbrev pub IsOn : List ℕ → ℕ → Type 0
 IsOn xs x = place xs x < length xs
 
--- the place, for one who stands on the list
+-- the place of x, if x is on the list
 abbrev pub rank_in : List ℕ → ℕ → Option ℕ
 rank_in xs x = if nat_lt (place xs x) (length xs) then Some (place xs x) else None
 
--- both stand on the list, a first
+-- a and b are both on the list, and a comes first
 abbrev pub IsBefore : List ℕ → ℕ → ℕ → Type 0
 IsBefore xs a b = (place xs a < place xs b) × (place xs b < length xs)
 
--- p stands on s's list
+-- project p is on the list of student s
 abbrev pub IsAcceptable : Spa → ℕ → ℕ → Type 0
 IsAcceptable i s p = IsOn (choices_of i s) p
 
--- the project of a student in a matching, which is a list of each student's project
+-- the project of student s in a matching, which lists each student's project or none
 abbrev pub project_of : List (Option ℕ) → ℕ → Option ℕ
 project_of m s = slice_index_or m s None
 
@@ -69,43 +68,41 @@ abbrev pub is_lecturer : Spa → ℕ → Option ℕ → Bool
 is_lecturer i l None = false
 is_lecturer i l (Some q) = lecturer_of i q == l
 
--- how many students a project has, and how many a lecturer has over all projects
+-- the number of students at a project, and of a lecturer's students over all projects
 abbrev pub at_project : List (Option ℕ) → ℕ → ℕ
 at_project m p = count_by (is_project p) m
 
 abbrev pub at_lecturer : Spa → List (Option ℕ) → ℕ → ℕ
 at_lecturer i m l = count_by (is_lecturer i l) m
 
--- acceptable pairs, each student at most once, and no project or lecturer over capacity
+-- a matching: the pairs are acceptable, and no project or lecturer is over capacity
 pub record IsMatching (i : Spa) (m : List (Option ℕ)) : Type 0 where
   pub students : length m ≡ length i.choices
   pub acceptable : (s p : ℕ) → project_of m s ≡ Some p → IsAcceptable i s p
   pub projects : (p : ℕ) → at_project m p ≤ capacity_of i p
   pub lecturers : (l : ℕ) → at_lecturer i m l ≤ limit_of i l
 
--- s is at a project of l
+-- student s is at a project of lecturer l
 abbrev pub IsWith : Spa → List (Option ℕ) → ℕ → ℕ → Type 0
 IsWith i m l s = (q : ℕ) × (project_of m s ≡ Some q) × (lecturer_of i q ≡ l)
 
--- unassigned, or p is preferred to the own project; then the pair (s, p) is not in the matching
+-- s is unassigned or prefers p to the own project, so (s, p) is not in the matching
 abbrev pub Improves : Spa → ℕ → ℕ → Option ℕ → Type 0
 Improves i s p None = ⊤
 Improves i s p (Some q) = IsBefore (choices_of i s) p q
 
--- s finds p acceptable, and is unassigned or prefers it
+-- p is acceptable to s, who is unassigned or prefers it
 abbrev pub Wants : Spa → List (Option ℕ) → ℕ → ℕ → Type 0
 Wants i m s p = IsAcceptable i s p × Improves i s p (project_of m s)
 
--- some student at p, or with l, stands after s on l's list
+-- a student at p, or with l, comes after s on the lecturer's list
 abbrev pub SomeWorseAt : Spa → List (Option ℕ) → ℕ → ℕ → Type 0
 SomeWorseAt i m p s = (t : ℕ) × (project_of m t ≡ Some p) × IsBefore (ranking_of i (lecturer_of i p)) s t
 
 abbrev pub SomeWorseWith : Spa → List (Option ℕ) → ℕ → ℕ → Type 0
 SomeWorseWith i m l s = (t : ℕ) × IsWith i m l t × IsBefore (ranking_of i l) s t
 
--- the pair (s, p) blocks the matching: with room at p and at its lecturer (a); with room at p and a
--- full lecturer who has s already or some worse student (b); or at a full p with some worse student
--- (c)
+-- (s, p) blocks the matching: A, p and its lecturer have room; B, only p has; C, p is full
 abbrev pub Blocks : Spa → List (Option ℕ) → ℕ → ℕ → Letter → Type 0
 Blocks i m s p A = Wants i m s p × (at_project m p < capacity_of i p) × (at_lecturer i m (lecturer_of i p) < limit_of i (lecturer_of i p))
 Blocks i m s p B =
@@ -113,33 +110,31 @@ Blocks i m s p B =
     × (IsWith i m (lecturer_of i p) s ⊎ SomeWorseWith i m (lecturer_of i p) s)
 Blocks i m s p C = Wants i m s p × (at_project m p ≡ capacity_of i p) × SomeWorseAt i m p s
 
--- a matching that no pair blocks
+-- a stable matching: no pair blocks it
 pub record IsStable (i : Spa) (m : List (Option ℕ)) : Type 0 where
   pub matching : IsMatching i m
   pub unblocked : (s p : ℕ) (x : Letter) → Blocks i m s p x → ⊥
 
--- the same, or a project in place of a less preferred one or none
+-- for s the first is as good: the same or a preferred project, or the second is none
 abbrev pub IsAsGood : Spa → ℕ → Option ℕ → Option ℕ → Type 0
 IsAsGood i s mine None = ⊤
 IsAsGood i s None (Some q) = ⊥
 IsAsGood i s (Some p) (Some q) = (p ≡ q) ⊎ IsBefore (choices_of i s) p q
 
--- each student has the best that the student has in any stable matching
+-- the student-optimal stable matching: as good for each student as every stable matching
 pub record IsBest (i : Spa) (m : List (Option ℕ)) : Type 0 where
   pub stable : IsStable i m
   pub best : (n : List (Option ℕ)) → IsStable i n → (s : ℕ) → IsAsGood i s (project_of m s) (project_of n s)
 
--- each is below every later one, by bytes
+-- each key is smaller than every later one, in byte order
 abbrev pub Rise : List Text → Type 0
 Rise keys = AllPairs (λ a b. slice_cmp nat_cmp a b ≡ Less) keys
 
--- no two places hold the same number
+-- no number occurs twice
 abbrev pub IsDistinct : List ℕ → Type 0
 IsDistinct list = AllPairs (λ a b. a ≢ b) list
 
--- what every instance that was built is: keys rise; each project is offered by one known lecturer;
--- a student's list holds known projects, none twice; a lecturer's list holds exactly the students
--- who list a project of the lecturer
+-- what each built instance meets; lecturers rank exactly the students who list a project of theirs
 pub record IsLawful (i : Spa) : Type 0 where
   pub student_rows : length i.student_keys ≡ length i.choices
   pub project_key_rows : length i.project_keys ≡ length i.lecturers
@@ -162,7 +157,7 @@ pub record IsLawful (i : Spa) : Type 0 where
   pub project_count : length i.lecturers ≤ 1000
   pub lecturer_count : length i.rankings ≤ 300
 
--- how a letter is shown: as a small letter
+-- a letter as it is printed
 abbrev pub text_of : Letter → List ℕ
 text_of A = codes "a"
 text_of B = codes "b"

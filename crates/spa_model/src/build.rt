@@ -8,7 +8,7 @@ ghost use Rattle.std.specs.Ordering.{nat_cmp};
 ghost use Rattle.std.specs.Cmp.Lexicographic.{slice_cmp};
 ghost use Rattle.spa_rows.specs.Faults.{HasNoneBefore, IsRefusal};
 ghost use Rattle.spa_rows.specs.declared.faults.InstanceFault.TheVariants.{NotApplicant, Memory};
-ghost use Rattle.spa_model.specs.Built.{StandsFor};
+ghost use Rattle.spa_model.specs.Pairs.{StandsFor};
 ghost use Rattle.spa_model.specs.inner.Numbers.{rows_of};
 
 use crate::instance::Instance;

@@ -5,7 +5,7 @@ ghost use Rattle.spa_rows.specs.Lines.{Rows};
 ghost use Rattle.spa_rows.specs.Faults.{HasNoneBefore};
 ghost use Rattle.spa_rows.specs.declared.faults.InstanceFault.TheVariants.{Memory};
 ghost use Rattle.spa_model.specs.Spa.{Spa, Blocks, IsBest, IsLawful};
-ghost use Rattle.spa_model.specs.Built.{StandsFor};
+ghost use Rattle.spa_model.specs.Pairs.{StandsFor};
 ghost use Rattle.spa_model.specs.declared.letter.Letter.{Letter};
 
 /// A pair that blocks a matching blocks it by one letter alone.

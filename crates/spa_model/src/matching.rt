@@ -63,8 +63,7 @@ impl Model for Matching {
 
 impl Matching {
     ghost use Rattle.spa_model.specs.Spa.{project_of, IsMatching};
-    ghost use Rattle.spa_model.specs.Pairs.{HasPairs, IsPairRefusal};
-    ghost use Rattle.spa_model.specs.Assigned.{AreSound};
+    ghost use Rattle.spa_model.specs.Pairs.{HasPairs, IsPairRefusal, AreSound};
 
     /// The matching of these pairs.
     pub fn build(

@@ -1,11 +1,12 @@
-//! The pairs of a matching: one function for each fault, which answers the least row that has it.
+//! The faults of a matching's pairs: for each, a function returns the least row that has it.
 
 ghost use Rattle.std.specs.Prelude.{◌≡◌, ◌<◌, ◌≤◌, ◌↔◌, IfOk, IfErr, OnOk, All, IsTrue, length};
 ghost use Rattle.std.specs.Prelude.{map};
-ghost use Rattle.spa_rows.specs.Least.{IsLeastOf, least_row};
+ghost use Rattle.spa_rows.specs.inner.Least.{IsLeastOf, least_row};
 ghost use Rattle.spa_model.specs.Spa.{IsDistinct};
 ghost use Rattle.spa_model.specs.Pairs.{HasPairFault, IsPairRefusal, student_in, project_in};
-ghost use Rattle.spa_model.specs.Assigned.{HasNone, AreSound, AreAssigned};
+ghost use Rattle.spa_model.specs.Pairs.{HasNone, AreSound};
+ghost use Rattle.spa_model.specs.inner.Fitting.{AreAssigned};
 
 use crate::fits::is_on;
 use crate::instance::Instance;

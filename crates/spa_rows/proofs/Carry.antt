@@ -1,16 +1,6 @@
--- Faults that do not depend on the order of the lines: rows have them exactly where a permutation of the rows has them.
-use Rattle.spa_rows.proofs.Base.{◌≡◌, ◌⊎◌, inl, inr, ℕ, ◌<◌, false, List, length, map, take, get_or, refl, sym, ◌∙◌, ap, subst, arith, false≢true, bytes_eq-Decides, Any, length-map, Text, Rows, BadAt, HasFault, HasNoneBefore, IsFirstFault, IsBadCapacity, IsEarlierKey, IsKeyOf, NamesNone, Repeats, number_of, InstanceFault, TooMany, BadKey, KeyTwice, BadCapacity, NoSuchLecturer, NoSuchProject, RepeatInList, ListTooLong, NotApplicant, ApplicantMissing, Memory, is_key}
-use Rattle.std.proofs.Common.{◌≢◌}
-use Rattle.std.proofs.lemmas.Bool.{false_from_ne_true, cases_eq}
-use Rattle.std.proofs.lemmas.Cmp.{nat_list_eq_equiv}
-use Rattle.std.specs.Prelude.{IsPermutation}
-use Rattle.std.specs.List.{IsDistinct}
-use Rattle.std.specs.Str.{bytes_eq}
-use Rattle.std.proofs.lemmas.List.{length-take, get_or-take}
-use Rattle.std.proofs.lemmas.List.Sorted.{IsPermutation-sym, IsPermutation-map, Contains-permutation, length_permutation}
+-- Some faults ignore the order of lines: rows have them exactly where their permutations do.
+use Rattle.spa_rows.proofs.Base.{◌≡◌, ◌⊎◌, inl, inr, ℕ, ◌<◌, false, List, length, map, get_or, refl, sym, ◌∙◌, ap, subst, arith, false≢true, bytes_eq-Decides, Any, length-map, Text, Rows, BadAt, HasFault, HasNoneBefore, IsFirstFault, IsBadCapacity, IsEarlierKey, IsKeyOf, NamesNone, Repeats, number_of, InstanceFault, TooMany, BadKey, KeyTwice, BadCapacity, NoSuchLecturer, NoSuchProject, RepeatInList, ListTooLong, NotApplicant, ApplicantMissing, Memory, is_key, rules, ◌≢◌, false_from_ne_true, nat_list_eq_equiv, IsPermutation, IsDistinct, bytes_eq, length-take, get_or-take, IsPermutation-sym, IsPermutation-map, Contains-permutation, length_permutation, Lecturer, Project, Student, IsOffered, FindsOne, IsApplicant, MissesOne}
 use Rattle.std.proofs.lemmas.Map.Keys.{IsDistinct-from_apart, IsDistinct-IsPermutation, apart_from_distinct}
-use Rattle.spa_rows.specs.Lines.{Lecturer, Project, Student}
-use Rattle.spa_rows.specs.Faults.{IsOffered, FindsOne, IsApplicant, MissesOne}
 use Rattle.spa_rows.proofs.Lists.{at_place, map_at}
 use Rattle.spa_rows.proofs.FirstFault.{same_number}
 
@@ -97,17 +87,13 @@ module _ (a b : Rows) (same : SameLines a b) where
 -- the keys of lines that do not repeat are distinct, and the other way round
 keys_apart : {X : Type 0} (key : X → Text) (xs : List X) → ((j : ℕ) (x : X) → j < length xs → get_or xs j x ≡ x → IsEarlierKey xs key j (key x) → ⊥) → IsDistinct bytes_eq (map key xs)
 keys_apart key xs none = IsDistinct-from_apart bytes_eq (map key xs) (λ i j d before below.
-    let long : length (map key xs) ≡ length xs = length-map xs key in
-    let in_j : j < length xs = omega (arith, below, long) in
+    let in_j : j < length xs = omega (arith, below, length-map xs key) in
     let in_i : i < length xs = omega (arith, before, in_j) in
     let (y, is_y) = at_place xs j in_j in
     let (x, is_x) = at_place xs i in_i in
-    let in_take : i < length (take j xs) = omega (arith, before, in_j, length-take j xs) in
-    let at_i = map_at key xs i x d in_i is_x in
-    let at_j = map_at key xs j y d in_j is_y in
     false_from_ne_true _ (λ e.
-    let one : key x ≡ key y = sym at_i ∙ (bytes_eq-Decides _ _).0 e ∙ at_j in
-    none j y in_j is_y (i, x, in_take, get_or-take j xs i x before ∙ is_x, one)))
+    let one : key x ≡ key y = sym (map_at key xs i x d in_i is_x) ∙ (bytes_eq-Decides _ _).0 e ∙ map_at key xs j y d in_j is_y in
+    none j y in_j is_y (i, x, omega (arith, before, in_j, length-take j xs), get_or-take j xs i x before ∙ is_x, one)))
 
 keys_unlike : {X : Type 0} (key : X → Text) (xs : List X) → IsDistinct bytes_eq (map key xs) → (j : ℕ) (x : X) → j < length xs → get_or xs j x ≡ x → IsEarlierKey xs key j (key x) → ⊥
 keys_unlike key xs apart j y in_j is_y (i, x, in_take, taken, one) =
@@ -115,9 +101,8 @@ keys_unlike key xs apart j y in_j is_y (i, x, in_take, taken, one) =
     let before : i < j = omega (arith, in_take, length-take j xs) in
     let in_i : i < length xs = omega (arith, before, in_j) in
     let is_x : get_or xs i x ≡ x = sym (get_or-take j xs i x before) ∙ taken in
-    let unlike : bytes_eq (get_or (map key xs) i (key y)) (get_or (map key xs) j (key y)) ≡ false = apart_from_distinct bytes_eq (map key xs) i j (key y) apart before (omega (arith, in_j, long)) in
     let same : get_or (map key xs) i (key y) ≡ get_or (map key xs) j (key y) = map_at key xs i x (key y) in_i is_x ∙ one ∙ sym (map_at key xs j y (key y) in_j is_y) in
-    false≢true (sym unlike ∙ (bytes_eq-Decides _ _).1 same)
+    false≢true (sym (apart_from_distinct bytes_eq (map key xs) i j (key y) apart before (omega (arith, in_j, long))) ∙ (bytes_eq-Decides _ _).1 same)
 
 bytes_flip : (x y : Text) → bytes_eq x y ≡ bytes_eq y x
 bytes_flip x y = nat_list_eq_equiv.symm x y
@@ -139,17 +124,13 @@ twice_none_carry a b same none r has = elim has [
 ]
 
 is_twice : (f : InstanceFault) → (f ≡ KeyTwice) ⊎ (f ≢ KeyTwice)
-is_twice f = elim (cases_eq (number_of f) 3) [
-  | inl same ↦ inl (same_number f KeyTwice same)
-  | inr other ↦ inr (λ one. other (ap number_of one))
-]
+is_twice f = search (rules, same_number)
 
 -- no fault of a lesser number
 pub none_before_carry : (a b : Rows) → SameLines a b → (fault : InstanceFault) → HasNoneBefore a fault → HasNoneBefore b fault
 none_before_carry a b same fault none f below r has = elim (is_twice f) [
   | inl twice ↦
-      let less : number_of KeyTwice < number_of fault = omega (arith, below, ap number_of twice) in
-      twice_none_carry a b same (λ q h. none KeyTwice less q h) r (subst (λ x. HasFault b x r) twice has)
+      twice_none_carry a b same (λ q h. none KeyTwice (omega (arith, below, ap number_of twice)) q h) r (subst (λ x. HasFault b x r) twice has)
   | inr other ↦ none f below r (fault_carry b a (same_lines_sym a b same) f other r has)
 ]
 

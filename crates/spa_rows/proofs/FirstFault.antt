@@ -1,7 +1,5 @@
 -- The faults one after another: what a refusal says, and what is known once there is none.
-use Rattle.spa_rows.proofs.Base.{◌≡◌, inl, inr, ℕ, ◌+◌, ◌<◌, Option, Some, None, Ok, Err, refl, sym, ◌∙◌, ap, subst, arith, if◌then◌else◌, cases_lt, false≢true, Rows, IsLeastOf, HasFault, HasNoneBefore, IsFirstFault, IsRefusal, number_of, InstanceFault, TooMany, BadKey, KeyTwice, BadCapacity, NoSuchLecturer, NoSuchProject, RepeatInList, ListTooLong, NotApplicant, ApplicantMissing, Memory}
-use Rattle.std.proofs.Common.{Result, IsOk, IsErrAnd, OnOk, IfErr, MatchOption}
-use Rattle.std.specs.Prelude.{◌==◌}
+use Rattle.spa_rows.proofs.Base.{◌≡◌, ℕ, ◌+◌, ◌<◌, Option, Some, None, Ok, Err, refl, sym, ◌∙◌, ap, arith, if◌then◌else◌, false≢true, Rows, IsLeastOf, HasFault, HasNoneBefore, IsFirstFault, IsRefusal, number_of, InstanceFault, TooMany, BadKey, KeyTwice, BadCapacity, NoSuchLecturer, NoSuchProject, RepeatInList, ListTooLong, NotApplicant, ApplicantMissing, Memory, rules, Result, IsOk, IsErrAnd, OnOk, IfErr, MatchOption, ◌==◌}
 use Rattle.spa_rows.specs.declared.faults.BadInstance.{BadInstance}
 
 fault_at : ℕ → InstanceFault
@@ -10,16 +8,7 @@ fault_at n = if n == 1 then TooMany else (if n == 2 then BadKey else (if n == 3 
 back : (f : InstanceFault) → fault_at (number_of f) ≡ f
 unfolding fault_at
 back TooMany = refl
-back BadKey = refl
-back KeyTwice = refl
-back BadCapacity = refl
-back NoSuchLecturer = refl
-back NoSuchProject = refl
-back RepeatInList = refl
-back ListTooLong = refl
-back NotApplicant = refl
-back ApplicantMissing = refl
-back Memory = refl
+back f = refl
 
 -- two faults of one number are one
 pub same_number : (f g : InstanceFault) → number_of f ≡ number_of g → f ≡ g
@@ -27,26 +16,12 @@ same_number f g e = sym (back f) ∙ ap fault_at e ∙ back g
 
 -- no row has this fault either
 pub none_before_next : (rows : Rows) (fault next : InstanceFault) → number_of next ≡ number_of fault + 1 → HasNoneBefore rows fault → IsLeastOf (HasFault rows fault) None → HasNoneBefore rows next
-none_before_next rows fault next step before none f below q has = elim (cases_lt (number_of f) (number_of fault)) [
-  | inl less ↦ before f less q has
-  | inr no_less ↦
-      let one : f ≡ fault = same_number f fault (omega (arith, step, below, no_less)) in
-      none q (subst (λ x. HasFault rows x q) one has)
-]
+none_before_next rows fault next step before none f below q has = search (rules, same_number)
 
 -- a fault that is the first is a refusal
 pub refusal_first : (rows : Rows) (fault : InstanceFault) (r : ℕ) → IsFirstFault rows fault r → IsRefusal rows fault r
-refusal_first rows TooMany r first = first
-refusal_first rows BadKey r first = first
-refusal_first rows KeyTwice r first = first
-refusal_first rows BadCapacity r first = first
-refusal_first rows NoSuchLecturer r first = first
-refusal_first rows NoSuchProject r first = first
-refusal_first rows RepeatInList r first = first
-refusal_first rows ListTooLong r first = first
-refusal_first rows NotApplicant r first = first
-refusal_first rows ApplicantMissing r first = first
 refusal_first rows Memory r first = absurd first.here
+refusal_first rows fault r first = first
 
 module _ (rows : Rows) (fault : InstanceFault) where
   -- where the one fault is refused, it is the first
@@ -54,10 +29,7 @@ module _ (rows : Rows) (fault : InstanceFault) where
   refuse_err None (Ok x) told before least = tt
   refuse_err None (Err e) told before least = absurd (false≢true told)
   refuse_err (Some r) (Ok x) told before least = tt
-  refuse_err (Some r) (Err e) told before least =
-      let first : IsFirstFault rows fault r = record { here = least.0; least = least.1; none_before = before } in
-      let one : e ≡ record { fault = fault; row = r } = cc in
-      rw one (refusal_first rows fault r first)
+  refuse_err (Some r) (Err e) told before least = search (rules, refusal_first)
 
   -- where it is not, no row has it
   pub refuse_ok : {X : Type 0} (next : InstanceFault) (row : Option ℕ) (result : Result X BadInstance) → number_of next ≡ number_of fault + 1 → MatchOption row (IsOk result) (λ r. result ≡ Err (record { fault = fault; row = r })) → HasNoneBefore rows fault → IsLeastOf (HasFault rows fault) row → OnOk result (HasNoneBefore rows next)
@@ -68,16 +40,7 @@ module _ (rows : Rows) (fault : InstanceFault) where
 
 positive : (f : InstanceFault) → 0 < number_of f
 positive TooMany = omega arith
-positive BadKey = omega arith
-positive KeyTwice = omega arith
-positive BadCapacity = omega arith
-positive NoSuchLecturer = omega arith
-positive NoSuchProject = omega arith
-positive RepeatInList = omega arith
-positive ListTooLong = omega arith
-positive NotApplicant = omega arith
-positive ApplicantMissing = omega arith
-positive Memory = omega arith
+positive f = omega arith
 
 -- no fault stands before the first
 pub none_before_first : (rows : Rows) → HasNoneBefore rows TooMany

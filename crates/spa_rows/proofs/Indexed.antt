@@ -1,9 +1,7 @@
 -- An index of the first lines of a list.
-use Rattle.spa_rows.proofs.Base.{◌≡◌, inl, inr, ℕ, ◌+◌, ◌<◌, Bool, true, false, cond, IsTrue, ◌↔◌, List, length, get_or, refl, Bor, Option, Some, None, sym, ◌∙◌, ap, subst, arith, Any, false≢true, get_or_default, bytes_eq-Decides, Text, IsKeyOf, IsIndexOf, text_eq}
-use Rattle.std.specs.Prelude.{is_some, IfSome, IfNone}
+use Rattle.spa_rows.proofs.Base.{◌≡◌, inl, inr, ℕ, ◌+◌, ◌<◌, Bool, true, false, cond, IsTrue, ◌↔◌, List, length, get_or, refl, Bor, Option, Some, None, sym, ◌∙◌, ap, subst, arith, Any, false≢true, get_or_default, bytes_eq-Decides, Text, IsKeyOf, IsIndexOf, text_eq, is_some, IfSome, IfNone, HasPlace}
 use Rattle.std.specs.HashMap as hash
 use Rattle.std.specs.HashMap.{HashMap}
-use Rattle.spa_rows.specs.inner.Index.{HasPlace}
 use Rattle.std.proofs.Math.Seq.{take-length}
 use Rattle.spa_rows.proofs.Lists.{at_place}
 use Rattle.spa_rows.proofs.Seen.{more}

@@ -1,7 +1,5 @@
 -- The least row so far.
-use Rattle.spa_rows.proofs.Base.{◌≡◌, ◌⊎◌, inl, inr, ℕ, ◌+◌, ◌<◌, List, length, get_or, Option, Some, None, Bool, true, false, IsTrue, ◌↔◌, if◌then◌else◌, refl, sym, ◌∙◌, ap, subst, arith, get_or_default, cases_lt, false≢true, IsLeastOf, BadAt, BadBelow}
-use Rattle.std.proofs.Common.{min}
-use Rattle.spa_rows.specs.Least.{least_row, lesser_row}
+use Rattle.spa_rows.proofs.Base.{◌≡◌, ◌⊎◌, inl, inr, ℕ, ◌+◌, ◌<◌, List, length, get_or, Option, Some, None, Bool, true, false, IsTrue, ◌↔◌, if◌then◌else◌, refl, sym, ◌∙◌, subst, arith, get_or_default, cases_lt, false≢true, IsLeastOf, BadAt, BadBelow, rules, min, least_row, lesser_row}
 
 module _ {X : Type 0} (lines : List X) (row : X → ℕ) (Bad : ℕ → X → Type 0) where
   -- who stands at a place stands there alone
@@ -12,13 +10,7 @@ module _ {X : Type 0} (lines : List X) (row : X → ℕ) (Bad : ℕ → X → Ty
   further n r (j, x, below, h, e, at, bad) = (j, x, omega arith, h, e, at, bad)
 
   last_or_before : (n r : ℕ) (x : X) → n < length lines → get_or lines n x ≡ x → BadBelow lines row Bad (n + 1) r → BadBelow lines row Bad n r ⊎ ((row x ≡ r) × Bad n x)
-  last_or_before n r x h e (j, y, below, k, f, at, bad) = elim (cases_lt j n) [
-    | inl before ↦ inl (j, y, before, k, f, at, bad)
-    | inr here ↦
-        let same : j ≡ n = omega arith in
-        let is_x : y ≡ x = one_at n x y h e (rw same at f) in
-        inr (ap row (sym is_x) ∙ at, rw (same, is_x) at bad)
-  ]
+  last_or_before n r x h e (j, y, below, k, f, at, bad) = search (rules, one_at)
 
   -- the line at n is not bad
   pub least_skip : (n : ℕ) (x : X) (o : Option ℕ) → n < length lines → get_or lines n x ≡ x → (Bad n x → ⊥) → IsLeastOf (BadBelow lines row Bad n) o → IsLeastOf (BadBelow lines row Bad (n + 1)) o
@@ -51,11 +43,4 @@ pub least_either : (P Q : ℕ → Type 0) (a b : Option ℕ) → IsLeastOf P a �
 least_either P Q None None p q = λ r either. elim either [ inl h ↦ p r h | inr h ↦ q r h ]
 least_either P Q (Some a) None p q = (inl p.0, λ r either. elim either [ inl h ↦ p.1 r h | inr h ↦ absurd (q r h) ])
 least_either P Q None (Some b) p q = (inr q.0, λ r either. elim either [ inl h ↦ absurd (p r h) | inr h ↦ q.1 r h ])
-least_either P Q (Some a) (Some b) p q = elim (cases_lt a b) [
-  | inl less ↦
-      let is_a : min a b ≡ a = omega arith in
-      rw is_a (inl p.0, λ r either. elim either [ inl h ↦ p.1 r h | inr h ↦ omega (arith, q.1 r h) ])
-  | inr no_less ↦
-      let is_b : min a b ≡ b = omega arith in
-      rw is_b (inr q.0, λ r either. elim either [ inl h ↦ omega (arith, p.1 r h) | inr h ↦ q.1 r h ])
-]
+least_either P Q (Some a) (Some b) p q = search (rules, min)

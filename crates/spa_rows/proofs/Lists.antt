@@ -1,6 +1,5 @@
 -- The element at a place of a list, and lists one by one.
-use Rattle.spa_rows.proofs.Base.{◌≡◌, ℕ, zero, suc, ◌<◌, List, [], ◌∷◌, length, map, get_or, refl, ap, ◌∙◌, arith}
-use Rattle.std.proofs.lemmas.List.{get_or-map}
+use Rattle.spa_rows.proofs.Base.{◌≡◌, ℕ, zero, suc, ◌<◌, List, [], ◌∷◌, length, map, get_or, refl, ap, ◌∙◌, arith, get_or-map}
 
 -- what stands at a place of the list
 pub at_place : {X : Type 0} → (xs : List X) (k : ℕ) → k < length xs → (x : X) × (get_or xs k x ≡ x)

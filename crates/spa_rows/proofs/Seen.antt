@@ -1,15 +1,11 @@
 -- A set that holds the texts of the first lines of a list.
-use Rattle.spa_rows.proofs.Base.{◌≡◌, ◌⊎◌, inl, inr, ℕ, zero, suc, ◌+◌, ◌<◌, Bool, true, false, cond, IsTrue, ◌↔◌, List, [], ◌∷◌, length, take, get_or, Bor, refl, sym, ◌∙◌, ap, arith, not, Any, nat_cmp, slice_cmp, false≢true, nat_list_cmp_total, bytes_eq-Decides, Text, IsEarlierKey, text_eq}
-use Rattle.std.proofs.Common.{◌++◌, Ordering, BTreeSet}
-use Rattle.std.specs.Ordering.{is_eq}
+use Rattle.spa_rows.proofs.Base.{◌≡◌, ◌⊎◌, inl, inr, ℕ, zero, suc, ◌+◌, ◌<◌, Bool, true, false, cond, IsTrue, ◌↔◌, List, [], ◌∷◌, length, take, get_or, Bor, refl, sym, ◌∙◌, ap, arith, not, Any, nat_cmp, slice_cmp, false≢true, nat_list_cmp_total, bytes_eq-Decides, Text, IsEarlierKey, text_eq, rules, ◌++◌, Ordering, BTreeSet, is_eq, take_more, get_or_append_left, length-append, tied_itself}
 use Rattle.std.specs.BTreeSet as tree
 use Rattle.std.specs.HashSet as hash
 use Rattle.std.specs.HashSet.{HashSet}
 use Rattle.std.specs.Cmp.{Equal-is}
 use Rattle.std.proofs.Math.Bool.{not-not}
-use Rattle.std.proofs.lemmas.List.{take_more, get_or_append_left, length-append}
 use Rattle.std.proofs.lemmas.List.Quantifiers.{Any-push}
-use Rattle.std.proofs.lemmas.Cmp.{tied_itself}
 use Rattle.std.proofs.lemmas.Map.Lookups.{exact_bytes}
 
 -- the order of slices
@@ -59,9 +55,7 @@ module _ {X : Type 0} (xs : List X) (key : X → Text) where
   )
 
   before : (contains : Bor Text → Bool) (k : Bor Text) (added : Bool) (n : ℕ) (x : X) → added ≡ not (contains k) → k.now ≡ key x → IsSeen contains n → (IsTrue (not added) ↔ IsEarlierKey xs key n (key x))
-  before contains k added n x was is seen =
-      let there : not added ≡ contains k = ap not was ∙ not-not (contains k) in
-      rw (there, sym is) (seen.has k)
+  before contains k added n x was is seen = search (rules, not-not)
 
   -- a tree has the texts of the first n
   abbrev pub IsInTree : BTreeSet (Bor Text) → ℕ → Type 0

@@ -1,11 +1,7 @@
 -- The bytes of a key are ASCII, and so they are a text.
-use Rattle.spa_rows.proofs.Base.{◌≡◌, ℕ, ◌<◌, true, List, [], ◌∷◌, arith, nat_tests, is_key}
-use Rattle.std.specs.List.{list_all}
-use Rattle.std.specs.Str.{IsUtf8, IsAscii}
-use Rattle.std.proofs.lemmas.Bool.{and_parts}
+use Rattle.spa_rows.proofs.Base.{◌≡◌, ℕ, ◌<◌, true, List, [], ◌∷◌, arith, nat_tests, is_key, list_all, IsUtf8, IsAscii, and_parts, is_key_byte}
 use Rattle.std.proofs.lemmas.Str.{IsUtf8-from_ascii}
 use Rattle.std.proofs.lemmas.Str.Ascii.{IsAscii-nil, IsAscii-cons}
-use Rattle.spa_rows.specs.Form.{is_key_byte}
 
 key_byte : (b : ℕ) → is_key_byte b ≡ true → b < 128
 key_byte b h = grind (arith, nat_tests)

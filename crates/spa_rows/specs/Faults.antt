@@ -1,14 +1,18 @@
--- What can be wrong with the rows of an instance, fault by fault: `HasFault rows fault r` says that
--- the row r has it.
-use Rattle.std.specs.Prelude.{◌≡◌, ◌⊎◌, ℕ, ◌<◌, ◌≤◌, false, List, Any, length, slice_index_or, take}
-use Rattle.spa_rows.specs.Form.{is_key}
-use Rattle.spa_rows.specs.Lines.{Text, Lecturer, Project, Student, Rows}
-use Rattle.spa_rows.specs.Least.{BadAt}
+-- What can be wrong with the rows of an instance: `HasFault rows fault r` says that row r has it.
+use Rattle.std.specs.Prelude.{◌≡◌, ℕ, ◌<◌, List, length, slice_index_or, ◌⊎◌, ◌≤◌, false, Any, take}
+use Rattle.spa_rows.specs.Lines.{is_key, Text, Lecturer, Project, Student, Rows}
 use Rattle.spa_rows.specs.declared.faults.InstanceFault.{InstanceFault}
-use Rattle.spa_rows.specs.declared.faults.InstanceFault.TheVariants.{TooMany, BadKey, KeyTwice, BadCapacity, NoSuchLecturer, NoSuchProject}
-use Rattle.spa_rows.specs.declared.faults.InstanceFault.TheVariants.{RepeatInList, ListTooLong, NotApplicant, ApplicantMissing, Memory}
+use Rattle.spa_rows.specs.declared.faults.InstanceFault.TheVariants.{TooMany, BadKey, KeyTwice, BadCapacity, NoSuchLecturer, NoSuchProject, RepeatInList, ListTooLong, NotApplicant, ApplicantMissing, Memory}
 
--- some lecturer's, project's or student's line in the row r is bad
+-- one of the first n lines has the row number r and is bad; `Bad` also takes its index, from 0
+abbrev pub BadBelow : {X : Type 0} → List X → (X → ℕ) → (ℕ → X → Type 0) → ℕ → ℕ → Type 0
+BadBelow {X} lines row Bad n r = (j : ℕ) × (x : X) × (j < n) × (j < length lines) × (slice_index_or lines j x ≡ x) × (row x ≡ r) × Bad j x
+
+-- one of the lines has the row number r and is bad
+abbrev pub BadAt : {X : Type 0} → List X → (X → ℕ) → (ℕ → X → Type 0) → ℕ → Type 0
+BadAt lines row Bad r = BadBelow lines row Bad (length lines) r
+
+-- a lecturer's, a project's or a student's line has the row number r and is bad
 abbrev pub BadLecturer : Rows → (ℕ → Lecturer → Type 0) → ℕ → Type 0
 BadLecturer rows Bad r = BadAt rows.lecturers (λ x. x.row) Bad r
 
@@ -18,35 +22,31 @@ BadProject rows Bad r = BadAt rows.projects (λ x. x.row) Bad r
 abbrev pub BadStudent : Rows → (ℕ → Student → Type 0) → ℕ → Type 0
 BadStudent rows Bad r = BadAt rows.students (λ x. x.row) Bad r
 
--- more of a kind than there may be
-abbrev pub AreTooMany : Rows → Type 0
-AreTooMany rows = (300 < length rows.lecturers) ⊎ ((1000 < length rows.projects) ⊎ (2000 < length rows.students))
-
 -- one of the first j lines has this key
 abbrev pub IsEarlierKey : {X : Type 0} → List X → (X → Text) → ℕ → Text → Type 0
 IsEarlierKey lines key j text = Any (λ y. key y ≡ text) (take j lines)
 
--- a capacity is 1 to 200
+-- a capacity outside 1 to 200
 abbrev pub IsBadCapacity : ℕ → Type 0
 IsBadCapacity n = (n < 1) ⊎ (200 < n)
 
--- a line of lines has this key
+-- one of the lines has this key
 abbrev pub IsKeyOf : {X : Type 0} → List X → (X → Text) → Text → Type 0
 IsKeyOf lines key text = Any (λ x. key x ≡ text) lines
 
--- some text of the list is no key of these lines
+-- the list holds a text that is the key of none of these lines
 abbrev pub NamesNone : {X : Type 0} → List X → (X → Text) → List Text → Type 0
 NamesNone lines key list = Any (λ text. IsKeyOf lines key text → ⊥) list
 
--- two places of the list have one text
+-- the list holds some text twice
 abbrev pub Repeats : List Text → Type 0
 Repeats list = (j : ℕ) × (text : Text) × (j < length list) × (slice_index_or list j text ≡ text) × Any (λ earlier. earlier ≡ text) (take j list)
 
--- the project of this key is offered by the lecturer of this key
+-- the project of the first key is offered by the lecturer of the second
 abbrev pub IsOffered : Rows → Text → Text → Type 0
 IsOffered rows project lecturer = Any (λ p. (p.key ≡ project) × (p.lecturer ≡ lecturer)) rows.projects
 
--- this student lists some project of the lecturer
+-- the student lists some project of the lecturer
 abbrev pub FindsOne : Rows → Student → Text → Type 0
 FindsOne rows student lecturer = Any (λ project. IsOffered rows project lecturer) student.list
 
@@ -58,9 +58,9 @@ IsApplicant rows lecturer text = Any (λ s. (s.key ≡ text) × FindsOne rows s 
 abbrev pub MissesOne : Rows → Lecturer → Type 0
 MissesOne rows x = Any (λ s. FindsOne rows s x.key × (Any (λ text. text ≡ s.key) x.list → ⊥)) rows.students
 
--- the row r has the fault
+-- row r has the fault; `TooMany` belongs to no single row and has r = 0
 abbrev pub HasFault : Rows → InstanceFault → ℕ → Type 0
-HasFault rows TooMany r = (r ≡ 0) × AreTooMany rows
+HasFault rows TooMany r = (r ≡ 0) × ((300 < length rows.lecturers) ⊎ ((1000 < length rows.projects) ⊎ (2000 < length rows.students)))
 HasFault rows BadKey r =
     BadLecturer rows (λ _ x. is_key x.key ≡ false) r ⊎ (BadProject rows (λ _ x. is_key x.key ≡ false) r ⊎ BadStudent rows (λ _ x. is_key x.key ≡ false) r)
 HasFault rows KeyTwice r =
@@ -75,7 +75,7 @@ HasFault rows NotApplicant r = BadLecturer rows (λ _ x. Any (λ text. IsApplica
 HasFault rows ApplicantMissing r = BadLecturer rows (λ _ x. MissesOne rows x) r
 HasFault rows Memory r = ⊥
 
--- the faults in their order
+-- the order of the faults: the least number is reported
 abbrev pub number_of : InstanceFault → ℕ
 number_of TooMany = 1
 number_of BadKey = 2
@@ -89,12 +89,11 @@ number_of NotApplicant = 9
 number_of ApplicantMissing = 10
 number_of Memory = 11
 
--- no row has a fault of a lesser number
+-- no row has a fault with a smaller number
 abbrev pub HasNoneBefore : Rows → InstanceFault → Type 0
 HasNoneBefore rows fault = (f : InstanceFault) → number_of f < number_of fault → (q : ℕ) → HasFault rows f q → ⊥
 
--- what is answered: the fault of the least number, at the least row that has it; memory needs no
--- cause
+-- the reported fault: the least number, at its least row; `Memory`, at row 0, needs no cause
 pub record IsFirstFault (rows : Rows) (fault : InstanceFault) (r : ℕ) : Type 0 where
   pub here : HasFault rows fault r
   pub least : (q : ℕ) → HasFault rows fault q → r ≤ q

@@ -1,10 +1,20 @@
--- The lines of an instance: what each line of code stands for, its texts as bytes.
-use Rattle.std.specs.Prelude.{ℕ, List}
+-- The form of a key, and the lines of an instance, with every text as a list of bytes.
+use Rattle.std.specs.Prelude.{ℕ, Bool, List, length, ◌&&◌, ◌||◌, ◌==◌, nat_le}
+use Rattle.std.specs.Char.{is_ascii_alphanumeric}
+use Rattle.std.specs.List.{list_all}
+
+-- an ASCII letter or digit, `-`, `_` or `.`
+abbrev pub is_key_byte : ℕ → Bool
+is_key_byte b = is_ascii_alphanumeric b || b == 45 || b == 95 || b == 46
+
+-- a key has 1 to 16 of these bytes
+abbrev pub is_key : List ℕ → Bool
+is_key bytes = nat_le 1 (length bytes) && nat_le (length bytes) 16 && list_all is_key_byte bytes
 
 abbrev pub Text : Type 0
 Text = List ℕ
 
--- a lecturer, with the students of the list, best first
+-- a lecturer, with the list of students, best first
 pub record Lecturer : Type 0 where
   pub row : ℕ
   pub key : Text
@@ -18,19 +28,19 @@ pub record Project : Type 0 where
   pub capacity : ℕ
   pub lecturer : Text
 
--- a student, with the projects of the list, best first
+-- a student, with the list of projects, best first
 pub record Student : Type 0 where
   pub row : ℕ
   pub key : Text
   pub list : List Text
 
--- a student at a project
+-- a pair: the student is at the project
 pub record Pair : Type 0 where
   pub row : ℕ
   pub student : Text
   pub project : Text
 
--- all lines of an instance, each kind in its order
+-- the lines of an instance by kind, each kind in its given order
 pub record Rows : Type 0 where
   pub lecturers : List Lecturer
   pub projects : List Project

@@ -10,7 +10,7 @@ ghost use Rattle.std.specs.Cmp.Lexicographic.{texts_po, texts_ties};
 ghost use Rattle.std.specs.Cmp.Rules.{hashing};
 ghost use Rattle.std.specs.Hash as fed;
 ghost use Rattle.std.specs.Str.{bytes_eq, is_utf8};
-ghost use Rattle.spa_rows.specs.Form.{is_key, is_key_byte};
+ghost use Rattle.spa_rows.specs.Lines.{is_key, is_key_byte};
 
 use std::alloc::{AllocError, Global};
 use std::cmp::Ordering;
@@ -34,7 +34,7 @@ pub struct Key {
 
 impl Model for Key {
     ghost use Rattle.std.specs.Prelude.{List, ℕ, IsTrue, string_bytes};
-    ghost use Rattle.spa_rows.specs.Form.{is_key};
+    ghost use Rattle.spa_rows.specs.Lines.{is_key};
 
     ghost Value = { List ℕ };
 

@@ -5,8 +5,9 @@ ghost use Rattle.std.specs.Prelude.{IsTrue, Some, length, map};
 ghost use Rattle.std.specs.Ordering.{nat_cmp};
 ghost use Rattle.std.specs.Cmp.Lexicographic.{slice_cmp};
 ghost use Rattle.spa_rows.specs.Faults.{IsBadCapacity, IsEarlierKey, IsKeyOf, NamesNone, Repeats};
-ghost use Rattle.spa_rows.specs.Form.{is_key};
-ghost use Rattle.spa_rows.specs.Least.{IsLeastOf, BadAt, least_row};
+ghost use Rattle.spa_rows.specs.Faults.{BadAt};
+ghost use Rattle.spa_rows.specs.Lines.{is_key};
+ghost use Rattle.spa_rows.specs.inner.Least.{IsLeastOf, least_row};
 
 use crate::index::Places;
 use crate::key::is_key_text;

@@ -1,20 +1,12 @@
 -- The steps over cursors and cuts.
-use Rattle.spa_student.proofs.Base.{◌≡◌, ◌≢◌, ◌⊎◌, inl, inr, ℕ, suc, ◌+◌, ◌-◌, ◌<◌, ◌≤◌, eqb, List, [], length, get_or, set, replicate, sum, Option, Some, None, refl, sym, ◌∙◌, ap, subst, arith, length-set, get_or-set_same, get_or-set_other, get_or_past, get_or-replicate, length-replicate, cases_lt, cases_eq, Spa, place, is_project, is_lecturer, at_project, at_lecturer, project_of, choices_of, lecturer_of, ranking_of, capacity_of, limit_of, IsBefore, IsAcceptable, IsMatching, IsWith, IsLawful, IsBest, place-injective, one_if, count_by-set, Progress, rank_of, LecturerSpent, ProjectSpent, Holds, IsPastCut, IsUnderWay, Puts, IsSettled, IsWorstWith}
-use Rattle.std.proofs.Common.{◌∷◌, Vec, Global}
+use Rattle.spa_student.proofs.Base.{◌≡◌, ◌≢◌, ◌⊎◌, inl, inr, ℕ, suc, ◌+◌, ◌-◌, ◌<◌, ◌≤◌, eqb, List, [], length, get_or, set, replicate, sum, Option, Some, None, refl, sym, ◌∙◌, ap, subst, arith, length-set, get_or-set_same, get_or-set_other, get_or_past, get_or-replicate, length-replicate, cases_lt, cases_eq, Spa, place, is_project, is_lecturer, at_project, at_lecturer, project_of, choices_of, lecturer_of, ranking_of, capacity_of, limit_of, IsBefore, IsAcceptable, IsMatching, IsWith, IsLawful, IsBest, place-injective, one_if, count_by-set, Progress, rank_of, LecturerSpent, ProjectSpent, Holds, IsPastCut, IsUnderWay, Puts, IsSettled, IsWorstWith, rules, ◌∷◌, Vec, Global, sum_by-set, sum_by-cons, get_or-place, place-get_or, place-get_or-le, IsCut, IsUncut, AreCounts, AreMarks, IsNextEntry, KeepsCuts, Leaves, IsWorstAt}
 use Rattle.std.specs.List.{sum_by}
-use Rattle.std.proofs.lemmas.List.Sums.{sum_by-set, sum_by-cons}
-use Rattle.spa_model.proofs.Places.{get_or-place, place-get_or, place-get_or-le}
-use Rattle.spa_student.specs.inner.Cuts.{IsCut, IsUncut, AreCounts, AreMarks, IsNextEntry, KeepsCuts, Leaves}
-use Rattle.spa_student.specs.inner.Worst.{IsWorstAt}
 use Rattle.spa_student.proofs.Machine.{ranked_of, student_in_range, delete_holds, place_holds, swap_at_project_holds, swap_at_lecturer_holds, best_at_end, put_cases, put_at_project, put_at_lecturer, one_here, none_there}
 use Rattle.spa_student.proofs.Start.{nobody_matches, none_counted, none_there as none_there_yet}
 
 -- who finds a project acceptable is a student
 pub acceptable_in_range : (i : Spa) (s p : ℕ) → IsAcceptable i s p → s < length i.choices
-acceptable_in_range i s p on = elim (cases_lt s (length i.choices)) [
-  | inl h ↦ h
-  | inr h ↦ let none : choices_of i s ≡ [] = get_or_past i.choices s [] h in absurd (omega (arith, rw none at on))
-]
+acceptable_in_range i s p on = search (rules, get_or_past)
 
 -- what stands on a student's list is acceptable
 pub entry_acceptable : (i : Spa) (s k : ℕ) → k < length (choices_of i s) → IsAcceptable i s (get_or (choices_of i s) k 0)
@@ -33,16 +25,8 @@ found_worst_at i lawful q marks uncut p k h at later = record {
   at = at;
   worst = λ x e.
       let r : List ℕ = ranking_of i (lecturer_of i p) in
-      let on : place r x < length r = lawful.ranked x p (marks.assigned.acceptable x p e) in
-      let here : place r (get_or r k 0) ≡ k = place-get_or r k 0 (lawful.distinct (lecturer_of i p)) h in
-      let is_x : get_or r (place r x) 0 ≡ x = get_or-place r x 0 on in
-      elim (cases_lt (place r x) (get_or q.project_cuts.items p 0)) [
-        | inl within ↦ elim (cases_lt k (place r x)) [
-          | inl after ↦ absurd (later (place r x) after within (ap (project_of q.projects.items) is_x ∙ e))
-          | inr before ↦ omega arith
-        ]
-        | inr past ↦ absurd (uncut x p e (inl past))
-      ];
+      let is_x : get_or r (place r x) 0 ≡ x = get_or-place r x 0 (lawful.ranked x p (marks.assigned.acceptable x p e)) in
+      grind (arith, place-get_or);
 }
 
 pub found_worst_with : (i : Spa) → IsLawful i → (q : Progress) → AreMarks i q → IsUncut i q → (l k : ℕ) → k < length (ranking_of i l) → IsWith i q.projects.items l (get_or (ranking_of i l) k 0)
@@ -51,13 +35,11 @@ found_worst_with i lawful q marks uncut l k h at later = record {
   with_l = at;
   worst = λ x u e own.
       let r : List ℕ = ranking_of i l in
-      let on : place r x < length r = rw own at (lawful.ranked x u (marks.assigned.acceptable x u e)) in
-      let here : place r (get_or r k 0) ≡ k = place-get_or r k 0 (lawful.distinct l) h in
-      let is_x : get_or r (place r x) 0 ≡ x = get_or-place r x 0 on in
+      let is_x : get_or r (place r x) 0 ≡ x = get_or-place r x 0 (rw own at (lawful.ranked x u (marks.assigned.acceptable x u e))) in
       elim (cases_lt (place r x) (get_or q.lecturer_cuts.items l 0)) [
         | inl within ↦ elim (cases_lt k (place r x)) [
           | inl after ↦ absurd (later (place r x) after within (u, ap (project_of q.projects.items) is_x ∙ e, own))
-          | inr before ↦ omega arith
+          | inr before ↦ omega (arith, place-get_or r k 0 (lawful.distinct l) h)
         ]
         | inr past ↦ absurd (uncut x u e (inr (rw own past)))
       ];
@@ -68,9 +50,8 @@ pub found_at : (i : Spa) → IsLawful i → (q : Progress) → AreMarks i q → 
     → ((j : ℕ) → j < get_or q.project_cuts.items p 0 → project_of q.projects.items (get_or (ranking_of i (lecturer_of i p)) j 0) ≡ Some p → ⊥) → ⊥
 found_at i lawful q marks uncut p s e none =
     let r : List ℕ = ranking_of i (lecturer_of i p) in
-    let on : place r s < length r = lawful.ranked s p (marks.assigned.acceptable s p e) in
     elim (cases_lt (place r s) (get_or q.project_cuts.items p 0)) [
-      | inl within ↦ none (place r s) within (ap (project_of q.projects.items) (get_or-place r s 0 on) ∙ e)
+      | inl within ↦ none (place r s) within (ap (project_of q.projects.items) (get_or-place r s 0 (lawful.ranked s p (marks.assigned.acceptable s p e))) ∙ e)
       | inr past ↦ uncut s p e (inl past)
     ]
 
@@ -93,10 +74,7 @@ was_cut i q after cuts s p past = rw (cuts.project_cuts, cuts.lecturer_cuts) at 
 
 -- nobody is cut at the own project
 held_uncut : (i : Spa) (m : List (Option ℕ)) (q : Progress) → Holds i m (IsCut i q) → (s p : ℕ) → project_of m s ≡ Some p → IsPastCut i q s p → ⊥
-held_uncut i m q holds s p e past = elim (holds.spent s p (holds.matching.acceptable s p e, past)) [
-  | inl lecturer ↦ omega (arith, lecturer.before s p e refl)
-  | inr project ↦ omega (arith, project.before s e)
-]
+held_uncut i m q holds s p e past = search rules
 
 -- the rank of who was found, and that it is below the cut
 pub rank_found : (i : Spa) → IsLawful i → (l k : ℕ) → k < length (ranking_of i l) → rank_of i l (get_or (ranking_of i l) k 0) ≡ k
@@ -117,10 +95,7 @@ module _ (i : Spa) (q after : Progress) (marks : AreMarks i q) (s p : ℕ) (next
   after_cases x u e = put_cases i q.projects.items s p next_in_range next.free x u (rw puts.projects at e)
 
   pub placed_uncut : Holds i q.projects.items (IsCut i q) → IsUncut i after
-  placed_uncut holds x u e past = elim (after_cases x u e) [
-    | inl new ↦ next.uncut (rw (new.0, new.1) at (was_cut i q after cuts x u past))
-    | inr old ↦ held_uncut i q.projects.items q holds x u old (was_cut i q after cuts x u past)
-  ]
+  placed_uncut holds x u e past = search (rules, after_cases, was_cut, held_uncut)
 
 -- A STUDENT who has a project
 module _ (i : Spa) (q : Progress) (marks : AreMarks i q) (w u : ℕ) (has : project_of q.projects.items w ≡ Some u) where
@@ -148,16 +123,10 @@ module _ (i : Spa) (q : Progress) (marks : AreMarks i q) (w u : ℕ) (has : proj
 -- A STUDENT LEAVES
 module _ (i : Spa) (q after : Progress) (marks : AreMarks i q) (w u : ℕ) (has : project_of q.projects.items w ≡ Some u) (leaves : Leaves w q after) where
   stays : (x v : ℕ) → project_of after.projects.items x ≡ Some v → (x ≢ w) × (project_of q.projects.items x ≡ Some v)
-  stays x v e = elim (cases_eq x w) [
-    | inl same ↦ let now : None ≡ Some v = sym (get_or-set_same q.projects.items w None None (leaver_in_range i q marks w u has)) ∙ (rw (leaves.projects, same) at e) in absurd (cc)
-    | inr other ↦ (other, rw (get_or-set_other q.projects.items w x None None other) at (rw leaves.projects at e))
-  ]
+  stays x v e = search (rules, get_or-set_same, leaver_in_range, get_or-set_other)
 
   moved_one : (x : ℕ) → (x ≡ w) × (get_or after.cursors.items x 0 ≡ get_or q.cursors.items w 0 + 1) ⊎ (x ≢ w) × (get_or after.cursors.items x 0 ≡ get_or q.cursors.items x 0)
-  moved_one x = elim (cases_eq x w) [
-    | inl same ↦ inl (same, rw (leaves.cursors, same) (get_or-set_same q.cursors.items w (get_or q.cursors.items w 0 + 1) 0 (leaver_cursor i q marks w u has)))
-    | inr other ↦ inr (other, rw leaves.cursors (get_or-set_other q.cursors.items w x (get_or q.cursors.items w 0 + 1) 0 other))
-  ]
+  moved_one x = search (rules, get_or-set_same, leaver_cursor, get_or-set_other)
 
   pub left_marks : KeepsCuts q after → IsPastCut i q w u → AreMarks i after
   left_marks cuts past = record {
@@ -178,12 +147,7 @@ module _ (i : Spa) (q after : Progress) (marks : AreMarks i q) (w u : ℕ) (has 
     at_cursor = λ x v e. let old = stays x v e in elim (moved_one x) [ inl here ↦ absurd (old.0 here.0) | inr there ↦ marks.at_cursor x v old.1 ∙ sym there.1 ];
   } where
     at_w : (v : ℕ) → place (choices_of i w) v < get_or q.cursors.items w 0 + 1 → IsPastCut i q w v
-    at_w v h = elim (cases_lt (place (choices_of i w) v) (get_or q.cursors.items w 0)) [
-      | inl before ↦ marks.passed w v before
-      | inr here ↦
-          let level : place (choices_of i w) u ≡ place (choices_of i w) v = omega (arith, marks.at_cursor w u has) in
-          subst (IsPastCut i q w) (place-injective (choices_of i w) u v (marks.assigned.acceptable w u has) level) past
-    ]
+    at_w v h = grind (arith, place-injective)
 
   pub left_counts : AreCounts i q → u < length i.lecturers → lecturer_of i u < length i.rankings
       → after.project_counts.items ≡ set q.project_counts.items u (get_or q.project_counts.items u 0 - 1)
@@ -205,10 +169,7 @@ module _ (i : Spa) (q after : Progress) (marks : AreMarks i q) (w u : ℕ) (has 
 
 -- A CUT FALLS
 falls : (xs : List ℕ) (p r : ℕ) → p < length xs → r ≤ get_or xs p 0 → (u : ℕ) → get_or (set xs p r) u 0 ≤ get_or xs u 0
-falls xs p r h le u = elim (cases_eq u p) [
-  | inl same ↦ rw same (rw (get_or-set_same xs p r 0 h) le)
-  | inr other ↦ omega (arith, get_or-set_other xs p u r 0 other)
-]
+falls xs p r h le u = search (rules, get_or-set_same, get_or-set_other)
 
 module _ (i : Spa) (q after : Progress) (p r : ℕ) (p_in : p < length q.project_cuts.items) (less : r ≤ get_or q.project_cuts.items p 0) (now : after.project_cuts.items ≡ set q.project_cuts.items p r) (same : after.lecturer_cuts.items ≡ q.lecturer_cuts.items) where
   pub project_cut_more : (x u : ℕ) → IsPastCut i q x u → IsPastCut i after x u
@@ -217,10 +178,7 @@ module _ (i : Spa) (q after : Progress) (p r : ℕ) (p_in : p < length q.project
 
   pub project_cut_new : (x u : ℕ) → IsPastCut i after x u → IsPastCut i q x u ⊎ ((u ≡ p) × (r ≤ rank_of i (lecturer_of i p) x))
   project_cut_new x u (inr past) = inl (inr (rw same at past))
-  project_cut_new x u (inl past) = elim (cases_eq u p) [
-    | inl here ↦ inr (here, (rw (now, here, get_or-set_same q.project_cuts.items p r 0 p_in) at past))
-    | inr other ↦ inl (inl (rw (now, get_or-set_other q.project_cuts.items p u r 0 other) at past))
-  ]
+  project_cut_new x u (inl past) = search (rules, get_or-set_same, get_or-set_other)
 
 module _ (i : Spa) (q after : Progress) (l r : ℕ) (l_in : l < length q.lecturer_cuts.items) (less : r ≤ get_or q.lecturer_cuts.items l 0) (now : after.lecturer_cuts.items ≡ set q.lecturer_cuts.items l r) (same : after.project_cuts.items ≡ q.project_cuts.items) where
   pub lecturer_cut_more : (x u : ℕ) → IsPastCut i q x u → IsPastCut i after x u
@@ -229,36 +187,13 @@ module _ (i : Spa) (q after : Progress) (l r : ℕ) (l_in : l < length q.lecture
 
   pub lecturer_cut_new : (x u : ℕ) → IsPastCut i after x u → IsPastCut i q x u ⊎ ((lecturer_of i u ≡ l) × (r ≤ rank_of i l x))
   lecturer_cut_new x u (inl past) = inl (inl (rw same at past))
-  lecturer_cut_new x u (inr past) = elim (cases_eq (lecturer_of i u) l) [
-    | inl here ↦ inr (here, (rw (now, here, get_or-set_same q.lecturer_cuts.items l r 0 l_in) at past))
-    | inr other ↦ inl (inr (rw (now, get_or-set_other q.lecturer_cuts.items l (lecturer_of i u) r 0 other) at past))
-  ]
+  lecturer_cut_new x u (inr past) = search (rules, get_or-set_same, get_or-set_other)
 
 pub fallen_project_marks : (i : Spa) (q : Progress) → AreMarks i q → (p r : ℕ) (v : Vec ℕ Global) → p < length q.project_cuts.items → r ≤ get_or q.project_cuts.items p 0 → v.items ≡ set q.project_cuts.items p r → AreMarks i (record q { project_cuts = v })
-fallen_project_marks i q marks p r v p_in less now = record {
-  assigned = marks.assigned;
-  cursor_rows = marks.cursor_rows;
-  project_rows = ap length now ∙ length-set q.project_cuts.items p r ∙ marks.project_rows;
-  lecturer_rows = marks.lecturer_rows;
-  cursors = marks.cursors;
-  lecturer_cuts = marks.lecturer_cuts;
-  at_cursor = marks.at_cursor;
-  project_cuts = λ u. rw now (omega (arith, falls q.project_cuts.items p r p_in less u, marks.project_cuts u));
-  passed = λ x u h. project_cut_more i q (record q { project_cuts = v }) p r p_in less now refl x u (marks.passed x u h);
-}
+fallen_project_marks i q marks p r v p_in less now = search (rules, length-set, falls, project_cut_more)
 
 pub fallen_lecturer_marks : (i : Spa) (q : Progress) → AreMarks i q → (l r : ℕ) (v : Vec ℕ Global) → l < length q.lecturer_cuts.items → r ≤ get_or q.lecturer_cuts.items l 0 → v.items ≡ set q.lecturer_cuts.items l r → AreMarks i (record q { lecturer_cuts = v })
-fallen_lecturer_marks i q marks l r v l_in less now = record {
-  assigned = marks.assigned;
-  cursor_rows = marks.cursor_rows;
-  project_rows = marks.project_rows;
-  lecturer_rows = ap length now ∙ length-set q.lecturer_cuts.items l r ∙ marks.lecturer_rows;
-  cursors = marks.cursors;
-  project_cuts = marks.project_cuts;
-  at_cursor = marks.at_cursor;
-  lecturer_cuts = λ u. rw now (omega (arith, falls q.lecturer_cuts.items l r l_in less u, marks.lecturer_cuts u));
-  passed = λ x u h. lecturer_cut_more i q (record q { lecturer_cuts = v }) l r l_in less now refl x u (marks.passed x u h);
-}
+fallen_lecturer_marks i q marks l r v l_in less now = search (rules, length-set, falls, lecturer_cut_more)
 
 -- who stands no better than a student whose pair may be deleted may have it deleted too
 spent_below_project : (i : Spa) (m : List (Option ℕ)) (p w t : ℕ) → ProjectSpent i m p w → rank_of i (lecturer_of i p) w ≤ rank_of i (lecturer_of i p) t → ProjectSpent i m p t
@@ -269,12 +204,7 @@ spent_below_lecturer i m l w t spent le = record { full = spent.full; before = �
 
 -- where the cuts are the same, the same pairs are deleted
 held_on : (i : Spa) (m : List (Option ℕ)) (q after : Progress) → KeepsCuts q after → Holds i m (IsCut i q) → Holds i m (IsCut i after)
-held_on i m q after cuts holds = record {
-  matching = holds.matching;
-  first = λ s p u e h. let gone = holds.first s p u e h in (gone.0, same_cut i q after cuts s p gone.1);
-  spent = λ t p gone. holds.spent t p (gone.0, was_cut i q after cuts t p gone.1);
-  hopeless = λ t p gone. holds.hopeless t p (gone.0, was_cut i q after cuts t p gone.1);
-}
+held_on i m q after cuts holds = search (rules, same_cut, was_cut)
 
 -- the entries before the next one are deleted
 earlier_cut : (i : Spa) (q : Progress) → AreMarks i q → (s p : ℕ) → IsNextEntry i q s p → (u : ℕ) → IsBefore (choices_of i s) u p → IsCut i q s u
@@ -361,49 +291,13 @@ module _ (i : Spa) (q : Progress) (state : IsUnderWay i q) (s k : ℕ) (in_range
   mover_in = omega (arith, state.marks.cursor_rows)
 
   cursor_now : (x : ℕ) → (x ≡ s) × (get_or (set q.cursors.items s k) x 0 ≡ k) ⊎ (x ≢ s) × (get_or (set q.cursors.items s k) x 0 ≡ get_or q.cursors.items x 0)
-  cursor_now x = elim (cases_eq x s) [
-    | inl same ↦ inl (same, rw same (get_or-set_same q.cursors.items s k 0 mover_in))
-    | inr other ↦ inr (other, get_or-set_other q.cursors.items s x k 0 other)
-  ]
+  cursor_now x = search (rules, get_or-set_same, mover_in, get_or-set_other)
 
   pub moved_state : (v : Vec ℕ Global) → v.items ≡ set q.cursors.items s k → IsUnderWay i (record q { cursors = v })
-  moved_state v now = record {
-    marks = record {
-      assigned = state.marks.assigned;
-      project_rows = state.marks.project_rows;
-      lecturer_rows = state.marks.lecturer_rows;
-      project_cuts = state.marks.project_cuts;
-      lecturer_cuts = state.marks.lecturer_cuts;
-      cursor_rows = ap length now ∙ length-set q.cursors.items s k ∙ state.marks.cursor_rows;
-      cursors = λ x. rw now (elim (cursor_now x) [ inl here ↦ rw (here.1, here.0) to | inr there ↦ rw there.1 (state.marks.cursors x) ]);
-      passed = λ x u h. elim (cursor_now x) [
-        | inl here ↦ rw here.0 (passed_cut u (rw (now, here.1, here.0) at h))
-        | inr there ↦ state.marks.passed x u (rw (now, there.1) at h)
-      ];
-      at_cursor = λ x u e. rw now (elim (cursor_now x) [
-        | inl here ↦ absurd (let none : project_of q.projects.items x ≡ None = rw here.0 free in cc)
-        | inr there ↦ state.marks.at_cursor x u e ∙ sym there.1
-      ]);
-    };
-    counts = record {
-      project_rows = state.counts.project_rows;
-      lecturer_rows = state.counts.lecturer_rows;
-      at_projects = state.counts.at_projects;
-      at_lecturers = state.counts.at_lecturers;
-    };
-    holds = state.holds;
-  }
+  moved_state v now = search (rules, length-set, cursor_now, passed_cut)
 
   pub moved_next : (v : Vec ℕ Global) → v.items ≡ set q.cursors.items s k → k < length (choices_of i s) → (IsPastCut i q s (get_or (choices_of i s) k 0) → ⊥) → IsNextEntry i (record q { cursors = v }) s (get_or (choices_of i s) k 0)
-  moved_next v now within uncut = record {
-    free = free;
-    acceptable = entry_acceptable i s k within;
-    at_cursor = rw (now, get_or-set_same q.cursors.items s k 0 mover_in) (elim (cases_lt (place (choices_of i s) (get_or (choices_of i s) k 0)) k) [
-      | inl before ↦ absurd (uncut (passed_cut (get_or (choices_of i s) k 0) before))
-      | inr there ↦ omega (arith, place-get_or-le (choices_of i s) k 0 within)
-    ]);
-    uncut = uncut;
-  }
+  moved_next v now within uncut = search (rules, entry_acceptable, get_or-set_same, mover_in, passed_cut, place-get_or-le)
 
 -- THE END: every student is settled
 pub best_when_settled : (i : Spa) (q : Progress) → IsUnderWay i q → ((s : ℕ) → s < length i.choices → IsSettled i q s) → IsBest i q.projects.items
@@ -427,10 +321,7 @@ abbrev pub zeros : ℕ → List ℕ
 zeros n = replicate n 0
 
 zero_there : (n p : ℕ) → get_or (zeros n) p 0 ≡ 0
-zero_there n p = elim (cases_lt p n) [
-  | inl h ↦ get_or-replicate n p 0 0 h
-  | inr h ↦ get_or_past (zeros n) p 0 (let long : length (zeros n) ≡ n = length-replicate n 0 in omega arith)
-]
+zero_there n p = search (rules, get_or-replicate, get_or_past, length-replicate)
 
 pub state_at_first : (i : Spa) → IsLawful i → (q : Progress) → q.projects.items ≡ replicate (length i.choices) None → q.cursors.items ≡ zeros (length i.choices)
     → q.project_counts.items ≡ zeros (length i.lecturers) → q.lecturer_counts.items ≡ zeros (length i.rankings)
@@ -468,7 +359,4 @@ state_at_first i lawful q nobody start no_counts no_counts_l rows cuts rows_l cu
   free s p e = let none = none_there_yet (length i.choices) s in let now : project_of (replicate (length i.choices) None) s ≡ Some p = rw nobody at e in cc
 
   uncut : (t p : ℕ) → IsCut i q t p → ⊥
-  uncut t p (on, past) =
-      let p_in : p < length i.lecturers = lawful.known t p on in
-      let ranked : rank_of i (lecturer_of i p) t < length (ranking_of i (lecturer_of i p)) = lawful.ranked t p on in
-      elim past [ inl h ↦ omega (arith, cuts p p_in) | inr h ↦ omega (arith, cuts_l (lecturer_of i p) (lawful.offered p p_in)) ]
+  uncut t p (on, past) = search rules

@@ -1,12 +1,7 @@
--- What the steps keep of the provisional matching and the deleted pairs, and what follows at the end.
-use Rattle.spa_student.proofs.Base.{◌≡◌, ◌≢◌, ◌⊎◌, inl, inr, ℕ, ◌+◌, ◌<◌, ◌≤◌, false, eqb, List, length, refl, sym, ◌∙◌, ap, subst, arith, get_or, set, Option, Some, None, length-set, get_or-set_same, get_or-set_other, get_or_past, cases_lt, cases_eq, Spa, place, is_project, is_lecturer, at_project, at_lecturer, project_of, choices_of, lecturer_of, ranking_of, capacity_of, limit_of, IsBefore, IsAcceptable, IsLawful, IsBest, rank_of, LecturerSpent, ProjectSpent, Holds, place-injective, one_if, count_by-set}
-use Rattle.std.proofs.Common.{true}
-use Rattle.std.proofs.lemmas.Bool.{eqb-true, eq-eqb, ne_eqb, cases_Bool, cases_order}
+-- What steps keep of the provisional matching and the deleted pairs, and what follows at the end.
+use Rattle.spa_student.proofs.Base.{◌≡◌, ◌≢◌, ◌⊎◌, inl, inr, ℕ, ◌+◌, ◌<◌, ◌≤◌, false, eqb, List, length, refl, sym, ◌∙◌, ap, subst, arith, get_or, set, Option, Some, None, length-set, get_or-set_same, get_or-set_other, get_or_past, cases_lt, cases_eq, Spa, place, is_project, is_lecturer, at_project, at_lecturer, project_of, choices_of, lecturer_of, ranking_of, capacity_of, limit_of, IsBefore, IsAcceptable, IsLawful, IsBest, rank_of, LecturerSpent, ProjectSpent, Holds, place-injective, one_if, count_by-set, rules, true, eqb-true, eq-eqb, ne_eqb, cases_Bool, cases_order, IsOn, Improves, Wants, Blocks, IsStable, IsAsGood, IsRanked, IsSpent, off_project, count_by-le, sum_below, sum_below-lt, share, at_lecturer-sum}
 use Rattle.spa_model.specs.declared.Letter.{Letter}
 use Rattle.spa_model.specs.declared.Letter.TheVariants.{A, B, C}
-use Rattle.spa_model.specs.Spa.{IsOn, Improves, Wants, Blocks, IsStable, IsAsGood}
-use Rattle.spa_student.specs.inner.Machine.{IsRanked, IsSpent}
-use Rattle.spa_model.proofs.Counts.{off_project, count_by-le, sum_below, sum_below-lt, share, at_lecturer-sum}
 
 -- a lawful instance is ranked
 pub ranked_of : (i : Spa) → IsLawful i → IsRanked i
@@ -14,10 +9,7 @@ ranked_of i lawful = record { known = lawful.known; offered = lawful.offered; ra
 
 -- a student with a project is a student
 pub student_in_range : (i : Spa) (m : List (Option ℕ)) (s q : ℕ) → project_of m s ≡ Some q → s < length m
-student_in_range i m s q e = elim (cases_lt s (length m)) [
-  | inl h ↦ h
-  | inr h ↦ let past : project_of m s ≡ None = get_or_past m s None h in absurd (cc)
-]
+student_in_range i m s q e = search (rules, get_or_past)
 
 -- the counts at a student's project
 pub is_project-at : (p : ℕ) (o : Option ℕ) → o ≡ Some p → is_project p o ≡ true
@@ -32,8 +24,6 @@ pub blocked : (i : Spa) (n : List (Option ℕ)) (stable : IsStable i n) (t p s u
     → Wants i n s u → (u ≡ p) ⊎ (at_project n u < capacity_of i u) → ⊥
 blocked i n stable t p s u at same before wants room =
     let l : ℕ = lecturer_of i u in
-    let fits : at_project n u ≤ capacity_of i u = stable.matching.projects u in
-    let fits_l : at_lecturer i n l ≤ limit_of i l = stable.matching.lecturers l in
     elim (cases_lt (at_project n u) (capacity_of i u)) [
       | inl under ↦ elim (cases_lt (at_lecturer i n l) (limit_of i l)) [
         | inl under_l ↦ stable.unblocked s u A (wants, under, under_l)
@@ -45,13 +35,11 @@ blocked i n stable t p s u at same before wants room =
       ]
     ]
 
--- s, who has u in m and stands before t, has u in each stable n in which t is at p, where u is p or has room in n
+-- s has u in m, ranked before t, and has u in each stable n with t at p, if u is p or has room in n
 kept : (i : Spa) (m n : List (Option ℕ)) (Deleted : ℕ → ℕ → Type 0) → Holds i m Deleted → (stable : IsStable i n) → IsRanked i → (t p s u : ℕ) → project_of n t ≡ Some p → project_of m s ≡ Some u
     → lecturer_of i u ≡ lecturer_of i p → rank_of i (lecturer_of i u) s < rank_of i (lecturer_of i u) t → (u ≡ p) ⊎ (at_project n u < capacity_of i u)
     → (o : Option ℕ) → project_of n s ≡ o → o ≡ Some u
-kept i m n Deleted holds stable lawful t p s u at has same less room None e =
-    let on_list : IsOn (ranking_of i (lecturer_of i u)) t = rw same (lawful.ranked t p (stable.matching.acceptable t p at)) in
-    absurd (blocked i n stable t p s u at same (less, on_list) (holds.matching.acceptable s u has, rw e tt) room)
+kept i m n Deleted holds stable lawful t p s u at has same less room None e = search (rules, blocked)
 kept i m n Deleted holds stable lawful t p s u at has same less room (Some v) e =
     let on_list : IsOn (ranking_of i (lecturer_of i u)) t = rw same (lawful.ranked t p (stable.matching.acceptable t p at)) in
     let u_on : IsAcceptable i s u = holds.matching.acceptable s u has in
@@ -133,10 +121,7 @@ stable_at_end i m Deleted holds free = record {
   why s p wants = holds.spent s p (gone s p (project_of m s) refl wants.0 wants.1)
 
   unblocked : (s p : ℕ) (x : Letter) → Blocks i m s p x → ⊥
-  unblocked s p A b = elim (why s p b.0) [
-    | inl lecturer ↦ absurd (omega (arith, lecturer.full, b.2))
-    | inr project ↦ absurd (omega (arith, project.full, b.1))
-  ]
+  unblocked s p A b = grind arith
   unblocked s p B b = elim (why s p b.0) [
     | inl lecturer ↦ elim b.3 [
       | inl own ↦ absurd (omega (arith, lecturer.before s own.0 own.1 own.2))
@@ -167,10 +152,7 @@ as_good_as_stable i m Deleted holds n stable s free = each (project_of m s) (pro
 
 -- at the end: each student has the best of all stable matchings
 pub best_at_end : (i : Spa) (m : List (Option ℕ)) (Deleted : ℕ → ℕ → Type 0) → Holds i m Deleted → ((s p : ℕ) → project_of m s ≡ None → IsAcceptable i s p → Deleted s p) → IsBest i m
-best_at_end i m Deleted holds free = record {
-  stable = stable_at_end i m Deleted holds free;
-  best = λ n stable s. as_good_as_stable i m Deleted holds n stable s (free s);
-}
+best_at_end i m Deleted holds free = search (rules, stable_at_end, as_good_as_stable)
 
 -- what the students have after s is put at p, in a matching in which s was free
 module _ (i : Spa) (m : List (Option ℕ)) (s p : ℕ) (in_range : s < length m) (free : project_of m s ≡ None) where
@@ -178,10 +160,7 @@ module _ (i : Spa) (m : List (Option ℕ)) (s p : ℕ) (in_range : s < length m)
   put_same = get_or-set_same m s (Some p) None in_range
 
   pub put_cases : (x q : ℕ) → project_of (set m s (Some p)) x ≡ Some q → ((x ≡ s) × (q ≡ p)) ⊎ (project_of m x ≡ Some q)
-  put_cases x q e = elim (cases_eq x s) [
-    | inl same ↦ let now : Some p ≡ Some q = sym put_same ∙ (rw same at e) in inl (same, cc)
-    | inr other ↦ inr (rw (get_or-set_other m s x (Some p) None other) at e)
-  ]
+  put_cases x q e = search (rules, put_same, get_or-set_other)
 
   pub put_at_project : (q : ℕ) → at_project (set m s (Some p)) q ≡ at_project m q + one_if (eqb p q)
   put_at_project q = omega (arith, count_by-set (is_project q) m s (Some p) in_range, ap (λ o. one_if (is_project q o)) free)
@@ -195,7 +174,7 @@ one_here p = ap one_if (eq-eqb p p refl)
 pub none_there : (p q : ℕ) → (p ≡ q → ⊥) → one_if (eqb p q) ≡ 0
 none_there p q other = ap one_if (ne_eqb p q other)
 
--- PLACE: a free student is put at the first project that is left, where it and its lecturer have room
+-- PLACE: a free student gets the first project that is left, where it and its lecturer have room
 pub place_holds : (i : Spa) (m : List (Option ℕ)) (Deleted : ℕ → ℕ → Type 0) → Holds i m Deleted → (s p : ℕ) → s < length m → project_of m s ≡ None → IsAcceptable i s p → ((q : ℕ) → IsBefore (choices_of i s) q p → Deleted s q)
     → at_project m p < capacity_of i p → at_lecturer i m (lecturer_of i p) < limit_of i (lecturer_of i p) → Holds i (set m s (Some p)) Deleted
 place_holds i m Deleted holds s p in_range free on first room room_l = record {
@@ -245,11 +224,7 @@ module _ (i : Spa) (m : List (Option ℕ)) (s p w u : ℕ) (in_range : s < lengt
   w_in_range = student_in_range i (set m s (Some p)) w u has
 
   swap_cases : (x q : ℕ) → project_of (set (set m s (Some p)) w None) x ≡ Some q → (x ≢ w) × (project_of (set m s (Some p)) x ≡ Some q) × (((x ≡ s) × (q ≡ p)) ⊎ (project_of m x ≡ Some q))
-  swap_cases x q e = elim (cases_eq x w) [
-    | inl same ↦ let now : None ≡ Some q = sym (get_or-set_same (set m s (Some p)) w None None w_in_range) ∙ (rw same at e) in absurd (cc)
-    | inr other ↦ let old : project_of (set m s (Some p)) x ≡ Some q = rw (get_or-set_other (set m s (Some p)) w x None None other) at e in
-        (other, old, put_cases i m s p in_range free x q old)
-  ]
+  swap_cases x q e = search (rules, get_or-set_same, w_in_range, get_or-set_other, put_cases)
 
   -- who is let go was there before, or is s
   was : (w ≢ s) → project_of m w ≡ Some u
@@ -268,7 +243,7 @@ module _ (i : Spa) (m : List (Option ℕ)) (s p w u : ℕ) (in_range : s < lengt
 stands_before : (xs : List ℕ) (x w : ℕ) → IsOn xs x → x ≢ w → place xs x ≤ place xs w → place xs x < place xs w
 stands_before xs x w on other le = elim (cases_eq (place xs x) (place xs w)) [ inl level ↦ absurd (other (place-injective xs x w on level)) | inr apart ↦ omega arith ]
 
--- SWAP AT A PROJECT: a free student is put at the first project that is left, which was full, and the worst there is let go, whose pair may then be deleted
+-- SWAP AT A PROJECT: the first project left was full; its worst goes, whose pair may be deleted
 pub swap_at_project_holds : (i : Spa) (m : List (Option ℕ)) (Deleted : ℕ → ℕ → Type 0) → IsRanked i → Holds i m Deleted → (s p w : ℕ) → s < length m → project_of m s ≡ None → IsAcceptable i s p → ((q : ℕ) → IsBefore (choices_of i s) q p → Deleted s q)
     → at_project m p ≡ capacity_of i p → project_of (set m s (Some p)) w ≡ Some p
     → ((x : ℕ) → project_of (set m s (Some p)) x ≡ Some p → rank_of i (lecturer_of i p) x ≤ rank_of i (lecturer_of i p) w)
@@ -286,11 +261,7 @@ swap_at_project_holds i m Deleted lawful holds s p w in_range free on first full
       | inl lecturer ↦ inl (record {
         full = omega (arith, count_l (lecturer_of i u), lecturer.full);
         before = λ x q e own. elim ((cases x q e).2) [
-          | inl new ↦
-              let here : lecturer_of i p ≡ lecturer_of i u = rw new.1 at own in
-              let w_before : rank_of i (lecturer_of i u) w < rank_of i (lecturer_of i u) t = lecturer.before w p (w_was x p (cases x q e).0 new.0) here in
-              let s_before : rank_of i (lecturer_of i u) s ≤ rank_of i (lecturer_of i u) w = rw here at s_worst in
-              rw new.0 (omega arith)
+          | inl new ↦ search (rules, w_was, cases, s_worst)
           | inr old ↦ lecturer.before x q old own
         ];
       })
@@ -298,9 +269,7 @@ swap_at_project_holds i m Deleted lawful holds s p w in_range free on first full
         full = omega (arith, count u, project.full);
         before = λ x e. elim ((cases x u e).2) [
           | inl new ↦
-              let w_before : rank_of i (lecturer_of i u) w < rank_of i (lecturer_of i u) t = project.before w (w_was x p (cases x u e).0 new.0 ∙ ap Some (sym new.1)) in
-              let s_before : rank_of i (lecturer_of i u) s ≤ rank_of i (lecturer_of i u) w = rw (sym new.1) at s_worst in
-              rw new.0 (omega arith)
+              rw new.0 (omega (arith, project.before w (w_was x p (cases x u e).0 new.0 ∙ ap Some (sym new.1)), rw (sym new.1) at s_worst))
           | inr old ↦ project.before x old
         ];
       })
@@ -333,7 +302,7 @@ swap_at_project_holds i m Deleted lawful holds s p w in_range free on first full
   w_was : (x u : ℕ) → x ≢ w → x ≡ s → project_of m w ≡ Some p
   w_was x u other same = was i m s p w p in_range free has (λ e. other (same ∙ sym e))
 
--- SWAP AT A LECTURER: the project has room and its lecturer was full; the worst of the lecturer's students is let go
+-- SWAP AT A LECTURER: the project has room, its lecturer was full; the lecturer's worst is let go
 pub swap_at_lecturer_holds : (i : Spa) (m : List (Option ℕ)) (Deleted : ℕ → ℕ → Type 0) → IsRanked i → Holds i m Deleted → (s p w u : ℕ) → s < length m → project_of m s ≡ None → IsAcceptable i s p → ((q : ℕ) → IsBefore (choices_of i s) q p → Deleted s q)
     → at_project m p < capacity_of i p → at_lecturer i m (lecturer_of i p) ≡ limit_of i (lecturer_of i p)
     → project_of (set m s (Some p)) w ≡ Some u → lecturer_of i u ≡ lecturer_of i p
@@ -357,9 +326,7 @@ swap_at_lecturer_holds i m Deleted lawful holds s p w u in_range free on first r
         before = λ x q e there. elim ((cases x q e).2) [
           | inl new ↦
               let here : lecturer_of i p ≡ lecturer_of i v = rw new.1 at there in
-              let w_before : rank_of i (lecturer_of i v) w < rank_of i (lecturer_of i v) t = lecturer.before w u (w_was x (cases x q e).0 new.0) (own ∙ here) in
-              let s_before : rank_of i (lecturer_of i v) s ≤ rank_of i (lecturer_of i v) w = rw here at s_worst in
-              rw new.0 (omega arith)
+              rw new.0 (omega (arith, lecturer.before w u (w_was x (cases x q e).0 new.0) (own ∙ here), rw here at s_worst))
           | inr old ↦ lecturer.before x q old there
         ];
       })
@@ -368,13 +335,10 @@ swap_at_lecturer_holds i m Deleted lawful holds s p w u in_range free on first r
         | inr other ↦ elim (cases_eq u v) [
           | inl left ↦
               let w_had : project_of m w ≡ Some v = was i m s p w u in_range free has (λ e. let now : Some p ≡ Some u = sym (put_same i m s p in_range free) ∙ (rw e at has) in other (let same : p ≡ u = cc in same ∙ left)) ∙ ap Some left in
-              let w_before : rank_of i (lecturer_of i v) w < rank_of i (lecturer_of i v) t = project.before w w_had in
               let of_v : lecturer_of i v ≡ lecturer_of i p = ap (lecturer_of i) (sym left) ∙ own in
               inl (record {
                 full = omega (arith, count_l (lecturer_of i v), rw (sym of_v) at full);
-                before = λ x q e there.
-                    let no_worse : rank_of i (lecturer_of i v) x ≤ rank_of i (lecturer_of i v) w = rw of_v (worst x q (cases x q e).1 (there ∙ of_v)) in
-                    omega arith;
+                before = λ x q e there. search (rules, cases);
               })
           | inr apart ↦ inr (record {
             full = omega (arith, swap_at_project i m s p w u in_range free has v, none_there p v other, none_there u v apart, project.full);

@@ -1,9 +1,5 @@
 -- At the start nobody has a project.
-use Rattle.spa_student.proofs.Base.{◌≡◌, inl, inr, ℕ, suc, List, length, get_or, replicate, Option, Some, None, refl, ap, arith, false, get_or_past, get_or-replicate, length-replicate, cases_lt, Spa, is_project, is_lecturer, project_of, IsMatching, one_if}
-use Rattle.std.proofs.Common.{zero}
-use Rattle.std.specs.List.{count_by}
-use Rattle.std.specs.Prelude.{Bool}
-use Rattle.spa_model.proofs.Counts.{count_by-cons}
+use Rattle.spa_student.proofs.Base.{◌≡◌, ℕ, suc, List, length, get_or, replicate, Option, Some, None, refl, ap, arith, false, get_or_past, get_or-replicate, length-replicate, Spa, is_project, is_lecturer, project_of, IsMatching, one_if, rules, zero, count_by, Bool, count_by-cons}
 
 -- nobody has a project
 abbrev nobody : ℕ → List (Option ℕ)
@@ -14,10 +10,7 @@ none_counted p zero e = refl
 none_counted p (suc n) e = omega (arith, count_by-cons p None (replicate n None), ap one_if e, none_counted p n e)
 
 pub none_there : (n s : ℕ) → get_or (nobody n) s None ≡ None
-none_there n s = elim (cases_lt s n) [
-  | inl h ↦ get_or-replicate n s None None h
-  | inr h ↦ get_or_past (replicate n None) s None (let long : length (nobody n) ≡ n = length-replicate n None in omega arith)
-]
+none_there n s = search (rules, get_or-replicate, get_or_past, length-replicate)
 
 pub nobody_matches : (i : Spa) → IsMatching i (replicate (length i.choices) None)
 nobody_matches i = record {

@@ -1,4 +1,4 @@
-//! Cursors into the lists, and cuts in the rankings: no list gets shorter.
+//! `solve`: the method SPA-student, by cursors into the lists and cuts in the rankings.
 
 ghost use Rattle.std.specs.Prelude.{◌≡◌, ◌≢◌, ◌<◌, ◌≤◌, ◌+◌, ◌↔◌, ◌⊎◌, ℕ, IfOk, IfSome};
 ghost use Rattle.std.specs.Prelude.{MatchOption, IsTrue, Some, None, length, slice_set};

@@ -1,7 +1,7 @@
 //! A store that fails.
 
 ghost use Rattle.std.specs.Prelude.{length};
-ghost use Rattle.portal_core.specs.Counting.{CountsFaults};
+ghost use Rattle.portal_core.specs.Meaning.{CountsFaults};
 
 use crate::tests::portal::{
     NO_CALLER, fresh_keeper, published, ranked_again, ranking_again, reopened, request,

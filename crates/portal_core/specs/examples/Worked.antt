@@ -5,11 +5,10 @@ use Rattle.portal_core.specs.declared.phase.Phase.TheVariants.{Choosing, Ranking
 use Rattle.portal_core.specs.declared.phase.Round.TheVariants.{First, Second}
 use Rattle.portal_core.specs.declared.rows.ProjectRow.{ProjectRow}
 use Rattle.portal_core.specs.Words.{Key}
-use Rattle.portal_core.specs.World.{World, Student, Lecturer}
-use Rattle.portal_core.specs.Change.{Choices, Ranks, Placements, SecondRound, changed, new_student, new_lecturer}
+use Rattle.portal_core.specs.World.{World, Student, Lecturer, Choices, Ranks, Placements, SecondRound, changed, new_student, new_lecturer}
 use Rattle.portal_core.specs.View.{view}
-use Rattle.portal_core.specs.AbstractCall.{AbstractCall}
-use Rattle.portal_core.specs.Json.{dictionary, several, texts, count}
+use Rattle.portal_core.specs.Sight.{AbstractCall}
+use Rattle.portal_core.specs.Bodies.{dictionary, several, texts, count}
 use Rattle.portal_core.specs.Answer.{Answer, Said, Csv, Plain, answer, answered}
 
 abbrev pub lecturer : List ℕ → List ℕ → List ℕ → ℕ → Lecturer

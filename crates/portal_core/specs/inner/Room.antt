@@ -1,10 +1,14 @@
--- What the pairs of the first round's result leave of a row.
-use Rattle.std.specs.Prelude.{ℕ, ◌-◌, nat_lt, if◌then◌else◌, count_by, List, map, filter, Option, Some, None, option_map}
+-- What the pairs of the first round's result leave of a row, a matching's pairs, and the persons
+-- at each project.
+use Rattle.std.specs.Prelude.{ℕ, ◌-◌, nat_lt, if◌then◌else◌, count_by, List, map, filter, Option, Some, None, option_map, Vec, [], ◌∷◌, slice_index_or}
 use Rattle.portal_core.specs.declared.rows.LecturerRow.{LecturerRow}
 use Rattle.portal_core.specs.declared.rows.ProjectRow.{ProjectRow}
 use Rattle.portal_core.specs.Words.{Key, equals, has}
-use Rattle.portal_core.specs.Sheets.{students_at}
+use Rattle.portal_core.specs.Bodies.{students_at}
 use Rattle.portal_core.specs.World.{project_key}
+use Rattle.std.specs.declared.alloc.Global.{Global}
+use Rattle.spa_rows.specs.declared.key.Key as kept
+use Rattle.portal_core.specs.declared.rows.Person.{Person}
 
 -- how many pairs give one of these projects
 abbrev pub pairs_among : List (Key × Key) → List Key → ℕ
@@ -23,3 +27,13 @@ project_left pairs p = option_map (λ n. record p { capacity = n }) (room_of p.c
 
 abbrev pub lecturer_left : List ProjectRow → List (Key × Key) → LecturerRow → Option LecturerRow
 lecturer_left projects pairs l = option_map (λ n. record l { capacity = n }) (room_of l.capacity (pairs_among pairs (own_keys projects l.key)))
+
+-- the persons at each project
+abbrev pub by_project : List (kept.Key × Vec Person Global) → List (Key × List Person)
+by_project ps = map (λ p. (p.0, p.1.items)) ps
+
+-- the pairs of a matching by numbers, for these students and projects, by student
+abbrev pub pairs_by : List Key → List Key → List (Option ℕ) → List (Key × Key)
+pairs_by (s ∷ ss) projects (Some p ∷ places) = (s, slice_index_or projects p []) ∷ pairs_by ss projects places
+pairs_by (s ∷ ss) projects (None ∷ places) = pairs_by ss projects places
+pairs_by _ _ _ = []

@@ -7,7 +7,7 @@ ghost use Rattle.portal_core.specs.Words as words;
 ghost use Rattle.portal_core.specs.Words.{equals};
 ghost use Rattle.portal_core.specs.Faults as fault;
 ghost use Rattle.portal_core.specs.Faults.{is_applicant};
-ghost use Rattle.portal_core.specs.Meaning.{by_project};
+ghost use Rattle.portal_core.specs.inner.Room.{by_project};
 ghost use Rattle.portal_core.specs.inner.Tables.{HasKeys, HasTexts};
 
 use crate::rows::Person;
@@ -28,7 +28,7 @@ impl<'a> Model for Applicants<'a> {
     ghost use Rattle.portal_core.specs.declared.rows.Person.{Person};
     ghost use Rattle.portal_core.specs.Words as words;
     ghost use Rattle.portal_core.specs.Faults.{is_applicant};
-    ghost use Rattle.portal_core.specs.Meaning.{by_project};
+    ghost use Rattle.portal_core.specs.inner.Room.{by_project};
     ghost use Rattle.portal_core.specs.inner.Tables.{HasKeys};
 
     ghost Value = { List (words.Key × List Person) };

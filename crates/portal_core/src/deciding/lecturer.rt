@@ -4,14 +4,14 @@ ghost use Rattle.std.specs.Prelude.{◌≡◌, [], ◌∷◌, map, option_map, c
 ghost use Rattle.serde_json.specs.View as json;
 ghost use Rattle.serde_json.specs.Data.{string};
 ghost use Rattle.portal_core.specs.World as world;
-ghost use Rattle.portal_core.specs.Json.{dictionary, several, texts_or_null};
+ghost use Rattle.portal_core.specs.Bodies.{dictionary, several, texts_or_null};
 ghost use Rattle.portal_core.specs.Bodies as shown;
 ghost use Rattle.portal_core.specs.Faults.{ranking_fault};
-ghost use Rattle.portal_core.specs.Change as change;
-ghost use Rattle.portal_core.specs.AbstractCall.{AbstractCall};
+ghost use Rattle.portal_core.specs.Sight.{AbstractCall};
 ghost use Rattle.portal_core.specs.Answer as answer;
 ghost use Rattle.portal_core.specs.Answer.{unless_faulty, to_lecturer};
-ghost use Rattle.portal_core.specs.Meaning.{call_model, texts_of, by_project, decision_model};
+ghost use Rattle.portal_core.specs.Meaning.{call_model, texts_of, decision_model};
+ghost use Rattle.portal_core.specs.inner.Room.{by_project};
 
 use crate::call::Call;
 use crate::deciding::bodies::{catalogue_body, persons_value, texts};
@@ -149,7 +149,7 @@ fn replace_ranking(
 ) -> Result<Decision, AllocError>
     ensures { IfOk result (λ decision. decision_model decision
         ≡ answer.applies (shown.students_body (Some students.items))
-        (change.Ranks view.now.me.key students.items)) }
+        (world.Ranks view.now.me.key students.items)) }
 {
     let ranking = texts(alloc, &students)?;
     let body = ranking_body(alloc, ranking)?;
@@ -166,7 +166,7 @@ fn take_ranking(
     ensures { let texts = texts_of list.now in
         IfOk result (λ decision. decision_model decision
         ≡ unless_faulty (ranking_fault view.now.applicants 1 [] texts)
-        (answer.applies (shown.students_body (Some texts)) (change.Ranks view.now.me.key texts))) }
+        (answer.applies (shown.students_body (Some texts)) (world.Ranks view.now.me.key texts))) }
 {
     match checked_ranking(alloc, &view.applicants, list)? {
         Ok(students) => replace_ranking(alloc, view, students),

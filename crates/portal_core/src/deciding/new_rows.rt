@@ -5,10 +5,10 @@ ghost use Rattle.std.specs.Prelude.{if◌then◌else◌, OnOk, IfOk, IfErr, Matc
 ghost use Rattle.std.specs.List.{find};
 ghost use Rattle.portal_core.specs.Words as words;
 ghost use Rattle.portal_core.specs.Words.{equals};
-ghost use Rattle.portal_core.specs.Change.{Change};
+ghost use Rattle.portal_core.specs.World.{Change};
 ghost use Rattle.portal_core.specs.Meaning.{change_model};
-ghost use Rattle.portal_core.specs.Rolls as rolls;
-ghost use Rattle.portal_core.specs.Rolls.{Faulty, Took, Taken, take_row, one_new, one_same};
+ghost use Rattle.portal_core.specs.Faults as rolls;
+ghost use Rattle.portal_core.specs.Faults.{Faulty, Took, Taken, take_row, one_new, one_same};
 ghost use Rattle.portal_core.specs.inner.Tables.{HasRows, HasTexts};
 
 use crate::decision::Change;
@@ -27,7 +27,7 @@ pub(crate) struct RollRefusal {
 }
 
 impl Model for RollRefusal {
-    ghost use Rattle.portal_core.specs.Rolls as rolls;
+    ghost use Rattle.portal_core.specs.Faults as rolls;
 
     ghost Value = { rolls.RollRefusal };
 

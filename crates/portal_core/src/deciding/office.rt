@@ -6,17 +6,15 @@ ghost use Rattle.serde_json.specs.View as json;
 ghost use Rattle.serde_json.specs.Data.{string};
 ghost use Rattle.portal_core.specs.Words.{Key, is_empty};
 ghost use Rattle.portal_core.specs.World as world;
-ghost use Rattle.portal_core.specs.World.{phase_word, is_ranking};
-ghost use Rattle.portal_core.specs.Json as form;
-ghost use Rattle.portal_core.specs.Json.{dictionary, members, count};
-ghost use Rattle.portal_core.specs.Bodies as shown;
-ghost use Rattle.portal_core.specs.Rolls as rolls;
-ghost use Rattle.portal_core.specs.Rolls.{Took};
+ghost use Rattle.portal_core.specs.World.{phase_word, is_ranking, Fill};
+ghost use Rattle.portal_core.specs.Bodies as form;
+ghost use Rattle.portal_core.specs.Bodies.{dictionary, members, count};
+ghost use Rattle.portal_core.specs.Faults as rolls;
+ghost use Rattle.portal_core.specs.Faults.{Took};
 ghost use Rattle.portal_core.specs.Answer as answer;
 ghost use Rattle.portal_core.specs.Answer.{Nothing, Apply, open_where, row_fault, publishes};
 ghost use Rattle.portal_core.specs.Answer.{moves_on, opens, moves_in, moves, to_office, blank};
 ghost use Rattle.portal_core.specs.Answer.{emptied};
-ghost use Rattle.portal_core.specs.Change.{Fill};
 ghost use Rattle.portal_core.specs.Meaning.{call_model, reply_model, act_model, decision_model};
 
 use crate::call::Call;
@@ -37,7 +35,7 @@ use std::alloc::{AllocError, Global};
 
 /// The office itself.
 fn me_body(alloc: Global, view: &OfficeView) -> Result<Value, AllocError>
-    ensures { IfOk result (λ body. json.view body ≡ shown.office_me view.now) }
+    ensures { IfOk result (λ body. json.view body ≡ form.office_me view.now) }
 {
     match view.round {
         Round::First => json!(in alloc; {
@@ -60,7 +58,7 @@ fn unplaced_values(
 ) -> Result<Vec<Value>, AllocError>
     ensures { IfOk result (λ values. map json.view values.items
         ≡ map string (map (λ s. s.key)
-        (filter (λ s. not (shown.is_assigned placings.now.pairs s.key)) students.now))) }
+        (filter (λ s. not (form.is_assigned placings.now.pairs s.key)) students.now))) }
 {
     let mut values = Vec::new(alloc);
     for student in students {
@@ -74,7 +72,7 @@ fn unplaced_values(
 /// The students who have no project in the result.
 fn unassigned_values(alloc: Global, view: &OfficeView) -> Result<Vec<Value>, AllocError>
     ensures { IfOk result (λ values. map json.view values.items
-        ≡ map string (shown.unassigned view.now)) }
+        ≡ map string (form.unassigned view.now)) }
 {
     let placings = Placings::of(alloc, view)?;
     unplaced_values(alloc, &placings, &view.students)
@@ -139,7 +137,7 @@ fn status_with_result(alloc: Global, view: &OfficeView) -> Result<Map<String, Va
         ∷ (codes "projects", count (length view.now.projects))
         ∷ (codes "still_to_rank", form.texts view.now.still_to_rank)
         ∷ (codes "students", count (length view.now.students))
-        ∷ (codes "unassigned", form.texts (shown.unassigned view.now))
+        ∷ (codes "unassigned", form.texts (form.unassigned view.now))
         ∷ (codes "without_list", form.texts view.now.without_list) ∷ [])) }
 {
     let mut status = status_members(alloc, view)?;
@@ -156,7 +154,7 @@ fn status_with_result(alloc: Global, view: &OfficeView) -> Result<Map<String, Va
 
 /// The status.
 fn status_body(alloc: Global, view: &OfficeView) -> Result<Value, AllocError>
-    ensures { IfOk result (λ body. json.view body ≡ shown.status_body view.now) }
+    ensures { IfOk result (λ body. json.view body ≡ form.status_body view.now) }
 {
     match (view.round, view.phase) {
         (Round::Second, _) => {
@@ -194,7 +192,7 @@ fn pair_values(alloc: Global, pairs: &[(Key, Key)]) -> Result<Vec<Value>, AllocE
 
 /// The result.
 fn allocation_body(alloc: Global, pairs: &[(Key, Key)]) -> Result<Value, AllocError>
-    ensures { IfOk result (λ body. json.view body ≡ shown.allocation_body pairs.now) }
+    ensures { IfOk result (λ body. json.view body ≡ form.allocation_body pairs.now) }
 {
     let pairs = Value::Array(pair_values(alloc, pairs)?);
     json!(in alloc; {"pairs": pairs})
@@ -216,7 +214,7 @@ fn row_refusal(alloc: Global, fault: &RollRefusal) -> Result<Reply, AllocError>
 
 /// How many rows were new, and how many were there.
 fn roll_body(alloc: Global, new: usize, same: u64) -> Result<Value, AllocError>
-    ensures { IfOk result (λ body. json.view body ≡ shown.roll_body new same) }
+    ensures { IfOk result (λ body. json.view body ≡ form.roll_body new same) }
 {
     json!(in alloc; {"added": new, "same": same})
 }
@@ -381,7 +379,7 @@ fn move_to(
 fn allocation(alloc: Global, view: &OfficeView) -> Result<Decision, AllocError>
     ensures { IfOk result (λ decision. decision_model decision
         ≡ open_where (world.has_result view.now.round view.now.phase)
-        (answer.shows (shown.allocation_body view.now.pairs))) }
+        (answer.shows (form.allocation_body view.now.pairs))) }
 {
     if !view.round.has_result(view.phase) {
         return wrong_phase(alloc);
@@ -403,7 +401,7 @@ fn sheet(alloc: Global, view: &OfficeView, sheet: Sheet) -> Result<Decision, All
 
 /// The lecturers who get a ranking.
 fn filled_body(alloc: Global, keys: &[Key]) -> Result<Value, AllocError>
-    ensures { IfOk result (λ body. json.view body ≡ shown.filled_body keys.now) }
+    ensures { IfOk result (λ body. json.view body ≡ form.filled_body keys.now) }
 {
     let filled = texts(alloc, keys)?;
     json!(in alloc; {"filled": filled})

@@ -2,11 +2,11 @@
 
 ghost use Rattle.std.specs.Prelude.{◌≡◌, [], IfOk};
 ghost use Rattle.serde_json.specs.View as json;
-ghost use Rattle.portal_core.specs.Json.{text_or_null};
+ghost use Rattle.portal_core.specs.Bodies.{text_or_null};
 ghost use Rattle.portal_core.specs.Bodies as shown;
 ghost use Rattle.portal_core.specs.Faults.{choice_fault};
-ghost use Rattle.portal_core.specs.Change as change;
-ghost use Rattle.portal_core.specs.AbstractCall.{AbstractCall};
+ghost use Rattle.portal_core.specs.World as change;
+ghost use Rattle.portal_core.specs.Sight.{AbstractCall};
 ghost use Rattle.portal_core.specs.Answer as answer;
 ghost use Rattle.portal_core.specs.Answer.{unless_faulty, to_student};
 ghost use Rattle.portal_core.specs.Meaning.{call_model, texts_of, decision_model};

@@ -2,15 +2,14 @@
 use Rattle.std.specs.Prelude.{◌≡◌, ℕ, List, Option}
 use Rattle.spa_model.specs.Spa.{Spa, IsBest}
 use Rattle.portal_core.specs.Words.{Key}
-use Rattle.portal_core.specs.World.{World}
-use Rattle.portal_core.specs.Change.{changed}
-use Rattle.portal_core.specs.Sheets.{csv_text, report_text}
+use Rattle.portal_core.specs.World.{World, changed}
+use Rattle.portal_core.specs.Bodies.{csv_text, report_text}
 use Rattle.portal_core.specs.Sight.{OfficeSees}
 use Rattle.portal_core.specs.declared.view.View.{View as Sight}
 use Rattle.portal_core.specs.declared.view.View.TheVariants.{Office}
 use Rattle.portal_core.specs.declared.decision.Sheet.{Sheet}
 use Rattle.portal_core.specs.declared.decision.Sheet.TheVariants as sheet
-use Rattle.portal_core.specs.Instance.{pairs_by}
+use Rattle.portal_core.specs.inner.Room.{pairs_by}
 use Rattle.portal_core.specs.Answer.{Answer, Said, Csv, Plain, Act, Nothing, Apply, Publish, Render}
 use Rattle.portal_core.specs.Good.{Good, CanPublish}
 

@@ -1,7 +1,5 @@
-use Rattle.portal_frame.proofs.Base.{rules, inl, inr, take, drop, subst, refl, take-append-drop, HasNoRequest, RequestOverflows}
+use Rattle.portal_frame.proofs.Base.{rules, inl, inr, take, drop, subst, refl, take-append-drop, HasNoRequest, RequestOverflows, MayBecomeRequest, NeverHasRequest, RequestExceeds}
 use Rattle.portal_frame.proofs.Heads.{as_told, overflows_all, none_now, none_ever, head_of, none_so_far, none_later, opens_never, front_is, front_all, length_front}
-use Rattle.httparse.specs.Grammar.{MayBecomeRequest, NeverHasRequest}
-use Rattle.httparse.specs.Spans.{RequestExceeds}
 use Rattle.portal_frame.proofs.frame.Goals as goal
 
 pub frame_head-requires : goal.frame_head-requires

@@ -1,6 +1,4 @@
-use Rattle.portal_frame.proofs.Base.{◌≡◌, ◌+◌, ◌≤◌, ◌++◌, length, map, take, drop, sym, ap, ◌∙◌, subst, arith, Ok, codes, values_of, path_of, body_length, Opens, whole, Asked, asked_of, fields_of, header_bytes}
-use Rattle.portal_frame.specs.Heads.{only}
-use Rattle.portal_frame.specs.Stream.{closes_after}
+use Rattle.portal_frame.proofs.Base.{◌≡◌, ◌+◌, ◌≤◌, ◌++◌, length, map, take, drop, sym, ap, ◌∙◌, subst, arith, Ok, codes, values_of, path_of, body_length, Opens, whole, Asked, asked_of, fields_of, header_bytes, only, closes_after}
 use Rattle.portal_frame.proofs.Heads.{after_whole, lines_same, same_asked}
 use Rattle.portal_frame.proofs.Limits.{whole-within}
 use Rattle.portal_frame.proofs.frame_head.Goals as goal

@@ -1,12 +1,14 @@
 -- Rows put together to entries: each roll in its order takes what stands next for it, until nothing
 -- is left.
-use Rattle.std.specs.Prelude.{◌&&◌, if◌then◌else◌, List, [], ◌∷◌, Option, Some, None, option_map}
+use Rattle.std.specs.Prelude.{◌&&◌, if◌then◌else◌, List, [], ◌∷◌, Option, Some, None, option_map, ◌≡◌}
 use Rattle.portal_core.specs.declared.phase.Round.{Round}
 use Rattle.portal_core.specs.declared.phase.Round.TheVariants.{First, Second}
 use Rattle.portal_core.specs.declared.rows.LecturerRow.{LecturerRow}
 use Rattle.portal_core.specs.declared.rows.StudentRow.{StudentRow}
 use Rattle.portal_core.specs.Words.{Key, equals, is_empty}
-use Rattle.portal_core.specs.World.{Lecturer, Student}
+use Rattle.portal_core.specs.World.{Lecturer, Student, World}
+use Rattle.portal_core.specs.Good.{Sound}
+use Rattle.portal_list.specs.Rows.{RowsOfWorld, world_rows}
 
 -- what stands next, if it is for this key
 abbrev pub next_for : {V : Type 0} → Key → List (Key × V) → Option V
@@ -47,3 +49,8 @@ students_fitting round [] choices pairs earlier earlier_pairs = if is_empty choi
 students_fitting round (r ∷ rs) choices pairs earlier earlier_pairs =
     with_lists r (next_for r.key choices) (next_for r.key pairs) (earlier_for round r.key earlier) (next_for r.key earlier_pairs)
     (students_fitting round rs (rest_for r.key choices) (rest_for r.key pairs) (earlier_rest round r.key earlier) (rest_for r.key earlier_pairs))
+
+-- these are the rows of the world, and of no other that is sound
+pub record IsFitted (rows : RowsOfWorld) (w : World) : Type 0 where
+  pub rows_are : rows ≡ world_rows w
+  pub once : (v : World) → rows ≡ world_rows v → Sound v → w ≡ v

@@ -6,14 +6,12 @@ use Rattle.portal_core.specs.declared.phase.Phase.{Phase}
 use Rattle.portal_core.specs.declared.rows.LecturerRow.{LecturerRow}
 use Rattle.portal_core.specs.declared.rows.ProjectRow.{ProjectRow}
 use Rattle.portal_core.specs.declared.rows.StudentRow.{StudentRow}
-use Rattle.portal_core.specs.Form.{is_code}
-use Rattle.portal_core.specs.Words.{Key, has, Rise, AreDistinct}
+use Rattle.portal_core.specs.Words.{is_code, Key, has, Rise, AreDistinct}
 use Rattle.spa_model.specs.Spa.{IsStable}
-use Rattle.portal_core.specs.Instance.{instance, matching_of}
+use Rattle.portal_core.specs.Good.{instance, matching_of, IsLecturer, IsProject, IsStudent, IsChoice, IsRanking}
 use Rattle.portal_core.specs.World.{World, Student, project_key, student_key, is_setup, is_published, is_from_ranking, is_second, is_left, projects_in}
-use Rattle.portal_core.specs.Good.{IsLecturer, IsProject, IsStudent, IsChoice, IsRanking}
 use Rattle.portal_core.specs.inner.Room.{own_keys}
-use Rattle.portal_list.specs.Entries.{AllEntries, entries_in}
+use Rattle.portal_list.specs.Rows.{AllEntries, entries_in}
 
 abbrev pub codes_in : Key → List LecturerRow → List StudentRow → List Key
 codes_in office lecturers students = office ∷ map (λ l. l.code) lecturers ++ map (λ s. s.code) students

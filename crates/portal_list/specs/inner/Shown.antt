@@ -9,7 +9,7 @@ use Rattle.portal_core.specs.declared.rows.LecturerRow.{LecturerRow}
 use Rattle.portal_core.specs.declared.rows.Listing.{Listing}
 use Rattle.portal_core.specs.declared.rows.ProjectRow.{ProjectRow}
 use Rattle.portal_core.specs.declared.rows.Person.{Person}
-use Rattle.portal_list.specs.Entries.{AllEntries}
+use Rattle.portal_list.specs.Rows.{AllEntries}
 
 -- a lecturer's projects, with the applicants once the lists are closed
 abbrev pub applicants_shown : Bool → List Student → Key → List ProjectRow → List (Key × List Person)

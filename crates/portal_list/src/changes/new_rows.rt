@@ -2,7 +2,7 @@
 
 ghost use Rattle.std.specs.Prelude.{◌≡◌, IfOk, OnOk, OnErr, map};
 ghost use Rattle.portal_core.specs.Words.{put_all};
-ghost use Rattle.portal_core.specs.Change.{new_lecturer, new_student};
+ghost use Rattle.portal_core.specs.World.{new_lecturer, new_student};
 
 use crate::by_key::put_rows;
 use crate::entries::{LecturerEntry, StudentEntry};

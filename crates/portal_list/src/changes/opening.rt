@@ -1,7 +1,7 @@
 //! Opens the second round: the lists and rankings that there are become those of the first.
 
 ghost use Rattle.std.specs.Prelude.{◌≡◌, map};
-ghost use Rattle.portal_core.specs.Change.{ranked_before, placed_before};
+ghost use Rattle.portal_core.specs.World.{ranked_before, placed_before};
 
 use crate::entries::{LecturerEntry, StudentEntry};
 use std::alloc::Global;

@@ -1,7 +1,7 @@
 //! Puts a result: each student who takes part gets the project of the pairs, or none.
 
 ghost use Rattle.std.specs.Prelude.{◌≡◌, IfOk, OnOk, OnErr, map};
-ghost use Rattle.portal_core.specs.Change.{placement_in, with_place};
+ghost use Rattle.portal_core.specs.World.{placement_in, with_place};
 ghost use Rattle.portal_list.specs.inner.Played.{placed_now};
 
 use crate::copies::place_copy;

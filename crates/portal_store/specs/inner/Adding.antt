@@ -1,6 +1,6 @@
 -- New rows of a roll.
-use Rattle.portal_core.specs.Change.{Change}
-use Rattle.portal_core.specs.Change as changes
+use Rattle.portal_core.specs.World.{Change}
+use Rattle.portal_core.specs.World as changes
 use Rattle.portal_store.specs.declared.rolls.NewRows.{NewRows}
 use Rattle.portal_store.specs.declared.rolls.NewRows.TheVariants.{Lecturers, Projects, Students}
 

@@ -1,20 +1,14 @@
 -- What a refusal to open or to upgrade says of the tables.
-use Rattle.std.specs.Prelude.{◌≡◌, ℕ, ◌++◌}
+use Rattle.std.specs.Prelude.{ℕ, ◌++◌}
 use Rattle.sqlite.specs.Tree.{Trees}
 use Rattle.portal_core.specs.Good.{Good}
 use Rattle.portal_tables.specs.Tables.{portal_tree, first_trees, own_trees, version}
-use Rattle.portal_tables.specs.Office.{HasOffice}
-use Rattle.portal_tables.specs.declared.fault.TableFault.{TableFault}
-use Rattle.portal_tables.specs.declared.fault.TableFault.TheVariants as told
+use Rattle.portal_tables.specs.Rows.{HasOffice}
 use Rattle.portal_store.specs.World.{round_in, world_of}
 use Rattle.portal_store.specs.Kept.{AllNumbersDiffer, AreWhole, HasGoodWorld, HasGoodFirst, later_trees}
-use Rattle.portal_store.specs.inner.Kept.{early_trees}
+use Rattle.portal_store.specs.inner.Keeping.{early_trees}
 use Rattle.portal_store.specs.declared.store.OpenFault.{OpenFault}
 use Rattle.portal_store.specs.declared.store.OpenFault.TheVariants as opening
-
--- a fault that blames the rows says that this is not so
-abbrev pub Blames : TableFault → Type 0 → Type 0
-Blames fault so = fault ≡ told.Damaged → so → ⊥
 
 -- a refusal is for the store or for want of memory, or it says that this is not so
 abbrev pub Denies : OpenFault → Type 0 → Type 0

@@ -2,7 +2,7 @@
 use Rattle.std.specs.Prelude.{◌≡◌, false, IsTrue, Result, OnOk, OnErr}
 use Rattle.sqlite.specs.Effect.{Database}
 use Rattle.sqlite.specs.State.{State, HasCleanDisk, Survives}
-use Rattle.portal_tables.specs.Schema.{IsCurrentSchema}
+use Rattle.portal_tables.specs.Tables.{IsCurrentSchema}
 use Rattle.portal_tables.specs.Steps.{Commits, IsAfter, LeavesOnly, Stays}
 
 -- Over tables that are the portal's own in both rounds: after Ok the change is made and committed,

@@ -6,22 +6,19 @@ use Rattle.portal_list.specs.Rows.{RowsOfWorld, world_rows}
 use Rattle.portal_views.specs.inner.Contents.{AllRows}
 use Rattle.portal_tables.specs.Tables.{portal_tree, version}
 use Rattle.portal_store.specs.World.{world_in}
-use Rattle.portal_tables.specs.Office.{HasOffice}
+use Rattle.portal_tables.specs.Rows.{HasOffice}
 use Rattle.portal_core.specs.declared.phase.Round.{Round}
-use Rattle.portal_core.specs.declared.phase.Round.TheVariants.{First, Second}
-use Rattle.portal_store.specs.Kept.{Whole, AreWhole}
+use Rattle.portal_core.specs.declared.phase.Round.TheVariants.{Second}
+use Rattle.portal_store.specs.Kept.{AreWhole}
 
--- these are the rows of the world that tables of this version stand for
-pub record Loads (of : ℕ) (db : Trees) (rows : RowsOfWorld) : Type 0 where
+-- these are the rows of the world that tables of this version and round stand for
+pub record Loads (of : ℕ) (round : Round) (db : Trees) (rows : RowsOfWorld) : Type 0 where
   pub office : HasOffice of (db portal_tree)
-  pub whole : Whole First db
-  pub rows_are : rows ≡ world_rows (world_in First db)
-
--- these are the rows of the world that the tables of the round stand for
-pub record LoadsIn (round : Round) (db : Trees) (rows : RowsOfWorld) : Type 0 where
-  pub office : HasOffice version (db portal_tree)
   pub whole : AreWhole round db
   pub rows_are : rows ≡ world_rows (world_in round db)
+
+abbrev pub LoadsIn : Round → Trees → RowsOfWorld → Type 0
+LoadsIn = Loads version
 
 -- the rows of a second round after the first: its own, and what was of the first is the earlier
 abbrev pub after_first : RowsOfWorld → Phase → AllRows → RowsOfWorld

@@ -3,10 +3,10 @@ use Rattle.std.specs.Prelude.{◌≡◌, Bool, true, false}
 use Rattle.sqlite.specs.Effect.{Database}
 use Rattle.portal_core.specs.declared.phase.Phase.TheVariants.{Published}
 use Rattle.portal_core.specs.declared.phase.Round.TheVariants.{First}
-use Rattle.portal_core.specs.Change.{Change, SecondRound}
+use Rattle.portal_core.specs.World.{Change, SecondRound}
 use Rattle.portal_store.specs.World.{phase_in}
 use Rattle.portal_store.specs.Kept.{IsConsistentIn}
-use Rattle.portal_store.specs.inner.Kept.{HasChangedFrom}
+use Rattle.portal_store.specs.inner.Keeping.{HasChangedFrom}
 
 -- where the first round is published, the tables turn to the world in which the second is open
 abbrev pub OpensSecondRound : Database → Database → Type 0

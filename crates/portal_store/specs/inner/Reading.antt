@@ -11,14 +11,14 @@ use Rattle.portal_core.specs.World.{World}
 use Rattle.portal_core.specs.inner.ViewCache.{IsCacheOf}
 use Rattle.portal_core.specs.declared.view_cache.ViewCache.{ViewCache}
 use Rattle.portal_core.specs.Good.{Good}
-use Rattle.portal_list.specs.Entries.{AllEntries}
-use Rattle.portal_tables.specs.Schema.{HasRound}
+use Rattle.portal_list.specs.Rows.{AllEntries}
+use Rattle.portal_tables.specs.Tables.{HasRound}
 use Rattle.portal_tables.specs.inner.Changes.{every}
 use Rattle.portal_tables.specs.inner.Queries.{selection}
 use Rattle.portal_tables.specs.declared.office.Office.{Office}
 use Rattle.portal_tables.specs.declared.select.Query.{Query}
 use Rattle.portal_store.specs.Kept.{IsConsistent, IsConsistentIn}
-use Rattle.portal_store.specs.inner.Kept.{AreEntries}
+use Rattle.portal_store.specs.inner.Keeping.{AreEntries}
 use Rattle.portal_store.specs.World.{world_in, world_of}
 
 -- a query of all rows of a table, and these rows
@@ -48,15 +48,15 @@ abbrev pub Remembers : ViewCache → Database → Type 0
 Remembers cache db = IsConsistent db × IsCacheOf cache (world_of db.trees)
 
 -- what is remembered is right, and the answer is this of the world
-abbrev pub Shows : {V E : Type 0} → ViewCache → (World → V → Type 0) → Trees → Result V E → Type 0
-Shows cache Answer db result = IsCacheOf cache (world_of db) × IfOk result (Answer (world_of db))
+abbrev pub Shows : {V E : Type 0} → ViewCache → (World → V → Type 0) → Database → Result V E → Type 0
+Shows cache Answer db result = IsCacheOf cache (world_of db.trees) × IfOk result (Answer (world_of db.trees))
 
 -- the same of tables of a round
 abbrev pub RemembersIn : Round → ViewCache → Database → Type 0
 RemembersIn round cache db = IsConsistentIn round db × IsCacheOf cache (world_in round db.trees)
 
-abbrev pub ShowsIn : {V E : Type 0} → Round → ViewCache → (World → V → Type 0) → Trees → Result V E → Type 0
-ShowsIn round cache Answer db result = IsCacheOf cache (world_in round db) × IfOk result (Answer (world_in round db))
+abbrev pub ShowsIn : {V E : Type 0} → Round → ViewCache → (World → V → Type 0) → Database → Result V E → Type 0
+ShowsIn round cache Answer db result = IsCacheOf cache (world_in round db.trees) × IfOk result (Answer (world_in round db.trees))
 
 -- the entries before were those of the world, so those after are
 abbrev pub KeepsEntries : Option AllEntries → Option AllEntries → State → State → Type 0

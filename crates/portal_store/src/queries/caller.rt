@@ -3,7 +3,7 @@
 ghost use Rattle.std.specs.Prelude.{◌≡◌, option_map};
 ghost use Rattle.portal_core.specs.View.{lecturer_with, student_with};
 ghost use Rattle.portal_core.specs.declared.phase.Round.{Round as ThatRound};
-ghost use Rattle.portal_tables.specs.Reads.{Reads, Gives};
+ghost use Rattle.portal_tables.specs.Steps.{Reads, Gives};
 ghost use Rattle.portal_store.specs.World.{world_in};
 ghost use Rattle.portal_store.specs.Kept.{IsConsistentIn};
 ghost use Rattle.portal_store.specs.inner.Queried.{lecturer_from, student_from};
@@ -21,8 +21,8 @@ pub(super) fn lecturer_by_code<S: Alter>(
     code: &[u8],
 ) -> Result<Option<Row>, TableFault>
     ensures { (round : ThatRound) → Reads round S.Store (IsConsistentIn round)
-        (Gives (λ db row. option_map (lecturer_from round db) row
-        ≡ lecturer_with (world_in round db) code.now))
+        (Gives (λ db row. option_map (lecturer_from round db.trees) row
+        ≡ lecturer_with (world_in round db.trees) code.now))
         result conn.old conn.new }
 {
     let rows = read_rows(alloc, conn, Query::LecturerByCode(code))?;
@@ -36,8 +36,8 @@ pub(super) fn student_by_code<S: Alter>(
     code: &[u8],
 ) -> Result<Option<Row>, TableFault>
     ensures { (round : ThatRound) → Reads round S.Store (IsConsistentIn round)
-        (Gives (λ db row. option_map (student_from round db) row
-        ≡ student_with (world_in round db) code.now))
+        (Gives (λ db row. option_map (student_from round db.trees) row
+        ≡ student_with (world_in round db.trees) code.now))
         result conn.old conn.new }
 {
     let rows = read_rows(alloc, conn, Query::StudentByCode(code))?;

@@ -2,7 +2,7 @@
 
 ghost use Rattle.std.specs.Prelude.{◌≡◌};
 ghost use Rattle.portal_core.specs.View as seen;
-ghost use Rattle.portal_tables.specs.Reads.{MayRead};
+ghost use Rattle.portal_tables.specs.inner.Reads.{MayRead};
 ghost use Rattle.portal_store.specs.inner.Reading.{RemembersIn, ShowsIn};
 
 use portal_core::{Listing, Round, ViewCache};

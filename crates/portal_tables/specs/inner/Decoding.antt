@@ -1,6 +1,6 @@
 -- What rows that a query shows are decoded to, and whether there are any.
 use Rattle.std.specs.Prelude.{◌≡◌, ◌∷◌, ◌++◌}
-use Rattle.portal_tables.specs.Base.{ℕ, Bool, not, List, [], map, Row, State, Begins, IsUnchanged, is_empty}
+use Rattle.portal_tables.specs.inner.Base.{ℕ, Bool, not, List, [], map, Row, State, Begins, IsUnchanged, is_empty}
 
 -- these are what the rows that are shown are decoded to, in their order
 pub record ShowsAs {T : Type 0} (decode : Row → T) (IsShown : List Row → Type 0) (items : List T) : Type 0 where

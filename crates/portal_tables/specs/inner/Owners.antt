@@ -1,14 +1,12 @@
 -- The lists that the tables hold of the owners whose rows are shown.
 use Rattle.std.specs.Prelude.{◌≡◌, ◌==◌, if◌then◌else◌}
-use Rattle.portal_tables.specs.Base.{Vec, true, false, Bool, List, [], Option, Some, None, map, AllByRecursion, Global, Row, column, Trees, Round, number_in, is_key, Key, has, Rise}
-pub use Rattle.portal_tables.specs.ListTables.{tree_of}
-use Rattle.portal_tables.specs.ListTables.{choice_table, ranking_table}
-use Rattle.portal_tables.specs.Tables.{ranked2_tree}
-use Rattle.portal_tables.specs.Rows.{row_key}
+use Rattle.portal_tables.specs.inner.Base.{Vec, true, false, Bool, List, [], Option, Some, None, map, filter_map, AllByRecursion, Global, Row, column, Trees, Round, number_in, is_key, Key, has, Rise}
+pub use Rattle.portal_tables.specs.Tables.{tree_of}
+use Rattle.portal_tables.specs.Tables.{choice_table, ranking_table, ranked2_tree}
+use Rattle.portal_tables.specs.Rows.{row_key, IsWhole, chosen, of_key}
 use Rattle.portal_tables.specs.inner.Shown.{first_cell}
 use Rattle.portal_tables.specs.declared.list_table.Lists.{Lists}
 use Rattle.portal_tables.specs.declared.list_table.Lists.TheVariants.{Choices, Rankings, SecondChoices, SecondRankings}
-use Rattle.portal_tables.specs.Lists.{IsWhole, chosen, of_key}
 
 -- Each student has a list. A lecturer has one where a ranking is there: in the first round the own
 -- row says so, in the second a row of `ranked2`.
@@ -34,12 +32,27 @@ ranking_shown round db c = if has_list (ranking_table round) db c then Some (cho
 abbrev pub with_list : Key × Vec Key Global → Key × List Key
 with_list e = (e.0, e.1.items)
 
+-- the owner's list names these, and has no gap
+pub record IsListOf (owner : Key) (table : List Row) (names : List Key) : Type 0 where
+  pub are : names ≡ chosen table owner
+  pub whole : IsWhole (of_key owner table)
+
+-- what the reading of it asks
+pub record IsFineList (owner : Key) (table : List Row) : Type 0 where
+  pub whole : IsWhole (of_key owner table)
+  pub keys : AllByRecursion (λ k. is_key k ≡ true) (chosen table owner)
+
 -- the owner's list has no gap, and where there is to be none it has no row
 pub record IsRead (lists : Lists) (db : Trees) (c : Row) : Type 0 where
   pub whole : IsWhole (of_key (first_cell c) (db (tree_of lists)))
   pub none : has_list lists db c ≡ false → of_key (first_cell c) (db (tree_of lists)) ≡ []
 
--- what the reading of a list asks
+-- the lists of the owners whose rows are shown, each without a gap
+pub record AreEntriesOf (lists : Lists) (db : Trees) (owners : List Row) (entries : List (Key × List Key)) : Type 0 where
+  pub are : entries ≡ filter_map (entry lists db) owners
+  pub read : AllByRecursion (IsRead lists db) owners
+
+-- what the reading of an owner's key and list asks
 pub record IsFine (lists : Lists) (db : Trees) (c : Row) : Type 0 where
   pub key : is_key (first_cell c) ≡ true
   pub read : IsRead lists db c

@@ -1,9 +1,8 @@
 -- The project that a round's result gives to a student: of the first round in the student's row, of
 -- the second in `assigned2`.
 use Rattle.std.specs.Prelude.{◌≡◌, ◌≤◌, ◌∷◌, if◌then◌else◌, is_none}
-use Rattle.portal_tables.specs.Base.{List, [], map, filter_map, Option, Some, None, option_map, IfSome, true, length, Row, column, Trees, Round, First, Second, Phase, Key, is_key, is_published}
-use Rattle.portal_tables.specs.Lists.{of_key, second_placement}
-use Rattle.portal_tables.specs.Rows.{text_or_none}
+use Rattle.portal_tables.specs.inner.Base.{List, [], map, filter_map, Option, Some, None, option_map, IfSome, true, length, Row, column, Trees, Round, First, Second, Phase, Key, is_key, is_published}
+use Rattle.portal_tables.specs.Rows.{of_key, second_placement, text_or_none}
 use Rattle.portal_tables.specs.inner.Shown.{first_cell}
 use Rattle.portal_tables.specs.Tables.{student_tree, assigned2_tree}
 use Rattle.portal_tables.specs.inner.Changes.{columns}
@@ -37,10 +36,13 @@ abbrev pub HasFirstPlace : Row → Type 0
 HasFirstPlace c = IfSome (text_or_none (column c 3)) (λ p. is_key p ≡ true)
 
 -- what the reading of a place asks: it has the form of a key, and in the second round there is no
--- more than one row of the student
+-- more than one row of the student with this key
+abbrev pub HasSecondPlace : Trees → Key → Type 0
+HasSecondPlace db student = IfSome (second_placement db student) (λ p. is_key p ≡ true) × (length (of_key student (db assigned2_tree)) ≤ 1)
+
 abbrev pub HasPlacement : Round → Trees → Row → Type 0
 HasPlacement First db c = HasFirstPlace c
-HasPlacement Second db c = IfSome (placement_shown Second db c) (λ p. is_key p ≡ true) × (length (of_key (first_cell c) (db assigned2_tree)) ≤ 1)
+HasPlacement Second db c = HasSecondPlace db (first_cell c)
 
 -- the same of the place that is asked for
 abbrev pub HasPlacementAsked : Round → Option Phase → Trees → Row → Type 0

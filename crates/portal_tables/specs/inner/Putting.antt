@@ -1,13 +1,11 @@
 -- What putting a list into its table does: the rows of its owner are the places from 1, and no
 -- other row is touched.
 use Rattle.std.specs.Prelude.{◌≡◌, ◌+◌, ◌||◌, ◌∷◌}
-use Rattle.portal_tables.specs.Base.{ℕ, pos, false, List, [], map, IsPermutation, Row, Database, IsDatabase, Key, equals, has}
-use Rattle.portal_tables.specs.Schema.{IsCurrentSchema}
-use Rattle.portal_tables.specs.Rows.{RowNumbersDiffer, row_key}
+use Rattle.portal_tables.specs.inner.Base.{ℕ, pos, false, List, [], map, IsPermutation, Row, Database, IsDatabase, Key, equals, has}
+use Rattle.portal_tables.specs.Tables.{IsCurrentSchema, ranked2_tree, assigned2_tree}
+use Rattle.portal_tables.specs.Rows.{RowNumbersDiffer, row_key, of_key, place_of, named_by}
 use Rattle.portal_tables.specs.inner.Changes.{Keeps, with_rows}
-use Rattle.portal_tables.specs.Tables.{ranked2_tree, assigned2_tree}
-use Rattle.portal_tables.specs.inner.Rows.{place_cells, pair_new}
-use Rattle.portal_tables.specs.Lists.{of_key, place_of, named_by}
+use Rattle.portal_tables.specs.inner.RowChanges.{place_cells, pair_new}
 
 -- the places from n, each beside what stands there
 abbrev pub numbered : ℕ → List Key → List (ℕ × Key)

@@ -1,6 +1,6 @@
 -- What each query reads of the tables, and shows.
 use Rattle.std.specs.Prelude.{◌∷◌, ◌++◌}
-use Rattle.portal_tables.specs.Base.{codes, ℕ, List, [], Bool, Words, Row, Trees, Round, First, InSecond}
+use Rattle.portal_tables.specs.inner.Base.{codes, ℕ, List, [], Bool, Words, Row, Trees, Round, First, InSecond}
 use Rattle.portal_tables.specs.declared.select.Query.{Query}
 use Rattle.portal_tables.specs.declared.select.Query.TheVariants.{Office, Whole, LecturerByCode, StudentByCode, LecturerByKey, StudentTold, AllLists, ListOf, Choosers, Listed, ProjectsOf, Numbers, FirstPlacements, Second, SecondRanked, SecondRankedBy, SecondPlacements, SecondPlaceOf}
 use Rattle.portal_tables.specs.declared.select.Roll.{Roll}
@@ -9,8 +9,8 @@ use Rattle.portal_tables.specs.declared.select.Table.{Table}
 use Rattle.portal_tables.specs.declared.select.Table.TheVariants.{OfRoll, OfLists, OfRanked, OfPlaces}
 use Rattle.portal_tables.specs.Rows.{has_text}
 use Rattle.portal_tables.specs.inner.Changes.{ListsBy, every, columns, has_number}
-use Rattle.portal_tables.specs.ListTables.{round_of, names, tree_of, choice_table}
-use Rattle.portal_tables.specs.Tables.{portal_tree, lecturer_tree, project_tree, student_tree, second_tree, ranked2_tree, assigned2_tree}
+use Rattle.portal_tables.specs.inner.Texts.{round_of, names}
+use Rattle.portal_tables.specs.Tables.{tree_of, choice_table, portal_tree, lecturer_tree, project_tree, student_tree, second_tree, ranked2_tree, assigned2_tree}
 
 abbrev pub roll_tree : Roll → ℕ
 roll_tree Lecturers = lecturer_tree

@@ -1,6 +1,7 @@
 -- The three rolls by rising key, whatever the order of their rows in the tables.
-use Rattle.std.specs.Prelude.{◌∷◌}
-use Rattle.portal_tables.specs.Base.{List, [], map, Row, Trees, Rise, put_all}
+use Rattle.std.specs.Prelude.{◌≡◌, ◌∷◌}
+use Rattle.portal_tables.specs.inner.Base.{List, [], map, Row, Trees, Rise, put_all}
+use Rattle.portal_tables.specs.declared.rolls.Rolls.{Rolls}
 use Rattle.portal_tables.specs.declared.select.Roll.{Roll}
 use Rattle.portal_tables.specs.declared.select.Roll.TheVariants.{Lecturers, Projects, Students}
 use Rattle.portal_tables.specs.inner.Queries.{roll_tree, columns_of}
@@ -30,6 +31,12 @@ projects_shown = roll_rows Projects
 
 abbrev pub students_shown : Trees → List Row
 students_shown = roll_rows Students
+
+-- the rolls that were read are those of the tables
+pub record AreRolls (db : Trees) (rolls : Rolls) : Type 0 where
+  pub lecturers_are : rolls.lecturers.items ≡ lecturers_shown db
+  pub projects_are : rolls.projects.items ≡ projects_shown db
+  pub students_are : rolls.students.items ≡ students_shown db
 
 -- the keys of a roll rise
 abbrev pub RollRises : Roll → Trees → Type 0

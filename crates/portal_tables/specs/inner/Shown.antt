@@ -1,7 +1,7 @@
 -- What the rows that a query shows are decoded to: the cells of a roll or of a list, without the
 -- number of the row.
 use Rattle.std.specs.Prelude.{◌∷◌}
-use Rattle.portal_tables.specs.Base.{ℕ, List, [], Option, Some, None, Row, column, bytes, number_in, Key, LecturerRow, ProjectRow, StudentRow}
+use Rattle.portal_tables.specs.inner.Base.{ℕ, List, [], Option, Some, None, Row, column, bytes, number_in, Key, LecturerRow, ProjectRow, StudentRow}
 
 -- one thing or none, as a list
 abbrev pub as_list : {X : Type 0} → Option X → List X

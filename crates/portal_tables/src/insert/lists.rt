@@ -1,7 +1,7 @@
 //! Inserts rows of the lists.
 
-ghost use Rattle.portal_tables.specs.ListTables.{tree_of};
-ghost use Rattle.portal_tables.specs.inner.Rows.{AddsBy, place_new};
+ghost use Rattle.portal_tables.specs.Tables.{tree_of};
+ghost use Rattle.portal_tables.specs.inner.RowChanges.{AddsBy, place_new};
 
 use super::Target;
 use crate::list_table::Lists;

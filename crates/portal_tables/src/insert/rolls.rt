@@ -1,8 +1,8 @@
 //! Inserts rows of the rolls.
 
 ghost use Rattle.portal_tables.specs.Tables.{lecturer_tree, project_tree, student_tree};
-ghost use Rattle.portal_tables.specs.inner.Rows.{lecturer_new, lecturer_values, project_new};
-ghost use Rattle.portal_tables.specs.inner.Rows.{student_new, student_values};
+ghost use Rattle.portal_tables.specs.inner.RowChanges.{lecturer_new, lecturer_values, project_new};
+ghost use Rattle.portal_tables.specs.inner.RowChanges.{student_new, student_values};
 
 use super::Target;
 use portal_core::{LecturerRow, ProjectRow, StudentRow};

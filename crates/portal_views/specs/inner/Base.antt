@@ -1,4 +1,6 @@
--- Names from below that the definitions and the contracts use.
+-- Names from below that the definitions and the contracts use, and what a fault refutes.
+use Rattle.portal_tables.specs.inner.Reads.{Blames}
+use Rattle.portal_tables.specs.declared.fault.TableFault.{TableFault}
 pub use Rattle.portal_core.specs.Good.{IsLecturer, IsProject, IsStudent}
 pub use Rattle.portal_core.specs.Sight.{LecturerSees, StudentSees}
 pub use Rattle.portal_core.specs.View.{listing_with}
@@ -12,7 +14,7 @@ pub use Rattle.portal_core.specs.declared.rows.Listing.{Listing}
 pub use Rattle.portal_core.specs.declared.rows.Person.{Person}
 pub use Rattle.portal_core.specs.declared.rows.ProjectRow.{ProjectRow}
 pub use Rattle.portal_core.specs.declared.rows.StudentRow.{StudentRow}
-pub use Rattle.spa_rows.specs.Form.{is_key}
+pub use Rattle.spa_rows.specs.Lines.{is_key}
 pub use Rattle.sqlite.specs.Effect.{Database, IsDatabase}
 pub use Rattle.sqlite.specs.Held.{state}
 pub use Rattle.sqlite.specs.Order.{Row, bytes, column}
@@ -22,3 +24,7 @@ pub use Rattle.sqlite_trees.specs.Objects.{number_in}
 pub use Rattle.std.specs.List.{AllByRecursion, filter_map, find}
 pub use Rattle.std.specs.Prelude.{Err, IfOk, IfSome, List, None, OnOk, Option, Some, Vec, [], false, filter, length, map, not, option_map, true}
 pub use Rattle.std.specs.declared.alloc.Global.{Global}
+
+-- a fault that blames the rows says that this is not so of the database
+abbrev pub Contradicts : (Database → Type 0) → Database → TableFault → Type 0
+Contradicts So db fault = Blames fault (So db)

@@ -1,9 +1,10 @@
 -- What a lecturer or a student sees, of the own row and of what the tables hold.
 use Rattle.std.specs.Prelude.{◌≡◌, ◌≤◌, true, if◌then◌else◌}
-use Rattle.spa_rows.specs.Form.{is_key}
-use Rattle.portal_tables.specs.ListTables.{choice_table, ranking_table, tree_of}
-use Rattle.portal_tables.specs.Lists.{of_key, IsWhole}
+use Rattle.spa_rows.specs.Lines.{is_key}
+use Rattle.portal_tables.specs.Tables.{choice_table, ranking_table, tree_of}
+use Rattle.portal_tables.specs.Rows.{of_key, IsWhole}
 use Rattle.portal_views.specs.inner.Base.{AllByRecursion, Vec, List, [], map, filter, Option, Global, Row, column, bytes, Trees, Database, number_in, Phase, Round, First, Second, Listing, Person, StudentSees, LecturerSees, Key, equals, is_at, is_from_ranking, is_published, put_all}
+use Rattle.portal_views.specs.declared.applicants.ProjectStudents.{ProjectStudents}
 use Rattle.portal_views.specs.declared.lines.ApplicantLine.{ApplicantLine}
 use Rattle.portal_views.specs.inner.Lines.{HasTables, HasStudents, IsNamed, applicant_lines}
 use Rattle.portal_tables.specs.inner.Owners.{IsFine, choice_shown, ranking_shown}
@@ -50,6 +51,10 @@ applicants_told round db phase keys = map (λ k. (k, map (λ l. l.person) (lines
 
 abbrev pub placed_told : Round → Trees → Phase → List Key → List (Key × List Person)
 placed_told round db phase keys = map (λ k. (k, placed_at_shown round db phase k (lines_shown round db phase k))) keys
+
+pub record AreTold (round : Round) (db : Trees) (phase : Phase) (keys : List Key) (told : ProjectStudents) : Type 0 where
+  pub applicants : map with_persons told.applicants.items ≡ applicants_told round db phase keys
+  pub placed : map with_persons told.placed.items ≡ placed_told round db phase keys
 
 -- what the lecturer sees whose row is shown, with the catalogue, a ranking, and what is told of the
 -- own projects

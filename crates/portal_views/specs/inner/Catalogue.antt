@@ -2,7 +2,7 @@
 use Rattle.std.specs.Prelude.{◌≡◌, ⊤}
 use Rattle.portal_core.specs.inner.Room.{lecturer_left, project_left}
 use Rattle.portal_list.specs.inner.Shown.{offered}
-use Rattle.portal_views.specs.inner.Base.{List, map, filter, filter_map, AllByRecursion, Trees, Round, First, Second, LecturerRow, ProjectRow, Listing, Key, equals, IsLecturer, IsProject}
+use Rattle.portal_views.specs.inner.Base.{List, map, filter, filter_map, AllByRecursion, Trees, Database, IsDatabase, Round, First, Second, LecturerRow, ProjectRow, Listing, Key, equals, IsLecturer, IsProject}
 use Rattle.portal_tables.specs.declared.select.Roll.TheVariants.{Lecturers, Projects, Students}
 use Rattle.portal_tables.specs.inner.Placements.{first_pairs, places_shown, HasKeys}
 use Rattle.portal_tables.specs.inner.Rolls.{RollRises, lecturers_shown, projects_shown}
@@ -18,12 +18,13 @@ offered_in Second ls ps pairs = offered (filter_map (lecturer_left ps pairs) ls)
 abbrev pub catalogue_shown : Round → Trees → List Listing
 catalogue_shown round db = offered_in round (map shown_lecturer (lecturers_shown db)) (map shown_project (projects_shown db)) (first_pairs db)
 
--- what the reading of the rolls asks: their keys rise, and each cell has its form
-pub record HasOffers (db : Trees) : Type 0 where
-  pub lecturers_rise : RollRises Lecturers db
-  pub projects_rise : RollRises Projects db
-  pub lecturers : AllByRecursion (λ c. IsLecturer (shown_lecturer c)) (lecturers_shown db)
-  pub projects : AllByRecursion (λ c. IsProject (shown_project c)) (projects_shown db)
+-- what the reading of the rolls asks: they are sound, their keys rise, and each cell has its form
+pub record HasOffers (db : Database) : Type 0 where
+  pub sound : IsDatabase db
+  pub lecturers_rise : RollRises Lecturers db.trees
+  pub projects_rise : RollRises Projects db.trees
+  pub lecturers : AllByRecursion (λ c. IsLecturer (shown_lecturer c)) (lecturers_shown db.trees)
+  pub projects : AllByRecursion (λ c. IsProject (shown_project c)) (projects_shown db.trees)
 
 -- what the reading of the first round's result asks, where it is read
 abbrev pub HasPairs : Round → Trees → Type 0

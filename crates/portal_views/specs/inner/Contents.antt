@@ -1,8 +1,10 @@
 -- The rows of the rolls and lists, of the rolls that queries show and the lists in the tables.
+use Rattle.std.specs.Prelude.{◌≡◌}
 use Rattle.portal_views.specs.inner.Base.{List, None, map, AllByRecursion, filter_map, Row, Trees, Round, IsLecturer, IsProject, IsStudent, Key, LecturerRow, ProjectRow, StudentRow}
-use Rattle.portal_tables.specs.inner.Owners.{entry, with_list, IsRead, IsFine}
-use Rattle.portal_tables.specs.ListTables.{choice_table, ranking_table}
+use Rattle.portal_tables.specs.inner.Owners.{AreOwned, entry, with_list, IsRead, IsFine}
+use Rattle.portal_tables.specs.Tables.{choice_table, ranking_table}
 use Rattle.portal_tables.specs.inner.Placements.{pair_shown, HasPlacement}
+use Rattle.portal_tables.specs.inner.Rolls.{RollsRise, lecturers_shown, projects_shown, students_shown}
 use Rattle.portal_tables.specs.inner.Shown.{shown_lecturer, shown_project, shown_student}
 use Rattle.portal_tables.specs.declared.rolls.Rolls.{Rolls}
 use Rattle.portal_views.specs.declared.contents.Contents.{Contents}
@@ -59,6 +61,13 @@ pub record AreRead (round : Round) (db : Trees) (lecturers students : List Row) 
   pub choices : AllByRecursion (IsRead (choice_table round) db) students
   pub rankings : AllByRecursion (IsRead (ranking_table round) db) lecturers
 
+-- these are those of shown rows, with what was found while they were read
+abbrev pub HasReadOf : Round → AllRows → Trees → List Row → List Row → List Row → Type 0
+HasReadOf round rows db lecturers projects students = (rows ≡ rows_from round db lecturers projects students) × AreRead round db lecturers students
+
+abbrev pub HasRead : Round → AllRows → Trees → Type 0
+HasRead round rows db = HasReadOf round rows db (lecturers_shown db) (projects_shown db) (students_shown db)
+
 -- what the decoding of shown rows asks
 pub record AreFine (round : Round) (db : Trees) (lecturers projects students : List Row) : Type 0 where
   pub lecturer_forms : AllByRecursion (λ c. IsLecturer (shown_lecturer c)) lecturers
@@ -67,3 +76,14 @@ pub record AreFine (round : Round) (db : Trees) (lecturers projects students : L
   pub places : AllByRecursion (HasPlacement round db) students
   pub choices : AllByRecursion (IsFine (choice_table round) db) students
   pub rankings : AllByRecursion (IsFine (ranking_table round) db) lecturers
+
+-- and that the lists are theirs
+pub record HasFineRows (round : Round) (db : Trees) (lecturers projects students : List Row) : Type 0 where
+  pub choices : AreOwned (choice_table round) db students
+  pub rankings : AreOwned (ranking_table round) db lecturers
+  pub fine : AreFine round db lecturers projects students
+
+-- what the reading of the tables asks
+pub record HasFineRolls (round : Round) (db : Trees) : Type 0 where
+  pub rise : RollsRise db
+  pub fine : AreFine round db (lecturers_shown db) (projects_shown db) (students_shown db)

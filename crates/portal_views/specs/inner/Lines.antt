@@ -1,13 +1,11 @@
 -- What may be told of students, of the rows of the tables.
 use Rattle.std.specs.Prelude.{◌≡◌, true}
-use Rattle.portal_core.specs.Form.{is_name}
-use Rattle.spa_rows.specs.Form.{is_key}
+use Rattle.portal_core.specs.Words.{is_name}
+use Rattle.spa_rows.specs.Lines.{is_key}
 use Rattle.portal_views.specs.inner.Base.{IfSome, Round, First, Second, List, map, filter, Option, option_map, AllByRecursion, find, Row, column, bytes, Trees, Database, IsDatabase, Key, equals, has}
-use Rattle.portal_tables.specs.Tables.{own_trees}
-use Rattle.portal_tables.specs.Lists.{second_placement}
+use Rattle.portal_tables.specs.Tables.{own_trees, HasFirstSchema, IsCurrentSchema}
+use Rattle.portal_tables.specs.Rows.{second_placement, RowNumbersDiffer, text_or_none}
 use Rattle.portal_tables.specs.inner.Placements.{placement_shown, HasFirstPlace, HasPlacement}
-use Rattle.portal_tables.specs.Schema.{HasFirstSchema, IsCurrentSchema}
-use Rattle.portal_tables.specs.Rows.{RowNumbersDiffer, text_or_none}
 use Rattle.portal_tables.specs.inner.Owners.{choice_shown}
 use Rattle.portal_tables.specs.inner.Rolls.{students_shown}
 use Rattle.portal_tables.specs.inner.Shown.{first_cell}

@@ -3,10 +3,8 @@ use Rattle.std.specs.Prelude.{◌&&◌, if◌then◌else◌, Bool, is_none}
 use Rattle.std.specs.List.{list_any}
 use Rattle.portal_core.specs.Sight.{OfficeSees}
 use Rattle.portal_core.specs.Words.{is_empty}
-use Rattle.portal_tables.specs.ListTables.{choice_table, ranking_table, tree_of}
-use Rattle.portal_tables.specs.Lists.{IsWhole, of_key}
-use Rattle.portal_tables.specs.Rows.{row_key}
-use Rattle.portal_tables.specs.Tables.{student_tree}
+use Rattle.portal_tables.specs.Tables.{choice_table, ranking_table, tree_of, student_tree}
+use Rattle.portal_tables.specs.Rows.{IsWhole, of_key, row_key}
 use Rattle.portal_tables.specs.inner.Owners.{has_list, choice_shown}
 use Rattle.portal_tables.specs.inner.Placements.{pair_shown, placement_before, HasFirstPlace, HasPlacement}
 use Rattle.portal_tables.specs.inner.Rolls.{lecturers_shown, projects_shown, students_shown}

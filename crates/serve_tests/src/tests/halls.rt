@@ -1,7 +1,7 @@
 //! How many connections are taken, and what came of each.
 
 ghost use Rattle.std.specs.Prelude.{◌≡◌, ◌<◌, ◌∷◌, ◌++◌, [], Some, vec_len, vec_capacity};
-ghost use Rattle.portal_core.specs.Counting.{CountsFaults};
+ghost use Rattle.portal_core.specs.Meaning.{CountsFaults};
 
 use crate::tests::callers::Act::{Ends, Sends};
 use crate::tests::callers::{Act, Caller, PROMPT, TestClock};

@@ -3,11 +3,11 @@ use Rattle.std.specs.Prelude.{◌≡◌, ◌<◌, ℕ, List, [], All, Any, map, 
 use Rattle.std.specs.List.{AllZip}
 use Rattle.spa_rows.specs.Lines
 use Rattle.spa_rows.specs.Lines.{Text, Rows}
-use Rattle.spa_rows.specs.Least.{BadAt}
+use Rattle.spa_rows.specs.Faults.{BadAt}
 use Rattle.spa_model.specs.declared.instance.Student.{Student}
 use Rattle.spa_model.specs.declared.instance.Project.{Project}
 use Rattle.spa_model.specs.declared.instance.Lecturer.{Lecturer}
-use Rattle.spa_model.specs.Built.{HasKey}
+use Rattle.spa_model.specs.Pairs.{HasKey}
 use Rattle.spa_model.specs.inner.Inside.{AreRanks}
 
 -- the rows of these lines

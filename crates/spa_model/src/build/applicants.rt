@@ -1,7 +1,8 @@
 //! The faults that speak of applicants: one function for each, over numbered rows.
 
 ghost use Rattle.std.specs.Prelude.{◌≡◌, ◌<◌, ◌↔◌, All, Any, IfOk, IsTrue, None, length, map};
-ghost use Rattle.spa_rows.specs.Least.{IsLeastOf, BadAt};
+ghost use Rattle.spa_rows.specs.inner.Least.{IsLeastOf};
+ghost use Rattle.spa_rows.specs.Faults.{BadAt};
 ghost use Rattle.spa_model.specs.Spa.{Rise};
 ghost use Rattle.spa_model.specs.inner.Numbers.{student_keys, lecturer_at, rank_at, row_at};
 ghost use Rattle.spa_model.specs.inner.Numbers.{HaveChoicesBelow, Finds, IsApplicantOf, Misses};

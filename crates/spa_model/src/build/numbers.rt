@@ -1,7 +1,7 @@
 //! Lines as rows of numbers.
 
 ghost use Rattle.std.specs.Prelude.{◌≡◌, ◌<◌, ◌≤◌, All, IfOk, true, length, map};
-ghost use Rattle.spa_rows.specs.Form.{is_key};
+ghost use Rattle.spa_rows.specs.Lines.{is_key};
 ghost use Rattle.spa_rows.specs.Faults.{IsKeyOf, NamesNone, Repeats};
 ghost use Rattle.spa_model.specs.Spa.{IsDistinct};
 ghost use Rattle.spa_model.specs.inner.Inside.{AreRanks};

@@ -1,5 +1,4 @@
-use Rattle.portal_answer.proofs.Base.{◌≡◌, take, flat_map}
-use Rattle.portal_answer.specs.Blocking.{block_line}
+use Rattle.portal_answer.proofs.Base.{◌≡◌, take, flat_map, block_line}
 use Rattle.portal_answer.proofs.blocking.lines.Given as goal
 
 abbrev pub invariant-loop-block : goal.invariant-loop-block

@@ -1,5 +1,4 @@
-use Rattle.portal_answer.proofs.Base.{◌≡◌, ◌∙◌, ◌<◌, ◌++◌, ap, sym, arith, rules, length, List, Option, is_some, is_none, ℕ, refl, codes, append_assoc, decimal, count_by, flat_map, zip, Text, Told, string_bytes}
-use Rattle.spa_model.specs.Spa.{IsLawful}
+use Rattle.portal_answer.proofs.Base.{◌≡◌, ◌∙◌, ◌<◌, ◌++◌, ap, sym, arith, rules, length, List, Option, is_some, is_none, ℕ, refl, codes, append_assoc, decimal, count_by, flat_map, zip, Text, Told, string_bytes, IsLawful}
 use Rattle.portal_answer.proofs.Assigned.{line, line_more, one_assigned, one_unassigned, whole}
 use Rattle.portal_answer.proofs.solution.lines.Goals as goal
 use Rattle.portal_answer.proofs.solution.lines.Goals.{in-Some, in-None}

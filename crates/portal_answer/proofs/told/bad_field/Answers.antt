@@ -1,5 +1,4 @@
-use Rattle.portal_answer.proofs.Base.{◌≡◌, ◌∙◌, ◌++◌, ap, rules, codes, append_assoc, decimal, string_bytes}
-use Rattle.portal_answer.specs.Told.{refusal}
+use Rattle.portal_answer.proofs.Base.{◌≡◌, ◌∙◌, ◌++◌, ap, rules, codes, append_assoc, decimal, string_bytes, refusal}
 use Rattle.portal_answer.proofs.told.bad_field.Goals as goal
 
 pub returns : goal.returns

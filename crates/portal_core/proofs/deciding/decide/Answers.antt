@@ -1,5 +1,5 @@
 use Rattle.std.proofs.lemmas.Result.{IfOk-weaker}
-use Rattle.portal_core.specs.Meaning.{call_model, decision_model}
+use Rattle.portal_core.proofs.Base.{call_model, decision_model}
 use Rattle.portal_core.proofs.Numbers.{whole_office, whole_lecturer, whole_student}
 use Rattle.portal_core.proofs.deciding.decide.Goals as goal
 

@@ -1,5 +1,4 @@
-use Rattle.portal_core.proofs.Base.{◌≡◌, ◌+◌, map, sym, ◌∙◌, ap, equals, has}
-use Rattle.std.proofs.lemmas.List.Sums.{count_by_more_yes, count_by_more_no}
+use Rattle.portal_core.proofs.Base.{◌≡◌, ◌+◌, map, sym, ◌∙◌, ap, equals, has, count_by_more_yes, count_by_more_no}
 use Rattle.portal_core.proofs.AllLaws.{any_map}
 use Rattle.portal_core.proofs.room.given_among.Goals as goal
 use Rattle.portal_core.proofs.room.given_among.Goals.{then-is_among, else-is_among}

@@ -1,5 +1,4 @@
-use Rattle.portal_core.proofs.Base.{◌∙◌, ap, map, Some, option_map, pairs_among}
-use Rattle.portal_core.specs.inner.Room.{room_of}
+use Rattle.portal_core.proofs.Base.{◌∙◌, ap, map, Some, option_map, pairs_among, room_of}
 use Rattle.portal_core.proofs.room.lecturer_left.Goals as goal
 
 pub returns-in-Some : goal.returns-in-Some

@@ -1,5 +1,4 @@
-use Rattle.portal_desk.proofs.Base.{sym, state_of}
-use Rattle.portal_wire.specs.Conversation.{last}
+use Rattle.portal_desk.proofs.Base.{sym, state_of, last}
 use Rattle.portal_desk.proofs.Promised.{each_next}
 use Rattle.portal_desk.proofs.each.serve_each.Goals as goal
 

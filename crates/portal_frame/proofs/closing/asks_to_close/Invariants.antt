@@ -1,5 +1,4 @@
-use Rattle.portal_frame.proofs.Base.{◌≡◌, drop, map, codes, header_bytes, values_of}
-use Rattle.portal_frame.specs.Connection.{asks_close}
+use Rattle.portal_frame.proofs.Base.{◌≡◌, drop, map, codes, header_bytes, values_of, asks_close}
 use Rattle.portal_frame.proofs.closing.asks_to_close.Given as goal
 
 abbrev pub invariant-loop-header : goal.invariant-loop-header

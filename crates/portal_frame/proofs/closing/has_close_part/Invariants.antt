@@ -1,5 +1,4 @@
-use Rattle.portal_frame.proofs.Base.{◌≡◌, length}
-use Rattle.portal_frame.specs.Connection.{later_close}
+use Rattle.portal_frame.proofs.Base.{◌≡◌, length, later_close}
 use Rattle.portal_frame.proofs.closing.has_close_part.Given as goal
 
 abbrev pub decreases-loop-rest : goal.decreases-loop-rest

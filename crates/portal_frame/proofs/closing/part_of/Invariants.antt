@@ -1,5 +1,4 @@
-use Rattle.portal_frame.proofs.Base.{◌≡◌, ◌-◌, ◌≤◌, ◌++◌, length, take, drop}
-use Rattle.portal_frame.specs.Connection.{before_comma}
+use Rattle.portal_frame.proofs.Base.{◌≡◌, ◌-◌, ◌≤◌, ◌++◌, length, take, drop, before_comma}
 use Rattle.portal_frame.proofs.closing.part_of.Given as goal
 
 abbrev pub decreases-loop-at : goal.decreases-loop-at

@@ -1,5 +1,4 @@
-use Rattle.portal_frame.proofs.Base.{◌≡◌, length}
-use Rattle.httparse.specs.Grammar.{skip_ows}
+use Rattle.portal_frame.proofs.Base.{◌≡◌, length, skip_ows}
 use Rattle.portal_frame.proofs.closing.skip.Given as goal
 
 abbrev pub decreases-loop-rest : goal.decreases-loop-rest

@@ -1,5 +1,4 @@
-use Rattle.portal_frame.proofs.Base.{take, map, header_bytes, values_of}
-use Rattle.portal_frame.specs.Heads.{IsFound}
+use Rattle.portal_frame.proofs.Base.{take, map, header_bytes, values_of, IsFound}
 use Rattle.portal_frame.proofs.values.found_value.Given as goal
 
 abbrev pub invariant-loop-header : goal.invariant-loop-header

@@ -1,9 +1,7 @@
-use Rattle.portal_frame.proofs.Base.{rules, ◌≡◌, ℕ, ◌+◌, ◌<◌, ◌≤◌, ◌^◌, take, ◌-◌, true, arith, ◌∙◌, sym, ap, common_steps, ◌&&◌, digits_value, is_ascii_digit}
-use Rattle.std.proofs.Common.{◌*◌, slice_index_or, add-one}
+use Rattle.portal_frame.proofs.Base.{rules, ◌≡◌, ℕ, ◌+◌, ◌<◌, ◌≤◌, ◌^◌, take, ◌-◌, true, arith, ◌∙◌, sym, ap, common_steps, ◌&&◌, digits_value, is_ascii_digit, ◌*◌, slice_index_or, add-one, digit_value}
 use Rattle.std.proofs.Math.Nat.{pow-le-pow_right}
 use Rattle.std.proofs.lemmas.Int.Digits.{digits_value_more}
 use Rattle.std.proofs.lemmas.List.Folds.{list_all_more}
-use Rattle.std.specs.Char.{digit_value}
 use Rattle.portal_frame.proofs.values.number_of.Goals as goal
 
 below : (n i : ℕ) → n < 10 ^ i → i ≤ 17 → n < 10 ^ 17

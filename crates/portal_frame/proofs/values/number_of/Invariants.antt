@@ -1,5 +1,4 @@
-use Rattle.portal_frame.proofs.Base.{◌≡◌, ◌<◌, ◌^◌, take, true, digits_value, is_ascii_digit}
-use Rattle.std.specs.List.{list_all}
+use Rattle.portal_frame.proofs.Base.{◌≡◌, ◌<◌, ◌^◌, take, true, digits_value, is_ascii_digit, list_all}
 use Rattle.portal_frame.proofs.values.number_of.Given as goal
 
 abbrev pub invariant-loop-digit : goal.invariant-loop-digit

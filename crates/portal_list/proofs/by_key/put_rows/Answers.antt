@@ -1,13 +1,12 @@
-use Rattle.portal_list.proofs.Base.{◌∙◌, ap, sym, arith, common_steps, put}
-use Rattle.portal_list.proofs.Rows.{put_all-append}
+use Rattle.portal_list.proofs.Base.{common_steps, put, ◌≡◌, List, [], ◌∷◌, ◌++◌, refl, Key, put_all, rules}
 use Rattle.portal_list.proofs.by_key.put_rows.Goals as goal
 
+-- New rows put where their keys belong.
+
+-- one row more
+put_all-append : {X : Type 0} (key : X → Key) (xs : List X) (x : X) (ys : List X) → put_all key (xs ++ x ∷ []) ys ≡ put key x (put_all key xs ys)
+put_all-append key [] x ys = refl
+put_all-append key (z ∷ zs) x ys = put_all-append key zs x (put key z ys)
+
 pub loop-row-preserved : goal.loop-row-preserved
-loop-row-preserved g c = record {
-  rows =
-      c.put_row.ensures.items
-      ∙ ap (put g.T.Keyed.key_of c.in-Some.row) c.loop-row.invariant.rows
-      ∙ sym (put_all-append g.T.Keyed.key_of c.loop-row.yielded c.in-Some.row c.args.rows.now.items);
-  length = grind (arith, common_steps);
-  capacity = omega arith;
-}
+loop-row-preserved g c = search (rules, put_all-append, common_steps)

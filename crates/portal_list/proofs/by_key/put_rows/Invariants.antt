@@ -1,5 +1,4 @@
-use Rattle.portal_list.proofs.Base.{◌≡◌, ◌+◌, ◌≤◌, length, put_all}
-use Rattle.std.specs.Prelude.{vec_len, vec_capacity}
+use Rattle.portal_list.proofs.Base.{◌≡◌, ◌+◌, ◌≤◌, length, put_all, vec_len, vec_capacity}
 use Rattle.portal_list.proofs.by_key.put_rows.Given as goal
 
 abbrev pub invariant-loop-row : goal.invariant-loop-row

@@ -1,7 +1,31 @@
-use Rattle.portal_list.proofs.Base.{◌≡◌, inl, inr, get_or, Bor, [], sym, refl, ◌∙◌, ap, subst, arith, not, get_or_default, cases_lt, false≢true, Text, IsEarlierKey}
-use Rattle.spa_rows.proofs.Seen.{tree_more, tree_before}
-use Rattle.portal_list.proofs.Apart.{distinct_so, not_earlier}
+use Rattle.portal_list.proofs.Base.{◌≡◌, get_or, Bor, [], sym, refl, ◌∙◌, ap, arith, not, get_or_default, false≢true, Text, IsEarlierKey, ℕ, zero, suc, ◌<◌, Bool, true, false, List, ◌∷◌, map, length, length-map, length-take, get_or-take, map_at, any_unmap, Key, has, AreDistinct, tree_more, tree_before}
+use Rattle.portal_list.proofs.Members.{there, distinct_apart}
 use Rattle.portal_list.proofs.distinct.are_distinct.Goals as goal
+
+-- Texts of which none repeats.
+module _ {X : Type 0} (key : X → Key) where
+  -- no text is an earlier one
+  abbrev NoneEarlier : List X → Type 0
+  NoneEarlier xs = (j : ℕ) (x : X) → j < length xs → get_or xs j x ≡ x → IsEarlierKey xs key j (key x) → ⊥
+
+  distinct_so : (xs : List X) → NoneEarlier xs → AreDistinct (map key xs)
+  distinct_so [] none = tt
+  distinct_so (x ∷ xs) none = (
+    new (has (map key xs) (key x)) refl,
+    distinct_so xs (λ j y low at (i, z, less, is_z, same). none (suc j) y (omega arith) at (suc i, z, omega arith, is_z, same)),
+  )
+    where
+      new : (b : Bool) → has (map key xs) (key x) ≡ b → b ≡ false
+      new false e = refl
+      new true e =
+          let found = any_unmap (λ y. y ≡ key x) key xs (there (map key xs) (key x) e) in
+          absurd (none (suc found.0) found.1 (omega (arith, found.2)) found.3 (zero, x, omega arith, refl, sym found.4))
+
+  not_earlier : (xs : List X) → AreDistinct (map key xs) → NoneEarlier xs
+  not_earlier xs once j x low at (i, y, less, is_y, same) =
+      let before : i < j = omega (arith, length-take j xs) in
+      let y_at : get_or xs i y ≡ y = sym (get_or-take j xs i y before) ∙ is_y in
+      distinct_apart (map key xs) i j [] once before (omega (arith, length-map xs key)) (map_at key xs i y [] (omega arith) y_at ∙ same ∙ sym (map_at key xs j x [] low at))
 
 pub returns-then-not-branch : goal.returns-then-not-branch
 returns-then-not-branch c =
@@ -23,13 +47,7 @@ loop-text-preserved c =
     let earlier = tree_before texts (λ t. t.now) c.loop-text.seen x c.in_ok-insert.field-0 n x c.in_ok-insert.ensures.added refl c.loop-text.invariant.seen in
     record {
       seen = tree_more texts (λ t. t.now) c.loop-text.seen c.insert.new.self x n x c.in_ok-insert.ensures.updates refl c.loop-text-test.true at c.loop-text.invariant.seen;
-      distinct = λ j text below is repeated. elim (cases_lt j n) [
-        | inl before ↦ c.loop-text.invariant.distinct j text before is repeated
-        | inr here ↦
-            let same : j ≡ n = omega arith in
-            let text_is : text ≡ x = sym is ∙ get_or_default texts j text x (rw same c.loop-text-test.true) ∙ (rw same at) in
-            absurd (false≢true (sym (ap not c.if-not-branch.false) ∙ earlier.1 (subst (λ t. IsEarlierKey texts (λ t. t.now) n t) (ap (λ t. t.now) text_is) (subst (λ m. IsEarlierKey texts (λ t. t.now) m text.now) same repeated))))
-      ];
+      distinct = λ j text below is repeated. grind (arith, get_or_default, false≢true);
     }
 
 pub returns : goal.returns

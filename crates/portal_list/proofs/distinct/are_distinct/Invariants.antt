@@ -1,5 +1,4 @@
-use Rattle.portal_list.proofs.Base.{◌≡◌, ℕ, ◌<◌, get_or, Bor, Text, IsEarlierKey}
-use Rattle.spa_rows.proofs.Seen.{IsInTree}
+use Rattle.portal_list.proofs.Base.{◌≡◌, ℕ, ◌<◌, get_or, Bor, Text, IsEarlierKey, IsInTree}
 use Rattle.portal_list.proofs.distinct.are_distinct.Given as goal
 
 -- the texts so far are in the set, and none of them repeats

@@ -1,5 +1,4 @@
-use Rattle.portal_list.proofs.Base.{take, AllByRecursion}
-use Rattle.portal_list.specs.inner.Parts.{IsOutIfPlaced}
+use Rattle.portal_list.proofs.Base.{take, AllByRecursion, IsOutIfPlaced}
 use Rattle.portal_list.proofs.lists.are_out_if_placed.Given as goal
 
 abbrev pub invariant-loop-student : goal.invariant-loop-student

@@ -1,13 +1,9 @@
-use Rattle.portal_list.proofs.Base.{◌≡◌, ◌↔◌, IfOk, IsTrue, List, map, sym, ap, subst, subst₂, ◌∙◌, AllByRecursion, Rise, Student, project_key, First, Second, ProjectRow, IsChoice, AllEntries}
-use Rattle.portal_core.specs.World.{projects_in}
+use Rattle.portal_list.proofs.Base.{◌≡◌, ◌↔◌, IfOk, IsTrue, List, map, sym, ap, subst₂, ◌∙◌, AllByRecursion, Student, project_key, First, Second, ProjectRow, IsChoice, AllEntries, rules, projects_in}
 use Rattle.portal_list.proofs.Plays.{left_rise}
 use Rattle.portal_list.proofs.lists.choices_in_play_fit.Goals as goal
 
 pub choices_fit-requires-in-Second : goal.choices_fit-requires-in-Second
-choices_fit-requires-in-Second c =
-    let e : AllEntries = c.args.entries.now in
-    subst (λ ps. Rise (map project_key ps)) (sym (c.deref-in-Second.ensures.value ∙ ap (λ (a : AllEntries). a.projects) (c.left.view_is ∙ c.in_ok-left-in-Second.ensures)))
-    (left_rise e.lecturers e.projects e.students c.requires)
+choices_fit-requires-in-Second c = search (rules, left_rise)
 
 pub returns-in-First : goal.returns-in-First
 returns-in-First c =

@@ -1,11 +1,8 @@
-use Rattle.portal_list.proofs.Base.{◌≡◌, ◌↔◌, IfOk, IsTrue, map, sym, ◌∙◌, ap, subst, option_map, list_any, Rise, has, student_key, rise_kept, applicant_keys, HasRanking}
-use Rattle.portal_core.specs.inner.Room.{own_keys}
+use Rattle.portal_list.proofs.Base.{◌≡◌, ◌↔◌, IfOk, IsTrue, map, ◌∙◌, ap, subst, option_map, rise_kept, applicant_keys, HasRanking, rules}
 use Rattle.portal_list.proofs.lists.ranking_fits.Goals as goal
 
 pub is_ranked-requires : goal.is_ranked-requires
-is_ranked-requires c =
-    subst Rise (sym (ap (map (λ k. k.now)) c.deref.ensures.value ∙ c.in_ok-applicants.ensures))
-    (rise_kept student_key (λ s. list_any (λ p. has s.choice p) (own_keys c.args.projects.now c.lecturer.inside.row.key)) c.args.wanted.now c.requires)
+is_ranked-requires c = search (rules, rise_kept)
 
 pub returns : goal.returns
 returns c =

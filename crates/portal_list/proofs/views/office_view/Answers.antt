@@ -1,15 +1,11 @@
-use Rattle.portal_list.proofs.Base.{◌≡◌, Bool, cond, List, [], map, ◌∙◌, ap, sym, filter, ◌&&◌, Key, is_empty, World, Lecturer, Student, is_still_to_rank, shown_placement, pairs_with, ProjectRow, catalogue, world_with, takes_part, is_waiting}
-use Rattle.portal_core.specs.World.{is_from_ranking}
-use Rattle.portal_core.specs.View.{office_sees}
+use Rattle.portal_list.proofs.Base.{◌≡◌, Bool, cond, List, [], map, ◌∙◌, ap, sym, filter, ◌&&◌, is_empty, World, Lecturer, Student, is_still_to_rank, shown_placement, pairs_with, ProjectRow, catalogue, world_with, takes_part, is_waiting, rules, is_from_ranking, office_sees}
 use Rattle.portal_list.proofs.Plays.{part_and}
 use Rattle.portal_list.proofs.Waiting.{waiting_lecturers}
 use Rattle.portal_list.proofs.views.office_view.Goals as goal
 
 waiting : (w : World) (b : Bool) (ls : List Lecturer) (ps : List ProjectRow) (ss : List Student) → b ≡ is_from_ranking w.phase → ls ≡ w.lecturers → ps ≡ w.projects → ss ≡ w.students
     → cond b (map (λ (l : Lecturer). l.row.key) (filter (is_waiting ss ps) ls)) [] ≡ cond (is_from_ranking w.phase) (map (λ l. l.row.key) (filter (is_still_to_rank w) w.lecturers)) []
-waiting w b ls ps ss eb el ep es =
-    (λ i. cond (eb i) (map (λ (l : Lecturer). l.row.key) (filter (is_waiting (es i) (ep i)) (el i))) [])
-    ∙ ap (λ (ks : List Key). cond (is_from_ranking w.phase) ks []) (waiting_lecturers w)
+waiting w b ls ps ss eb el ep es = search (rules, waiting_lecturers)
 
 pub returns : goal.returns
 returns c =

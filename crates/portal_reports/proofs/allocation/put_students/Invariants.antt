@@ -1,5 +1,4 @@
-use Rattle.portal_reports.proofs.Base.{◌≡◌, ◌++◌, take, flat_map}
-use Rattle.portal_core.specs.Sheets.{student_line}
+use Rattle.portal_reports.proofs.Base.{◌≡◌, ◌++◌, take, flat_map, student_line}
 use Rattle.portal_reports.proofs.allocation.put_students.Given as goal
 
 abbrev pub invariant-loop-student : goal.invariant-loop-student

@@ -1,13 +1,10 @@
-use Rattle.portal_rolls.proofs.Base.{◌≡◌, ◌++◌, ◌∙◌, ◌∷◌, [], ℕ, List, ap, subst, Some, None, ProjectRow, StudentRow, OfficeSees, student_fields, csv_record, HasWritten}
-use Rattle.std.proofs.Common.{OnOk}
-use Rattle.portal_core.specs.Sheets.{project_given, project_fields}
+use Rattle.portal_rolls.proofs.Base.{◌≡◌, ◌++◌, ◌∙◌, ◌∷◌, [], ℕ, List, ap, subst, Some, None, ProjectRow, StudentRow, OfficeSees, student_fields, csv_record, HasWritten, rules, OnOk, project_given, project_fields}
 use Rattle.portal_rolls.proofs.allocation.put_student.Goals as goal
 
 placed : (v : OfficeSees) (s : StudentRow) (p : ProjectRow) (key name project title lecturer : List ℕ)
     → key ≡ s.key → name ≡ s.name → project ≡ p.key → title ≡ p.title → lecturer ≡ p.lecturer → Some p ≡ project_given v s
     → key ∷ name ∷ project ∷ title ∷ lecturer ∷ [] ≡ student_fields v s
-placed v s p key name project title lecturer k n q t l e =
-    (λ i. k i ∷ n i ∷ q i ∷ t i ∷ l i ∷ []) ∙ ap (λ o. s.key ∷ s.name ∷ project_fields o) e
+placed v s p key name project title lecturer k n q t l e = search rules
 
 unplaced : (v : OfficeSees) (s : StudentRow) (key name : List ℕ) → key ≡ s.key → name ≡ s.name → None ≡ project_given v s
     → key ∷ name ∷ [] ∷ [] ∷ [] ∷ [] ≡ student_fields v s

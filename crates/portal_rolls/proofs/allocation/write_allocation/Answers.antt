@@ -1,20 +1,10 @@
-use Rattle.portal_rolls.proofs.Base.{◌≡◌, ◌<◌, ◌≤◌, ◌++◌, ◌∙◌, [], ℕ, List, length, take, get_or, refl, ap, subst, IfOk, Ok, Err, Result, flat_map, take_all, StudentRow, OfficeSees, student_fields, csv_record, csv_header, HasWritten}
-use Rattle.std.specs.Prelude.{Vec}
+use Rattle.portal_rolls.proofs.Base.{◌≡◌, ◌<◌, ◌≤◌, ◌++◌, ◌∙◌, ℕ, List, length, take, get_or, ap, subst, IfOk, Ok, Err, Result, flat_map, take_all, StudentRow, OfficeSees, student_fields, csv_record, csv_header, HasWritten, rules, Vec, csv_text}
 use Rattle.std.specs.Global.{Global}
-use Rattle.portal_core.specs.Sheets.{csv_text}
 use Rattle.portal_core.proofs.Pieces.{one_more}
 use Rattle.portal_rolls.proofs.allocation.write_allocation.Goals as goal
 
 pub loop-student-init : goal.loop-student-init
-loop-student-init c =
-    let from = c.from_writer-writer.ensures in
-    let fresh : HasWritten c.from_writer-writer.result [] = record {
-      text_is = rw (from.wtr, c.new.ensures.items, from.empty) refl;
-      setup = from.cfg;
-      fields = from.fields;
-      wrote = from.wrote;
-    } in
-    c.in_ok-put_record.ensures [] fresh
+loop-student-init c = search rules
 
 pub loop-student-preserved : goal.loop-student-preserved
 loop-student-preserved c =

@@ -1,5 +1,5 @@
 use Rattle.portal_rolls.proofs.Base.{◌≡◌, ◌+◌, ◌*◌, ◌^◌, ◌≤◌, take}
-use Rattle.portal_rolls.specs.Fields as spec
+use Rattle.portal_rolls.specs.Lines as spec
 use Rattle.portal_rolls.proofs.fields.capacity_of.Given as goal
 
 -- 207 is the most that a byte may be above the digit 0

@@ -1,5 +1,4 @@
-use Rattle.portal_rolls.proofs.Base.{List, Record, Has}
-use Rattle.portal_rolls.specs.Records.{IsSetUp}
+use Rattle.portal_rolls.proofs.Base.{List, Record, Has, IsSetUp}
 use Rattle.portal_rolls.proofs.Run.{Progress}
 use Rattle.portal_rolls.proofs.reading.read_lines.Given as goal
 

@@ -1,6 +1,5 @@
 use Rattle.portal_rolls.proofs.Forms.{given, lecturer_form}
-use Rattle.portal_rolls.proofs.Base.{records_of}
-use Rattle.portal_rolls.specs.Rolls.{lecturer_format}
+use Rattle.portal_rolls.proofs.Base.{records_of, lecturer_format}
 use Rattle.portal_rolls.specs.Views as view
 use Rattle.portal_rolls.proofs.rolls.read_lecturers.Goals as goal
 

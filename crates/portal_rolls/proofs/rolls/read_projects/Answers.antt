@@ -1,6 +1,5 @@
 use Rattle.portal_rolls.proofs.Forms.{given, project_form}
-use Rattle.portal_rolls.proofs.Base.{records_of}
-use Rattle.portal_rolls.specs.Rolls.{project_format}
+use Rattle.portal_rolls.proofs.Base.{records_of, project_format}
 use Rattle.portal_rolls.specs.Views as view
 use Rattle.portal_rolls.proofs.rolls.read_projects.Goals as goal
 

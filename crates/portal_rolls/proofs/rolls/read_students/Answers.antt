@@ -1,6 +1,5 @@
 use Rattle.portal_rolls.proofs.Forms.{given, student_form}
-use Rattle.portal_rolls.proofs.Base.{records_of}
-use Rattle.portal_rolls.specs.Rolls.{student_format}
+use Rattle.portal_rolls.proofs.Base.{records_of, student_format}
 use Rattle.portal_rolls.specs.Views as view
 use Rattle.portal_rolls.proofs.rolls.read_students.Goals as goal
 

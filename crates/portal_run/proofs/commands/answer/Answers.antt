@@ -1,7 +1,4 @@
-use Rattle.std.proofs.Common.{◌≢◌, subst}
-use Rattle.std.specs.Io.KnownBytes.{Appends}
-use Rattle.portal_answer.specs.Told.{Told}
-use Rattle.portal_answer.specs.Answer.{IsAnswer}
+use Rattle.portal_run.proofs.Base.{◌≢◌, subst, Appends, Told, IsAnswer}
 use Rattle.portal_run.proofs.Known.{IsSaid, said, said_bound, said_some}
 use Rattle.portal_answer.proofs.Statuses.{answer_status}
 use Rattle.portal_run.proofs.commands.answer.Goals as goal

@@ -1,4 +1,4 @@
-use Rattle.std.proofs.Common.{inr}
+use Rattle.portal_run.proofs.Base.{inr}
 use Rattle.portal_run.proofs.Upgraded.{unopened}
 use Rattle.portal_run.proofs.init.upgrade_database.Goals as goal
 

@@ -1,4 +1,4 @@
-use Rattle.std.proofs.Common.{Some, None}
+use Rattle.portal_run.proofs.Base.{Some, None}
 use Rattle.portal_run.proofs.Known.{said_status}
 use Rattle.portal_run.proofs.init.upgrade_opened.Goals as goal
 

@@ -1,5 +1,4 @@
-use Rattle.std.proofs.Common.{◌≤◌, length}
-use Rattle.std.specs.Io.KnownBytes.{Consumes}
+use Rattle.portal_run.proofs.Base.{◌≤◌, length, Consumes}
 use Rattle.portal_run.proofs.input.bytes_of.Given as goal
 
 abbrev pub invariant-loop : goal.invariant-loop

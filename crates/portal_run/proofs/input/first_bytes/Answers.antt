@@ -1,4 +1,4 @@
-use Rattle.std.proofs.Common.{arith}
+use Rattle.portal_run.proofs.Base.{arith}
 use Rattle.portal_run.proofs.Taken.{more_taken}
 use Rattle.portal_run.proofs.input.first_bytes.Goals as goal
 

@@ -1,4 +1,4 @@
-use Rattle.std.proofs.Common.{◌∙◌, ◌+◌, rules, subst, sym}
+use Rattle.portal_serve.proofs.Base.{◌∙◌, ◌+◌, rules, subst, sym}
 use Rattle.portal_serve.proofs.Outcomes.{Passed, passed_few, passed_more, told_failed}
 use Rattle.portal_serve.proofs.hall.serve_each.Goals as goal
 

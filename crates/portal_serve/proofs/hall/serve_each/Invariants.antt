@@ -1,5 +1,5 @@
-use Rattle.std.proofs.Common.{◌≡◌, ◌≤◌, true}
-use Rattle.portal_desk.specs.Outcome.{FailsByCount}
+use Rattle.portal_serve.proofs.Base.{◌≡◌, ◌≤◌, true}
+use Rattle.portal_desk.specs.Kept.{FailsByCount}
 use Rattle.portal_serve.proofs.Outcomes.{Passed}
 use Rattle.portal_serve.proofs.hall.serve_each.Given as goal
 

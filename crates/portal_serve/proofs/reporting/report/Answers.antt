@@ -1,6 +1,5 @@
-use Rattle.std.proofs.Common.{subst}
+use Rattle.portal_serve.proofs.Base.{subst, IsOfficeReport}
 use Rattle.std.proofs.lemmas.Result.{IfOk-weaker}
-use Rattle.portal_serve.specs.Report.{IsOfficeReport}
 use Rattle.portal_serve.proofs.Seen.{told_is}
 use Rattle.portal_serve.proofs.reporting.report.Goals as goal
 

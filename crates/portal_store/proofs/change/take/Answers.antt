@@ -1,5 +1,4 @@
-use Rattle.portal_store.proofs.Base.{state, change_model, IsTransition, IsTransitionFrom}
-use Rattle.portal_store.proofs.Readings.{asks_of}
+use Rattle.portal_store.proofs.Base.{IsTransitionFrom, change_model, state}
 use Rattle.portal_store.proofs.Ended.{ends_refused, ends_then}
 use Rattle.portal_store.proofs.Opened.{ends_any}
 use Rattle.portal_store.proofs.Rounds.{held_in, turned_in}
@@ -7,13 +6,13 @@ use Rattle.portal_store.proofs.change.take.Goals as goal
 
 pub returns-in_err-round-clause-ends : goal.returns-in_err-round-clause-ends
 returns-in_err-round-clause-ends g c =
-    ends_refused (IsTransition (change_model c.args.change.now)) _ c.from_residual.result _ _ c.from_residual.ensures.0 c.settled.ensures.settled (asks_of _ _ _ c.in_err-round.ensures)
+    ends_refused c.from_residual.ensures.0 c.settled.ensures.settled c.in_err-round.ensures
 
 pub returns-clause-ends : goal.returns-clause-ends
 returns-clause-ends g c =
     let change = change_model c.args.change.now in
     let round = c.in_ok-round.round in
     let old = state g.S.Store c.args.conn.now in
-    ends_then (IsTransitionFrom round change) (IsTransition change) round c.take_step.result old (state g.S.Store c.round_in.new.conn) (state g.S.Store c.take_step.new.conn) (asks_of _ _ _ c.in_ok-round.ensures)
+    ends_then {C = IsTransitionFrom round change} c.in_ok-round.ensures
     (ends_any round change c.take_step.result (state g.S.Store c.round_in.new.conn) (state g.S.Store c.take_step.new.conn) c.take_step.ensures.ends c.take_step.ensures.opens)
     (λ own clean after turns holds good better. turned_in round change old.now after turns (held_in round old.now holds (c.in_ok-round.ensures.told own holds.1.sound clean)) good better)

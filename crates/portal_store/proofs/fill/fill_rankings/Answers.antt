@@ -1,5 +1,4 @@
-use Rattle.portal_store.proofs.Base.{List, map, arith, sym, ap, subst, ◌∙◌, HasCleanDisk, state, Key, Fill, Sound, fill_missing, IsCurrentSchema, world_in, world_of, IsConsistentIn, IsTransitionIn, TurnsAll}
-use Rattle.portal_store.proofs.Readings.{asks_of}
+use Rattle.portal_store.proofs.Base.{◌∙◌, HasCleanDisk, IsConsistentIn, IsCurrentSchema, Key, List, Sound, TurnsAll, ap, arith, fill_missing, map, state, subst, sym, world_in, world_of}
 use Rattle.portal_store.proofs.Ended.{ends_asked, ends_refused}
 use Rattle.portal_store.proofs.Rounds.{world_told}
 use Rattle.portal_store.proofs.FillTurns.{fill_turns}
@@ -7,24 +6,23 @@ use Rattle.portal_store.proofs.fill.fill_rankings.Goals as goal
 
 pub returns-in_err-read-clause-ends : goal.returns-in_err-read-clause-ends
 returns-in_err-read-clause-ends g c =
-    ends_refused (IsTransitionIn c.args.round Fill) _ c.from_residual.result _ _ c.from_residual.ensures.0 c.settled.ensures.settled (asks_of _ _ _ c.in_err-read.ensures)
+    ends_refused c.from_residual.ensures.0 c.settled.ensures.settled c.in_err-read.ensures
 
 pub returns-in_err-rankings-clause-ends : goal.returns-in_err-rankings-clause-ends
 returns-in_err-rankings-clause-ends g c =
-    ends_refused (IsTransitionIn c.args.round Fill) _ c.from_residual-in_err-rankings.result _ _ c.from_residual-in_err-rankings.ensures.0 c.settled.ensures.settled (asks_of _ _ _ c.in_ok-read.ensures)
+    ends_refused c.from_residual-in_err-rankings.ensures.0 c.settled.ensures.settled c.in_ok-read.ensures
 
 pub returns-clause-ends : goal.returns-clause-ends
 returns-clause-ends g c =
     let old = state g.S.Store c.args.conn.now in
     let mid = state g.S.Store c.load_entries.new.conn in
-    let new = state g.S.Store c.commit.new.conn in
     let fs : List (Key × List Key) = map (λ f. (f.0, f.1.items)) c.deref.result.now in
     let are =
     λ (own : IsCurrentSchema old.now.schema) (clean : HasCleanDisk mid) (holds : IsConsistentIn c.args.round old.now) (sound : Sound (world_in c.args.round old.now.trees)).
     let told = world_told c.args.round old.now.trees holds.second in
     ap (map {B = Key × List Key} (λ f. (f.0, f.1.items))) c.deref.ensures.value ∙ c.in_ok-rankings.ensures (world_of old.now.trees) (c.in_ok-read.ensures.told own holds.sound clean (subst Sound (sym told) sound)) ∙ ap fill_missing told in
-    ends_asked (TurnsAll c.args.round fs) (IsTransitionIn c.args.round Fill) c.commit.result old mid new c.commit.ensures.idle c.commit.ensures.ok c.commit.ensures.err c.commit.ensures.durable c.commit.ensures.crash
-    c.in_ok-read.read (asks_of _ _ _ c.in_ok-read.ensures) (λ own clean after. fill_turns c.args.round fs old.now after (are own clean))
+    ends_asked (TurnsAll c.args.round fs) c.commit.ensures.idle c.commit.ensures.ok c.commit.ensures.err c.commit.ensures.durable c.commit.ensures.crash
+    c.in_ok-read.ensures (λ own clean after. fill_turns c.args.round fs old.now after (are own clean))
 
 pub returns-clause-entries : goal.returns-clause-entries
 returns-clause-entries g c own holds good clean was =

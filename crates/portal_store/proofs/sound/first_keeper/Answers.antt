@@ -1,13 +1,12 @@
-use Rattle.portal_store.proofs.Base.{sym, ◌∙◌, state, First, world_in}
+use Rattle.portal_store.proofs.Base.{◌∙◌, First, reads_more, state, sym, world_in}
 use Rattle.portal_store.proofs.Loaded.{world_alone}
-use Rattle.portal_store.proofs.Readings.{reads_more}
 use Rattle.portal_store.proofs.RowsOnce.{nothing_before, rows_once}
 use Rattle.portal_store.proofs.sound.first_keeper.Goals as goal
 
 pub returns-in-Ok-clause-reads : goal.returns-in-Ok-clause-reads
 returns-in-Ok-clause-reads g c =
     let w = world_in First (state g.S.Store c.args.conn.now).now.trees in
-    reads_more c.in_ok-rows.rows _ _ _ c.in_ok-rows.ensures
+    reads_more c.in_ok-rows.ensures
     (λ own sound it. record {
       office = it.office;
       whole = it.whole;

@@ -1,5 +1,4 @@
-use Rattle.portal_store.proofs.Base.{inr, state, survives_weaker, Upgrades, commits_asked, clean_before}
-use Rattle.portal_tables.proofs.Asking.{crash_asked}
+use Rattle.portal_store.proofs.Base.{inr, state, survives_weaker, Upgrades, commits_asked, clean_before, crash_asked}
 use Rattle.portal_store.proofs.Ended.{stays_left}
 use Rattle.portal_store.proofs.upgrade.upgraded.Goals as goal
 

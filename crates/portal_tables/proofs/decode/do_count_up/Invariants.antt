@@ -1,5 +1,4 @@
-use Rattle.portal_tables.proofs.Base.{◌+◌, map, drop, CountUp, shown_rank}
-use Rattle.std.specs.Prelude.{◌↔◌}
+use Rattle.portal_tables.proofs.Base.{◌+◌, map, drop, CountUp, shown_rank, ◌↔◌}
 use Rattle.portal_tables.proofs.decode.do_count_up.Given as goal
 
 abbrev pub invariant-loop-i : goal.invariant-loop-i

@@ -1,12 +1,17 @@
-use Rattle.portal_tables.proofs.Base.{◌≡◌, ◌∙◌, sym, ap, subst, state, HasRound, round_of, ranked2_tree, row_key, has, has_list, map}
+use Rattle.portal_tables.proofs.Base.{◌∙◌, ap, map, IfOk-from_err, state, ranked2_tree, row_key, has}
+use Rattle.portal_tables.proofs.InTurn.{reads_open, reads_of, reads_as, reads_more}
 use Rattle.portal_tables.proofs.SecondRows.{ranked_found}
 use Rattle.portal_tables.proofs.entries.has_list_in.Goals as goal
 
-pub returns-in_ok-finds_any-in-SecondRankings-clause-told : goal.returns-in_ok-finds_any-in-SecondRankings-clause-told
-returns-in_ok-finds_any-in-SecondRankings-clause-told g c own sound clean =
+pub returns-in_err-finds_any-in-SecondRankings-clause-reads : goal.returns-in_err-finds_any-in-SecondRankings-clause-reads
+returns-in_err-finds_any-in-SecondRankings-clause-reads g c =
+    let failed = c.from_residual.ensures.0 in
+    rw c.in-SecondRankings.is
+    (reads_as (reads_open (reads_of (λ own. own) (λ own sound. tt) c.in_err-finds_any-in-SecondRankings.ensures)) (λ _. failed) (λ own sound told. IfOk-from_err c.from_residual.result _ failed))
+
+pub returns-in_ok-finds_any-in-SecondRankings-clause-reads : goal.returns-in_ok-finds_any-in-SecondRankings-clause-reads
+returns-in_ok-finds_any-in-SecondRankings-clause-reads g c =
     let now = (state g.S.Store c.args.conn.now).now in
-    subst (λ l. HasRound (round_of l) now.schema → c.in_ok-finds_any-in-SecondRankings.field-0 ≡ has_list l now.trees c.args.row.now) (sym c.in-SecondRankings.is)
-    (λ current.
-    let it = c.in_ok-finds_any-in-SecondRankings.ensures.told current clean in
-    it.told ∙ ranked_found now current sound c.bytes_at.result.now it.rows it.shown ∙ ap (has (map row_key (now.trees ranked2_tree))) c.bytes_at.ensures)
-    own
+    rw c.in-SecondRankings.is
+    (reads_more (reads_open (reads_of (λ own. own) (λ own sound. tt) c.in_ok-finds_any-in-SecondRankings.ensures))
+    (λ own sound it. it.told ∙ ranked_found now own sound c.bytes_at.result.now it.rows it.shown ∙ ap (has (map row_key (now.trees ranked2_tree))) c.bytes_at.ensures))

@@ -1,14 +1,17 @@
 use Rattle.portal_tables.proofs.Base.{◌≡◌, ◌∷◌, true, false, [], map, filter, sym, subst, AllByRecursion, state, Cells, all-filter, Key, has, all_map, columns, every, tree_of, row_key, first_cell}
+use Rattle.portal_tables.proofs.InTurn.{reads_more}
 use Rattle.portal_tables.proofs.Listed.{permuted}
 use Rattle.portal_tables.proofs.Sorted.{all_permuted}
 use Rattle.portal_tables.proofs.entries.see_owners.Goals as goal
 
-pub returns-clause-damaged : goal.returns-clause-damaged
-returns-clause-damaged g c own clean damaged owned =
+pub returns : goal.returns
+returns g c =
     let table = (state g.S.Store c.args.conn.now).now.trees (tree_of c.args.lists) in
     let rows = c.in_ok-rows.rows.items in
     let Known : Key → Type 0 = λ k. has (map first_cell c.args.owners.now) k ≡ true in
+    reads_more c.in_ok-rows.ensures.reads
+    (λ own any shown blamed owned.
     let named : AllByRecursion (λ r. Known (first_cell r)) rows =
-    all_permuted (λ r. Known (first_cell r)) _ rows (permuted _ _ _ table rows (c.in_ok-rows.ensures.rows own clean))
+    all_permuted (λ r. Known (first_cell r)) _ rows (permuted _ _ _ table rows shown)
     (all_map (λ r. Known (first_cell r)) (columns (1 ∷ 2 ∷ 3 ∷ [])) (filter every table) (all-filter (λ r. Known (row_key r)) every table owned.known)) in
-    absurd (let e : false ≡ true = c.if-are_owned.ensures.owned owned.rise (subst (AllByRecursion (λ (r : Cells). Known (first_cell r))) (sym c.deref.ensures.value) named) in cc)
+    absurd (let e : false ≡ true = c.if-are_owned.ensures.owned owned.rise (subst (AllByRecursion (λ (r : Cells). Known (first_cell r))) (sym c.deref.ensures.value) named) in cc))

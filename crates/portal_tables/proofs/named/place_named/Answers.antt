@@ -2,9 +2,6 @@ use Rattle.portal_tables.proofs.Base.{nat_cmp, slice_cmp, nat_list_cmp_total, al
 use Rattle.portal_tables.proofs.NamedRows.{known_at, known_nowhere}
 use Rattle.portal_tables.proofs.named.place_named.Goals as goal
 
-pub returns-in-Ok-clause-within : goal.returns-in-Ok-clause-within
-returns-in-Ok-clause-within c = c.in-Ok.ensures.bound
-
 pub returns-in-Ok-clause-there : goal.returns-in-Ok-clause-there
 returns-in-Ok-clause-there c d =
     exact_bytes _ c.args.key.now

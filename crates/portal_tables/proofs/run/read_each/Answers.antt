@@ -1,22 +1,17 @@
-use Rattle.portal_tables.proofs.Base.{◌≡◌, rules, Refuses, Damaged, ◌∙◌, subst, sym, ap, Err, IfErr, HasCleanDisk, Shown, FailsToQuery, ShowsAs, state, bound, given_begin, survives_weaker, survives_then, never_commits, IsUnchangedOrUndone}
-use Rattle.portal_tables.proofs.Decoded.{at_err, at_ok, at_end, at_row, ended, one_more}
-use Rattle.portal_tables.proofs.InTurn.{unchanged_then, clean_before}
-use Rattle.portal_tables.proofs.Queries.{failed_leaves, on_err}
+use Rattle.portal_tables.proofs.Base.{◌≡◌, rules, Refuses, Damaged, ◌∙◌, subst, sym, ap, Err, HasCleanDisk, Shown, ShowsAs, state, bound, given_begin, survives_then, unchanged_then, IsUnchangedOrUndone}
+use Rattle.portal_tables.proofs.Decoded.{refused_leaves, refused_survives, at_ok, at_end, at_row, ended, one_more}
+use Rattle.portal_tables.proofs.InTurn.{clean_before}
+use Rattle.portal_tables.proofs.Queries.{on_err}
 use Rattle.portal_tables.proofs.run.read_each.Goals as goal
 
 pub returns-in_err-rows-clause-err : goal.returns-in_err-rows-clause-err
 returns-in_err-rows-clause-err g c plain clean =
-    let a = state g.S.Store c.args.conn.now in
-    let b = state g.S.Store c.query.follows.lender-at-none in
-    let refused = at_err c.query.result c.in_err-rows.field-0.0 _ c.in_err-rows.was c.query.follows.holds-at-none in
-    on_err (IsUnchangedOrUndone a b) c.from_residual.result (failed_leaves c.args.sql.now (bound c.args.params.now) a b _ plain (subst (λ r. IfErr r (FailsToQuery c.args.sql.now (bound c.args.params.now) a b)) c.in_err-rows.was (refused.err clean)))
+    on_err (IsUnchangedOrUndone (state g.S.Store c.args.conn.now) (state g.S.Store c.query.follows.lender-at-none)) c.from_residual.result
+    (refused_leaves g.S.Store c.args.sql.now (bound c.args.params.now) c.args.conn.now c.query.follows.lender-at-none c.query.result c.in_err-rows.field-0.0 c.in_err-rows.was c.query.follows.holds-at-none plain clean)
 
 pub returns-in_err-rows-clause-survives : goal.returns-in_err-rows-clause-survives
 returns-in_err-rows-clause-survives g c =
-    let a = state g.S.Store c.args.conn.now in
-    let b = state g.S.Store c.query.follows.lender-at-none in
-    let refused = at_err c.query.result c.in_err-rows.field-0.0 _ c.in_err-rows.was c.query.follows.holds-at-none in
-    survives_weaker a b _ _ (λ _ db made plain. never_commits c.args.sql.now (bound c.args.params.now) a db plain made) refused.survives
+    refused_survives g.S.Store c.args.sql.now (bound c.args.params.now) c.args.conn.now c.query.follows.lender-at-none c.query.result c.in_err-rows.field-0.0 c.in_err-rows.was c.query.follows.holds-at-none
 
 pub returns-in_default-clause-rows : goal.returns-in_default-clause-rows
 returns-in_default-clause-rows g c plain clean =

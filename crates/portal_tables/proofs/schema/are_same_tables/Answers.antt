@@ -1,9 +1,16 @@
-use Rattle.portal_tables.proofs.Base.{subst₂, SameTable, arith}
-use Rattle.portal_tables.proofs.Zip.{zip_more}
+use Rattle.portal_tables.proofs.Base.{sym, subst₂, take, AllZip, SameTable, arith}
+use Rattle.std.proofs.lemmas.Slice.Zip.{all_zipped_more}
+use Rattle.portal_tables.proofs.InTurn.{next_item}
 use Rattle.portal_tables.proofs.schema.are_same_tables.Goals as goal
 
 pub loop-i-preserved : goal.loop-i-preserved
-loop-i-preserved c = record {
-  so_far = zip_more SameTable c.index-a-i.result c.index-b-i.result c.args.a.now c.args.b.now c.loop-i.i c.loop-i-test.true (let l = c.loop-i.invariant.lengths in let t = c.loop-i-test.true in omega (arith, l, t)) c.loop-i.invariant.so_far (subst₂ SameTable c.index-a-i.is c.index-b-i.is (c.is_same_table.ensures.0 c.if-not-is_same_table.false));
-  lengths = c.loop-i.invariant.lengths;
-}
+loop-i-preserved c =
+    let a = c.args.a.now in
+    let b = c.args.b.now in
+    let i = c.loop-i.i in
+    let here = next_item a i c.index-a-i.result c.index-a-i.is c.loop-i-test.true in
+    let there = next_item b i c.index-b-i.result c.index-b-i.is (omega arith) in
+    record {
+      so_far = subst₂ (AllZip SameTable) (sym here) (sym there) (all_zipped_more SameTable (take i a) (take i b) _ _ c.loop-i.invariant.so_far (c.is_same_table.ensures.0 c.if-not-is_same_table.false));
+      lengths = c.loop-i.invariant.lengths;
+    }

@@ -1,24 +1,17 @@
 use Rattle.portal_tables.proofs.Base.{◌∙◌, ap, state, bound}
 use Rattle.portal_tables.proofs.Decoded.{found_any}
-use Rattle.portal_tables.proofs.InTurn.{reads_of}
 use Rattle.portal_tables.proofs.Shows.{plain, shows, ends, asks}
 use Rattle.portal_tables.proofs.select.finds_any.Goals as goal
 
-pub returns-clause-told : goal.returns-clause-told
-returns-clause-told g c own clean =
+pub returns : goal.returns
+returns g c =
     let old = state g.S.Store c.args.conn.now in
     let new = state g.S.Store c.finds_any.new.conn in
     let schema = c.args.conn.now.schema in
     let values = ap bound c.values.ensures ∙ c.value.ensures in
+    let it = c.finds_any.ensures in
+    asks c.args.query _ _ c.text.ensures values c.finds_any.result old new it.same it.err it.mode it.survives
+    (λ own clean.
     let sure = plain c.args.query _ _ c.text.ensures values schema own in
-    let it = c.finds_any.ensures in
     found_any _ c.text.result.now (bound c.values.result.now) old new sure (λ rows. shows c.args.query _ _ c.text.ensures values old new rows own) (ends c.args.query _ _ c.text.ensures values schema own)
-    c.finds_any.result (it.same sure clean) (it.none sure clean) (it.some sure clean)
-
-pub returns-clause-asks : goal.returns-clause-asks
-returns-clause-asks g c =
-    let it = c.finds_any.ensures in
-    asks c.args.query _ _ c.text.ensures (ap bound c.values.ensures ∙ c.value.ensures) c.finds_any.result (state g.S.Store c.args.conn.now) (state g.S.Store c.finds_any.new.conn) it.same it.err it.mode it.survives
-
-pub returns-clause-reads : goal.returns-clause-reads
-returns-clause-reads g c = reads_of c.finds_any.result (state g.S.Store c.args.conn.now) (state g.S.Store c.finds_any.new.conn) (returns-clause-asks g c)
+    c.finds_any.result (it.same sure clean) (it.none sure clean) (it.some sure clean))

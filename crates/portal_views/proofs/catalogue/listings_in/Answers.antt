@@ -1,18 +1,18 @@
-use Rattle.portal_views.proofs.Base.{◌∙◌, sym, ap, map-id, offered, state, Second, first_pairs, reads_more, offered_in}
+use Rattle.portal_views.proofs.Base.{◌∙◌, Second, ap, map-id, offered, offered_in, reads_handed, reads_more, reads_open, reads_self, reads_short}
 use Rattle.portal_views.proofs.catalogue.listings_in.Goals as goal
 
-pub returns-in_ok-listings_of-in-First-clause-shows : goal.returns-in_ok-listings_of-in-First-clause-shows
-returns-in_ok-listings_of-in-First-clause-shows g c own clean =
-    let ps = c.args.projects.now in
-    c.in_ok-listings_of-in-First.ensures ∙ ap (λ ls. offered ls ps) (map-id c.args.lecturers.now)
-    ∙ ap (λ r. offered_in r c.args.lecturers.now ps (first_pairs (state g.S.Store c.args.conn.now).now.trees)) (sym c.in-First.is)
+pub returns-in_ok-listings_of-in-First : goal.returns-in_ok-listings_of-in-First
+returns-in_ok-listings_of-in-First g c =
+    rw c.in-First.is (reads_self (λ own any. c.in_ok-listings_of-in-First.ensures ∙ ap (λ ls. offered ls c.args.projects.now) (map-id c.args.lecturers.now)))
 
-pub returns-in_ok-listings_left-in-Second-clause-shows : goal.returns-in_ok-listings_left-in-Second-clause-shows
-returns-in_ok-listings_left-in-Second-clause-shows g c own clean =
-    let ls = c.args.lecturers.now in
-    let ps = c.args.projects.now in
-    c.in_ok-listings_left-in-Second.ensures ∙ ap (offered_in Second ls ps) (c.deref.ensures.value ∙ c.in_ok-pairs-in-Second.ensures.ok own clean)
-    ∙ ap (λ r. offered_in r ls ps (first_pairs (state g.S.Store c.args.conn.now).now.trees)) (sym c.in-Second.is)
+pub returns-in_ok-listings_left-in-Second : goal.returns-in_ok-listings_left-in-Second
+returns-in_ok-listings_left-in-Second g c =
+    rw c.in-Second.is (reads_more (reads_open c.in_ok-pairs-in-Second.ensures)
+    (λ own any told. c.in_ok-listings_left-in-Second.ensures ∙ ap (offered_in Second c.args.lecturers.now c.args.projects.now) (c.deref.ensures.value ∙ told)))
 
-pub returns-in_ok-listings_left-in-Second-clause-reads : goal.returns-in_ok-listings_left-in-Second-clause-reads
-returns-in_ok-listings_left-in-Second-clause-reads g c = reads_more c.in_ok-pairs-in-Second.pairs _ _ _ c.in_ok-pairs-in-Second.ensures.reads
+pub returns-in_err-pairs-in-Second : goal.returns-in_err-pairs-in-Second
+returns-in_err-pairs-in-Second g c = rw c.in-Second.is (reads_handed c.from_residual-in_err-pairs-in-Second.ensures.1 (reads_open c.in_err-pairs-in-Second.ensures)
+    (λ own any no damaged fine. no damaged (fine.0, fine.1.0, fine.1.1)))
+
+pub returns-in_err-listings_left-in-Second : goal.returns-in_err-listings_left-in-Second
+returns-in_err-listings_left-in-Second g c = reads_short c.from_residual-in_err-listings_left-in-Second.ensures.1 (reads_open c.in_ok-pairs-in-Second.ensures) (λ own any told damaged. absurd (cc))

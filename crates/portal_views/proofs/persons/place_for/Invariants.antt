@@ -1,5 +1,4 @@
-use Rattle.portal_views.proofs.Base.{◌≡◌, ◌++◌, person_key, take, drop, put}
-use Rattle.portal_views.specs.inner.Base.{Person}
+use Rattle.portal_views.proofs.Base.{◌≡◌, ◌++◌, person_key, take, drop, put, Person}
 use Rattle.portal_views.proofs.persons.place_for.Given as goal
 
 abbrev pub invariant-loop-i : goal.invariant-loop-i

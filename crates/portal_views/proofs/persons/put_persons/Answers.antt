@@ -1,5 +1,4 @@
-use Rattle.portal_views.proofs.Base.{◌∙◌, ap, sym, put, person_key}
-use Rattle.portal_tables.proofs.Sorted.{put_all_more}
+use Rattle.portal_views.proofs.Base.{◌∙◌, ap, sym, put, person_key, put_all_more}
 use Rattle.portal_views.proofs.persons.put_persons.Goals as goal
 
 pub loop-person-preserved : goal.loop-person-preserved

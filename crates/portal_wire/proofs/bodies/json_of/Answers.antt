@@ -1,6 +1,5 @@
-use Rattle.portal_wire.proofs.Base.{◌≡◌, ℕ, List, refl, ◌∙◌, ap, true, false, Bool, Some, None, if◌then◌else◌, IsUtf8, is_utf8, IsUtf8-from_is_utf8, is_utf8-from_IsUtf8, view}
+use Rattle.portal_wire.proofs.Base.{◌≡◌, ℕ, List, refl, ◌∙◌, ap, true, false, Bool, Some, None, if◌then◌else◌, IsUtf8, is_utf8, IsUtf8-from_is_utf8, is_utf8-from_IsUtf8, view, json_in}
 use Rattle.serde_json.specs.Read.{read as read_text}
-use Rattle.portal_wire.specs.Bodies.{json_in}
 use Rattle.portal_wire.proofs.bodies.json_of.Goals as goal
 
 not_text : (body : List ℕ) (b : Bool) → is_utf8 body ≡ b → ¬ (IsUtf8 body) → is_utf8 body ≡ false

@@ -1,10 +1,5 @@
-use Rattle.portal_wire.proofs.Base.{rules, ◌≡◌, ℕ, List, [], ◌∷◌, length, map, refl, ◌∙◌, ap, arith, sym, String, None, if◌then◌else◌, ne_eqb, Global, object, view, members_view, Value, the_lemmas}
-use Rattle.std.proofs.lemmas.Bool.{eq-eqb}
-use Rattle.std.proofs.lemmas.List.{length-map}
-use Rattle.serde_json.specs.Data.{Data, Members}
+use Rattle.portal_wire.proofs.Base.{rules, ◌≡◌, ℕ, List, [], ◌∷◌, length, map, refl, ◌∙◌, ap, arith, sym, String, None, if◌then◌else◌, ne_eqb, Global, object, view, members_view, Value, the_lemmas, eq-eqb, length-map, Data, Members, members_of, members_len, member_among}
 use Rattle.serde_json.specs.Find.{get_member, get}
-use Rattle.serde_json.specs.View.{members_of}
-use Rattle.portal_wire.specs.Bodies.{members_len, member_among}
 use Rattle.portal_wire.proofs.bodies.member_among.Goals as goal
 
 members_len_of : (ms : List (String Global × Data)) → members_len (members_of ms) ≡ length ms

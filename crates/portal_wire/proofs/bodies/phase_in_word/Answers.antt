@@ -1,9 +1,7 @@
-use Rattle.portal_wire.proofs.Base.{◌≡◌, ℕ, Bool, true, false, List, refl, sym, ap, ◌∙◌, codes, Option, Some, None, bytes_eq, bytes_decides}
-use Rattle.std.specs.Prelude.{IfSome, IfNone}
+use Rattle.portal_wire.proofs.Base.{◌≡◌, ℕ, Bool, true, false, List, refl, sym, ap, ◌∙◌, codes, Option, Some, None, bytes_eq, bytes_decides, IfSome, IfNone, phase_of}
 use Rattle.portal_core.specs.World.{phase_word}
 use Rattle.portal_core.specs.declared.phase.Phase.{Phase}
 use Rattle.portal_core.specs.declared.phase.Phase.TheVariants.{Setup, Choosing, Ranking, Published}
-use Rattle.portal_wire.specs.Bodies.{phase_of}
 use Rattle.portal_wire.proofs.bodies.phase_in_word.Goals as goal
 
 of_word : (p : Phase) → Some p ≡ phase_of (phase_word p)

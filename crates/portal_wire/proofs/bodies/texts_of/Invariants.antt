@@ -1,6 +1,4 @@
-use Rattle.portal_wire.proofs.Base.{◌≡◌, map, drop, ◌++◌, option_map}
-use Rattle.serde_json.specs.View.{items_view}
-use Rattle.portal_wire.specs.Bodies.{item_texts}
+use Rattle.portal_wire.proofs.Base.{◌≡◌, map, drop, ◌++◌, option_map, items_view, item_texts}
 use Rattle.portal_wire.proofs.bodies.texts_of.Given as goal
 
 abbrev pub invariant-loop-value : goal.invariant-loop-value

@@ -1,5 +1,4 @@
-use Rattle.portal_wire.proofs.Base.{List, ℕ, subst, Item, Opens}
-use Rattle.std.proofs.Common.{below_more}
+use Rattle.portal_wire.proofs.Base.{List, ℕ, subst, Item, Opens, below_more}
 use Rattle.portal_wire.proofs.Exist.{ended, fronts_of}
 use Rattle.portal_wire.proofs.laws.stream_some.Goals as goal
 

@@ -1,6 +1,6 @@
 use Rattle.portal_wire.proofs.Base.{refl}
 use Rattle.portal_core.proofs.Pieces.{said}
-use Rattle.portal_wire.specs.Text.{common_lines}
+use Rattle.portal_wire.specs.Conversation.{common_lines}
 use Rattle.portal_wire.proofs.replies.first_lines.Goals as goal
 
 pub returns : goal.returns

@@ -1,6 +1,5 @@
-use Rattle.portal_wire.proofs.Base.{◌≡◌, ℕ, List, sym, ap, ◌∙◌, Option, option_map, RowsOf, Route, route_at, the_rows}
+use Rattle.portal_wire.proofs.Base.{◌≡◌, ℕ, List, sym, ap, ◌∙◌, Option, option_map, RowsOf, Route, route_at, the_rows, first}
 use Rattle.matchit.specs.Router.{RouteOf}
-use Rattle.matchit.specs.Seek.{first}
 use Rattle.portal_wire.proofs.Literal.{first_is, none_at}
 use Rattle.portal_wire.proofs.routes.route_in.Goals as goal
 

@@ -1,4 +1,4 @@
-use Rattle.std.proofs.lemmas.Result.{IfOk-weaker}
+use Rattle.portal_words.proofs.Base.{IfOk-weaker}
 use Rattle.portal_words.proofs.Adds.{Reads-subcommand}
 use Rattle.portal_words.proofs.build.portal.Goals as goal
 

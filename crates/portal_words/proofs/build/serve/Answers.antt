@@ -1,4 +1,4 @@
-use Rattle.std.proofs.lemmas.Result.{IfOk-weaker}
+use Rattle.portal_words.proofs.Base.{IfOk-weaker}
 use Rattle.portal_words.proofs.Adds.{Reads-arg}
 use Rattle.portal_words.proofs.build.serve.Goals as goal
 

@@ -1,6 +1,4 @@
-use Rattle.std.proofs.Common.{rules}
-use Rattle.std.proofs.lemmas.Result.{IfOk-weaker}
-use Rattle.portal_words.specs.inner.Line.{Reads, top_app}
+use Rattle.portal_words.proofs.Base.{rules, IfOk-weaker, Reads, top_app}
 use Rattle.portal_words.proofs.Adds.{Reads-subcommand}
 use Rattle.portal_words.proofs.build.with_files.Goals as goal
 

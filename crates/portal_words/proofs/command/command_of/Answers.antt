@@ -1,4 +1,4 @@
-use Rattle.std.proofs.Common.{◌≡◌, Some, None, inl, inr, refl, codes, rules}
+use Rattle.portal_words.proofs.Base.{◌≡◌, Some, None, inl, inr, refl, codes, rules}
 use Rattle.portal_words.specs.declared.command.Asked.TheVariants.{Do}
 use Rattle.portal_words.specs.declared.command.Command.{Command}
 use Rattle.portal_words.specs.declared.command.Command.TheVariants.{Check, Solve}

@@ -1,5 +1,4 @@
-use Rattle.std.proofs.Common.{◌∙◌, codes}
-use Rattle.clap.specs.Words.{found_of}
+use Rattle.portal_words.proofs.Base.{◌∙◌, codes, found_of}
 use Rattle.clap.proofs.WalkLemmas.{first_value-rows}
 use Rattle.portal_words.proofs.command.named.Goals as goal
 

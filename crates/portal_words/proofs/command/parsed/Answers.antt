@@ -1,7 +1,4 @@
-use Rattle.std.proofs.Common.{◌∙◌, ap, map, subst, sym}
-use Rattle.std.proofs.lemmas.Result.{IfErr-weaker, IfOk-weaker}
-use Rattle.clap.specs.Words.{App, is_simple, subcommand_of, takes}
-use Rattle.portal_words.specs.inner.Line.{MeetsFile}
+use Rattle.portal_words.proofs.Base.{◌∙◌, ap, map, subst, sym, IfErr-weaker, IfOk-weaker, App, is_simple, subcommand_of, takes, MeetsFile}
 use Rattle.portal_words.proofs.Known.{is_met, simple, taken}
 use Rattle.portal_words.proofs.command.parsed.Goals as goal
 

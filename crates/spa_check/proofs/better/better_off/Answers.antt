@@ -1,5 +1,4 @@
-use Rattle.spa_check.proofs.Base.{◌≡◌, inl, inr, arith, ◌≤◌, length, None, Some, cases_lt, project_of}
-use Rattle.std.proofs.Common.{IsTrue}
+use Rattle.spa_check.proofs.Base.{◌≡◌, inl, inr, arith, ◌≤◌, length, None, Some, cases_lt, project_of, IsTrue}
 use Rattle.std.proofs.Math.ListN.{get_or-eq_default}
 use Rattle.spa_check.proofs.better.better_off.Goals as goal
 

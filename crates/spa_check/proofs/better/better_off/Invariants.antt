@@ -1,5 +1,4 @@
-use Rattle.spa_check.proofs.Base.{ℕ, ◌<◌}
-use Rattle.spa_check.specs.Listed.{IsBetterOff}
+use Rattle.spa_check.proofs.Base.{ℕ, ◌<◌, IsBetterOff}
 use Rattle.spa_check.proofs.better.better_off.Given as goal
 
 -- no student so far is better off

@@ -1,5 +1,4 @@
-use Rattle.spa_check.proofs.Base.{length, AreBlocksBefore}
-use Rattle.std.proofs.Common.{◌-◌}
+use Rattle.spa_check.proofs.Base.{length, AreBlocksBefore, ◌-◌}
 use Rattle.spa_check.proofs.list.add_blocks.Given as goal
 
 -- the pairs so far

@@ -1,6 +1,4 @@
-use Rattle.spa_check.proofs.Base.{◌≡◌, ◌⊎◌, inl, inr, sym, ◌∙◌, arith, get_or, IsWith, SomeWorseWith, ranking_of, at_lecturer, Group, IsGroup}
-use Rattle.std.proofs.lemmas.Bool.{ltb-true}
-use Rattle.spa_model.specs.Spa.{limit_of}
+use Rattle.spa_check.proofs.Base.{◌≡◌, ◌⊎◌, arith, get_or, IsWith, SomeWorseWith, ranking_of, at_lecturer, Group, IsGroup, ltb-true, limit_of}
 use Rattle.spa_check.proofs.Grouping.{worse_with}
 use Rattle.spa_check.proofs.list.letter_of.Goals as goal
 use Rattle.spa_check.proofs.list.letter_of.Goals.{then-is_with, else-is_with}
@@ -13,8 +11,5 @@ returns-then-depth-lecturers c =
     c.requires.lecturers.each c.lecturer_of-l.result nobody (omega (arith, c.requires.lecturers.size)) in
     let worse = worse_with c.args.instance.now c.args.matching.now c.lecturer_of-l.result c.args.s c.depth_of-depth.result (get_or c.args.lecturers.now c.lecturer_of-l.result nobody) c.lawful.ensures c.requires.fits with c.depth_of-depth.ensures in
     let full : at_lecturer c.args.instance.now c.args.matching.now c.lecturer_of-l.result ≡ limit_of c.args.instance.now c.lecturer_of-l.result = omega (arith, with.count, c.requires.fits.lecturers c.lecturer_of-l.result) in
-    let either : IsWith c.args.instance.now c.args.matching.now c.lecturer_of-l.result c.args.s ⊎ SomeWorseWith c.args.instance.now c.args.matching.now c.lecturer_of-l.result c.args.s = elim c.if-is_with.branch [
-      | then-is_with w ↦ inl (c.is_with.ensures.cases.0 w.if-is_with.true)
-      | else-is_with w ↦ inr (worse.0 (ltb-true c.depth_of-depth.result (get_or c.args.lecturers.now c.lecturer_of-l.result nobody).depth (sym w.value-is ∙ c.if-depth-lecturers.true)))
-    ] in
+    let either : IsWith c.args.instance.now c.args.matching.now c.lecturer_of-l.result c.args.s ⊎ SomeWorseWith c.args.instance.now c.args.matching.now c.lecturer_of-l.result c.args.s = grind (arith, then-is_with, else-is_with, ltb-true) in
     (c.requires.wants, omega (arith, at.count), rw c.lecturer_of-l.ensures.gives at full, rw c.lecturer_of-l.ensures.gives at either)

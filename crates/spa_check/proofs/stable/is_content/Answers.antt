@@ -1,5 +1,4 @@
-use Rattle.spa_check.proofs.Base.{◌≡◌, inl, inr, get_or, sym, ◌∙◌, refl, arith, Contains, cases_lt, get_or_default, Wants}
-use Rattle.std.proofs.lemmas.List.Elements.{Contains-get_or}
+use Rattle.spa_check.proofs.Base.{◌≡◌, inl, inr, get_or, sym, ◌∙◌, refl, arith, Contains, cases_lt, get_or_default, Wants, Contains-get_or}
 use Rattle.spa_check.proofs.Listing.{blocks_wants, none_blocks}
 use Rattle.spa_check.proofs.stable.is_content.Goals as goal
 

@@ -1,5 +1,4 @@
-use Rattle.spa_check.proofs.Base.{◌≡◌, eqb, position}
-use Rattle.std.proofs.Common.{rules, tests}
+use Rattle.spa_check.proofs.Base.{◌≡◌, eqb, position, rules, tests}
 use Rattle.std.proofs.lemmas.Iterator.{YieldsList-from_slice}
 use Rattle.std.proofs.lemmas.Iterator.Search.{position_from_yields_List}
 use Rattle.spa_check.proofs.Wanting.{place_found, place_none}

@@ -1,5 +1,4 @@
-use Rattle.spa_honest.proofs.Worked.{honest_lawful, safe_lawful, short_lawful}
-use Rattle.spa_honest.proofs.Told.{honest_best, safe_best, short_best}
+use Rattle.spa_honest.proofs.Worked.{honest_lawful, safe_lawful, short_lawful, honest_best, safe_best, short_best}
 use Rattle.spa_honest.proofs.laws.worked_example.Goals as goal
 
 pub returns : goal.returns

@@ -1,7 +1,4 @@
-use Rattle.spa_model.proofs.Base.{List, refl, Rows, IsLeastOf, HasNoneBefore, HasFault, IsRefusal, NotApplicant, ApplicantMissing, Memory, handed_on, Student, Project, Lecturer}
-use Rattle.std.proofs.Common.{Ok, Err}
-use Rattle.spa_rows.proofs.FirstFault.{refuse_ok, refuse_err}
-use Rattle.spa_model.specs.inner.Numbers.{rows_of}
+use Rattle.spa_model.proofs.Base.{List, refl, Rows, IsLeastOf, HasNoneBefore, HasFault, IsRefusal, NotApplicant, ApplicantMissing, Memory, handed_on, Student, Project, Lecturer, Ok, Err, refuse_ok, refuse_err, rows_of}
 use Rattle.spa_model.proofs.Good.{AreGood, are_good}
 use Rattle.spa_model.proofs.Numbered.{AreNumbered}
 use Rattle.spa_model.proofs.Numbered

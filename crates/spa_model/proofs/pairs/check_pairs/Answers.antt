@@ -1,5 +1,4 @@
-use Rattle.spa_model.proofs.Base.{on_ok_weaker, NoSuchStudent, NoSuchProject, NotAcceptable, StudentTwice, ProjectOver, LecturerOver}
-use Rattle.std.proofs.lemmas.Result.{err_from_is_err_and, MatchResult-weaker}
+use Rattle.spa_model.proofs.Base.{on_ok_weaker, NoSuchStudent, NoSuchProject, NotAcceptable, StudentTwice, ProjectOver, LecturerOver, err_from_is_err_and, MatchResult-weaker}
 use Rattle.spa_model.proofs.FirstFault.{none_below_one, none_below_more, first_fault, sound_pairs}
 use Rattle.spa_model.proofs.pairs.check_pairs.Goals as goal
 

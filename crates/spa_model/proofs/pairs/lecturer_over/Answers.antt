@@ -1,26 +1,17 @@
-use Rattle.spa_model.proofs.Base.{◌≡◌, ◌+◌, ◌<◌, eqb, map, set, get_or, sym, ap, subst, length, take, arith, ◌∙◌, get_or_default, get_or-map, length-map, length-set, count_by, IsLeastOf, LecturerOver, length-take-le, count_by-le-length, lecturer_of, project_in, lecturer_in}
+use Rattle.spa_model.proofs.Base.{◌≡◌, ◌+◌, ◌<◌, eqb, map, set, get_or, sym, ap, subst, length, take, arith, ◌∙◌, get_or_default, get_or-map, length-map, length-set, count_by, IsLeastOf, LecturerOver, length-take-le, count_by-le-length, lecturer_of, project_in, lecturer_in, rules}
 use Rattle.spa_model.proofs.PairFaults.{FaultBelow, AreCounts, pair_take, pair_skip, number_at, project_there, counts_more, count_pairs, lecturers_are}
 use Rattle.spa_model.proofs.pairs.lecturer_over.Goals as goal
 use Rattle.spa_model.proofs.pairs.lecturer_over.Goals.{then-index-lecturer_capacity, else-index-lecturer_capacity}
 
 pub lecturer_of-l-requires : goal.lecturer_of-l-requires
-lecturer_of-l-requires c =
-    project_there c.args.instance.now c.args.lines.now c.args.projects.now c.lawful.ensures c.requires.known c.requires.projects c.loop-j.j c.index-lines-j.result c.loop-j-test.true (sym c.index-lines-j.is)
+lecturer_of-l-requires c = search (rules, project_there)
 
 pub overflow_add-index_mut : goal.overflow_add-index_mut
-overflow_add-index_mut c =
-    let in_range : c.lecturer_of-l.result < length c.loop-j.counts.items = omega arith in
-    let old : c.index_mut.result.now ≡ get_or c.loop-j.counts.items c.lecturer_of-l.result 0 = c.index_mut.ensures.value ∙ get_or_default c.loop-j.counts.items c.lecturer_of-l.result c.index_mut.result.now 0 in_range in
-    let long : length c.args.projects.now ≡ length c.args.lines.now = ap length c.requires.projects ∙ length-map c.args.lines.now (project_in c.args.instance.now) in
-    let long_too : length (map (lecturer_of c.args.instance.now) c.args.projects.now) ≡ length c.args.projects.now = length-map c.args.projects.now (lecturer_of c.args.instance.now) in
-    let few = count_by-le-length (λ k. eqb k c.lecturer_of-l.result) (take c.loop-j.j (map (lecturer_of c.args.instance.now) c.args.projects.now)) in
-    let front : length (take c.loop-j.j (map (lecturer_of c.args.instance.now) c.args.projects.now)) ≡ c.loop-j.j = length-take-le c.loop-j.j (map (lecturer_of c.args.instance.now) c.args.projects.now) (omega arith) in
-    omega (arith, c.loop-j.invariant.counts c.lecturer_of-l.result in_range)
+overflow_add-index_mut c = search (rules, get_or_default, length-map, count_by-le-length, length-take-le)
 
 pub loop-j-preserved : goal.loop-j-preserved
 loop-j-preserved c =
     let p : get_or c.args.projects.now c.loop-j.j 0 ≡ project_in c.args.instance.now c.index-lines-j.result = number_at (project_in c.args.instance.now) c.args.lines.now c.args.projects.now c.loop-j.j c.index-lines-j.result c.requires.projects c.loop-j-test.true (sym c.index-lines-j.is) in
-    let there = project_there c.args.instance.now c.args.lines.now c.args.projects.now c.lawful.ensures c.requires.known c.requires.projects c.loop-j.j c.index-lines-j.result c.loop-j-test.true (sym c.index-lines-j.is) in
     let in_range : c.lecturer_of-l.result < length c.loop-j.counts.items = omega arith in
     let old : c.index_mut.result.now ≡ get_or c.loop-j.counts.items c.lecturer_of-l.result 0 = c.index_mut.ensures.value ∙ get_or_default c.loop-j.counts.items c.lecturer_of-l.result c.index_mut.result.now 0 in_range in
     let long : length c.args.projects.now ≡ length c.args.lines.now = ap length c.requires.projects ∙ length-map c.args.lines.now (project_in c.args.instance.now) in
@@ -44,5 +35,4 @@ loop-j-preserved c =
 
 pub returns : goal.returns
 returns c =
-    let done : c.loop-j.j ≡ length c.args.lines.now = omega arith in
-    subst (λ n. IsLeastOf (FaultBelow c.args.instance.now c.args.lines.now LecturerOver n) c.loop-j.best) done c.loop-j.invariant.least
+    subst (λ n. IsLeastOf (FaultBelow c.args.instance.now c.args.lines.now LecturerOver n) c.loop-j.best) (omega arith) c.loop-j.invariant.least

@@ -1,4 +1,4 @@
-use Rattle.spa_model.proofs.Base.{◌≡◌, get_or, sym, ap, subst, length, arith, IsLeastOf, NoSuchProject, project_in}
+use Rattle.spa_model.proofs.Base.{◌≡◌, get_or, sym, ap, subst, arith, IsLeastOf, NoSuchProject, project_in}
 use Rattle.spa_model.proofs.PairFaults.{FaultBelow, pair_take, pair_skip, number_at, unknown_project, project_known}
 use Rattle.spa_model.proofs.pairs.no_such_project.Goals as goal
 use Rattle.spa_model.proofs.pairs.no_such_project.Goals.{then-projects-j, else-projects-j}
@@ -13,5 +13,4 @@ loop-j-preserved c =
 
 pub returns : goal.returns
 returns c =
-    let done : c.loop-j.j ≡ length c.args.lines.now = omega arith in
-    subst (λ n. IsLeastOf (FaultBelow c.args.instance.now c.args.lines.now NoSuchProject n) c.loop-j.best) done c.loop-j.invariant
+    subst (λ n. IsLeastOf (FaultBelow c.args.instance.now c.args.lines.now NoSuchProject n) c.loop-j.best) (omega arith) c.loop-j.invariant

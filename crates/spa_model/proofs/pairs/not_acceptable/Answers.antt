@@ -1,12 +1,10 @@
-use Rattle.spa_model.proofs.Base.{◌≡◌, get_or, sym, ap, subst, length, arith, IsLeastOf, NotAcceptable, student_in, project_in}
-use Rattle.std.proofs.lemmas.Bool.{iff_false}
+use Rattle.spa_model.proofs.Base.{◌≡◌, get_or, sym, ap, subst, arith, IsLeastOf, NotAcceptable, student_in, project_in, rules, iff_false}
 use Rattle.spa_model.proofs.PairFaults.{FaultBelow, pair_take, pair_skip, number_at, student_there}
 use Rattle.spa_model.proofs.pairs.not_acceptable.Goals as goal
 use Rattle.spa_model.proofs.pairs.not_acceptable.Goals.{then-not-is_on, else-not-is_on}
 
 pub choices-requires : goal.choices-requires
-choices-requires c =
-    student_there c.args.instance.now c.args.lines.now c.args.students.now c.lawful.ensures c.requires.known c.requires.students c.loop-j.j c.index-lines-j.result c.loop-j-test.true (sym c.index-lines-j.is)
+choices-requires c = search (rules, student_there)
 
 pub loop-j-preserved : goal.loop-j-preserved
 loop-j-preserved c =
@@ -19,5 +17,4 @@ loop-j-preserved c =
 
 pub returns : goal.returns
 returns c =
-    let done : c.loop-j.j ≡ length c.args.lines.now = omega arith in
-    subst (λ n. IsLeastOf (FaultBelow c.args.instance.now c.args.lines.now NotAcceptable n) c.loop-j.best) done c.loop-j.invariant
+    subst (λ n. IsLeastOf (FaultBelow c.args.instance.now c.args.lines.now NotAcceptable n) c.loop-j.best) (omega arith) c.loop-j.invariant

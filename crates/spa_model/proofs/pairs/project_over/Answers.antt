@@ -1,31 +1,19 @@
-use Rattle.spa_model.proofs.Base.{◌≡◌, ◌+◌, ◌<◌, eqb, set, get_or, sym, ap, subst, length, take, arith, refl, ◌∙◌, get_or_default, length-map, length-set, count_by, IsLeastOf, ProjectOver, length-take-le, count_by-le-length, project_in}
+use Rattle.spa_model.proofs.Base.{◌≡◌, ◌+◌, ◌<◌, eqb, set, get_or, sym, ap, subst, length, take, arith, refl, ◌∙◌, get_or_default, length-map, length-set, count_by, IsLeastOf, ProjectOver, length-take-le, count_by-le-length, project_in, rules}
 use Rattle.spa_model.proofs.PairFaults.{FaultBelow, AreCounts, pair_take, pair_skip, number_at, project_there, counts_more, count_pairs}
 use Rattle.spa_model.proofs.pairs.project_over.Goals as goal
 use Rattle.spa_model.proofs.pairs.project_over.Goals.{then-index-project_capacity, else-index-project_capacity}
 
 pub index_mut-requires : goal.index_mut-requires
-index_mut-requires c =
-    let there = project_there c.args.instance.now c.args.lines.now c.args.projects.now c.lawful.ensures c.requires.known c.requires.projects c.loop-j.j c.index-lines-j.result c.loop-j-test.true (sym c.index-lines-j.is) in
-    omega (arith, c.loop-j.counts.ok.0)
+index_mut-requires c = search (rules, project_there)
 
 pub overflow_add-index_mut : goal.overflow_add-index_mut
-overflow_add-index_mut c =
-    let there = project_there c.args.instance.now c.args.lines.now c.args.projects.now c.lawful.ensures c.requires.known c.requires.projects c.loop-j.j c.index-lines-j.result c.loop-j-test.true (sym c.index-lines-j.is) in
-    let in_range : (get_or c.args.projects.now c.loop-j.j 0) < length c.loop-j.counts.items = omega arith in
-    let old : c.index_mut.result.now ≡ get_or c.loop-j.counts.items (get_or c.args.projects.now c.loop-j.j 0) 0 = c.index_mut.ensures.value ∙ get_or_default c.loop-j.counts.items (get_or c.args.projects.now c.loop-j.j 0) c.index_mut.result.now 0 in_range in
-    let long : length c.args.projects.now ≡ length c.args.lines.now = ap length c.requires.projects ∙ length-map c.args.lines.now (project_in c.args.instance.now) in
-    let few = count_by-le-length (λ k. eqb k (get_or c.args.projects.now c.loop-j.j 0)) (take c.loop-j.j c.args.projects.now) in
-    let front : length (take c.loop-j.j c.args.projects.now) ≡ c.loop-j.j = length-take-le c.loop-j.j c.args.projects.now (omega arith) in
-    omega (arith, c.loop-j.invariant.counts (get_or c.args.projects.now c.loop-j.j 0) in_range)
+overflow_add-index_mut c = search (rules, project_there, get_or_default, length-map, count_by-le-length, length-take-le)
 
 pub index-requires : goal.index-requires
-index-requires c =
-    let there = project_there c.args.instance.now c.args.lines.now c.args.projects.now c.lawful.ensures c.requires.known c.requires.projects c.loop-j.j c.index-lines-j.result c.loop-j-test.true (sym c.index-lines-j.is) in
-    omega (arith, c.loop-j.counts.ok.0)
+index-requires c = search (rules, project_there)
 
 pub project_capacity-requires : goal.project_capacity-requires
-project_capacity-requires c =
-    project_there c.args.instance.now c.args.lines.now c.args.projects.now c.lawful.ensures c.requires.known c.requires.projects c.loop-j.j c.index-lines-j.result c.loop-j-test.true (sym c.index-lines-j.is)
+project_capacity-requires c = search (rules, project_there)
 
 pub loop-j-preserved : goal.loop-j-preserved
 loop-j-preserved c =
@@ -51,5 +39,4 @@ loop-j-preserved c =
 
 pub returns : goal.returns
 returns c =
-    let done : c.loop-j.j ≡ length c.args.lines.now = omega arith in
-    subst (λ n. IsLeastOf (FaultBelow c.args.instance.now c.args.lines.now ProjectOver n) c.loop-j.best) done c.loop-j.invariant.least
+    subst (λ n. IsLeastOf (FaultBelow c.args.instance.now c.args.lines.now ProjectOver n) c.loop-j.best) (omega arith) c.loop-j.invariant.least

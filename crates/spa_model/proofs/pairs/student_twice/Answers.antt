@@ -1,17 +1,13 @@
-use Rattle.spa_model.proofs.Base.{◌≡◌, ◌<◌, true, false, get_or, sym, ap, subst, length, take, arith, refl, ◌∙◌, Contains, true≢false, get_or_default, length-map, length-set, IsLeastOf, StudentTwice, student_in}
+use Rattle.spa_model.proofs.Base.{◌≡◌, ◌<◌, true, false, get_or, sym, ap, subst, length, take, arith, refl, ◌∙◌, Contains, true≢false, get_or_default, length-map, length-set, IsLeastOf, StudentTwice, student_in, rules}
 use Rattle.spa_model.proofs.PairFaults.{FaultBelow, pair_take, pair_skip, number_at, student_there, stands_before, stood_before, marks_more}
 use Rattle.spa_model.proofs.pairs.student_twice.Goals as goal
 use Rattle.spa_model.proofs.pairs.student_twice.Goals.{then-index, else-index}
 
 pub index-requires : goal.index-requires
-index-requires c =
-    let there = student_there c.args.instance.now c.args.lines.now c.args.students.now c.students.ensures.lawful c.requires.known c.requires.students c.loop-j.j c.index-lines-j.result c.loop-j-test.true (sym c.index-lines-j.is) in
-    omega (arith, c.loop-j.seen.ok.0)
+index-requires c = search (rules, student_there)
 
 pub index_mut-requires : goal.index_mut-requires
-index_mut-requires c =
-    let there = student_there c.args.instance.now c.args.lines.now c.args.students.now c.students.ensures.lawful c.requires.known c.requires.students c.loop-j.j c.index-lines-j.result c.loop-j-test.true (sym c.index-lines-j.is) in
-    omega (arith, c.loop-j.seen.ok.0)
+index_mut-requires c = search (rules, student_there)
 
 pub loop-j-preserved : goal.loop-j-preserved
 loop-j-preserved c =
@@ -34,5 +30,4 @@ loop-j-preserved c =
 
 pub returns : goal.returns
 returns c =
-    let done : c.loop-j.j ≡ length c.args.lines.now = omega arith in
-    subst (λ n. IsLeastOf (FaultBelow c.args.instance.now c.args.lines.now StudentTwice n) c.loop-j.best) done c.loop-j.invariant.least
+    subst (λ n. IsLeastOf (FaultBelow c.args.instance.now c.args.lines.now StudentTwice n) c.loop-j.best) (omega arith) c.loop-j.invariant.least

@@ -1,11 +1,9 @@
-use Rattle.spa_rows.proofs.Base.{IsTrue, ◌↔◌, sym, arith, IsBadCapacity}
+use Rattle.spa_rows.proofs.Base.{arith, IsBadCapacity, rules}
 use Rattle.spa_rows.proofs.LeastRow.{least_step, least_all}
 use Rattle.spa_rows.proofs.least.bad_capacity.Goals as goal
 
 pub loop-line-preserved : goal.loop-line-preserved
-loop-line-preserved g c =
-    let tells : IsTrue c.is_bad_capacity.result ↔ IsBadCapacity (g.L.Limited.capacity_of c.line-item.result) = rw (sym c.capacity.ensures) c.is_bad_capacity.ensures in
-    least_step c.args.lines.now g.L.Line.row_of (λ _ x. IsBadCapacity (g.L.Limited.capacity_of x)) c.loop-line.line-index c.line-item.result c.loop-line.best _ _ _ c.least_with-best.ensures c.row.ensures c.loop-line-test.true (sym c.line-item.is) tells c.loop-line.invariant
+loop-line-preserved g c = search (rules, least_step)
 
 pub returns : goal.returns
 returns g c = least_all c.args.lines.now g.L.Line.row_of (λ _ x. IsBadCapacity (g.L.Limited.capacity_of x)) c.loop-line.line-index c.loop-line.best (omega arith) c.loop-line.invariant

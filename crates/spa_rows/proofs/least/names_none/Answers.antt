@@ -1,13 +1,9 @@
-use Rattle.spa_rows.proofs.Base.{◌≡◌, ◌<◌, inl, inr, map, length, sym, refl, ◌∙◌, arith, length-map, get_or_default, cases_lt, false≢true, IsKeyOf}
-use Rattle.std.proofs.lemmas.Bool.{iff_false}
+use Rattle.spa_rows.proofs.Base.{◌≡◌, ◌<◌, inl, inr, map, length, sym, ◌∙◌, arith, length-map, get_or_default, cases_lt, false≢true, rules, iff_false}
 use Rattle.spa_rows.proofs.Lists.{map_at}
 use Rattle.spa_rows.proofs.least.names_none.Goals as goal
 
 pub returns-then-not-has : goal.returns-then-not-has
-returns-then-not-has c =
-    let bound : c.loop-text.text-index < length (map (λ t. t.items) c.args.list.now) = rw (length-map c.args.list.now (λ t. t.items)) c.loop-text-test.true in
-    let at = map_at (λ t. t.items) c.args.list.now c.loop-text.text-index c.text-item.result c.text-item.result.items c.loop-text-test.true (sym c.text-item.is) in
-    (λ _. (c.loop-text.text-index, c.text-item.result.items, bound, at, λ known. iff_false c.has.ensures c.if-not-has.true (rw c.deref.ensures.value known)), λ _. refl)
+returns-then-not-has c = search (rules, length-map, map_at, iff_false)
 
 pub loop-text-preserved : goal.loop-text-preserved
 loop-text-preserved c j text below is = elim (cases_lt j c.loop-text.text-index) [
@@ -17,8 +13,7 @@ loop-text-preserved c j text below is = elim (cases_lt j c.loop-text.text-index)
       let at = map_at (λ t. t.items) c.args.list.now c.loop-text.text-index c.text-item.result c.text-item.result.items c.loop-text-test.true (sym c.text-item.is) in
       let same : j ≡ c.loop-text.text-index = omega arith in
       let text_is : text ≡ c.text-item.result.items = sym is ∙ get_or_default (map (λ t. t.items) c.args.list.now) j text c.text-item.result.items (rw same bound) ∙ (rw same at) in
-      let known : IsKeyOf c.args.projects.now (λ y. y.key) c.text-item.result.items = rw (sym c.deref.ensures.value) (c.has.ensures.0 c.if-not-has.false) in
-      rw text_is known
+      rw text_is (rw (sym c.deref.ensures.value) (c.has.ensures.0 c.if-not-has.false))
 ]
 
 pub returns : goal.returns

@@ -1,4 +1,4 @@
-use Rattle.spa_rows.proofs.Base.{◌≡◌, ◌<◌, inl, inr, map, length, sym, refl, ◌∙◌, ap, arith, not, length-map, get_or_default, cases_lt, false≢true}
+use Rattle.spa_rows.proofs.Base.{◌<◌, map, length, sym, refl, ap, arith, not, length-map, get_or_default, false≢true}
 use Rattle.spa_rows.proofs.Lists.{map_at}
 use Rattle.spa_rows.proofs.Seen.{tree_more, tree_before}
 use Rattle.spa_rows.proofs.least.repeats_in_many.Goals as goal
@@ -17,11 +17,5 @@ loop-text-preserved c =
     let earlier = tree_before (map (λ t. t.items) c.args.list.now) (λ t. t) c.loop-text.seen c.as_slice.result c.in_ok-insert.field-0 c.loop-text.text-index c.text-item.result.items c.in_ok-insert.ensures.added c.as_slice.ensures.value c.loop-text.invariant.seen in
     record {
       seen = tree_more (map (λ t. t.items) c.args.list.now) (λ t. t) c.loop-text.seen c.insert.new.self c.as_slice.result c.loop-text.text-index c.text-item.result.items c.in_ok-insert.ensures.updates c.as_slice.ensures.value bound at c.loop-text.invariant.seen;
-      distinct = λ j text below is repeated. elim (cases_lt j c.loop-text.text-index) [
-        | inl before ↦ c.loop-text.invariant.distinct j text before is repeated
-        | inr here ↦
-            let same : j ≡ c.loop-text.text-index = omega arith in
-            let text_is : text ≡ c.text-item.result.items = sym is ∙ get_or_default (map (λ t. t.items) c.args.list.now) j text c.text-item.result.items (rw same bound) ∙ (rw same at) in
-            absurd (false≢true (sym (ap not c.if-not-branch.false) ∙ earlier.1 (rw (sym same, sym text_is) repeated)))
-      ];
+      distinct = λ j text below is repeated. grind (arith, get_or_default, false≢true);
     }

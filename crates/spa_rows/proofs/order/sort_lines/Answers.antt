@@ -1,7 +1,4 @@
-use Rattle.spa_rows.proofs.Base.{◌≡◌, nat_cmp, slice_cmp, nat_list_cmp_total}
-use Rattle.std.proofs.Common.{IsSortedByKey, rules}
-use Rattle.std.specs.Ordering.{is_lt}
-use Rattle.std.proofs.lemmas.List.Sorted.{ranks_by, answers_always}
+use Rattle.spa_rows.proofs.Base.{◌≡◌, nat_cmp, slice_cmp, nat_list_cmp_total, IsSortedByKey, rules, is_lt, ranks_by, answers_always}
 use Rattle.std.proofs.lemmas.Result.{on_ok_weaker}
 use Rattle.spa_rows.proofs.order.sort_lines.Goals as goal
 

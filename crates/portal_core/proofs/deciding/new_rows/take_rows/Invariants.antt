@@ -1,5 +1,5 @@
 use Rattle.portal_core.proofs.Base.{◌≡◌, ◌+◌, ◌≤◌, ◌++◌, drop, reverse, HasRows, HasTexts}
-use Rattle.portal_core.specs.Rolls as roll
+use Rattle.portal_core.specs.Faults as roll
 use Rattle.portal_core.proofs.Scan.{before}
 use Rattle.portal_core.proofs.deciding.new_rows.take_rows.Given as goal
 

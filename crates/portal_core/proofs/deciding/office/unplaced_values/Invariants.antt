@@ -1,5 +1,4 @@
-use Rattle.portal_core.proofs.Base.{◌≡◌, map, take, filter, not, string, is_assigned}
-use Rattle.serde_json.specs.View.{view as data_of}
+use Rattle.portal_core.proofs.Base.{◌≡◌, map, take, filter, not, string, is_assigned, data_of}
 use Rattle.portal_core.proofs.deciding.office.unplaced_values.Given as goal
 
 -- the students so far who have no project

@@ -1,5 +1,4 @@
-use Rattle.portal_core.proofs.Base.{◌≡◌, sym, ap, subst, Option, Some, None, IfSome, Change, Choices, Ranks, Students, Placements, Fill, changed, OfficeSees, catalogue, office_sees, World}
-use Rattle.portal_core.specs.Meaning.{change_model}
+use Rattle.portal_core.proofs.Base.{◌≡◌, sym, ap, subst, Option, Some, None, IfSome, Change, Choices, Ranks, Students, Placements, Fill, changed, OfficeSees, catalogue, office_sees, World, change_model}
 use Rattle.portal_core.proofs.Acts.{catalogue_chosen, catalogue_ranked, catalogue_joined, catalogue_placed}
 use Rattle.portal_core.proofs.Fills.{catalogue_filled}
 use Rattle.portal_core.specs.declared.view_cache.ViewCache.{ViewCache}

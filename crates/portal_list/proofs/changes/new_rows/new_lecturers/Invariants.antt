@@ -1,5 +1,4 @@
-use Rattle.portal_list.proofs.Base.{◌≡◌, take, map}
-use Rattle.portal_core.specs.Change.{new_lecturer}
+use Rattle.portal_list.proofs.Base.{◌≡◌, take, map, new_lecturer}
 use Rattle.portal_list.proofs.changes.new_rows.new_lecturers.Given as goal
 
 abbrev pub invariant-loop-row : goal.invariant-loop-row

@@ -1,5 +1,4 @@
-use Rattle.portal_list.proofs.Base.{◌≡◌, take, map}
-use Rattle.portal_core.specs.Change.{new_student}
+use Rattle.portal_list.proofs.Base.{◌≡◌, take, map, new_student}
 use Rattle.portal_list.proofs.changes.new_rows.new_students.Given as goal
 
 abbrev pub invariant-loop-row : goal.invariant-loop-row

@@ -1,5 +1,4 @@
-use Rattle.portal_list.proofs.Base.{◌≡◌, ◌+◌, ◌<◌, List, length, get_or, drop, map, sym, ap, ◌∙◌, arith, slice_set, drop-set-lt, map_over_more, Student, placement_in, with_place}
-use Rattle.portal_list.specs.inner.Played.{placed_now}
+use Rattle.portal_list.proofs.Base.{◌≡◌, ◌+◌, ◌<◌, List, length, get_or, drop, map, sym, ap, ◌∙◌, arith, slice_set, drop-set-lt, map_over_more, Student, placement_in, with_place, placed_now}
 use Rattle.portal_list.proofs.Placed.{place_read, row_read}
 use Rattle.portal_list.proofs.changes.placements.place_all.Goals as goal
 

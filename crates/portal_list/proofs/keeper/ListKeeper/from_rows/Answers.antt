@@ -1,4 +1,4 @@
-use Rattle.portal_list.proofs.Base.{◌↔◌, IsTrue, map, sym, subst, iff_false, Rise, World, student_key, ListsOf}
+use Rattle.portal_list.proofs.Base.{◌↔◌, IsTrue, subst, iff_false, World, ListsOf, rules}
 use Rattle.portal_list.proofs.Parted.{rolls_tell, lists_tell, students_rise, both_sound}
 use Rattle.portal_list.proofs.keeper.ListKeeper.from_rows.Goals as goal
 
@@ -6,9 +6,7 @@ pub returns-then-not-branch-clause-err : goal.returns-then-not-branch-clause-err
 returns-then-not-branch-clause-err c e w f sound = rolls_tell c.args.rows (iff_false c.in_ok-rolls_of_rows_fit.ensures c.if-not-branch.true) w f sound
 
 pub lists_fit-requires-clause-students : goal.lists_fit-requires-clause-students
-lists_fit-requires-clause-students c =
-    subst (λ (w : World). Rise (map student_key w.students)) (sym c.keeper.view_is)
-    (students_rise c.args.rows c.in-Some.keeper (rw c.in-Some.is at c.in_ok-keeper.ensures) (c.in_ok-rolls_of_rows_fit.ensures.0 c.if-not-branch.false))
+lists_fit-requires-clause-students c = search (rules, students_rise)
 
 pub returns-then-not-branch-2-clause-err : goal.returns-then-not-branch-2-clause-err
 returns-then-not-branch-2-clause-err c e w f sound =

@@ -1,11 +1,10 @@
-use Rattle.portal_list.proofs.Base.{◌↔◌, IsTrue, map, sym, subst, false≢true, iff_false, IfOk-weaker, Rise, World, student_key, ListsOf}
+use Rattle.portal_list.proofs.Base.{◌↔◌, IsTrue, subst, false≢true, iff_false, World, ListsOf, rules}
 use Rattle.portal_list.proofs.Rising.{map_map}
 use Rattle.portal_list.proofs.Parted.{lists_of, sound_of}
 use Rattle.portal_list.proofs.keeper.ListKeeper.is_round.Goals as goal
 
 pub lists_fit-requires-clause-students : goal.lists_fit-requires-clause-students
-lists_fit-requires-clause-students c =
-    subst (λ (w : World). Rise (map student_key w.students)) (sym c.self.view_is) (subst Rise (map_map (λ r. r.key) (λ s. s.row) c.args.self.now.students) c.requires.rise.students_rise)
+lists_fit-requires-clause-students c = search (rules, map_map)
 
 pub returns-then-not-branch : goal.returns-then-not-branch
 returns-then-not-branch c =
@@ -18,9 +17,4 @@ is_settled-requires c =
     sound_of c.args.self.now c.requires (told.0 c.if-not-branch.false)
 
 pub returns : goal.returns
-returns c =
-    let told = subst (λ (v : World). IsTrue c.in_ok-lists_fit.field-0 ↔ ListsOf v) c.self.view_is c.in_ok-lists_fit.ensures in
-    IfOk-weaker c.is_settled.result _ _ (λ yes same. (
-      λ e. record { sound = sound_of c.args.self.now c.requires (told.0 c.if-not-branch.false); stable = same.0 e },
-      λ round. same.1 round.stable,
-    )) c.is_settled.ensures
+returns c = search (rules, sound_of)

@@ -1,6 +1,13 @@
-use Rattle.portal_list.proofs.Base.{◌≡◌, true, map, rules, sym, ap, ◌∙◌, filter, option_map, number_in, World, is_published, instance, AllEntries, entries_in, takes_part}
-use Rattle.portal_list.proofs.Stable.{settled_if}
+use Rattle.portal_list.proofs.Base.{◌≡◌, true, map, rules, sym, ap, ◌∙◌, filter, option_map, number_in, World, is_published, instance, AllEntries, entries_in, takes_part, ◌↔◌, ℕ, Bool, IsTrue, Option, List, subst₂, Spa, Student, IsStable, matching_of, IsStableIfPublished}
+use Rattle.portal_list.proofs.Plays.{part_is}
 use Rattle.portal_list.proofs.keeper.ListKeeper.is_settled.Goals as goal
+
+-- A published round's result is a stable matching, and a world is good, where its numbers are so.
+settled_if : (w : World) (i : Spa) (places : List (Option ℕ)) (r : Bool) → is_published w.phase ≡ true → i ≡ instance w
+    → places ≡ map (λ s. option_map (number_in i.project_keys) s.placed) (filter (takes_part w.round) w.students) → (IsTrue r ↔ IsStable i places) → (IsTrue r ↔ IsStableIfPublished w)
+settled_if w i places r published same are told =
+    let there : places ≡ matching_of w = are ∙ (λ j. map (λ (s : Student). option_map (number_in (same j).project_keys) s.placed) (part_is w.round w.students j)) in
+    (λ holds _. subst₂ IsStable same there (told.0 holds), λ settled. told.1 (subst₂ IsStable (sym same) (sym there) (settled published)))
 
 pub returns : goal.returns
 returns c =

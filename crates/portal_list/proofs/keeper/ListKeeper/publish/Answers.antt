@@ -1,8 +1,9 @@
-use Rattle.portal_list.proofs.Base.{◌≡◌, sym, ap, subst, ◌∙◌, IfSome, catalogue_in}
-use Rattle.portal_list.proofs.Shared.{shown_placed}
+use Rattle.portal_list.proofs.Base.{◌≡◌, catalogue_in, List, [], map, Setup, Key, with_place, AllEntries, world_with, rules, catalogue_placed}
 use Rattle.portal_list.proofs.keeper.ListKeeper.publish.Goals as goal
 
+-- A result leaves the catalogue of a round as it was.
+shown_placed : (e : AllEntries) (pairs : List (Key × Key)) → catalogue_in (record e { students = map (with_place pairs) e.students }) ≡ catalogue_in e
+shown_placed e pairs = catalogue_placed (world_with Setup [] e) pairs
+
 pub invariant_of-self-2 : goal.invariant_of-self-2
-invariant_of-self-2 c =
-    subst (λ shown. IfSome c.self.inside.catalogue (λ shared. shared.value.items ≡ shown))
-    (sym (ap catalogue_in c.in_ok-place.ensures.made ∙ shown_placed c.self.inside.entries c.args.pairs.now)) c.self.invariant
+invariant_of-self-2 c = search (rules, shown_placed)

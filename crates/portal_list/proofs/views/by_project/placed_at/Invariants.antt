@@ -1,5 +1,4 @@
-use Rattle.portal_list.proofs.Base.{◌≡◌, take, filter, shown_placement, persons}
-use Rattle.portal_core.specs.World.{is_at}
+use Rattle.portal_list.proofs.Base.{◌≡◌, take, filter, shown_placement, persons, is_at}
 use Rattle.portal_list.proofs.views.by_project.placed_at.Given as goal
 
 abbrev pub invariant-loop-student : goal.invariant-loop-student

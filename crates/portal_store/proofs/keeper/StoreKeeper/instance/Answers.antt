@@ -1,5 +1,4 @@
-use Rattle.portal_store.proofs.Base.{IsTrue, ap, sym, subst, ◌∙◌, HasCleanDisk, Held, state, clean_if_open, Good, IsCacheOf, IfOk-weaker, IsCleanStore, kept_world, AreEntries}
-use Rattle.portal_core.specs.Instance.{instance}
+use Rattle.portal_store.proofs.Base.{IsTrue, ap, sym, subst, ◌∙◌, HasCleanDisk, Held, state, clean_if_open, Good, IsCacheOf, IfOk-weaker, IsCleanStore, kept_world, AreEntries, instance}
 use Rattle.portal_store.proofs.Keeps.{open_by, read_clean, read_keeps, read_lasts, read_same, read_still, read_told, when_ok}
 use Rattle.portal_store.proofs.keeper.StoreKeeper.instance.Given.{Over}
 use Rattle.portal_store.proofs.keeper.StoreKeeper.instance.Goals as goal

@@ -1,5 +1,5 @@
 use Rattle.portal_store.proofs.Base.{Ok, subst, ◌∙◌, ap, sym, Round, tree_of, PutsList, RanksSecond, Does, Made, GoesOn, does_then, ranking_table, TurnsThere}
-use Rattle.portal_tables.specs.inner.Rows.{Ranks}
+use Rattle.portal_tables.specs.inner.RowChanges.{Ranks}
 use Rattle.portal_store.proofs.RankTurns.{rank_made}
 use Rattle.portal_store.proofs.SecondRanks.{second_made}
 use Rattle.portal_store.proofs.lists.PutRankingStep.take.Goals as goal

@@ -1,5 +1,4 @@
-use Rattle.portal_store.proofs.Base.{IsTrue, ap, ◌∙◌, HasCleanDisk, Held, state, clean_if_open, IfOk-weaker, IsCacheOf, kept_world, AreEntries}
-use Rattle.portal_store.proofs.Readings.{reads_both}
+use Rattle.portal_store.proofs.Base.{◌∙◌, AreEntries, HasCleanDisk, Held, IfOk-weaker, IsCacheOf, IsTrue, ap, clean_if_open, kept_world, reads_both, state}
 use Rattle.portal_store.proofs.Keeps.{open_by, read_clean, read_keeps, read_lasts, read_same, read_still, read_told}
 use Rattle.portal_store.proofs.store.Store.office_code.Given.{Over}
 use Rattle.portal_store.proofs.store.Store.office_code.Goals as goal
@@ -9,23 +8,23 @@ law g h = clean_if_open (state g.S.Store h).is_clean (state g.S.Store h).is_open
 
 pub invariant_of-self-2 : goal.invariant_of-self-2
 invariant_of-self-2 g c = record {
-  kept = read_keeps c.office_code.new.conn c.self.view_is c.self.invariant.kept c.in_default.ensures (law g c.office_code.new.conn) (reads_both _ _ _ c.office_code.ensures.reads);
-  shown = read_still c.office_code.new.conn c.self.view_is c.self.invariant.kept c.in_default.ensures (law g c.office_code.new.conn) (reads_both _ _ _ c.office_code.ensures.reads) (IsCacheOf c.self.inside.cache) c.self.invariant.shown;
-  entered = read_still c.office_code.new.conn c.self.view_is c.self.invariant.kept c.in_default.ensures (law g c.office_code.new.conn) (reads_both _ _ _ c.office_code.ensures.reads) (AreEntries c.self.inside.entries) c.self.invariant.entered;
+  kept = read_keeps c.office_code.new.conn c.self.view_is c.self.invariant.kept c.in_default.ensures (law g c.office_code.new.conn) (reads_both c.office_code.ensures.reads);
+  shown = read_still c.office_code.new.conn c.self.view_is c.self.invariant.kept c.in_default.ensures (law g c.office_code.new.conn) (reads_both c.office_code.ensures.reads) (IsCacheOf c.self.inside.cache) c.self.invariant.shown;
+  entered = read_still c.office_code.new.conn c.self.view_is c.self.invariant.kept c.in_default.ensures (law g c.office_code.new.conn) (reads_both c.office_code.ensures.reads) (AreEntries c.self.inside.entries) c.self.invariant.entered;
 }
 
 pub returns-clause-clean : goal.returns-clause-clean
 returns-clause-clean g c =
-    read_clean c.office_code.new.conn c.self.view_is c.self.invariant.kept c.in_default.ensures (law g c.office_code.new.conn) (reads_both _ _ _ c.office_code.ensures.reads)
+    read_clean c.office_code.new.conn c.self.view_is c.self.invariant.kept c.in_default.ensures (law g c.office_code.new.conn) (reads_both c.office_code.ensures.reads)
 
 pub returns-clause-same : goal.returns-clause-same
 returns-clause-same g c =
-    read_same c.office_code.new.conn c.self.view_is c.self.invariant.kept c.in_default.ensures (law g c.office_code.new.conn) (reads_both _ _ _ c.office_code.ensures.reads)
+    read_same c.office_code.new.conn c.self.view_is c.self.invariant.kept c.in_default.ensures (law g c.office_code.new.conn) (reads_both c.office_code.ensures.reads)
 
 pub returns-clause-code : goal.returns-clause-code
 returns-clause-code g c on =
     IfOk-weaker c.office_code.result _ _ (λ code is. is ∙ ap (λ s. (kept_world g.S.Store s).office) c.self.view_is)
-    (read_told c.office_code.new.conn c.self.view_is c.self.invariant.kept c.in_default.ensures (law g c.office_code.new.conn) (reads_both _ _ _ c.office_code.ensures.reads) (λ holds was. holds.1.sound) on)
+    (read_told c.office_code.new.conn c.self.view_is c.self.invariant.kept c.in_default.ensures (law g c.office_code.new.conn) (reads_both c.office_code.ensures.reads) (λ holds was. holds.1.sound) on)
 
 pub returns-clause-stays_open : goal.returns-clause-stays_open
 returns-clause-stays_open g c =
@@ -34,4 +33,4 @@ returns-clause-stays_open g c =
 
 pub returns-clause-lasts : goal.returns-clause-lasts
 returns-clause-lasts g c =
-    read_lasts c.office_code.new.conn c.self.view_is c.self.invariant.kept c.in_default.ensures (law g c.office_code.new.conn) (reads_both _ _ _ c.office_code.ensures.reads)
+    read_lasts c.office_code.new.conn c.self.view_is c.self.invariant.kept c.in_default.ensures (law g c.office_code.new.conn) (reads_both c.office_code.ensures.reads)

@@ -1,5 +1,4 @@
-use Rattle.spa_model.proofs.Base.{◌≡◌, ℕ, ◌<◌, get_or, IsApplicantOf}
-use Rattle.std.proofs.Common.{Vec, Global}
+use Rattle.spa_model.proofs.Base.{◌≡◌, ℕ, ◌<◌, get_or, IsApplicantOf, Vec, Global}
 use Rattle.spa_model.proofs.build.applicants.lists_other.Given as goal
 
 -- all are applicants so far

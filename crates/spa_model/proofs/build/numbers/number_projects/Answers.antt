@@ -1,10 +1,9 @@
-use Rattle.spa_model.proofs.Base.{subst, AllZip, take_all, lecturer_keys, IsProjectOf}
+use Rattle.spa_model.proofs.Base.{subst, AllZip, take_all, lecturer_keys, IsProjectOf, rules}
 use Rattle.spa_model.proofs.Zips.{zip_more}
 use Rattle.spa_model.proofs.build.numbers.number_projects.Goals as goal
 
 pub loop-line-preserved : goal.loop-line-preserved
-loop-line-preserved c =
-    rw c.in_ok-push.ensures.items (zip_more (IsProjectOf (lecturer_keys c.args.lecturers.now)) c.args.lines.now c.loop-line.projects.items c.loop-line.line-index c.line-item.result _ c.loop-line-test.true c.line-item.is c.loop-line.invariant (rw c.in_ok-places.ensures at c.in_ok-numbered_project.ensures))
+loop-line-preserved c = search (rules, zip_more)
 
 pub returns : goal.returns
 returns c = subst (λ lines. AllZip (IsProjectOf (lecturer_keys c.args.lecturers.now)) lines c.loop-line.projects.items) (take_all c.loop-line.line-index c.args.lines.now c.loop-line-test.false) c.loop-line.invariant

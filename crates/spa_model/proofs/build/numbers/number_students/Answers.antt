@@ -1,10 +1,9 @@
-use Rattle.spa_model.proofs.Base.{subst, AllZip, take_all, project_keys, IsStudentOf}
+use Rattle.spa_model.proofs.Base.{subst, AllZip, take_all, project_keys, IsStudentOf, rules}
 use Rattle.spa_model.proofs.Zips.{zip_more}
 use Rattle.spa_model.proofs.build.numbers.number_students.Goals as goal
 
 pub loop-line-preserved : goal.loop-line-preserved
-loop-line-preserved c =
-    rw c.in_ok-push.ensures.items (zip_more (IsStudentOf (project_keys c.args.projects.now)) c.args.lines.now c.loop-line.students.items c.loop-line.line-index c.line-item.result _ c.loop-line-test.true c.line-item.is c.loop-line.invariant (rw c.in_ok-places.ensures at c.in_ok-numbered_student.ensures))
+loop-line-preserved c = search (rules, zip_more)
 
 pub returns : goal.returns
 returns c = subst (λ lines. AllZip (IsStudentOf (project_keys c.args.projects.now)) lines c.loop-line.students.items) (take_all c.loop-line.line-index c.args.lines.now c.loop-line-test.false) c.loop-line.invariant

@@ -1,4 +1,4 @@
-use Rattle.spa_model.proofs.Base.{◌∙◌, subst, AllZip, take_all, IsKeyOf, HasKey, project_keys}
+use Rattle.spa_model.proofs.Base.{◌∙◌, take_all, IsKeyOf, HasKey, project_keys, rules}
 use Rattle.spa_model.proofs.Keys.{has_key}
 use Rattle.spa_model.proofs.Zips.{zip_more, zip_map, any_map}
 use Rattle.spa_model.proofs.build.numbers.project_numbers.Goals as goal
@@ -12,6 +12,4 @@ loop-text-preserved c =
     rw c.in_ok-push.ensures.items (zip_more (λ text n. HasKey (project_keys c.args.lines.now) n text.items) c.args.list.now c.loop-text.choices.items c.loop-text.text-index c.text-item.result c.in-Some.project c.loop-text-test.true c.text-item.is c.loop-text.invariant key)
 
 pub returns : goal.returns
-returns c =
-    zip_map (λ text n. HasKey (project_keys c.args.lines.now) n text) (λ text. text.items) c.args.list.now c.loop-text.choices.items
-    (subst (λ texts. AllZip (λ text n. HasKey (project_keys c.args.lines.now) n text.items) texts c.loop-text.choices.items) (take_all c.loop-text.text-index c.args.list.now c.loop-text-test.false) c.loop-text.invariant)
+returns c = search (rules, zip_map, take_all)

@@ -6,5 +6,4 @@ use Rattle.spa_model.proofs.instance.Instance.lecturer_of.Goals as goal
 pub returns-clause-in_range : goal.returns-clause-in_range
 returns-clause-in_range c =
     let gives : c.index.result.now.lecturer ≡ lecturer_of c.args.self.now c.args.p = grind (arith, common_steps) in
-    let lawful : IsLawful c.args.self.now = subst IsLawful c.self.view_is c.self.invariant.0 in
-    rw gives (lawful.offered c.args.p c.requires)
+    rw gives ((subst IsLawful c.self.view_is c.self.invariant.0).offered c.args.p c.requires)

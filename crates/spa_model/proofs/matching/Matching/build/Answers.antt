@@ -1,14 +1,12 @@
-use Rattle.spa_model.proofs.Base.{◌∙◌, subst, HasPairs}
+use Rattle.spa_model.proofs.Base.{◌∙◌, subst, HasPairs, rules}
 use Rattle.spa_model.proofs.AssignedPairs.{known_pairs, apart_pairs, has_pairs, is_matching}
 use Rattle.spa_model.proofs.matching.Matching.build.Goals as goal
 
 pub assigned-requires-clause-known : goal.assigned-requires-clause-known
-assigned-requires-clause-known c =
-    known_pairs c.args.instance.now c.as_slice-lines.result.now _ c.lawful.ensures c.in_ok-check_pairs.ensures.ok (c.deref-3.ensures.value ∙ c.in_ok-students.ensures)
+assigned-requires-clause-known c = search (rules, known_pairs)
 
 pub assigned-requires-clause-apart : goal.assigned-requires-clause-apart
-assigned-requires-clause-apart c =
-    apart_pairs c.args.instance.now c.as_slice-lines.result.now _ c.lawful.ensures c.in_ok-check_pairs.ensures.ok (c.deref-3.ensures.value ∙ c.in_ok-students.ensures)
+assigned-requires-clause-apart c = search (rules, apart_pairs)
 
 pub returns-clause-ok : goal.returns-clause-ok
 returns-clause-ok c =
@@ -17,6 +15,4 @@ returns-clause-ok c =
     (c.deref-3.ensures.value ∙ c.in_ok-students.ensures) (c.deref-4.ensures.value ∙ c.in_ok-projects.ensures) c.in_ok-own.ensures)
 
 pub returns-clause-matching : goal.returns-clause-matching
-returns-clause-matching c =
-    is_matching c.args.instance.now c.as_slice-lines.result.now c.deref-3.result.now c.deref-4.result.now c.in_ok-own.own.items c.lawful.ensures c.in_ok-check_pairs.ensures.ok
-    (c.deref-3.ensures.value ∙ c.in_ok-students.ensures) (c.deref-4.ensures.value ∙ c.in_ok-projects.ensures) c.in_ok-own.ensures
+returns-clause-matching c = search (rules, is_matching)

@@ -1,30 +1,18 @@
-use Rattle.spa_student.proofs.Base.{◌≡◌, ◌<◌, ◌-◌, ◌+◌, length, get_or, set, refl, ◌∙◌, ap, arith, get_or_read, lecturer_of}
+use Rattle.spa_student.proofs.Base.{◌≡◌, ◌<◌, ◌-◌, ◌+◌, length, get_or, set, refl, ◌∙◌, ap, arith, get_or_read, rules}
 use Rattle.spa_student.proofs.CutSteps.{leaver_cursor, leaver_has_entry, some_at, some_with, left_marks, left_counts}
 use Rattle.spa_student.proofs.cuts.Progress.leave.Goals as goal
 
 pub prove-unreachable-requires : goal.prove-unreachable-requires
-prove-unreachable-requires c =
-    let q = c.args.self.now in
-    let in_range : c.args.w < length q.cursors.items = leaver_cursor c.args.instance.now q c.requires.marks c.args.w c.args.u c.requires.has in
-    let cursor : c.index.result.now ≡ get_or q.cursors.items c.args.w 0 = get_or_read q.cursors.items c.args.w c.index.result.now in_range c.index.ensures 0 in
-    omega (arith, ap length c.choices-entries.ensures, leaver_has_entry c.args.instance.now q c.requires.marks c.args.w c.args.u c.requires.has)
+prove-unreachable-requires c = search (rules, leaver_cursor, get_or_read, leaver_has_entry)
 
 pub lecturer_of-l-requires : goal.lecturer_of-l-requires
 lecturer_of-l-requires c = c.lawful.ensures.known c.args.w c.args.u (c.requires.marks.assigned.acceptable c.args.w c.args.u c.requires.has)
 
 pub overflow_sub-index_mut : goal.overflow_sub-index_mut
-overflow_sub-index_mut c =
-    let q = c.args.self.now in
-    let known : c.args.u < length c.args.instance.now.lecturers = c.lawful.ensures.known c.args.w c.args.u (c.requires.marks.assigned.acceptable c.args.w c.args.u c.requires.has) in
-    let count : c.index_mut-3.result.now ≡ get_or q.project_counts.items c.args.u 0 = get_or_read q.project_counts.items c.args.u c.index_mut-3.result.now (omega (arith, c.requires.counts.project_rows)) c.index_mut-3.ensures.value 0 in
-    omega (arith, c.requires.counts.at_projects c.args.u, some_at c.args.instance.now q c.requires.marks c.args.w c.args.u c.requires.has)
+overflow_sub-index_mut c = search (rules, get_or_read, some_at)
 
 pub overflow_sub-index_mut-2 : goal.overflow_sub-index_mut-2
-overflow_sub-index_mut-2 c =
-    let q = c.args.self.now in
-    let count : c.index_mut-4.result.now ≡ get_or q.lecturer_counts.items c.lecturer_of-l.result 0 = get_or_read q.lecturer_counts.items c.lecturer_of-l.result c.index_mut-4.result.now (omega (arith, c.requires.counts.lecturer_rows, c.lecturer_of-l.ensures.in_range)) c.index_mut-4.ensures.value 0 in
-    let at : c.index_mut-4.result.now ≡ get_or q.lecturer_counts.items (lecturer_of c.args.instance.now c.args.u) 0 = rw c.lecturer_of-l.ensures.gives at count in
-    omega (arith, c.requires.counts.at_lecturers (lecturer_of c.args.instance.now c.args.u), some_with c.args.instance.now q c.requires.marks c.args.w c.args.u c.requires.has)
+overflow_sub-index_mut-2 c = search (rules, get_or_read, some_with)
 
 pub returns-clause-marks : goal.returns-clause-marks
 returns-clause-marks c =

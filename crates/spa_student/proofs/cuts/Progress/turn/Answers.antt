@@ -1,6 +1,4 @@
-use Rattle.spa_student.proofs.Base.{◌≡◌, ℕ, ◌<◌, ◌≤◌, length, get_or, set, sum, Option, Some, None, refl, sym, ◌∙◌, ap, arith, choices_of, Progress, Puts}
-use Rattle.std.proofs.Common.{IfSome, MatchOption}
-use Rattle.spa_student.specs.inner.Cuts.{Exchanges}
+use Rattle.spa_student.proofs.Base.{◌≡◌, ℕ, ◌<◌, ◌≤◌, length, get_or, set, sum, Option, Some, None, refl, sym, ◌∙◌, ap, arith, choices_of, Progress, Puts, IfSome, MatchOption, Exchanges}
 use Rattle.spa_student.proofs.CutSteps.{moved_state, moved_next, sum_moved}
 use Rattle.spa_student.proofs.cuts.Progress.turn.Goals as goal
 

@@ -1,17 +1,9 @@
-use Rattle.spa_student.proofs.Base.{◌≡◌, ◌-◌, ◌<◌, inl, inr, length, get_or, ◌∙◌, ap, arith, rules, get_or_read, cases_lt, ranking_of, lecturer_of, IsWith}
-use Rattle.std.proofs.lemmas.Bool.{iff_false}
+use Rattle.spa_student.proofs.Base.{◌≡◌, ◌-◌, ◌<◌, inl, inr, length, get_or, ◌∙◌, ap, arith, rules, get_or_read, cases_lt, ranking_of, lecturer_of, IsWith, iff_false}
 use Rattle.spa_student.proofs.CutSteps.{ranked_in_range, found_worst_with, found_with}
 use Rattle.spa_student.proofs.cuts.Progress.worst_with.Goals as goal
 
 pub is_with-requires-clause-in_range : goal.is_with-requires-clause-in_range
-is_with-requires-clause-in_range c =
-    let i = c.args.instance.now in
-    let own = c.lecturer_of-l.ensures.gives in
-    let list : c.ranking-ranking.result.now ≡ ranking_of i (lecturer_of i c.args.p) = c.ranking-ranking.ensures ∙ ap (ranking_of i) own in
-    let l_in : c.lecturer_of-l.result < length c.args.self.now.lecturer_cuts.items = omega (arith, c.lecturer_of-l.ensures.in_range, c.requires.marks.lecturer_rows) in
-    let cut : c.index-k.result.now ≡ get_or c.args.self.now.lecturer_cuts.items (lecturer_of i c.args.p) 0 = rw own at (get_or_read c.args.self.now.lecturer_cuts.items c.lecturer_of-l.result c.index-k.result.now l_in c.index-k.ensures 0) in
-    let below : c.loop-k.k - 1 < length (ranking_of i (lecturer_of i c.args.p)) = omega (arith, c.requires.marks.lecturer_cuts (lecturer_of i c.args.p)) in
-    rw (list, c.requires.marks.assigned.students) (ranked_in_range i c.lawful.ensures (lecturer_of i c.args.p) (c.loop-k.k - 1) below)
+is_with-requires-clause-in_range c = search (rules, get_or_read, ranked_in_range)
 
 pub returns-then-is_with-clause-worst : goal.returns-then-is_with-clause-worst
 returns-then-is_with-clause-worst c =
@@ -27,12 +19,7 @@ returns-then-is_with-clause-worst c =
 pub loop-k-preserved : goal.loop-k-preserved
 loop-k-preserved c j h below is_there = elim (cases_lt (c.loop-k.k - 1) j) [
   | inl after ↦ c.loop-k.invariant j (omega arith) below is_there
-  | inr here ↦
-      let i = c.args.instance.now in
-      let list : c.ranking-ranking.result.now ≡ ranking_of i (lecturer_of i c.args.p) = c.ranking-ranking.ensures ∙ ap (ranking_of i) c.lecturer_of-l.ensures.gives in
-      let same : c.loop-k.k - 1 ≡ j = omega arith in
-      let found : IsWith i c.args.self.now.projects.items (lecturer_of i c.args.p) (get_or c.ranking-ranking.result.now (c.loop-k.k - 1) 0) = rw (list, same) is_there in
-      iff_false c.is_with.ensures c.if-is_with.false found
+  | inr here ↦ grind (arith, iff_false, c.loop-k.k, c.is_with.ensures, c.if-is_with.false, c.ranking-ranking.ensures, c.lecturer_of-l.ensures.gives)
 ]
 
 pub unreachable-requires : goal.unreachable-requires

@@ -1,0 +1,56 @@
+-- What a desk did for a stream.
+use Rattle.std.specs.Prelude.{◌≡◌, ◌≢◌, ℕ, Bool, true, ◌||◌, List, [], take, Option, ◌⊎◌, false, Result, Ok, Err}
+use Rattle.std.specs.Io.KnownBytes.{Appends}
+use Rattle.portal_core.specs.Meaning.{StaysClean}
+use Rattle.portal_core.specs.Answer.{Answer}
+use Rattle.portal_core.specs.Run.{Request, Serves, unavailable}
+use Rattle.portal_desk.specs.declared.served.Cause.{Cause}
+use Rattle.portal_desk.specs.declared.served.Cause.TheVariants as cause
+use Rattle.portal_wire.specs.Conversation.{reply_text, more, Exchange, text}
+use Rattle.portal_desk.specs.Kept.{KeeperState, Deals}
+use Rattle.portal_core.specs.declared.decision.Reply.{Reply}
+use Rattle.portal_core.specs.declared.keeper.KeepFault.{KeepFault}
+use Rattle.portal_core.specs.declared.keeper.KeepFault.TheVariants.{Memory, Store}
+use Rattle.portal_frame.specs.declared.types.Refusal.{Refusal}
+use Rattle.portal_frame.specs.Stream.{refused}
+use Rattle.portal_wire.specs.Wish.{answer_to}
+
+-- so far, with the bytes that are left
+abbrev pub ServesPart : KeeperState → KeeperState → Option (List ℕ) → Option (List ℕ) → List ℕ → List ℕ → ℕ → Type 0
+ServesPart old new before after bytes left count =
+    (es : List Exchange) × Deals old new bytes count es (more left) × Appends before after (text es)
+
+-- a first part of a text that could not be written whole
+abbrev pub Partly : Cause → Option (List ℕ) → Option (List ℕ) → List ℕ → Type 0
+Partly cause.Write before after text = (k : ℕ) × Appends before after (take k text)
+Partly cause.Memory before after text = Appends before after []
+Partly _ before after text = ⊥
+
+-- one reply: the step of the run, where the keeper is clean, and what keeps it clean, where the
+-- reply is not 503
+pub record Acted (old new : KeeperState) (r : Request) (reply : Answer) : Type 0 where
+  pub serves : new.clean → Serves old.world r reply new.world
+  pub lasts : reply ≢ unavailable → StaysClean old.disk new.disk old.clean new.clean
+
+-- some reply, with a fact
+abbrev pub Replied : KeeperState → KeeperState → Request → (Answer → Type 0) → Type 0
+Replied old new r P = (reply : Answer) × Acted old new r reply × P reply
+
+-- what one answer that failed wrote
+abbrev pub Broke : Cause → Bool → Answer → Bool → Bool → Option (List ℕ) → Option (List ℕ) → Type 0
+Broke cause.Read failed reply head closes before after = ⊥
+Broke cause.Write failed reply head closes before after =
+    (k : ℕ) × Appends before after (take k (reply_text reply head (closes || failed)))
+Broke cause.Memory failed reply head closes before after = Appends before after []
+Broke cause.Store failed reply head closes before after =
+    (failed ≡ true) × (reply ≡ unavailable) × Appends before after (reply_text unavailable head true)
+
+-- whether the store failed
+abbrev pub is_store : Result Reply KeepFault → Bool
+is_store (Ok reply) = false
+is_store (Err Memory) = false
+is_store (Err Store) = true
+
+-- the reply to a refusal, or 503
+abbrev pub TurnsAway : Refusal → Answer → Type 0
+TurnsAway refusal reply = (reply ≡ answer_to (refused refusal)) ⊎ (reply ≡ unavailable)

@@ -1,0 +1,230 @@
+-- What is computed of a small instance: that it is lawful, and the matching that alone is stable.
+use Rattle.spa_honest.proofs.Base.{◌≡◌, ◌≢◌, inl, inr, ℕ, zero, suc, ◌<◌, ◌≤◌, Bool, true, false, eqb, List, [], ◌∷◌, length, get_or, refl, ap, arith, subst, AllPairs, Less, nat_cmp, slice_cmp, eqb-true, eq-eqb, cases_eq, cases_lt, Option, Some, None, Spa, project_of, place, choices_of, lecturer_of, ranking_of, capacity_of, limit_of, at_project, at_lecturer, IsOn, IsBefore, IsAcceptable, IsDistinct, IsLawful, Improves, Wants, IsStable, IsBest, IsRanked, A, rules, ltb, ◌&&◌, ◌||◌, not, Ordering, list_all, list_any, is_lt, and_parts, or_cases, ltb-true, get_or_past, Rise, get_or-place, blocked}
+use Rattle.std.proofs.lemmas.List.Folds.{Any-from_list_any}
+use Rattle.std.proofs.lemmas.List.Kept.{AllPairs-cons}
+use Rattle.std.proofs.lemmas.List.Sums.{AllPass-from_list_all}
+use Rattle.spa_model.proofs.Lawful.{at_on}
+use Rattle.spa_honest.proofs.Exists.{best_of}
+
+-- ---- tests of numbers and of lists
+
+-- of each number below n, of some number below n
+abbrev each : (ℕ → Bool) → ℕ → Bool
+each test zero = true
+each test (suc n) = each test n && test n
+
+abbrev some : (ℕ → Bool) → ℕ → Bool
+some test zero = false
+some test (suc n) = some test n || test n
+
+each_at : (test : ℕ → Bool) (n k : ℕ) → each test n ≡ true → k < n → test k ≡ true
+each_at test zero k h low = absurd (omega arith)
+each_at test (suc n) k h low = elim (cases_eq k n) [
+  | inl same ↦ rw same (and_parts (each test n) (test n) h).1
+  | inr other ↦ each_at test n k (and_parts (each test n) (test n) h).0 (omega arith)
+]
+
+some_at : (test : ℕ → Bool) (n : ℕ) → some test n ≡ true → (k : ℕ) × (test k ≡ true)
+some_at test zero h = absurd (cc)
+some_at test (suc n) h = elim (or_cases (some test n) (test n) h) [ inl before ↦ some_at test n before | inr here ↦ (n, here) ]
+
+-- of each element, and of what is past the end
+each_of : {X : Type 0} (test : X → Bool) (d : X) (xs : List X) → test d ≡ true → list_all test xs ≡ true → (k : ℕ) → test (get_or xs k d) ≡ true
+each_of test d [] past h k = past
+each_of test d (x ∷ xs) past h zero = (and_parts (test x) (list_all test xs) h).0
+each_of test d (x ∷ xs) past h (suc k) = each_of test d xs past (and_parts (test x) (list_all test xs) h).1 k
+
+-- of what stands on a list, and on each of several lists
+entry : (test : ℕ → Bool) (list : List ℕ) (q : ℕ) → list_all test list ≡ true → IsOn list q → test q ≡ true
+entry test list q h on = rw (get_or-place list q 0 on) at (AllPass-from_list_all test list h (place list q) 0 on)
+
+abbrev each_entry : (ℕ → ℕ → Bool) → List (List ℕ) → Bool
+each_entry test lists = each (λ s. list_all (test s) (get_or lists s [])) (length lists)
+
+entry_at : (test : ℕ → ℕ → Bool) (lists : List (List ℕ)) → each_entry test lists ≡ true → (s q : ℕ) → IsOn (get_or lists s []) q → test s q ≡ true
+entry_at test lists h s q on = elim (cases_lt s (length lists)) [
+  | inl low ↦ entry (test s) (get_or lists s []) q (each_at (λ k. list_all (test k) (get_or lists k [])) (length lists) s h low) on
+  | inr past ↦ let none : get_or lists s [] ≡ [] = get_or_past lists s [] past in absurd (omega (arith, rw none at on))
+]
+
+-- of each element beside each later one
+abbrev pairwise : {X : Type 0} → (X → X → Bool) → List X → Bool
+pairwise test [] = true
+pairwise test (x ∷ xs) = list_all (test x) xs && pairwise test xs
+
+pairs : {X : Type 0} (test : X → X → Bool) (R : X → X → Type 0) → ((a b : X) → test a b ≡ true → R a b) → (xs : List X) → pairwise test xs ≡ true → AllPairs R xs
+pairs test R sound [] h i j d less low = absurd (omega arith)
+pairs test R sound (x ∷ xs) h i j d less low =
+    let both = and_parts (list_all (test x) xs) (pairwise test xs) h in
+    AllPairs-cons R x xs (λ k e h. sound x (get_or xs k e) (AllPass-from_list_all (test x) xs both.0 k e h)) (pairs test R sound xs both.1) i j d less low
+
+abbrev rises : List (List ℕ) → Bool
+rises keys = pairwise (λ a b. is_lt (slice_cmp nat_cmp a b)) keys
+
+rise : (keys : List (List ℕ)) → rises keys ≡ true → Rise keys
+rise = pairs (λ a b. is_lt (slice_cmp nat_cmp a b)) (λ a b. slice_cmp nat_cmp a b ≡ Less) (λ a b. less (slice_cmp nat_cmp a b))
+  where
+    less : (o : Ordering) → is_lt o ≡ true → o ≡ Less
+    less Less h = refl
+    less o h = absurd (cc)
+
+abbrev differ : List ℕ → Bool
+differ list = pairwise (λ a b. not (eqb a b)) list
+
+apart : (list : List ℕ) → differ list ≡ true → IsDistinct list
+apart = pairs (λ a b. not (eqb a b)) (λ a b. a ≢ b) (λ a b h same. let wrong : not true ≡ true = rw (eq-eqb a b same) at h in cc)
+
+-- ---- a lawful instance
+
+abbrev is_in_range : ℕ → Bool
+is_in_range n = ltb 0 n && ltb n 201
+
+abbrev lawful_tests : Spa → List Bool
+lawful_tests i =
+    eqb (length i.student_keys) (length i.choices)
+    ∷ eqb (length i.project_keys) (length i.lecturers)
+    ∷ eqb (length i.capacities) (length i.lecturers)
+    ∷ eqb (length i.lecturer_keys) (length i.rankings)
+    ∷ eqb (length i.limits) (length i.rankings)
+    ∷ rises i.student_keys ∷ rises i.project_keys ∷ rises i.lecturer_keys
+    ∷ each (λ p. ltb (lecturer_of i p) (length i.rankings)) (length i.lecturers)
+    ∷ each_entry (λ _ p. ltb p (length i.lecturers)) i.choices
+    ∷ each_entry (λ s p. ltb (place (ranking_of i (lecturer_of i p)) s) (length (ranking_of i (lecturer_of i p)))) i.choices
+    ∷ each_entry (λ l s. list_any (λ p. eqb (lecturer_of i p) l) (choices_of i s)) i.rankings
+    ∷ list_all differ i.choices ∷ list_all differ i.rankings
+    ∷ each (λ p. is_in_range (capacity_of i p)) (length i.lecturers)
+    ∷ each (λ l. is_in_range (limit_of i l)) (length i.rankings)
+    ∷ list_all (λ list. ltb (length list) 21) i.choices
+    ∷ ltb (length i.choices) 2001 ∷ ltb (length i.lecturers) 1001 ∷ ltb (length i.rankings) 301 ∷ []
+
+pub lawful_by : (i : Spa) → list_all (λ b. b) (lawful_tests i) ≡ true → IsLawful i
+lawful_by i all = record {
+  student_rows = eqb-true (length i.student_keys) (length i.choices) (passes 0);
+  project_key_rows = eqb-true (length i.project_keys) (length i.lecturers) (passes 1);
+  project_rows = eqb-true (length i.capacities) (length i.lecturers) (passes 2);
+  lecturer_key_rows = eqb-true (length i.lecturer_keys) (length i.rankings) (passes 3);
+  lecturer_rows = eqb-true (length i.limits) (length i.rankings) (passes 4);
+  student_keys_rise = rise i.student_keys (passes 5);
+  project_keys_rise = rise i.project_keys (passes 6);
+  lecturer_keys_rise = rise i.lecturer_keys (passes 7);
+  offered = λ p low. ltb-true (lecturer_of i p) (length i.rankings) (each_at (λ q. ltb (lecturer_of i q) (length i.rankings)) (length i.lecturers) p (passes 8) low);
+  known = λ s p on. ltb-true p (length i.lecturers) (entry_at (λ _ q. ltb q (length i.lecturers)) i.choices (passes 9) s p on);
+  ranked = λ s p on. ltb-true (place (ranking_of i (lecturer_of i p)) s) (length (ranking_of i (lecturer_of i p)))
+      (entry_at (λ t q. ltb (place (ranking_of i (lecturer_of i q)) t) (length (ranking_of i (lecturer_of i q)))) i.choices (passes 10) s p on);
+  applicants = λ l s on.
+      let any = Any-from_list_any (λ p. eqb (lecturer_of i p) l) (choices_of i s) (entry_at (λ k t. list_any (λ p. eqb (lecturer_of i p) k) (choices_of i t)) i.rankings (passes 11) l s on) in
+      (any.1, at_on (choices_of i s) any.0 any.1 any.2 any.3, eqb-true (lecturer_of i any.1) l any.4);
+  choices_distinct = λ s. apart (choices_of i s) (each_of differ [] i.choices refl (passes 12) s);
+  distinct = λ l. apart (ranking_of i l) (each_of differ [] i.rankings refl (passes 13) l);
+  capacities_in_range = λ p low. in_range (capacity_of i p) (each_at (λ q. is_in_range (capacity_of i q)) (length i.lecturers) p (passes 14) low);
+  limits_in_range = λ l low. in_range (limit_of i l) (each_at (λ k. is_in_range (limit_of i k)) (length i.rankings) l (passes 15) low);
+  lists_short = λ s. omega (arith, ltb-true (length (choices_of i s)) 21 (each_of (λ list. ltb (length list) 21) [] i.choices refl (passes 16) s));
+  student_count = omega (arith, ltb-true (length i.choices) 2001 (passes 17));
+  project_count = omega (arith, ltb-true (length i.lecturers) 1001 (passes 18));
+  lecturer_count = omega (arith, ltb-true (length i.rankings) 301 (passes 19));
+} where
+  passes : (k : ℕ) → get_or (lawful_tests i) k true ≡ true
+  passes = each_of (λ b. b) true (lawful_tests i) refl all
+
+  in_range : (n : ℕ) → is_in_range n ≡ true → (1 ≤ n) × (n ≤ 200)
+  in_range n h = let both = and_parts (ltb 0 n) (ltb n 201) h in (omega (arith, ltb-true 0 n both.0), omega (arith, ltb-true n 201 both.1))
+
+-- ---- the best matching
+
+-- each way to give students a project of their lists, or none
+abbrev all_ways : List (List ℕ) → (List (Option ℕ) → Bool) → Bool
+all_ways [] test = test []
+all_ways (list ∷ lists) test = all_ways lists (λ m. test (None ∷ m)) && list_all (λ p. all_ways lists (λ m. test (Some p ∷ m))) list
+
+way : (lists : List (List ℕ)) (test : List (Option ℕ) → Bool) (m : List (Option ℕ)) → all_ways lists test ≡ true → length m ≡ length lists → ((s p : ℕ) → project_of m s ≡ Some p → IsOn (get_or lists s []) p) → test m ≡ true
+way [] test [] h e on = h
+way [] test (o ∷ m) h e on = absurd (omega arith)
+way (list ∷ lists) test [] h e on = absurd (omega arith)
+way (list ∷ lists) test (None ∷ m) h e on = way lists (λ x. test (None ∷ x)) m (and_parts (all_ways lists (λ x. test (None ∷ x))) (list_all (λ p. all_ways lists (λ x. test (Some p ∷ x))) list) h).0 (omega arith) (λ s. on (suc s))
+way (list ∷ lists) test (Some q ∷ m) h e on =
+    let others = (and_parts (all_ways lists (λ x. test (None ∷ x))) (list_all (λ p. all_ways lists (λ x. test (Some p ∷ x))) list) h).1 in
+    way lists (λ x. test (Some q ∷ x)) m (entry (λ p. all_ways lists (λ x. test (Some p ∷ x))) list q others (on 0 q refl)) (omega arith) (λ s. on (suc s))
+
+abbrev same : List (Option ℕ) → List (Option ℕ) → Bool
+same [] [] = true
+same (None ∷ m) (None ∷ n) = same m n
+same (Some p ∷ m) (Some q ∷ n) = eqb p q && same m n
+same m n = false
+
+is_same : (m n : List (Option ℕ)) → same m n ≡ true → m ≡ n
+is_same [] [] h = refl
+is_same (None ∷ m) (None ∷ n) h = ap (λ x. None ∷ x) (is_same m n h)
+is_same (Some p ∷ m) (Some q ∷ n) h =
+    let both = and_parts (eqb p q) (same m n) h in
+    let rest : m ≡ n = is_same m n both.1 in
+    cc (eqb-true p q both.0)
+is_same m n h = absurd (cc)
+
+-- a project has too many, or a student wants a project that has room, or has or could take the place of one who stands later
+abbrev goes_before : List ℕ → ℕ → ℕ → Bool
+goes_before list a b = ltb (place list a) (place list b) && ltb (place list b) (length list)
+
+abbrev improves : Spa → ℕ → ℕ → Option ℕ → Bool
+improves i s u None = true
+improves i s u (Some q) = goes_before (choices_of i s) u q
+
+abbrev has_place : Spa → List (Option ℕ) → ℕ → Bool
+has_place i m u = ltb (at_project m u) (capacity_of i u)
+
+abbrev has_room : Spa → List (Option ℕ) → ℕ → Bool
+has_room i m u = has_place i m u && ltb (at_lecturer i m (lecturer_of i u)) (limit_of i (lecturer_of i u))
+
+abbrev yields : Spa → List (Option ℕ) → ℕ → ℕ → ℕ → Option ℕ → Bool
+yields i m s u t None = false
+yields i m s u t (Some p) = (eqb (lecturer_of i u) (lecturer_of i p) && goes_before (ranking_of i (lecturer_of i u)) s t) && (eqb u p || has_place i m u)
+
+abbrev blocks : Spa → List (Option ℕ) → ℕ → ℕ → Bool
+blocks i m s u = improves i s u (project_of m s) && (has_room i m u || some (λ t. yields i m s u t (project_of m t)) (length m))
+
+abbrev is_over : Spa → List (Option ℕ) → ℕ → Bool
+is_over i m p = ltb (capacity_of i p) (at_project m p)
+
+abbrev unstable : Spa → List (Option ℕ) → Bool
+unstable i m = some (is_over i m) (length i.lecturers) || some (λ s. list_any (blocks i m s) (choices_of i s)) (length i.choices)
+
+is_before : (list : List ℕ) (a b : ℕ) → goes_before list a b ≡ true → IsBefore list a b
+is_before list a b h = search (rules, and_parts, ltb-true)
+
+module _ (i : Spa) (m : List (Option ℕ)) (stable : IsStable i m) where
+  is_better : (s u : ℕ) (o : Option ℕ) → improves i s u o ≡ true → Improves i s u o
+  is_better s u None h = tt
+  is_better s u (Some q) h = is_before (choices_of i s) u q h
+
+  no_yield : (s u t : ℕ) → Wants i m s u → (o : Option ℕ) → project_of m t ≡ o → yields i m s u t o ≡ true → ⊥
+  no_yield s u t wants None e h = cc
+  no_yield s u t wants (Some p) e h = search (rules, and_parts, blocked, eqb-true, is_before, or_cases, ltb-true)
+
+  no_block : (s u : ℕ) → IsAcceptable i s u → blocks i m s u ≡ true → ⊥
+  no_block s u on h =
+      let both = and_parts (improves i s u (project_of m s)) (has_room i m u || some (λ t. yields i m s u t (project_of m t)) (length m)) h in
+      let wants : Wants i m s u = (on, is_better s u (project_of m s) both.0) in
+      elim (or_cases (has_room i m u) (some (λ t. yields i m s u t (project_of m t)) (length m)) both.1) [
+        | inl room ↦
+            let free = and_parts (has_place i m u) (ltb (at_lecturer i m (lecturer_of i u)) (limit_of i (lecturer_of i u))) room in
+            stable.unblocked s u A (wants, ltb-true (at_project m u) (capacity_of i u) free.0, ltb-true (at_lecturer i m (lecturer_of i u)) (limit_of i (lecturer_of i u)) free.1)
+        | inr later ↦ let one = some_at (λ t. yields i m s u t (project_of m t)) (length m) later in no_yield s u one.0 wants (project_of m one.0) refl one.1
+      ]
+
+  not_unstable : unstable i m ≡ true → ⊥
+  not_unstable h = elim (or_cases (some (is_over i m) (length i.lecturers)) (some (λ s. list_any (blocks i m s) (choices_of i s)) (length i.choices)) h) [
+    | inl over ↦ let one = some_at (is_over i m) (length i.lecturers) over in omega (arith, ltb-true (capacity_of i one.0) (at_project m one.0) one.1, stable.matching.projects one.0)
+    | inr pair ↦
+        let one = some_at (λ s. list_any (blocks i m s) (choices_of i s)) (length i.choices) pair in
+        let any = Any-from_list_any (blocks i m one.0) (choices_of i one.0) one.1 in
+        no_block one.0 any.1 (at_on (choices_of i one.0) any.0 any.1 any.2 any.3) any.4
+  ]
+
+-- where each other way is unstable, the matching is the best one
+pub best_by : (i : Spa) → IsRanked i → (m : List (Option ℕ)) → all_ways i.choices (λ n. same n m || unstable i n) ≡ true → IsBest i m
+best_by i law m all =
+    let one = best_of i law in
+    let stable : IsStable i one.0 = one.1.stable in
+    elim (or_cases (same one.0 m) (unstable i one.0) (way i.choices (λ n. same n m || unstable i n) one.0 all stable.matching.students stable.matching.acceptable)) [
+      | inl is ↦ subst (IsBest i) (is_same one.0 m is) one.1
+      | inr not_so ↦ absurd (not_unstable i one.0 stable not_so)
+    ]
