@@ -38,7 +38,7 @@ pub use Rattle.portal_list.specs.inner.Fill.{fill_missing}
 pub use Rattle.portal_list.specs.inner.Shown.{is_wanted, is_waiting, offered}
 pub use Rattle.portal_store.specs.Crash.{Refutes, Bars, Reopens, OpensAgain, OpensFresh, UpgradesAgain, HasVersion, RefusalSays, IsLeft}
 pub use Rattle.portal_store.specs.Kept.{AllNumbersDiffer, HasChanged, HasGoodFirst, HasGoodWorld, HasGoodWorldIn, HasSecond, IsCleanStore, IsConsistent, IsConsistentIn, IsTransition, IsUnopened, Seen, Whole, kept_world, later_trees, AreWhole, AreEmpty, HasDisk, DiskInMemory, KeepsClean, Lasts, LastsInMemory, IsOpened}
-pub use Rattle.portal_store.specs.World.{is_ranked, lecturer_row, lecturer_stored, phase_in, project_row, round_in, student_row, student_stored, first_world, ranking_in, choice_in, placement_in_round, second_phase, office_row, round_by}
+pub use Rattle.portal_store.specs.World.{is_ranked, lecturer_stored, phase_in, round_in, student_stored, first_world, ranking_in, choice_in, placement_in_round, second_phase, office_row, round_by}
 pub use Rattle.portal_store.specs.declared.rolls.NewRows.{NewRows}
 pub use Rattle.portal_store.specs.declared.store.OpenFault.{OpenFault}
 pub use Rattle.portal_store.specs.inner.Adding.{with_rows_added}
@@ -78,7 +78,7 @@ pub use Rattle.portal_tables.specs.inner.Reads.{Always, Answers}
 pub use Rattle.portal_tables.specs.inner.Rolls.{RollsRise, by_key, lecturer_columns, lecturers_shown, projects_shown, roll_columns, students_shown}
 pub use Rattle.portal_tables.specs.inner.RowChanges.{Assigns, MovesSecond, MovesTo, pair_new, assigned_by, with_assigned, student_columns, text_cell, Adds, lecturer_new, project_new, student_new, lecturer_cells}
 pub use Rattle.portal_tables.specs.inner.Running.{Does, GoesOn, Made}
-pub use Rattle.portal_tables.specs.inner.Shown.{first_cell, shown_lecturer, shown_project, shown_student, as_list}
+pub use Rattle.portal_tables.specs.inner.Shown.{first_cell, shown_lecturer, shown_project, shown_student, as_list, lecturer_row, project_row, student_row}
 pub use Rattle.portal_views.proofs.Turns.{reads_any, reads_first}
 pub use Rattle.portal_views.specs.inner.Callers.{lecturer_shown, student_shown, person_key, lines_shown, persons_at, persons_before, placed_among, placed_at_shown, applicants_told, placed_told, own_keys_shown}
 pub use Rattle.portal_views.specs.inner.Catalogue.{catalogue_shown, IsCatalogue}

@@ -1,25 +1,12 @@
 -- The world that the eleven tables stand for.
-use Rattle.portal_store.specs.Base.{Row, column, bytes, Trees, Phase, Round, First, Second, Key, has, put_all, World, Lecturer, Student, lecturer_key, project_key, student_key, choice_table, ranking_table, phase_numbered, tree_of, portal_tree, lecturer_tree, project_tree, student_tree, second_tree, ranked2_tree, second_placement, chosen, row_key, text_or_none, Setup}
+use Rattle.portal_store.specs.Base.{Row, column, bytes, Trees, Phase, Round, First, Second, Key, has, put_all, World, Lecturer, Student, lecturer_key, project_key, student_key, choice_table, ranking_table, phase_numbered, tree_of, portal_tree, lecturer_tree, project_tree, student_tree, second_tree, ranked2_tree, second_placement, chosen, row_key, text_or_none, Setup, lecturer_at, project_at, student_at}
 use Rattle.std.specs.Prelude.{ℕ, Bool, if◌then◌else◌, ◌==◌, List, [], map, slice_index_or, Option, Some, None}
 use Rattle.sqlite_trees.specs.Objects.{number_in}
-use Rattle.portal_core.specs.declared.rows.LecturerRow.{LecturerRow}
-use Rattle.portal_core.specs.declared.rows.ProjectRow.{ProjectRow}
-use Rattle.portal_core.specs.declared.rows.StudentRow.{StudentRow}
-
-abbrev pub lecturer_row : Row → LecturerRow
-lecturer_row r = record { key = row_key r; name = bytes (column r 2); code = bytes (column r 3); capacity = number_in (column r 4) }
-
-abbrev pub project_row : Row → ProjectRow
-project_row r = record { key = row_key r; lecturer = bytes (column r 2); title = bytes (column r 3); capacity = number_in (column r 4) }
-
-abbrev pub student_row : Row → StudentRow
-student_row r = record { key = row_key r; name = bytes (column r 2); code = bytes (column r 3) }
 
 abbrev pub office_row : Trees → Row
 office_row db = slice_index_or (db portal_tree) 0 []
 
 -- the round is the second if the phase in `second` is not 0
-
 abbrev pub second_phase : Trees → ℕ
 second_phase db = number_in (column (slice_index_or (db second_tree) 0 []) 2)
 
@@ -51,7 +38,6 @@ placement_in_round First db r = text_or_none (column r 4)
 placement_in_round Second db r = second_placement db (row_key r)
 
 -- what the tables hold of the round before; the first round has none
-
 abbrev pub earlier : {X : Type 0} → Round → X → X → X
 earlier First none before = none
 earlier Second none before = before
@@ -59,12 +45,12 @@ earlier Second none before = before
 -- the world that the tables hold in a round
 
 abbrev pub lecturer_stored : Round → Trees → Row → Lecturer
-lecturer_stored round db r = record { row = lecturer_row r; ranking = ranking_in round db r; earlier_ranking = earlier round None (ranking_in First db r) }
+lecturer_stored round db r = record { row = lecturer_at 1 r; ranking = ranking_in round db r; earlier_ranking = earlier round None (ranking_in First db r) }
 
 abbrev pub student_stored : Round → Trees → Row → Student
 student_stored round db r =
     record {
-      row = student_row r;
+      row = student_at 1 r;
       choice = choice_in round db r;
       placed = placement_in_round round db r;
       earlier_choice = earlier round [] (choice_in First db r);
@@ -78,7 +64,7 @@ world_in round db =
       phase = phase_in round db;
       office = bytes (column (office_row db) 4);
       lecturers = put_all lecturer_key (map (lecturer_stored round db) (db lecturer_tree)) [];
-      projects = put_all project_key (map project_row (db project_tree)) [];
+      projects = put_all project_key (map (project_at 1) (db project_tree)) [];
       students = put_all student_key (map (student_stored round db) (db student_tree)) [];
     }
 

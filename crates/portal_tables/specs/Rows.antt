@@ -1,6 +1,9 @@
 -- What the rows of the tables say, what the statements put into them, and the lists that they hold.
 use Rattle.std.specs.Prelude.{◌∷◌, ◌≡◌, if◌then◌else◌, ◌==◌, ◌+◌}
 use Rattle.portal_tables.specs.Base.{ℕ, ℤ, pos, List, [], Option, Null, Int, Words, Row, column, bytes, Key, Some, None, Value, Real, Blob, Bool, false, ⊤, AllByRecursion, is_eq, value_cmp, id_in, rowid, Phase, Setup, Choosing, Ranking, Published, map, filter, number_in, put_all, option_map, find, Trees, equals}
+use Rattle.portal_core.specs.declared.rows.LecturerRow.{LecturerRow}
+use Rattle.portal_core.specs.declared.rows.ProjectRow.{ProjectRow}
+use Rattle.portal_core.specs.declared.rows.StudentRow.{StudentRow}
 use Rattle.portal_tables.specs.Tables.{assigned2_tree}
 
 -- the cells of the row of `portal` after its number; the number is the id, whose own cell is empty
@@ -25,6 +28,16 @@ Assigned = List ℕ × Option (List ℕ)
 -- the key in a row of a roll
 abbrev pub row_key : Row → Key
 row_key r = bytes (column r 1)
+
+-- what the cells of a row of a roll say, where the key stands in this column
+abbrev pub lecturer_at : ℕ → Row → LecturerRow
+lecturer_at n r = record { key = bytes (column r n); name = bytes (column r (n + 1)); code = bytes (column r (n + 2)); capacity = number_in (column r (n + 3)) }
+
+abbrev pub project_at : ℕ → Row → ProjectRow
+project_at n r = record { key = bytes (column r n); lecturer = bytes (column r (n + 1)); title = bytes (column r (n + 2)); capacity = number_in (column r (n + 3)) }
+
+abbrev pub student_at : ℕ → Row → StudentRow
+student_at n r = record { key = bytes (column r n); name = bytes (column r (n + 1)); code = bytes (column r (n + 2)) }
 
 -- the text in a cell, or none for NULL; any other value counts as the empty text
 abbrev pub text_or_none : Value → Option Key

@@ -1,6 +1,7 @@
--- What the rows that a query shows are decoded to: the cells of a roll or of a list, without the
--- number of the row.
+-- What rows are decoded to: those of a roll as a query shows them, and with the row's number in
+-- front; and those of a list.
 use Rattle.std.specs.Prelude.{◌∷◌}
+use Rattle.portal_tables.specs.Rows.{lecturer_at, project_at, student_at}
 use Rattle.portal_tables.specs.inner.Base.{ℕ, List, [], Option, Some, None, Row, column, bytes, number_in, Key, LecturerRow, ProjectRow, StudentRow}
 
 -- one thing or none, as a list
@@ -13,13 +14,22 @@ abbrev pub first_cell : Row → Key
 first_cell c = bytes (column c 0)
 
 abbrev pub shown_lecturer : Row → LecturerRow
-shown_lecturer c = record { key = first_cell c; name = bytes (column c 1); code = bytes (column c 2); capacity = number_in (column c 3) }
+shown_lecturer = lecturer_at 0
 
 abbrev pub shown_project : Row → ProjectRow
-shown_project c = record { key = first_cell c; lecturer = bytes (column c 1); title = bytes (column c 2); capacity = number_in (column c 3) }
+shown_project = project_at 0
 
 abbrev pub shown_student : Row → StudentRow
-shown_student c = record { key = first_cell c; name = bytes (column c 1); code = bytes (column c 2) }
+shown_student = student_at 0
+
+abbrev pub lecturer_row : Row → LecturerRow
+lecturer_row = lecturer_at 1
+
+abbrev pub project_row : Row → ProjectRow
+project_row = project_at 1
+
+abbrev pub student_row : Row → StudentRow
+student_row = student_at 1
 
 -- the place and the key that a row of a list shows
 abbrev pub shown_rank : Row → ℕ
