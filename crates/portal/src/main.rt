@@ -1,4 +1,4 @@
-//! The portal's program.
+//! The program's entry point.
 #![tactic(auto)]
 
 use portal_run::{run, say};

@@ -1,4 +1,4 @@
-//! The answer to the bytes of an instance file.
+//! Computes the answer of `check` or `solve` to an instance file.
 
 ghost use Rattle.std.specs.Prelude.{IfOk};
 ghost use Rattle.spa_model.specs.Spa.{IsMatching};

@@ -1,4 +1,4 @@
-//! The lines of the pairs that block a matching.
+//! Writes the lines of the blocking pairs, for `check`.
 
 ghost use Rattle.std.specs.Prelude.{◌≡◌, ◌<◌, ◌++◌, All, OnOk, IfOk, length};
 ghost use Rattle.spa_model.specs.Spa.{IsMatching};

@@ -1,4 +1,4 @@
-//! Laws over the definitions alone.
+//! Law: the answer to an instance file is unique.
 
 ghost use Rattle.std.specs.Prelude.{◌≡◌};
 ghost use Rattle.portal_answer.specs.Answer.{Text, Told, IsAnswer};

@@ -1,4 +1,4 @@
-//! The lines of the matching that is best for the students.
+//! Writes the lines of the student-optimal matching, for `solve`.
 
 ghost use Rattle.std.specs.Prelude.{◌≡◌, ◌<◌, ◌++◌, IfOk, IfSome, OnOk, length, slice_index_or, []};
 ghost use Rattle.spa_model.specs.Spa.{IsMatching};

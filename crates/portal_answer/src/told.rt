@@ -1,4 +1,4 @@
-//! What the program tells, and its refusals.
+//! An answer as text and exit status, and the texts of refusals.
 
 ghost use Rattle.std.specs.Prelude.{◌≡◌, IfOk, IsErr};
 ghost use Rattle.portal_answer.specs.Answer.{refused_plain, refused_row};

@@ -1,4 +1,4 @@
-//! What a caller asks.
+//! The calls that a caller can make.
 
 use crate::phase::{Phase, Round};
 use crate::rows::{LecturerRow, ProjectRow, StudentRow};

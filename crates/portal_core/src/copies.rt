@@ -1,4 +1,4 @@
-//! Copies of keys.
+//! Copies lists of keys and of pairs.
 
 ghost use Rattle.std.specs.Prelude.{◌≡◌, IfOk};
 

@@ -1,4 +1,4 @@
-//! What is answered, and what is to be done.
+//! The decision on a call: a reply, and an act such as a change.
 
 ghost use Rattle.std.specs.Prelude.{◌≡◌};
 ghost use Rattle.portal_core.specs.Meaning.{reply_model};

@@ -1,4 +1,4 @@
-//! Rows that are found by their keys.
+//! The trait `Keyed` of rows with a key, and hash tables of such rows.
 
 ghost use Rattle.std.specs.Prelude.{◌≡◌, IfOk};
 ghost use Rattle.std.specs.HashMap.{get};

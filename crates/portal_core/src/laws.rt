@@ -1,4 +1,4 @@
-//! Laws over the definitions alone: what each caller may learn, whatever a keeper does.
+//! Laws of the portal: privacy, good worlds, runs, results and honest lists.
 
 ghost use Rattle.std.specs.Prelude.{◌≡◌, ◌⊎◌, ◌++◌, ◌∷◌, [], List, map, codes, true, false, Some};
 ghost use Rattle.std.specs.Prelude.{None};

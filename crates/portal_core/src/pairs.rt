@@ -1,4 +1,4 @@
-//! The pairs of a result, as they are looked up by their students.
+//! Looks up a student's project among the pairs of a result.
 
 ghost use Rattle.std.specs.Prelude.{◌≡◌, IfOk, option_map};
 ghost use Rattle.portal_core.specs.World.{placement_in};

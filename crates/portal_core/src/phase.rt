@@ -1,4 +1,4 @@
-//! The phases of a round.
+//! The rounds of a year, and the phases of a round.
 
 ghost use Rattle.std.specs.Prelude.{◌≡◌, IfSome, IfNone};
 ghost use Rattle.portal_core.specs.World as world;

@@ -1,4 +1,4 @@
-//! The result, as the office reads it.
+//! Looks up a student's project row in the result that the office sees.
 
 ghost use Rattle.std.specs.Prelude.{◌≡◌, IfOk, option_map};
 ghost use Rattle.portal_core.specs.Bodies.{is_assigned};

@@ -1,4 +1,4 @@
-//! What the first round left of the capacities.
+//! Computes the capacities that the first round left.
 
 ghost use Rattle.std.specs.Prelude.{◌≡◌, IfOk, map};
 ghost use Rattle.std.specs.List.{list_any};

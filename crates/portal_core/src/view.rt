@@ -1,4 +1,4 @@
-//! What a caller sees.
+//! The views: what a student, a lecturer or the office sees.
 
 ghost use Rattle.std.specs.Prelude.{◌≡◌, IfOk};
 

@@ -1,4 +1,4 @@
-//! What a keeper remembers of the world, until that is changed.
+//! Caches the catalogue and the office's view; updates or drops them after a change.
 
 ghost use Rattle.std.specs.Prelude.{◌≡◌, OnOk, OnErr, IfSome, filter, not};
 ghost use Rattle.portal_core.specs.Words.{equals};

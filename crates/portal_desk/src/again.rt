@@ -1,4 +1,4 @@
-//! Reads and writes that are tried again where a signal interrupted them.
+//! Repeats reads and writes that a signal interrupted.
 
 ghost use Rattle.std.specs.Prelude.{◌≢◌, IfErr};
 ghost use Rattle.std.specs.Io.{ReadsAtMost, WritesAtMost};

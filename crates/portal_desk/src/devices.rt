@@ -1,4 +1,4 @@
-//! Where bytes come from and where they go, with a count of what failed.
+//! Traits of byte sources and sinks, which count failed calls.
 
 ghost use Rattle.std.specs.Prelude.{◌≡◌, ℕ, ◌<◌, List, Option, take, length, OnOk, OnErr, IfOk};
 ghost use Rattle.std.specs.Io.KnownBytes.{ReadConsumes, WriteAppends, Appends};

@@ -1,4 +1,4 @@
-//! Serves streams one after another, each from memory into memory.
+//! Serves a list of streams in memory, one after another.
 
 ghost use Rattle.std.specs.Prelude.{List, IfSome, map};
 ghost use Rattle.portal_desk.specs.Headline.{ServesEach};

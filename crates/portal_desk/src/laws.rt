@@ -1,4 +1,4 @@
-//! Laws over the definitions alone: what the bytes of replies tell a caller.
+//! Laws on the bytes of replies: privacy and the main promise.
 
 ghost use Rattle.std.specs.Prelude.{◌≡◌, ℕ, List, Some, ◌++◌};
 ghost use Rattle.std.specs.List.{AllZip};

@@ -1,4 +1,4 @@
-//! Calls played over any keeper: the desk looks, decides and does.
+//! Plays a call over any keeper: gets the view, decides, performs the act.
 
 ghost use Rattle.std.specs.Prelude.{◌≡◌, IfOk, OnOk, OnErr};
 ghost use Rattle.spa_model.specs.Spa.{IsMatching};

@@ -1,4 +1,4 @@
-//! Writes replies.
+//! Writes replies to a sink.
 
 ghost use Rattle.std.specs.Prelude.{◌≡◌, true, OnOk, IfErr, OnErr};
 ghost use Rattle.std.specs.Io.KnownBytes.{Appends};

@@ -1,4 +1,4 @@
-//! How the serving of a stream ends.
+//! The outcomes of serving a stream.
 
 use portal_wire::Ending;
 

@@ -1,4 +1,4 @@
-//! Whether a request asks to close the connection.
+//! Tests whether a request asks to close the connection.
 
 ghost use Rattle.std.specs.Prelude.{◌≡◌, length, map, All, codes};
 ghost use Rattle.httparse.specs.Grammar.{skip_ows};

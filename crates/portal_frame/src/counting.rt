@@ -1,4 +1,4 @@
-//! The lines of a head, counted.
+//! Counts the lines of a request's head, to detect a head that is too long.
 
 ghost use Rattle.std.specs.Prelude.{◌≡◌, ◌≤◌};
 ghost use Rattle.portal_frame.specs.inner.Counting.{lines_from, step as step_of, stops as stops_at};

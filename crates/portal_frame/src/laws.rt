@@ -1,4 +1,4 @@
-//! Laws over the definitions alone.
+//! Laws: a stream begins with a request, a fault or its end, and only one of them.
 
 ghost use Rattle.std.specs.Prelude.{◌≡◌, ℕ, List};
 ghost use Rattle.portal_frame.specs.Stream.{Item, Opens};

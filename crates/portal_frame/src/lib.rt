@@ -1,4 +1,4 @@
-//! The framing of requests: a stream of bytes, cut anywhere, as the requests that it is.
+//! `frame` recognises a request, the end or a fault at the front of a stream.
 #![tactic(auto)]
 
 ghost use Rattle.std.specs.Prelude.{◌≡◌, ℕ, ◌<◌, ◌≤◌, ◌⊎◌, List, ◌++◌, length, IfOk};

@@ -1,4 +1,4 @@
-//! Requests, refusals and what the bytes of a stream so far are.
+//! Requests, refusals, frames and faults of framing.
 
 ghost use Rattle.std.specs.Prelude.{◌≡◌};
 ghost use Rattle.portal_frame.specs.Stream.{refused, told, plain};

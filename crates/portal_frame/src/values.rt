@@ -1,4 +1,4 @@
-//! What the lines of a head say.
+//! Checks headers, and reads body length, caller's code and path.
 
 ghost use Rattle.std.specs.Prelude.{◌≡◌, length, map, All, IfOk, codes, ◌∷◌, []};
 ghost use Rattle.httparse.specs.Spans.{IsHeaderWithin, header_bytes};

@@ -1,4 +1,4 @@
-//! Which students want a project, looked up by hashing.
+//! Looks up the students who list a project, by hashing.
 
 ghost use Rattle.std.specs.Prelude.{◌≡◌, ◌<◌, ◌==◌, ◌||◌, ◌&&◌, ℕ, List, map, length, get_or};
 ghost use Rattle.std.specs.Prelude.{false, IfOk, OnOk};

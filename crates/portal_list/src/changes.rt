@@ -1,4 +1,4 @@
-//! What each change does to the entries; here a list or a ranking in place of the one before.
+//! Replaces a list or a ranking; the submodules make the other changes.
 
 ghost use Rattle.std.specs.Prelude.{◌≡◌, OnOk, OnErr, map};
 ghost use Rattle.portal_core.specs.Words.{Rise};

@@ -1,4 +1,4 @@
-//! Copies of keys, persons and rows, and whether a list holds a key.
+//! Copies keys, persons and rows; `holds` searches a list for a key.
 
 ghost use Rattle.std.specs.Prelude.{◌≡◌, IfOk, option_map};
 ghost use Rattle.portal_core.specs.Words.{has};

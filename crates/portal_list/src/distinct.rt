@@ -1,4 +1,4 @@
-//! Whether the codes or the keys of many rows differ.
+//! Tests whether codes or keys are distinct.
 
 ghost use Rattle.std.specs.Prelude.{◌≡◌, ◌↔◌, IfOk, IsTrue, map};
 ghost use Rattle.portal_core.specs.Words.{AreDistinct};

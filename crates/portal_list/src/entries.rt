@@ -1,5 +1,4 @@
-//! The entries: the rows of the rolls, each with what its owner has made, and how they follow a
-//! change.
+//! Entries: rows of the rolls, joined with their owners' lists and rankings.
 
 ghost use Rattle.std.specs.Prelude.{◌≡◌, true, false, Ok, IfOk, OnOk, OnErr, map};
 ghost use Rattle.portal_core.specs.World.{World, changed, with_place};

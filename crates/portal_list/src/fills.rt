@@ -1,4 +1,4 @@
-//! The rankings that a fill would put, before it is made.
+//! Computes the rankings that a fill would add, without adding them.
 
 ghost use Rattle.std.specs.Prelude.{◌≡◌, IfOk, List, map};
 ghost use Rattle.portal_core.specs.Words as words;

@@ -1,4 +1,4 @@
-//! Puts rows, lists and pairs together to the entries of lecturers and of students.
+//! Joins rows, lists and pairs into entries.
 
 ghost use Rattle.std.specs.Prelude.{◌≡◌, IfOk, map, option_map};
 ghost use Rattle.portal_list.specs.inner.Fit.{next_for, rest_for, earlier_for, earlier_rest};

@@ -1,4 +1,4 @@
-//! Makes a keeper of the rows of tables, where these are those of a sound world.
+//! Builds a keeper or entries from the rows of tables.
 
 ghost use Rattle.std.specs.Prelude.{◌≡◌, ◌↔◌, Err, IfOk, IsTrue, MatchOption};
 ghost use Rattle.portal_core.specs.World.{World};

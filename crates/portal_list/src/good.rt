@@ -1,4 +1,4 @@
-//! Whether the world of a keeper is good.
+//! Tests whether a keeper's world is good: sound, and with stable results.
 
 ghost use Rattle.std.specs.Prelude.{◌≡◌, ◌↔◌, IfOk, IsTrue, true, map, filter, option_map};
 ghost use Rattle.spa_model.specs.Pairs.{number_in};

@@ -1,4 +1,4 @@
-//! The instance of the allocation that entries stand for: its lines, and what is built of them.
+//! Builds the allocation instance from entries.
 
 ghost use Rattle.std.specs.Prelude.{◌≡◌, false, Err, IfOk, map};
 ghost use Rattle.std.specs.List.{AllByRecursion};

@@ -1,4 +1,4 @@
-//! `ListKeeper`: what it shows, and how it applies each change.
+//! `ListKeeper` implements `Keeper` with a world in memory.
 
 ghost use Rattle.std.specs.Prelude.{◌≡◌, true, [], IfOk, IfErr, OnOk, OnErr};
 ghost use Rattle.portal_core.specs.View as seen;

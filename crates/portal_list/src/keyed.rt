@@ -1,4 +1,4 @@
-//! The keys of entries: whether they rise, and whether one is there.
+//! Tests whether rows are sorted by key, and whether one has a given key.
 
 ghost use Rattle.std.specs.Prelude.{◌≡◌, ◌↔◌, ℕ, List, IsTrue, map};
 ghost use Rattle.std.specs.Ordering.{nat_cmp};

@@ -1,4 +1,4 @@
-//! Whether lists, rankings and results are those of a sound world.
+//! Tests whether lists, rankings and results obey the rules, apart from stability.
 
 ghost use Rattle.std.specs.Prelude.{◌≡◌, ◌↔◌, IfOk, IsTrue, true, map, option_map, [], None};
 ghost use Rattle.std.specs.List.{AllByRecursion};

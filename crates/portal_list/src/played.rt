@@ -1,4 +1,4 @@
-//! Who and what takes part in a round: in the second who has no project yet, and what room is left.
+//! Selects the students, projects and lecturers of the second round, with the remaining room.
 
 ghost use Rattle.std.specs.Prelude.{◌≡◌, IfOk, map, filter, option_map};
 ghost use Rattle.std.specs.List.{list_any, filter_map};

@@ -1,4 +1,4 @@
-//! Whether the rows of the rolls are those of a world.
+//! Tests whether the rolls are sound: valid rows, distinct codes, rising keys.
 
 ghost use Rattle.std.specs.Prelude.{◌≡◌, ◌↔◌, IfOk, IsTrue, true, map};
 ghost use Rattle.std.specs.List.{AllByRecursion};

@@ -1,4 +1,4 @@
-//! What a student, a lecturer and the office see of a keeper in lists.
+//! Makes the view of a student, a lecturer or the office.
 
 ghost use Rattle.std.specs.Prelude.{◌≡◌, IfOk, option_map};
 ghost use Rattle.std.specs.List.{find};

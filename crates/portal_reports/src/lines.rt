@@ -1,4 +1,4 @@
-//! The lines of the office's texts.
+//! Formats the lines of the office's texts.
 
 ghost use Rattle.std.specs.Prelude.{◌≡◌, ◌++◌, IfOk, IsTrue, Some, None, codes, decimal};
 ghost use Rattle.std.specs.Prelude.{string_bytes};

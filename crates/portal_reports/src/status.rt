@@ -1,4 +1,4 @@
-//! The state of the round as a text.
+//! Writes the status of the round as text.
 
 ghost use Rattle.std.specs.Prelude.{◌≡◌, ◌++◌, IfOk, OnOk, IsTrue, codes, length};
 ghost use Rattle.portal_reports.specs.Status as spec;

@@ -1,4 +1,4 @@
-//! The result as CSV.
+//! Writes the result as CSV.
 
 ghost use Rattle.std.specs.Prelude.{◌≡◌, ◌++◌, ℕ, List, map, IfOk, OnOk};
 ghost use Rattle.portal_core.specs.Bodies as sheet;

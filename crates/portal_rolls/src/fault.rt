@@ -1,4 +1,4 @@
-//! Why a file could not be read.
+//! The reasons why a CSV file cannot be read.
 
 ghost use Rattle.std.specs.Prelude.{◌≡◌};
 ghost use Rattle.portal_rolls.specs.declared.fault.RollFault.TheVariants.{Memory};

@@ -1,4 +1,4 @@
-//! The fields of a record, and what each of them says.
+//! Parses the fields of a record: keys, names, codes, capacities, lists.
 
 ghost use Rattle.std.specs.Prelude.{◌≡◌, ◌<◌, IfOk, length, map};
 ghost use Rattle.std.specs.Char.{is_ascii_digit};

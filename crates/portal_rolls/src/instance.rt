@@ -1,4 +1,4 @@
-//! Instance files.
+//! Reads instance files.
 
 ghost use Rattle.std.specs.Prelude.{◌≡◌, IfOk, IfErr};
 ghost use Rattle.csv.specs.Records.{fields_of};

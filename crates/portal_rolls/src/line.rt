@@ -1,4 +1,4 @@
-//! The lines of an instance file.
+//! The lines of an instance file, collected by kind.
 
 ghost use Rattle.std.specs.Prelude.{◌≡◌, ◌++◌, ◌∷◌, [], List, OnOk, IfErr};
 ghost use Rattle.portal_rolls.specs.Lines as spec;

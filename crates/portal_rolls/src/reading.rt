@@ -1,4 +1,4 @@
-//! Reading a file of any kind: its header, then record by record up to the first fault.
+//! Reads a CSV file of any kind, record by record, up to its first fault.
 
 ghost use Rattle.std.specs.Prelude.{◌≡◌, ◌<◌, List, length, map};
 ghost use Rattle.csv.specs.Records.{fields_of};

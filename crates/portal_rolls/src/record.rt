@@ -1,4 +1,4 @@
-//! Records, one after the other.
+//! Reads the next CSV record.
 
 ghost use Rattle.std.specs.Prelude.{◌≡◌, List, OnOk, IfOk, IfErr};
 ghost use Rattle.csv.specs.Records.{fields_of};

@@ -1,4 +1,4 @@
-//! The rolls of lecturers, of projects and of students.
+//! Reads the rolls of lecturers, projects and students.
 
 ghost use Rattle.std.specs.Prelude.{◌≡◌, IfOk};
 ghost use Rattle.std.specs.List.{AllByRecursion};

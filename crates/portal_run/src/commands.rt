@@ -1,4 +1,4 @@
-//! The commands.
+//! Runs any command, and returns its exit status.
 
 ghost use Rattle.std.specs.Prelude.{◌≡◌, ◌*◌, ◌<◌, ◌≤◌, ◌⊎◌, ◌∷◌, [], codes, drop, map, None};
 ghost use Rattle.std.specs.Prelude.{IfSome, IfOk, IsErr, IsTrue};

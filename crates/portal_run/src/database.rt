@@ -1,4 +1,4 @@
-//! The database that a command works on.
+//! Connects to a command's database file, opens and closes its store.
 
 ghost use Rattle.std.specs.Prelude.{◌≡◌, ◌⊎◌, false, IfErr, IfOk};
 ghost use Rattle.portal_run.specs.inner.Lines.{status_of};

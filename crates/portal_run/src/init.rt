@@ -1,4 +1,4 @@
-//! Makes a database, or brings one of version 1 to version 2.
+//! Runs `init` and `upgrade`: creates or upgrades a database.
 
 ghost use Rattle.std.specs.Prelude.{◌<◌, ◌≡◌, ◌≤◌, false};
 ghost use Rattle.sqlite.specs.Files.{over_files};

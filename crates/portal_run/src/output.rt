@@ -1,4 +1,4 @@
-//! What is written to the output, with the status that goes with it.
+//! Writes a text or a fault to the output, and returns the exit status.
 
 ghost use Rattle.std.specs.Prelude.{◌≡◌, ◌≢◌, ◌≤◌, ◌⊎◌};
 ghost use Rattle.std.specs.Io.KnownBytes.{Appends};

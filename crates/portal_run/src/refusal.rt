@@ -1,4 +1,4 @@
-//! Why a command did nothing with a database, and what is said then.
+//! Reports success, or the reason why a command refuses a database.
 
 ghost use Rattle.std.specs.Prelude.{◌≡◌, ◌↔◌, IfErr, IfOk, Some};
 ghost use Rattle.portal_run.specs.Run.{upgrade_line, upgrade_status};

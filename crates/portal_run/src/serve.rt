@@ -1,4 +1,4 @@
-//! What a year's database is worked on with: connections, one connection, and the report.
+//! Runs `serve`, `pipe` and `report` on a database.
 
 ghost use Rattle.std.specs.Prelude.{◌≡◌, ◌*◌, ◌≤◌};
 ghost use Rattle.portal_desk.specs.Kept.{TakesAtMost as TakesFew};

@@ -1,4 +1,4 @@
-//! A reader or a writer that is borrowed, as a source or a sink.
+//! Adapts a borrowed reader or writer as a source or sink.
 
 ghost use Rattle.std.specs.Prelude.{◌≡◌};
 

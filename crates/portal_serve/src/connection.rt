@@ -1,4 +1,4 @@
-//! One connection, on which nobody is waited for without end.
+//! Reads and writes a connection within timeouts, and closes it gracefully.
 
 use crate::stream::TimedStream;
 use portal_desk::read_again;

@@ -1,4 +1,4 @@
-//! Serves connections, one after another.
+//! The server loop: serves connections one after another, and counts faults.
 
 ghost use Rattle.std.specs.Prelude.{◌≡◌, ◌≢◌, ◌+◌, ◌-◌, ◌^◌, ◌<◌, ◌≤◌, true, if◌then◌else◌, List};
 ghost use Rattle.std.specs.Prelude.{Option, None, IfSome};

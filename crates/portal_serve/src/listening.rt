@@ -1,4 +1,4 @@
-//! Serves the connections of a socket.
+//! Serves the connections of a TCP listener, with timeouts.
 
 ghost use Rattle.std.specs.Prelude.{◌≡◌, ◌≢◌, ◌≤◌, true, List, IfOk, IfErr};
 ghost use Rattle.portal_desk.specs.Kept.{FailsByCount, AtFirst};

@@ -1,4 +1,4 @@
-//! Serves the one connection of a reader and a writer.
+//! Serves a reader and a writer as one connection.
 
 ghost use Rattle.std.specs.Prelude.{◌≡◌, ◌*◌, true, IfOk, OnOk, IfErr, IfSome};
 ghost use Rattle.portal_desk.specs.Kept.{ServesWhole, Stops, AtFirst, state_of, FailsByCount};

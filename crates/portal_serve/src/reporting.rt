@@ -1,4 +1,4 @@
-//! What the office is told of a year.
+//! Writes the office's report: the status, then any result.
 
 ghost use Rattle.std.specs.Prelude.{◌≡◌, ◌+◌, Err, IfOk};
 ghost use Rattle.portal_core.specs.Good.{Good};

@@ -1,4 +1,4 @@
-//! What a connection is served on: a stream that waits no longer than it is asked to.
+//! The trait of a two-way stream whose reads and writes have timeouts.
 
 ghost use Rattle.std.specs.Io.{ReadsAtMost, WritesAtMost};
 

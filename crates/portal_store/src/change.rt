@@ -1,4 +1,4 @@
-//! Makes one change of the world in a transaction of its own, whatever its kind.
+//! Makes one change of any kind, in a transaction of its own.
 
 ghost use Rattle.std.specs.Prelude.{◌≡◌, false};
 ghost use Rattle.sqlite.specs.Held.{state};

@@ -1,4 +1,4 @@
-//! Makes a store with tables of its own, in a connection or in memory.
+//! Creates a store with new tables, over a connection or in memory.
 
 ghost use Rattle.std.specs.Prelude.{◌≡◌, ◌↔◌, false, Err, IfOk, IfErr, IsTrue};
 ghost use Rattle.sqlite.specs.State.{HasCleanDisk, Survives};

@@ -1,5 +1,4 @@
-//! What an error of the connection, of the tables or of their rows means to who makes or opens a
-//! store.
+//! Converts database errors into the faults of a store.
 
 ghost use Rattle.std.specs.Prelude.{◌≡◌, ◌≢◌, ◌↔◌, ◌+◌, ◌-◌, ◌^◌};
 ghost use Rattle.sqlite.specs.Tree.{Trees};

@@ -1,4 +1,4 @@
-//! What becomes of the entries that a store remembers, after a change.
+//! Updates or drops the cached entries after a change.
 
 ghost use Rattle.std.specs.Prelude.{◌≡◌, OnOk, OnErr};
 ghost use Rattle.portal_core.specs.World.{changed, World};

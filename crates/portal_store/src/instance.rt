@@ -1,4 +1,4 @@
-//! The instance of the world that the tables stand for.
+//! Builds the allocation instance from the tables or from cached entries.
 
 ghost use Rattle.std.specs.Prelude.{◌≡◌, IfOk};
 ghost use Rattle.sqlite.specs.Effect.{IsDatabase};

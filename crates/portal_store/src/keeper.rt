@@ -1,4 +1,4 @@
-//! The store as a keeper: its view, its instance, and each change by its kind.
+//! Implements `Keeper` for the store.
 
 ghost use Rattle.std.specs.Prelude.{◌≡◌, IfOk, OnOk, OnErr, IsTrue};
 ghost use Rattle.sqlite.specs.State.{HasCleanDisk, Survives};

@@ -1,4 +1,4 @@
-//! Puts a student's list, or a lecturer's ranking, in place of the one before, in one transaction.
+//! Replaces a student's list or a lecturer's ranking, in one transaction.
 
 ghost use Rattle.std.specs.Prelude.{◌≡◌, false};
 ghost use Rattle.sqlite.specs.Held.{state};

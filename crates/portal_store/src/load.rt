@@ -1,4 +1,4 @@
-//! Loads the world that the tables stand for: its rows, in lists or as entries.
+//! Loads the world from the tables, as rows or as entries.
 
 ghost use Rattle.std.specs.Prelude.{◌≡◌};
 ghost use Rattle.sqlite.specs.Effect.{IsDatabase};

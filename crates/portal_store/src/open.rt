@@ -1,4 +1,4 @@
-//! Opens a store over tables that are there, once they are seen to be those of a good world.
+//! Checks the tables of both rounds and their world, and opens a store over them.
 
 ghost use Rattle.std.specs.Prelude.{◌≡◌, ◌≢◌, ◌↔◌, false, [], Err, IfOk, IfErr, IsTrue};
 ghost use Rattle.sqlite.specs.Effect.{IsDatabase};

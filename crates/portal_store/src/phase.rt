@@ -1,4 +1,4 @@
-//! Moves the phase of a round, in one transaction.
+//! Sets the phase of a round, in one transaction.
 
 ghost use Rattle.std.specs.Prelude.{◌≡◌, false};
 ghost use Rattle.sqlite.specs.Held.{state};

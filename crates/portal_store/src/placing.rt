@@ -1,4 +1,4 @@
-//! Publishes a result: each student's project and the phase, in one transaction.
+//! Publishes a result: writes placements and phase in one transaction.
 
 ghost use Rattle.std.specs.Prelude.{◌≡◌, false, map, IfOk, is_none, option_map};
 ghost use Rattle.std.specs.List.{filter_map};

@@ -1,4 +1,4 @@
-//! What a caller sees, by queries of what that caller may see.
+//! Finds out who the caller is, and makes the view from cache and queries.
 
 ghost use Rattle.std.specs.Prelude.{◌≡◌, false, None};
 ghost use Rattle.portal_core.specs.Meaning.{CountsFaults};

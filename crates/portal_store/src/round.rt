@@ -1,4 +1,4 @@
-//! Reads which round the tables are in, and its phase.
+//! Reads the current round, its phase and the office's code.
 
 ghost use Rattle.std.specs.Prelude.{◌≡◌, true, false};
 ghost use Rattle.sqlite.specs.Effect.{IsDatabase};

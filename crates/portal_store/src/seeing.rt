@@ -1,5 +1,5 @@
-//! Looks at tables before a store is opened over them: that each can be queried, the version, the
-//! numbers of rows, and the world.
+//! Checks the first round's tables before opening: readable, right version, distinct rowids, good
+//! world.
 
 ghost use Rattle.std.specs.Prelude.{◌≡◌, ◌≢◌, ◌↔◌, ◌⊎◌, false, [], ◌∷◌, pos, Err, List, IfErr};
 ghost use Rattle.std.specs.Prelude.{OnOk, IsTrue};

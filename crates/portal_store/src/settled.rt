@@ -1,4 +1,4 @@
-//! What holds of a connection in no transaction.
+//! States for proofs what holds of a connection outside a transaction.
 
 ghost use Rattle.std.specs.Prelude.{◌≡◌, false, IsTrue};
 ghost use Rattle.sqlite.specs.Held.{state};

@@ -1,4 +1,4 @@
-//! The store, and what hands a connection back.
+//! The store, and the faults of creating, opening and upgrading one.
 
 ghost use Rattle.std.specs.Prelude.{◌≡◌, false, IfOk};
 ghost use Rattle.sqlite.specs.Held.{state};

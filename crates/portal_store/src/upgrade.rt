@@ -1,4 +1,4 @@
-//! Upgrades: makes a store of the tables of version 1.
+//! Upgrades tables of version 1, and makes a store of them.
 
 ghost use Rattle.std.specs.Prelude.{◌≡◌, ◌↔◌, ◌⊎◌, false, Err, IfOk, IfErr, OnOk, OnErr, IsTrue};
 ghost use Rattle.sqlite.specs.State.{HasCleanDisk, Survives};

@@ -1,4 +1,4 @@
-//! Writes the projects that students are assigned to, into the rows of the first round.
+//! Writes the first round's result into the rows of students.
 
 ghost use Rattle.std.specs.Prelude.{◌≡◌, ◌∷◌};
 ghost use Rattle.portal_tables.specs.inner.Base.{[], option_map, owned};

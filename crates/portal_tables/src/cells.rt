@@ -1,4 +1,4 @@
-//! From one cell of a row that a query shows to a key, a name, a code or a number.
+//! Decodes single cells of a row: keys, names, codes, numbers.
 
 ghost use Rattle.std.specs.Prelude.{◌≡◌, ◌≤◌, is_none};
 ghost use Rattle.portal_tables.specs.inner.Base.{true, false, Err, IfOk, IfSome, column, bytes};

@@ -1,4 +1,4 @@
-//! Why tables are not read or written.
+//! The reasons why tables cannot be read or written.
 
 ghost use Rattle.std.specs.Prelude.{◌≡◌, ◌↔◌};
 ghost use Rattle.portal_tables.specs.inner.Base.{SqliteFailure, OutOfMemory};

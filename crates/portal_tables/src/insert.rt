@@ -1,5 +1,4 @@
-//! Rows more: the office's row, that of the second round, and rows of the other tables, eight in a
-//! statement where there are as many.
+//! Inserts rows into tables, eight in a statement while enough remain.
 
 ghost use Rattle.std.specs.Prelude.{◌≡◌, ◌<◌, ◌≤◌, ◌++◌, ◌∷◌};
 ghost use Rattle.portal_tables.specs.inner.Base.{ℕ, [], pos, map, OnOk, flat_map, Row, bound};

@@ -1,4 +1,4 @@
-//! The four tables of lists: the students' lists and the lecturers' rankings, of either round.
+//! The four tables of lists: students' lists and lecturers' rankings in each round.
 
 ghost use Rattle.std.specs.Prelude.{◌≡◌};
 ghost use Rattle.portal_tables.specs.Tables as meant;

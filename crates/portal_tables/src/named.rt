@@ -1,4 +1,4 @@
-//! Keys that rows begin with, looked for among rows whose keys rise.
+//! Finds rows by key, among rows sorted by key.
 
 ghost use Rattle.std.specs.Prelude.{◌≡◌, ◌<◌};
 ghost use Rattle.portal_tables.specs.inner.Base.{IfSome, is_some, map, length, slice_index_or};

@@ -1,4 +1,4 @@
-//! The row of the office: how it is read, and what number a phase has in it.
+//! Reads the office's row, and converts phases to numbers and back.
 
 ghost use Rattle.std.specs.Prelude.{◌≡◌, ◌↔◌, ◌∷◌};
 ghost use Rattle.portal_tables.specs.inner.Base.{[], pos, true, Err, IfOk, IfSome, IfNone, IsTrue};

@@ -1,4 +1,4 @@
-//! Reads which projects the results of both rounds give to students.
+//! Reads students' placements in the results of both rounds.
 
 ghost use Rattle.std.specs.Prelude.{◌≡◌, ◌≤◌, is_none, if◌then◌else◌};
 ghost use Rattle.portal_tables.specs.inner.Base.{true, Err, None, IfOk, option_map, length, map};

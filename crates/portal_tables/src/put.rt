@@ -1,4 +1,4 @@
-//! Puts a list in place of another.
+//! Replaces or clears an owner's list.
 
 ghost use Rattle.std.specs.Prelude.{◌≡◌, ◌≤◌};
 ghost use Rattle.portal_tables.specs.inner.Base.{length, map, IfOk};

@@ -1,4 +1,4 @@
-//! The three rolls of the portal, read by key and decoded.
+//! Reads the three rolls in key order, and decodes them.
 
 ghost use Rattle.std.specs.Prelude.{◌≡◌};
 ghost use Rattle.portal_tables.specs.inner.Base.{Err, IfOk, List, Cells, map, AllByRecursion};

@@ -1,5 +1,4 @@
-//! Whether the rows of a table have numbers of their own: what removes or changes rows goes by
-//! their numbers.
+//! Tests whether the rowids of a table are distinct, as updates and deletions require.
 
 ghost use Rattle.std.specs.Prelude.{◌≡◌};
 ghost use Rattle.portal_tables.specs.inner.Base.{true, IfSome, IsTrue, None, Int, column};

@@ -1,6 +1,4 @@
-//! Whether the tables are those that the portal makes, but for the terms of their checks and
-//! defaults: a scratch connection in memory has the portal's own, and the two schemas are compared
-//! part by part.
+//! Compares a schema with the portal's own, except for the terms of CHECK and DEFAULT.
 
 ghost use Rattle.std.specs.Prelude.{◌≡◌, ◌↔◌};
 ghost use Rattle.portal_tables.specs.inner.Base.{IsTrue, [], length, false, IfOk, OnOk, Option};

@@ -1,5 +1,4 @@
-//! Reads and writes the tables of the second round: its phase, who has a ranking in it, and its
-//! result.
+//! Reads and sets the second round's phase, records who has ranked, and replaces its result.
 
 ghost use Rattle.std.specs.Prelude.{◌≡◌, ◌∷◌};
 ghost use Rattle.portal_tables.specs.inner.Base.{[], pos, Err, IfOk, ThePhase, InSecond};

@@ -1,5 +1,4 @@
-//! What can be asked of the tables: each query is a text, with a value at most, and shows rows of
-//! one table.
+//! Defines all queries, each of one table, and runs them.
 
 ghost use Rattle.std.specs.Prelude.{◌≡◌};
 ghost use Rattle.portal_tables.specs.inner.Base.{Err, List, AllByRecursion, Cells, bound};

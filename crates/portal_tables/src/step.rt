@@ -1,4 +1,4 @@
-//! Commits: a step is taken in a transaction of its own.
+//! Commits a step in a transaction of its own.
 
 ghost use Rattle.std.specs.Prelude.{◌≡◌};
 ghost use Rattle.portal_tables.specs.inner.Base.{false, Err, OnOk, OnErr, IsTrue, HasCleanDisk};

@@ -1,4 +1,4 @@
-//! Updates one column of one row: the phase, the version, or that a ranking is there.
+//! Sets the first round's phase, the version, or the flag that a lecturer has a ranking.
 
 ghost use Rattle.portal_tables.specs.inner.Running.{Does, Made};
 ghost use Rattle.portal_tables.specs.inner.RowChanges.{IsOfVersion, MovesTo, Ranks};

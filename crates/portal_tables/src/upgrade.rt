@@ -1,4 +1,4 @@
-//! Upgrades: makes all tables of the six of version 1.
+//! Upgrades the six tables of version 1 to all eleven.
 
 ghost use Rattle.std.specs.Prelude.{◌≡◌};
 ghost use Rattle.portal_tables.specs.inner.Base.{false, Err, OnOk, OnErr, IsTrue, HasCleanDisk};

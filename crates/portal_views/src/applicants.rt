@@ -1,4 +1,4 @@
-//! Applicants and placed students of a lecturer's projects.
+//! Reads the applicants and placed students of a lecturer's projects.
 
 ghost use Rattle.std.specs.Prelude.{◌≡◌, ◌∷◌, ◌++◌};
 ghost use Rattle.portal_views.specs.inner.Base.{[], IfOk, OnOk, map, is_at, is_from_ranking};

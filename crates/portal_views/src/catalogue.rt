@@ -1,5 +1,4 @@
-//! The catalogue of the projects: each with its lecturer's name, and in the second round with the
-//! room that the first left.
+//! Makes the catalogue; in the second round it shows the remaining room.
 
 ghost use Rattle.std.specs.Prelude.{◌≡◌};
 ghost use Rattle.portal_core.specs.inner.Room as left_by;

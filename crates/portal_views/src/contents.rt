@@ -1,4 +1,4 @@
-//! The rows of the rolls and of a round's lists and result, read and decoded.
+//! Reads the rolls, with the lists and the result of a round.
 
 ghost use Rattle.std.specs.Prelude.{◌≡◌};
 ghost use Rattle.portal_views.specs.inner.Base.{Err, IfOk, map, AllByRecursion, IsDatabase};

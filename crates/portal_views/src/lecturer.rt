@@ -1,4 +1,4 @@
-//! What a lecturer sees, by queries of the own ranking, the own projects and their applicants.
+//! Makes a lecturer's view by queries of projects, applicants and ranking.
 
 ghost use Rattle.std.specs.Prelude.{◌≡◌, ◌≤◌};
 ghost use Rattle.portal_views.specs.inner.Base.{Err, IfOk, AllByRecursion, option_map, map, column};

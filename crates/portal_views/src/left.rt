@@ -1,4 +1,4 @@
-//! The students who take part, but for those of other rows.
+//! Finds the students of a round who are missing from given rows.
 
 ghost use Rattle.std.specs.Prelude.{◌≡◌, ◌&&◌, is_none};
 ghost use Rattle.portal_views.specs.inner.Base.{Err, IfOk, not, map, filter, has, Rise};

@@ -1,5 +1,4 @@
-//! What may be told of a student: of one, of those whose keys rows begin with, and of those whose
-//! list holds a project. Each is asked for by key.
+//! Reads what a lecturer may see of applicants: key, name and placement.
 
 ghost use Rattle.std.specs.Prelude.{◌≡◌, ◌∷◌};
 ghost use Rattle.portal_views.specs.inner.Base.{[], Err, IfOk, Some, AllByRecursion, map, length};

@@ -1,4 +1,4 @@
-//! What the office sees, by queries of who has a list, an applicant, a ranking and a placement.
+//! Makes the office's view by queries, with missing lists and lecturers still to rank.
 
 ghost use Rattle.std.specs.Prelude.{◌≡◌, ◌&&◌, if◌then◌else◌};
 ghost use Rattle.portal_core.specs.World.{is_from_ranking};

@@ -1,4 +1,4 @@
-//! Puts persons among others by their keys.
+//! Inserts persons into a list sorted by key.
 
 ghost use Rattle.std.specs.Prelude.{◌≡◌, ◌≤◌, insert};
 ghost use Rattle.portal_views.specs.inner.Base.{OnOk, length, Person as ThatPerson, put, put_all};

@@ -1,4 +1,4 @@
-//! What a student sees, by queries of the own list and place.
+//! Makes a student's view by queries of the list and the placement.
 
 ghost use Rattle.std.specs.Prelude.{◌≡◌};
 ghost use Rattle.portal_views.specs.inner.Base.{Err, IfOk, IsDatabase};

@@ -1,4 +1,4 @@
-//! The main promise, of the portal as a whole: a desk over a store.
+//! Serves streams over a new portal in memory; its contract states the main promise.
 #![tactic(auto)]
 
 ghost use Rattle.std.specs.Prelude.{IfSome, map};

@@ -1,4 +1,4 @@
-//! Streams that are served one after another over a new portal in memory.
+//! Tests that a second stream finds what the first one stored.
 
 use crate::replies_in_memory;
 use portal_core::Code;

@@ -1,4 +1,4 @@
-//! JSON bodies that come in.
+//! Parses the JSON bodies of requests.
 
 ghost use Rattle.std.specs.Prelude.{◌≡◌, map, option_map};
 ghost use Rattle.serde_json.specs.View.{view, items_view};

@@ -1,4 +1,4 @@
-//! The call that a request makes.
+//! Turns a request into a call, or refuses it.
 
 ghost use Rattle.std.specs.Prelude.{◌≡◌, ◌⊎◌, None, IfOk, IfErr};
 ghost use Rattle.portal_core.specs.Meaning.{call_model};

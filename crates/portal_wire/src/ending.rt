@@ -1,4 +1,4 @@
-//! How the requests of a stream end.
+//! The ways in which the requests of a stream end.
 
 /// How the requests of a stream end.
 #[derive(Clone, Copy, Debug, PartialEq, Eq, Drop)]

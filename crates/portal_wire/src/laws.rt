@@ -1,4 +1,4 @@
-//! Laws over the definitions alone: what the requests of a stream are.
+//! Laws: a stream has exactly one list of requests and one ending.
 
 ghost use Rattle.std.specs.Prelude.{◌≡◌, ℕ, List};
 ghost use Rattle.portal_core.specs.Run.{Request};

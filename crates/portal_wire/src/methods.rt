@@ -1,4 +1,4 @@
-//! The method of a request.
+//! Parses the method of a request.
 
 ghost use Rattle.std.specs.Prelude.{◌≡◌, IfOk};
 ghost use Rattle.portal_wire.specs.Wish.{method_of};

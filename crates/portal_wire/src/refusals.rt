@@ -1,4 +1,4 @@
-//! The reply to a refusal.
+//! Turns a refusal into a reply.
 
 ghost use Rattle.std.specs.Prelude.{◌≡◌, IfOk};
 ghost use Rattle.serde_json.specs.View.{view};

@@ -1,4 +1,4 @@
-//! The bytes of a reply.
+//! Writes a reply as bytes: status line, headers and body.
 
 ghost use Rattle.std.specs.Prelude.{◌≡◌, IfOk, OnOk, ◌++◌, string_bytes};
 ghost use Rattle.portal_core.specs.Answer.{HasWholeNumbers};

@@ -1,4 +1,4 @@
-//! The routes.
+//! Finds the route of a path, and its allowed methods.
 
 ghost use Rattle.std.specs.Prelude.{◌≡◌, IfOk, option_map};
 ghost use Rattle.matchit.specs.Seek.{first};

@@ -1,4 +1,4 @@
-//! The parser of the command line.
+//! Builds the parser of the command line.
 
 ghost use Rattle.std.specs.Prelude.{◌≡◌, false, IfOk};
 ghost use Rattle.clap.specs.Words.{rule_of};

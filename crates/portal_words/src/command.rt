@@ -1,4 +1,4 @@
-//! The commands, and the words that ask for each.
+//! Parses the command line into a command or a text to print.
 
 ghost use Rattle.std.specs.Prelude.{◌≡◌, ◌∷◌, [], codes, drop, map, IfOk, IfErr, IsTrue, IsSomeAnd};
 ghost use Rattle.std.specs.Prelude.{Option, Some, None};

@@ -1,4 +1,4 @@
-//! Who is better off in another matching.
+//! Finds the first student who gets a better project in another matching.
 
 ghost use Rattle.std.specs.Prelude.{◌<◌, ◌↔◌, ℕ, IsTrue, MatchOption, length};
 ghost use Rattle.spa_model.specs.Spa.{IsMatching};

@@ -1,4 +1,4 @@
-//! A pair that blocks a matching.
+//! A blocking pair, with its letter.
 
 use spa_model::Letter;
 

@@ -1,4 +1,4 @@
-//! The students of each project and of each lecturer, counted once.
+//! Counts each project's and lecturer's students, and finds the worst rank among them.
 
 ghost use Rattle.std.specs.Prelude.{◌≡◌, ◌+◌, ◌<◌, ◌^◌, IfOk, length, max};
 ghost use Rattle.spa_model.specs.Spa.{IsMatching, IsOn, place, ranking_of};

@@ -1,4 +1,4 @@
-//! All pairs that block a matching.
+//! Lists all blocking pairs of a matching.
 
 ghost use Rattle.std.specs.Prelude.{◌≡◌, ◌+◌, ◌<◌, IfOk, OnOk, MatchOption, length};
 ghost use Rattle.spa_model.specs.declared.letter.Letter.{Letter};

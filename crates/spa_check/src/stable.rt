@@ -1,4 +1,4 @@
-//! Whether no pair blocks a matching, found without memory.
+//! Tests whether a matching is stable, without allocating memory.
 
 ghost use Rattle.std.specs.Prelude.{◌≡◌, ◌<◌, ◌↔◌, ◌⊎◌, ℕ, IsTrue, MatchOption, length};
 ghost use Rattle.spa_model.specs.declared.letter.Letter.{Letter};

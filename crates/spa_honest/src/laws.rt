@@ -1,4 +1,4 @@
-//! Laws over the definitions alone.
+//! Laws for students: best matchings exist, honest lists are best, waiting never pays.
 
 ghost use Rattle.std.specs.Prelude.{◌≡◌, ◌↔◌, ℕ, ◌∷◌, [], Some, None};
 ghost use Rattle.spa_model.specs.Spa.{IsBest, IsLawful};

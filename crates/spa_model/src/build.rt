@@ -1,4 +1,4 @@
-//! From rows to an instance.
+//! Builds an instance from its rows, or refuses them.
 
 mod applicants;
 mod numbers;

@@ -1,4 +1,4 @@
-//! Laws over the definitions alone.
+//! Laws: a blocking pair's letter, the best matching and the instance are each unique.
 
 ghost use Rattle.std.specs.Prelude.{◌≡◌, ℕ, List, Option};
 ghost use Rattle.spa_rows.specs.Lines.{Rows};

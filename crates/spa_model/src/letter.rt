@@ -1,4 +1,4 @@
-//! The case by which a pair blocks a matching.
+//! The letter a, b or c, which names the case of a blocking pair.
 
 use std::fmt;
 

@@ -1,4 +1,4 @@
-//! Matchings.
+//! Matchings, built from pairs, with the faults that pairs can have.
 
 ghost use Rattle.std.specs.Prelude.{◌≡◌, ◌<◌, IfErr, IfOk, OnOk, length};
 

@@ -1,4 +1,4 @@
-//! The faults of a matching's pairs: for each, a function returns the least row that has it.
+//! Checks the pairs of a matching, and finds the project that they give each student.
 
 ghost use Rattle.std.specs.Prelude.{◌≡◌, ◌<◌, ◌≤◌, ◌↔◌, IfOk, IfErr, OnOk, All, IsTrue, length};
 ghost use Rattle.std.specs.Prelude.{map};

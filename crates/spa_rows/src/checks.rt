@@ -1,4 +1,4 @@
-//! The faults of rows in their order, up to those that speak of applicants.
+//! Checks the rows of an instance, but not whether rankings match the applicants.
 
 ghost use Rattle.std.specs.Prelude.{◌≡◌, Err, IfErr, IfOk, IsOk, MatchOption, OnOk};
 ghost use Rattle.spa_rows.specs.Faults.{HasFault, HasNoneBefore, IsRefusal};

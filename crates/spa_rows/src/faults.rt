@@ -1,4 +1,4 @@
-//! The faults of an instance's rows.
+//! The faults that the rows of an instance can have.
 
 ghost use Rattle.std.specs.Prelude.{◌≡◌};
 ghost use Rattle.spa_rows.specs.declared.faults.InstanceFault.TheVariants.{Memory};

@@ -1,4 +1,4 @@
-//! The place of each key among lines.
+//! Looks up lines by key, in a hash table.
 
 ghost use Rattle.std.specs.Prelude.{◌≡◌, ◌<◌, ◌↔◌, IsTrue, IfNone, IfOk, IfSome, length};
 ghost use Rattle.std.specs.Prelude.{slice_index_or};

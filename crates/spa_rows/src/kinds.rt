@@ -1,4 +1,4 @@
-//! What the kinds of lines share, so that it is looked at in one way.
+//! Traits that the kinds of lines share: row and key, capacity, list.
 
 ghost use Rattle.std.specs.Prelude.{◌≡◌, ℕ, List, map};
 

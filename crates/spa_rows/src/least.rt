@@ -1,4 +1,4 @@
-//! One function for each fault of lines: the least row that has it.
+//! Finds the lowest-numbered row with a given fault, such as a bad key or a repeat.
 
 ghost use Rattle.std.specs.Prelude.{◌≡◌, ◌<◌, ◌↔◌, false, if◌then◌else◌, IfOk, IsSortedByKey};
 ghost use Rattle.std.specs.Prelude.{IsTrue, Some, length, map};

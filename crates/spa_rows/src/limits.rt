@@ -1,4 +1,4 @@
-//! How many there may be of each thing.
+//! Limits on the number of people and projects, on capacities and on list length.
 
 ghost use Rattle.std.specs.Prelude.{◌↔◌, ◌≤◌, IsTrue};
 

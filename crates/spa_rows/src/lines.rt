@@ -1,4 +1,4 @@
-//! The lines of an instance, with texts as they were read.
+//! The lines of an instance, unchecked: keys are plain bytes.
 
 use std::marker::Model;
 

@@ -1,4 +1,4 @@
-//! Lines in the order of their keys.
+//! Sorts lines by key.
 
 ghost use Rattle.std.specs.Prelude.{◌≡◌, OnOk, IsPermutation, IsSortedByKey};
 ghost use Rattle.std.specs.Ordering.{nat_cmp};

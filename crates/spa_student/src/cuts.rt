@@ -1,4 +1,4 @@
-//! `solve`: the method SPA-student, by cursors into the lists and cuts in the rankings.
+//! `solve`: the SPA-student algorithm, with cursors into lists and cuts in rankings.
 
 ghost use Rattle.std.specs.Prelude.{◌≡◌, ◌≢◌, ◌<◌, ◌≤◌, ◌+◌, ◌↔◌, ◌⊎◌, ℕ, IfOk, IfSome};
 ghost use Rattle.std.specs.Prelude.{MatchOption, IsTrue, Some, None, length, slice_set};

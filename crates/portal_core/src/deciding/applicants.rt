@@ -1,4 +1,4 @@
-//! The applicants of a lecturer, as a ranking is checked against them.
+//! Looks up a lecturer's applicants by key, to check a ranking.
 
 ghost use Rattle.std.specs.Prelude.{◌≡◌, ◌||◌, Bool, true, false, not, OnOk, IfOk, IfSome, IfNone};
 ghost use Rattle.std.specs.List.{list_any};

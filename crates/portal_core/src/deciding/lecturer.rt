@@ -1,4 +1,4 @@
-//! What a lecturer is answered.
+//! Decides a lecturer's calls.
 
 ghost use Rattle.std.specs.Prelude.{◌≡◌, [], ◌∷◌, map, option_map, codes, Some, IfOk};
 ghost use Rattle.serde_json.specs.View as json;

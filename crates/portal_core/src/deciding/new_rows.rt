@@ -1,4 +1,4 @@
-//! A roll, taken row by row, whole or not at all.
+//! Checks the rows to be added to a roll; one faulty row refuses all.
 
 ghost use Rattle.std.specs.Prelude.{◌≡◌, [], ◌∷◌, ◌++◌, List, reverse, nat_le, length};
 ghost use Rattle.std.specs.Prelude.{if◌then◌else◌, OnOk, IfOk, IfErr, MatchResult};

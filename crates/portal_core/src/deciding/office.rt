@@ -1,4 +1,4 @@
-//! The office's calls.
+//! Decides the office's calls.
 
 ghost use Rattle.std.specs.Prelude.{◌≡◌, ◌∷◌, [], length, map, filter, not, codes, if◌then◌else◌};
 ghost use Rattle.std.specs.Prelude.{IfOk};

@@ -1,4 +1,4 @@
-//! Replies, and what is decided with them.
+//! Builds decisions, and the refusals that several calls share.
 
 ghost use Rattle.std.specs.Prelude.{◌≡◌, codes, IfOk};
 ghost use Rattle.serde_json.specs.View as json;

@@ -1,4 +1,4 @@
-//! What a student is answered.
+//! Decides a student's calls.
 
 ghost use Rattle.std.specs.Prelude.{◌≡◌, [], IfOk};
 ghost use Rattle.serde_json.specs.View as json;

@@ -1,5 +1,4 @@
-//! Fills the missing rankings: each lecturer without one gets the applicants in the order of their
-//! keys.
+//! Fills missing rankings with the lecturers' applicants in key order.
 
 ghost use Rattle.std.specs.Prelude.{◌≡◌, IfOk, OnOk, OnErr, map};
 ghost use Rattle.portal_list.specs.inner.Parts.{applicant_keys};

@@ -1,4 +1,4 @@
-//! Adds rows to the rolls: each new row as an entry that has made nothing yet.
+//! Adds rows to the rolls, as entries without a list or ranking.
 
 ghost use Rattle.std.specs.Prelude.{◌≡◌, IfOk, OnOk, OnErr, map};
 ghost use Rattle.portal_core.specs.Words.{put_all};

@@ -1,4 +1,4 @@
-//! Opens the second round: the lists and rankings that there are become those of the first.
+//! Opens the second round: moves lists, rankings and placements to the first round's fields.
 
 ghost use Rattle.std.specs.Prelude.{◌≡◌, map};
 ghost use Rattle.portal_core.specs.World.{ranked_before, placed_before};

@@ -1,4 +1,4 @@
-//! Puts a result: each student who takes part gets the project of the pairs, or none.
+//! Stores a result: assigns its projects to the students who take part.
 
 ghost use Rattle.std.specs.Prelude.{◌≡◌, IfOk, OnOk, OnErr, map};
 ghost use Rattle.portal_core.specs.World.{placement_in, with_place};

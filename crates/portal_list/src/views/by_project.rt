@@ -1,4 +1,4 @@
-//! Applicants and placed students, project by project.
+//! Finds a lecturer's applicants and placed students, project by project.
 
 ghost use Rattle.std.specs.Prelude.{◌≡◌, IfOk, map, option_map, filter, [], if◌then◌else◌};
 ghost use Rattle.portal_core.specs.Words.{has};

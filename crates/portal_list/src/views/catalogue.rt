@@ -1,4 +1,4 @@
-//! The catalogue: each project with its lecturer's name.
+//! Makes the catalogue: each project with its lecturer's name.
 
 ghost use Rattle.std.specs.Prelude.{◌≡◌, IfOk, map, option_map};
 ghost use Rattle.portal_core.specs.View.{listing_with};

@@ -1,4 +1,4 @@
-//! What only the office sees: the rolls, who has no list, and who is still to rank.
+//! Collects what only the office sees: rolls, missing lists and missing rankings.
 
 ghost use Rattle.std.specs.Prelude.{◌≡◌, IfOk, map, filter, ◌&&◌, [], if◌then◌else◌};
 ghost use Rattle.std.specs.List.{list_any};

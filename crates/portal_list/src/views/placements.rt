@@ -1,4 +1,4 @@
-//! The projects that results give to students, as the phase shows them.
+//! Finds the placements that a phase shows.
 
 ghost use Rattle.std.specs.Prelude.{◌≡◌, IfOk, option_map};
 ghost use Rattle.portal_core.specs.World.{shown_placement, pairs_with};

@@ -1,4 +1,4 @@
-//! Whom a code names, by the rolls' columns of codes.
+//! Finds the lecturer or student with a code.
 
 ghost use Rattle.std.specs.Prelude.{◌≡◌, option_map};
 ghost use Rattle.portal_core.specs.View.{lecturer_with, student_with};

@@ -1,4 +1,4 @@
-//! The catalogue, made of the tables once and shared by all who are shown it.
+//! Makes the catalogue once, and shares it from the cache.
 
 ghost use Rattle.std.specs.Prelude.{◌≡◌};
 ghost use Rattle.portal_core.specs.View as seen;

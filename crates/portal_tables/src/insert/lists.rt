@@ -1,4 +1,4 @@
-//! Inserts rows of the lists.
+//! Defines the INSERT statements of the tables of lists.
 
 ghost use Rattle.portal_tables.specs.Tables.{tree_of};
 ghost use Rattle.portal_tables.specs.inner.RowChanges.{AddsBy, place_new};

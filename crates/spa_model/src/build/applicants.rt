@@ -1,4 +1,4 @@
-//! The faults that speak of applicants: one function for each, over numbered rows.
+//! Checks that each ranking lists exactly the lecturer's applicants.
 
 ghost use Rattle.std.specs.Prelude.{◌≡◌, ◌<◌, ◌↔◌, All, Any, IfOk, IsTrue, None, length, map};
 ghost use Rattle.spa_rows.specs.inner.Least.{IsLeastOf};

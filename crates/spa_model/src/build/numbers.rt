@@ -1,4 +1,4 @@
-//! Lines as rows of numbers.
+//! Converts lines into students, projects and lecturers, with indices for keys.
 
 ghost use Rattle.std.specs.Prelude.{◌≡◌, ◌<◌, ◌≤◌, All, IfOk, true, length, map};
 ghost use Rattle.spa_rows.specs.Lines.{is_key};
