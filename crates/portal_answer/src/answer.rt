@@ -11,19 +11,19 @@ use portal_rolls::read_instance;
 use spa_model::{Instance, Matching, PairLine};
 use std::alloc::{AllocError, Global};
 
-/// What is asked of a file.
+/// What to compute for an instance file.
 #[derive(Clone, Copy, Debug, PartialEq, Eq)]
 pub enum Task {
-    /// The pairs that block its matching.
+    /// The blocking pairs of the file's matching.
     Check,
-    /// The students' best stable matching of its instance.
+    /// The student-optimal stable matching of the file's instance.
     Solve,
 }
 
-/// The most bytes of a file.
+/// The greatest size of a file, in bytes.
 pub const LIMIT: usize = 4_194_304;
 
-/// What is told of an instance and a matching.
+/// Computes the answer for an instance and a matching.
 fn of_matching(
     alloc: Global,
     task: Task,
@@ -39,7 +39,7 @@ fn of_matching(
     }
 }
 
-/// What is told of an instance and the pairs of a matching.
+/// Computes the answer for an instance and the pairs of a matching.
 fn of_pairs(
     alloc: Global,
     task: Task,
@@ -54,7 +54,7 @@ fn of_pairs(
     }
 }
 
-/// What is told of the bytes of a file; `Err` where memory ran out.
+/// Computes the answer for the bytes of a file. An error means that memory ran out.
 pub fn answer_to(alloc: Global, task: Task, bytes: &[u8]) -> Result<Told, AllocError>
     ensures { IfOk result (λ t. IsAnswer task bytes.now t) }
 {

@@ -9,7 +9,7 @@ use spa_check::{Block, blocking_pairs};
 use spa_model::{Instance, Matching};
 use std::alloc::{AllocError, Global};
 
-/// Adds the line of a pair.
+/// Appends the line of a blocking pair.
 fn put_block(
     alloc: Global,
     text: &mut Vec<u8>,
@@ -31,7 +31,7 @@ fn put_block(
     Ok(())
 }
 
-/// The lines of these pairs, and their number.
+/// Writes the lines of these pairs, then their number. The status is 0 without pairs, else 1.
 fn lines(alloc: Global, instance: &Instance, blocks: &[Block]) -> Result<Told, AllocError>
     requires { All (λ b. (b.student < length instance.now.choices)
         × (b.project < length instance.now.lecturers)) blocks.now }
@@ -48,7 +48,7 @@ fn lines(alloc: Global, instance: &Instance, blocks: &[Block]) -> Result<Told, A
     Ok(Told { text, status })
 }
 
-/// The pairs that block the matching.
+/// Computes the answer of `check`: the pairs that block the matching.
 pub(crate) fn checked(
     alloc: Global,
     instance: &Instance,

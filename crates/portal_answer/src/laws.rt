@@ -4,7 +4,7 @@ ghost use Rattle.std.specs.Prelude.{◌≡◌};
 ghost use Rattle.portal_answer.specs.Answer.{Text, Told, IsAnswer};
 ghost use Rattle.portal_answer.specs.declared.answer.Task.{Task};
 
-/// To the bytes of a file each command tells one text alone, with one status.
+/// Law: for each command, the bytes of a file have at most one answer.
 pub fn answer_is_one()
     ensures { (task : Task) (bytes : Text) (t u : Told) → IsAnswer task bytes t
         → IsAnswer task bytes u → t ≡ u }

@@ -1,5 +1,4 @@
-//! The answer to an instance file: its blocking pairs or its best matching, or what is wrong with
-//! it.
+//! Answers instance files: with the blocking pairs, the best matching, or the first fault.
 #![tactic(auto)]
 
 mod answer;

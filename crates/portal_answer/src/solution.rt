@@ -9,7 +9,7 @@ use spa_model::{Instance, Matching};
 use spa_student::solve;
 use std::alloc::{AllocError, Global};
 
-/// Adds the line of a student.
+/// Appends the line of a student.
 fn put_student(
     text: &mut Vec<u8>,
     instance: &Instance,
@@ -38,7 +38,7 @@ fn put_student(
     Ok(())
 }
 
-/// The lines of all students, and how many have a project.
+/// Writes a line for each student, then how many have a project and how many do not.
 fn lines(alloc: Global, instance: &Instance, matching: &Matching) -> Result<Told, AllocError>
     requires { IsMatching instance.now matching.now }
     ensures { IfOk result (λ t. t ≡ assignment instance.now matching.now) }
@@ -59,7 +59,7 @@ fn lines(alloc: Global, instance: &Instance, matching: &Matching) -> Result<Told
     Ok(Told { text, status: 0 })
 }
 
-/// The matching that is best for the students.
+/// Computes the answer of `solve`: the student-optimal stable matching.
 pub(crate) fn solved(alloc: Global, instance: &Instance) -> Result<Told, AllocError>
     ensures { IfOk result (λ t. TellsBest instance.now t) }
 {

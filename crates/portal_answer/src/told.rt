@@ -9,7 +9,7 @@ use spa_model::{BadInstance, BadMatching, InstanceFault, MatchingFault};
 use std::alloc::{AllocError, Global};
 use std::marker::Model;
 
-/// A text, and the exit status that goes with it.
+/// An output text with its exit status.
 #[derive(Drop)]
 pub struct Told {
     pub text: Vec<u8>,
@@ -24,7 +24,7 @@ impl Model for Told {
     ghost view = { λ t. record { text = t.text.items; status = t.status } };
 }
 
-/// A refusal that stands at no row.
+/// Writes a refusal that names no row.
 pub(crate) fn plain(alloc: Global, word: &str) -> Result<Told, AllocError>
     ensures { IfOk result (λ t. t ≡ refused_plain word.now) }
 {
@@ -35,7 +35,7 @@ pub(crate) fn plain(alloc: Global, word: &str) -> Result<Told, AllocError>
     })
 }
 
-/// A refusal that stands at a row.
+/// Writes a refusal that names a row.
 fn at_row(alloc: Global, word: &str, row: u32) -> Result<Told, AllocError>
     ensures { IfOk result (λ t. t ≡ refused_row word.now row) }
 {
@@ -46,7 +46,7 @@ fn at_row(alloc: Global, word: &str, row: u32) -> Result<Told, AllocError>
     })
 }
 
-/// The refusal of a field.
+/// Writes the refusal of a malformed field.
 fn bad_field(alloc: Global, row: u32, column: u32) -> Result<Told, AllocError>
     ensures { IfOk result (λ t. t ≡ spec.refused_file (RollFault.BadField row column)) }
 {
@@ -57,7 +57,7 @@ fn bad_field(alloc: Global, row: u32, column: u32) -> Result<Told, AllocError>
     })
 }
 
-/// What is told of a file that could not be read; `Err` where memory ran out.
+/// Writes the refusal of a file that cannot be read. An error means that memory ran out.
 pub(crate) fn refused_file(alloc: Global, fault: RollFault) -> Result<Told, AllocError>
     ensures told { IfOk result (λ t. t ≡ spec.refused_file fault) }
     ensures memory { fault ≡ RollFault.Memory → IsErr result }
@@ -105,7 +105,7 @@ fn matching_word(fault: MatchingFault) -> &'static str
     }
 }
 
-/// What is told of rows that are no instance; `Err` where memory ran out.
+/// Writes the refusal of rows that are no instance. An error means that memory ran out.
 pub(crate) fn refused_instance(alloc: Global, bad: BadInstance) -> Result<Told, AllocError>
     ensures told { IfOk result (λ t. t ≡ spec.refused_instance bad.fault bad.row) }
     ensures memory { bad.fault ≡ InstanceFault.Memory → IsErr result }
@@ -117,7 +117,7 @@ pub(crate) fn refused_instance(alloc: Global, bad: BadInstance) -> Result<Told, 
     }
 }
 
-/// What is told of pairs that are no matching; `Err` where memory ran out.
+/// Writes the refusal of pairs that are no matching. An error means that memory ran out.
 pub(crate) fn refused_matching(alloc: Global, bad: BadMatching) -> Result<Told, AllocError>
     ensures told { IfOk result (λ t. t ≡ spec.refused_matching bad.fault bad.row) }
     ensures memory { bad.fault ≡ MatchingFault.Memory → IsErr result }

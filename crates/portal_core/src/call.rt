@@ -3,7 +3,7 @@
 use crate::phase::{Phase, Round};
 use crate::rows::{LecturerRow, ProjectRow, StudentRow};
 
-/// A call of the portal.
+/// A call: what a request asks for.
 #[derive(Drop)]
 pub enum Call {
     Me,
@@ -19,14 +19,14 @@ pub enum Call {
     AddLecturers(Vec<LecturerRow>),
     AddProjects(Vec<ProjectRow>),
     AddStudents(Vec<StudentRow>),
-    /// Moves to this phase of the round, or of the current round where none is named.
+    /// Moves to this phase of the given round; `None` stands for the current round.
     Move { phase: Phase, round: Option<Round> },
     Status,
     Allocation,
     /// The result as CSV.
     AllocationCsv,
-    /// The result as a text.
+    /// The result as plain text.
     Report,
-    /// Gives a ranking to each lecturer still to rank: the applicants in the order of their keys.
+    /// Gives each lecturer who is still to rank a ranking: the applicants in the order of keys.
     FillRankings,
 }

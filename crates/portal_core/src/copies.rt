@@ -5,7 +5,7 @@ ghost use Rattle.std.specs.Prelude.{◌≡◌, IfOk};
 use spa_rows::Key;
 use std::alloc::{AllocError, Global};
 
-/// The same keys again. The error is want of memory.
+/// Copies the keys. Fails if memory runs out.
 pub fn copy_keys(alloc: Global, keys: &[Key]) -> Result<Vec<Key>, AllocError>
     ensures { IfOk result (λ v. v.items ≡ keys.now) }
 {
@@ -16,7 +16,7 @@ pub fn copy_keys(alloc: Global, keys: &[Key]) -> Result<Vec<Key>, AllocError>
     Ok(copies)
 }
 
-/// The same pairs again.
+/// Copies the pairs. Fails if memory runs out.
 pub(crate) fn copy_pairs(alloc: Global, pairs: &[(Key, Key)]) -> Result<Vec<(Key, Key)>, AllocError>
     ensures { IfOk result (λ v. v.items ≡ pairs.now) }
 {

@@ -15,11 +15,11 @@ pub enum Body {
     Json(Value),
     Csv(Vec<u8>),
     Plain(Vec<u8>),
-    /// The body of a reply that memory or the store failed.
+    /// The body of a 503 reply, after a fault of memory or the store.
     Unavailable,
 }
 
-/// A reply; `allow` has the methods that a path has, where another was asked for.
+/// A reply. `allow` lists the methods of the path if the request used another one.
 #[derive(Drop)]
 pub struct Reply {
     pub status: u16,
@@ -28,7 +28,7 @@ pub struct Reply {
 }
 
 impl Reply {
-    /// The reply where memory or the store failed; it takes no memory.
+    /// Returns the 503 reply to a fault of memory or the store. Allocates no memory.
     pub fn unavailable() -> Reply
         ensures { reply_model result ≡ run.unavailable }
     {
@@ -55,32 +55,32 @@ pub enum Change {
     /// The current round's result, as pairs of a student and a project; the phase becomes
     /// published.
     Result(Vec<(Key, Key)>),
-    /// Each lecturer still to rank gets the applicants in the order of their keys.
+    /// A ranking for each lecturer who is still to rank: the applicants in the order of keys.
     Fill,
-    /// The second round opens, where the first is published: its lists, rankings and places are
-    /// laid by.
+    /// The opening of the second round, if the first is published. Lists, rankings and placements
+    /// become the earlier ones.
     SecondRound,
 }
 
-/// What shows the result to the office.
+/// A text that shows the result to the office.
 #[derive(Clone, Copy, Debug, PartialEq, Eq)]
 pub enum Sheet {
     Csv,
     Report,
 }
 
-/// What is to be done.
+/// What a call does.
 #[derive(Drop)]
 pub enum Act {
     Nothing,
     Apply(Change),
     /// Solves the world's instance and publishes the matching.
     Publish,
-    /// Writes the sheet into the reply's body, which is empty and of the sheet's kind.
+    /// Writes the sheet into the reply's body, an empty `Csv` or `Plain`.
     Render(Sheet),
 }
 
-/// What is answered, and what is to be done.
+/// The decision on a call: its reply and its act.
 #[derive(Drop)]
 pub struct Decision {
     pub reply: Reply,

@@ -11,12 +11,12 @@ use spa_rows::Key;
 use std::alloc::{AllocError, Global};
 use std::collections::HashMap;
 
-/// A row that is found by a key.
+/// A row that is looked up by its key.
 pub trait Keyed {
-    /// The key.
+    /// The row's key.
     ghost key_of: { Self → words.Key };
 
-    /// The key.
+    /// Returns the row's key.
     fn key(&self) -> &Key
         ensures { result.now ≡ key_of self.now };
 }
@@ -45,7 +45,7 @@ impl Keyed for StudentRow {
     }
 }
 
-/// A pair of the result, by its student.
+/// A pair of a student and a project; its key is the student's.
 impl Keyed for (Key, Key) {
     ghost key_of = { λ pair. pair.0 };
 
@@ -62,7 +62,7 @@ impl Keyed for &Key {
     }
 }
 
-/// The rows by their keys; where a key stands twice, the first row.
+/// Indexes the rows by key. If several rows have the same key, the first one counts.
 pub(crate) fn rows_by_key<'a, X: Keyed>(
     alloc: Global,
     rows: &'a [X],
@@ -76,7 +76,7 @@ pub(crate) fn rows_by_key<'a, X: Keyed>(
     Ok(table)
 }
 
-/// The row with this key.
+/// Returns the row with this key.
 pub(crate) fn row_at<'a, X>(table: &HashMap<&'a [u8], &'a X>, key: &[u8]) -> Option<&'a X>
     ensures { result ≡ get text_eq table.now key.entry }
 {

@@ -37,8 +37,8 @@ ghost use Rattle.std.specs.List.{AllZip, AllByRecursion};
 ghost use Rattle.portal_core.specs.examples.Worked.{TellsApplicants, TellsMoves, TellsResult};
 ghost use Rattle.portal_core.specs.examples.Worked.{TellsOpening};
 
-/// Two runs without a 503 in which a caller starts with the same view and hears the same give the
-/// caller the same replies, and leave the caller the same view.
+/// Law: take two runs without a 503 in which a caller starts with the same view and hears the same.
+/// They give the caller the same replies and end with the same view.
 pub fn same_replies()
     ensures { (c : Key) (w v : World) (asked others : List Request) (told said : List Answer)
         (after later : List World) (items : List HeardItem)
@@ -49,9 +49,9 @@ pub fn same_replies()
         × (view (end_of w after) c ≡ view (end_of v later) c) }
 {}
 
-/// In a good world no call of a student or lecturer changes what another student or lecturer, or a
-/// stranger, sees. Of one's own calls, other than a move or new rows, one sees one's own list
-/// change. A request of another that changes no row may be struck out.
+/// Law: in a good world, a student's or lecturer's call changes only the caller's and the office's
+/// view. Except after moves and new rows, the caller's new view follows from the old view and the
+/// call. Removing another's request that changes nothing leaves a caller's replies unchanged.
 pub fn others_unseen()
     ensures others { (w v : World) (c d : Key) (ask : AbstractCall) (reply : Answer)
         → Good w → Step w d ask reply v → IsMember (view w d)
@@ -69,7 +69,7 @@ pub fn others_unseen()
         ≡ replies_to c (before ++ r ∷ rest) (told ++ a ∷ said)) }
 {}
 
-/// Each run has exactly one list of what a caller hears.
+/// Law: each run has exactly one list of what a caller hears.
 pub fn heard_once()
     ensures there { (c : Key) (w : World) (asked : List Request) (after : List World)
         → (items : List HeardItem) × Heard c w asked after items }
@@ -78,9 +78,9 @@ pub fn heard_once()
         → Heard c w asked after items → Heard c w asked after others → items ≡ others }
 {}
 
-/// A step from a good world leads to a good world, in which the results of both rounds together
-/// keep the capacities of the rolls. Of the second round a step leaves the first as it was
-/// published.
+/// Law: a step from a good world leads to a good world. There, the results of both rounds together
+/// keep within the capacities of the rolls. A step in the second round stays in it, and leaves the
+/// first round as it was published.
 pub fn step_good()
     ensures good { (w v : World) (code : Key) (ask : AbstractCall) (reply : Answer) → Good w
         → Step w code ask reply v → Good v }
@@ -91,17 +91,17 @@ pub fn step_good()
         → (v.round ≡ w.round) × (first v ≡ first w) }
 {}
 
-/// Each world that a run reaches from a good world is good, so that every published result is
+/// Law: each world that a run reaches from a good world is good. So every published result is
 /// stable.
 pub fn run_good()
     ensures { (w : World) (asked : List Request) (told : List Answer) (after : List World)
         → Good w → Run w asked told after → AllByRecursion Good after }
 {}
 
-/// What was shown of a result is shown from then on: to a student the project, to a lecturer each
-/// student at each own project, to the office each pair. So in each world that a step or a run
-/// reaches from a good one; and each phase of the second round shows the first one's result whole.
-/// It is not said that nothing is added: who is shown no project may be shown one later.
+/// Law: what a good world shows of a result stays shown in each world that a step or a run reaches.
+/// A student sees the project, a lecturer the students at each own project, the office all pairs.
+/// Each phase of the second round shows the whole result of the first. A student who is shown no
+/// project may be shown one later.
 pub fn results_stay()
     ensures step { (w v : World) (c code : Key) (ask : AbstractCall) (reply : Answer) → Good w
         → Step w code ask reply v → ShowsStill (view w c) (view v c) }
@@ -111,10 +111,10 @@ pub fn results_stay()
     ensures first { (w : World) (c : Key) → Good w → ShowsStill (view (first w) c) (view w c) }
 {}
 
-/// The round changes by one request alone: once the first round is published, the office moves to
-/// choosing and names the second. It is answered with that phase and that round, and leaves the
-/// second round, in which a good world keeps the first as it was published. Any other request
-/// leaves the round as it was, and of a run the second round lasts to the end.
+/// Law: only one request changes the round: the office's move to choosing that names the second
+/// round, once the first is published. The reply has that phase and that round. If the world was
+/// good, the second round keeps the first as it was published. In a run, the second round lasts to
+/// the end.
 pub fn round_opens()
     ensures step { (w v : World) (code : Key) (ask : AbstractCall) (reply : Answer)
         → Step w code ask reply v
@@ -128,14 +128,14 @@ pub fn round_opens()
         → first (changed w SecondRound) ≡ w }
 {}
 
-/// A step has one reply and leaves one world.
+/// Law: the world, code and call of a step determine its reply and the next world.
 pub fn step_once()
     ensures { (w v u : World) (code : Key) (ask : AbstractCall) (a b : Answer)
         → Step w code ask a v → Step w code ask b u → (a ≡ b) × (v ≡ u) }
 {}
 
-/// Two runs that nothing fails, from one world over one list of requests, give equal replies and
-/// leave equal worlds after each request.
+/// Law: two runs without a 503, from the same world and with the same requests, give equal replies
+/// and leave equal worlds after each request.
 pub fn one_run()
     ensures { (w : World) (asked : List Request) (told said : List Answer)
         (after later : List World)
@@ -143,9 +143,9 @@ pub fn one_run()
         → (told ≡ said) × (after ≡ later) }
 {}
 
-/// No fault is found in what is legal: a list of at most 20 known projects, none twice; a ranking
-/// that lists each applicant once, and no other; new rows that are not bad, within the limit. A
-/// student who has a project of the first round is refused all the same.
+/// Law: a list of at most 20 known projects, none twice, has no fault. Nor has a ranking of each
+/// applicant once and nobody else, or new rows that are not bad, within the limit. A student with a
+/// project of the first round is refused nevertheless.
 pub fn legal_is_taken()
     ensures choices { (catalogue : List Listing) (list : List Key)
         → IsChoice (map (λ (l : Listing). l.key) catalogue) list
@@ -165,9 +165,9 @@ pub fn legal_is_taken()
         → take_rows (student_roll v) 1 v.students rows ≡ Took rows 0 }
 {}
 
-/// The first fault is told, with what is wrong there: of a student's list, of a ranking and of a
-/// roll. A missing applicant of a ranking is told at position 0, and only where no position has a
-/// fault. A full roll is told without a row.
+/// Law: the refusal of a student's list, a ranking or a roll reports the first fault and its kind.
+/// A missing applicant is reported at position 0, and only if no position has a fault. A full roll
+/// is reported without a row.
 pub fn least_is_told()
     ensures choices { (catalogue : List Listing) (list : List Key) (fault : ListFault)
         → choice_fault catalogue 1 [] list ≡ Some fault
@@ -188,22 +188,22 @@ pub fn least_is_told()
         → IsFirstRefused (student_roll v) v.students rows fault }
 {}
 
-/// In a good world the catalogue shows each project that takes part in the round.
+/// Law: in a good world, the catalogue shows exactly the projects that take part in the round.
 pub fn catalogue_whole()
     ensures { (w : World) → Good w
         → map (λ (l : Listing). l.key) (catalogue w)
         ≡ map (λ (p : ProjectRow). p.key) (in_play w).projects }
 {}
 
-/// What a round is played in is, alone, a good world of a single round, with the same instance.
+/// Law: the rows that take part in a good world's round form a good world with the same instance.
 pub fn played_alone()
     ensures { (w : World) → Good w
         → Good (alone (in_play w)) × (instance (alone (in_play w)) ≡ instance w) }
 {}
 
-/// Two runs without a 503 that differ at most in the order within students' lists, at the start and
-/// in what the students hand in, give equal replies up to and with the first accepted move to
-/// published, but for the replies to a student's own list.
+/// Law: take two runs without a 503 that differ at most in the order within students' lists, stored
+/// or submitted. Their replies are equal up to and including the first accepted move to published.
+/// Replies that contain a student's list are excepted.
 pub fn places_unseen()
     ensures { (v w : World) (asked others : List Request) (told said : List Answer)
         (after later : List World)
@@ -212,7 +212,7 @@ pub fn places_unseen()
         → AlikeUntilPublished asked told said }
 {}
 
-/// In a good world a code names its own row, by role, and any other code nobody.
+/// Law: in a good world, a known code identifies its owner and role, an unknown code nobody.
 pub fn named_by_code()
     ensures office { (w : World) → Good w → view w w.office ≡ sees.Office (office_sees w) }
     ensures lecturers { (w : World) → Good w
@@ -223,9 +223,9 @@ pub fn named_by_code()
         → view w c ≡ sees.Nobody }
 {}
 
-/// What is published is the best for the students: a world that a step publishes has its best
-/// result; and where each result that a world shows is the best, as in one that shows none, so it
-/// is in each world that a run reaches.
+/// Law: a step that publishes a result publishes the student-optimal one. If a good world shows
+/// only student-optimal results, so does each world that a run reaches. A good world of the first
+/// round shows none before it is published.
 pub fn published_best()
     ensures step { (w v : World) (code : Key) (ask : AbstractCall) (reply : Answer)
         → Good w → is_published w.phase ≡ false → Step w code ask reply v
@@ -236,37 +236,37 @@ pub fn published_best()
         → ShowsBest w }
 {}
 
-/// What a student is shown with the honest list is, by that list, at least as good as what is shown
-/// with another: of two good worlds of the same round that differ at most in the list of one
-/// student, the first in published with its best result, where each lecturer orders the same
-/// students alike.
+/// Law: by the honest list, what a student is shown with it is at least as good as with another
+/// list. The law compares two good worlds of one round that differ at most in that student's list.
+/// The first world is published with its best result. Each lecturer orders the students on both
+/// rankings alike.
 pub fn honest_is_best()
     ensures { HonestIsBest }
 {}
 
-/// Who waits for the second round gains nothing: what a student is shown with the honest list in
-/// the first round is, by that list, at least as good as what is shown in any second round whose
-/// first round differs at most in the list of that student. Every second round that a run reaches
-/// from a published first round is such a one.
+/// Law: a student gains nothing by waiting for the second round. By the honest list, what is shown
+/// with it in the first round is at least as good as what a second round shows. The two first
+/// rounds differ at most in this student's list. The same holds for each second round that a run
+/// reaches from such a published first round.
 pub fn honest_over_both()
     ensures worlds { HonestOverBoth }
     ensures runs { HonestOverRuns }
 {}
 
-/// In a good world of the second round a student whom the first left finds no project of the first
-/// list in the catalogue: each of them is full, or its lecturer is.
+/// Law: take a student of a good second-round world who has no project of the first round. No
+/// project of the student's first list is in the catalogue: each is full, or its lecturer is.
 pub fn left_finds_none()
     ensures { LeftFindsNone }
 {}
 
-/// Whatever the students of a group list together, not all of them are shown a project that is
-/// better, by the own honest list, than what honest lists give: of two such worlds that differ at
-/// most in their lists, where one of the group at least takes part in the round.
+/// Law: whatever lists a group submits, some member is shown nothing better than with honest lists,
+/// by that member's honest list. The two worlds are as in `honest_is_best`, but may differ in all
+/// lists of the group. At least one member takes part in the round.
 pub fn no_group_gains()
     ensures { NoGroupGains }
 {}
 
-/// What is answered in a small world.
+/// Law: the replies in a small example world, worked out.
 pub fn worked_replies()
     ensures applicants { TellsApplicants }
     ensures moves { TellsMoves }

@@ -1,4 +1,4 @@
-//! The world of the portal: who sees what, what is answered, and what a call changes.
+//! What the portal does: worlds, what each caller sees, replies to calls, and changes.
 #![tactic(auto)]
 
 mod call;

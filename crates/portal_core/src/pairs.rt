@@ -9,9 +9,9 @@ use std::alloc::{AllocError, Global};
 use std::collections::HashMap;
 use std::marker::Model;
 
-/// The pairs of a result, each a student and a project, to be asked for a student's project. Where
-/// a student stands twice, the first pair counts. Keys can be made that its table tells apart one
-/// by one; a search then looks at each pair once at most.
+/// The pairs of a result, each a student and a project, indexed by student. If a student has
+/// several pairs, the first one counts. Keys can be crafted so that they all collide in the hash
+/// table. A lookup then examines each pair at most once.
 #[derive(Drop)]
 pub struct Pairs<'a> {
     pairs: &'a [(Key, Key)],
@@ -31,7 +31,7 @@ impl<'a> Model for Pairs<'a> {
 }
 
 impl<'a> Pairs<'a> {
-    /// These pairs.
+    /// Indexes these pairs by student.
     pub fn of(alloc: Global, pairs: &'a [(Key, Key)]) -> Result<Pairs<'a>, AllocError>
         ensures { IfOk result (λ p. p ≡ pairs.now) }
     {
@@ -39,7 +39,7 @@ impl<'a> Pairs<'a> {
         Ok(Pairs { pairs, by_student })
     }
 
-    /// The project that the pairs give to the student with this key.
+    /// Returns the project that the pairs give to the student with this key.
     pub fn project_of(&self, student: &[u8]) -> Option<&'a Key>
         ensures { option_map (λ key. key.now) result ≡ placement_in self.now student.now }
     {

@@ -23,12 +23,12 @@ pub enum Phase {
 pub enum Round {
     /// Everybody takes part.
     First,
-    /// Who has no project of the first round takes part, for the room that it left.
+    /// Only students without a project of the first round take part, for the remaining room.
     Second,
 }
 
 impl Round {
-    /// Whether a result is there: in published, and in the second round the first one's.
+    /// Returns whether there is a result: in published, and in every phase of the second round.
     pub fn has_result(self, phase: Phase) -> bool
         ensures { result ≡ world.has_result self phase }
     {
@@ -40,7 +40,7 @@ impl Round {
 }
 
 impl Phase {
-    /// The phase of this word.
+    /// Parses a phase from its word.
     pub fn parse(bytes: &[u8]) -> Option<Phase>
         ensures some { IfSome result (λ phase. phase_word phase ≡ bytes.now) }
         ensures none { IfNone result ((phase : phases.Phase) → phase_word phase ≡ bytes.now → ⊥) }
@@ -58,7 +58,7 @@ impl Phase {
         }
     }
 
-    /// Whether nobody may choose yet.
+    /// Returns whether the phase is setup, in which no student submits a list.
     pub fn is_setup(self) -> bool
         ensures { result ≡ world.is_setup self }
     {
@@ -68,7 +68,7 @@ impl Phase {
         }
     }
 
-    /// Whether the students' lists are closed, and lecturers see who applied.
+    /// Returns whether the students' lists are closed and lecturers see their applicants.
     pub fn is_from_ranking(self) -> bool
         ensures { result ≡ world.is_from_ranking self }
     {
@@ -78,7 +78,7 @@ impl Phase {
         }
     }
 
-    /// Whether the round's result is published.
+    /// Returns whether the round's result is published.
     pub fn is_published(self) -> bool
         ensures { result ≡ world.is_published self }
     {
@@ -88,7 +88,7 @@ impl Phase {
         }
     }
 
-    /// Its word.
+    /// Returns the phase's word, such as `setup`.
     pub fn word(&self) -> &'static str
         ensures { result.now ≡ phase_word self.now }
     {

@@ -12,8 +12,8 @@ use std::alloc::{AllocError, Global};
 use std::collections::HashMap;
 use std::marker::Model;
 
-/// The result, to be asked for each student's project. Keys can be made that its tables tell apart
-/// one by one; a search then looks at each row once at most.
+/// The result that the office sees, indexed by student. Keys can be crafted so that they all
+/// collide in its hash tables. A lookup then examines each row at most once.
 #[derive(Drop)]
 pub struct Placings<'a> {
     view: &'a OfficeView,
@@ -33,7 +33,7 @@ impl<'a> Model for Placings<'a> {
 }
 
 impl<'a> Placings<'a> {
-    /// The result that the office sees.
+    /// Indexes the result that the office sees.
     pub fn of(alloc: Global, view: &'a OfficeView) -> Result<Placings<'a>, AllocError>
         ensures { IfOk result (λ placings. placings ≡ view.now) }
     {
@@ -46,14 +46,14 @@ impl<'a> Placings<'a> {
         })
     }
 
-    /// Whether the result gives the student a project.
+    /// Returns whether the result gives the student a project.
     pub fn is_placed(&self, student: &StudentRow) -> bool
         ensures { result ≡ is_assigned self.now.pairs student.now.key }
     {
         self.pairs.project_of(student.key.as_bytes()).is_some()
     }
 
-    /// The project that the result gives to the student.
+    /// Returns the project that the result gives to the student.
     pub fn project_of(&self, student: &StudentRow) -> Option<&'a ProjectRow>
         ensures { option_map (λ row. row.now) result ≡ sheet.project_given self.now student.now }
     {

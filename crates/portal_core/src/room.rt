@@ -11,7 +11,7 @@ use crate::rows::{LecturerRow, ProjectRow};
 use spa_rows::Key;
 use std::alloc::{AllocError, Global};
 
-/// How many pairs give the project.
+/// Counts the pairs with this project.
 fn given_to(pairs: &[(Key, Key)], project: &Key) -> usize
     ensures { result ≡ students_at pairs.now project.now }
 {
@@ -24,7 +24,7 @@ fn given_to(pairs: &[(Key, Key)], project: &Key) -> usize
     count
 }
 
-/// The keys of the lecturer's projects, in their order. The error is want of memory.
+/// Returns the keys of the lecturer's projects, in their order. Fails if memory runs out.
 pub fn own_keys<'a>(
     alloc: Global,
     projects: &'a [ProjectRow],
@@ -41,14 +41,14 @@ pub fn own_keys<'a>(
     Ok(own)
 }
 
-/// Whether the key is one of these.
+/// Returns whether the key is one of these.
 fn is_among(keys: &[&Key], key: &Key) -> bool
     ensures { result ≡ list_any (λ k. equals key.now k.now) keys.now }
 {
     keys.iter().any(|k| *key == **k)
 }
 
-/// How many pairs give one of the projects.
+/// Counts the pairs with one of these projects.
 fn given_among(pairs: &[(Key, Key)], projects: &[&Key]) -> usize
     ensures { result ≡ pairs_among pairs.now (map (λ k. k.now) projects.now) }
 {
@@ -61,7 +61,7 @@ fn given_among(pairs: &[(Key, Key)], projects: &[&Key]) -> usize
     count
 }
 
-/// What is left of the capacity, if anything is.
+/// Returns the capacity minus `given`, or `None` if that is not positive.
 fn room_of(capacity: u32, given: usize) -> Option<u32>
     ensures { result ≡ room_of capacity given }
 {
@@ -73,8 +73,8 @@ fn room_of(capacity: u32, given: usize) -> Option<u32>
     }
 }
 
-/// The project with the room that the first round left, if it left any. The pairs are that round's
-/// result. The error is want of memory.
+/// Returns the project with its remaining capacity, or `None` if it is full. `pairs` is the first
+/// round's result. Fails if memory runs out.
 pub fn project_left(
     alloc: Global,
     pairs: &[(Key, Key)],
@@ -92,8 +92,8 @@ pub fn project_left(
     }
 }
 
-/// The lecturer with the room that the first round left over all projects, if it left any. The
-/// pairs are that round's result. The error is want of memory.
+/// Returns the lecturer with the capacity that remains over all projects, or `None` if none
+/// remains. `pairs` is the first round's result. Fails if memory runs out.
 pub fn lecturer_left(
     alloc: Global,
     projects: &[ProjectRow],

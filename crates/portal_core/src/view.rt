@@ -100,7 +100,7 @@ impl Model for OfficeView {
 }
 
 impl OfficeView {
-    /// The same view again, of the same rolls and the same catalogue, which are shared.
+    /// Copies the view. The copy shares the rolls and the catalogue.
     ///
     /// # Errors
     ///

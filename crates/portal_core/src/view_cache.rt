@@ -14,18 +14,18 @@ use crate::view::OfficeView;
 use spa_rows::Key;
 use std::rc::Rc;
 
-/// What a keeper remembers of what it showed, and would show again of the same world. Beside a
-/// keeper of which each view costs queries, it spares those that would answer as before.
+/// A cache of what a keeper showed and would show again of the same world. It saves a keeper in a
+/// database from repeating queries whose answers have not changed.
 #[derive(Drop)]
 pub struct ViewCache {
-    /// The catalogue, once it was shown.
+    /// The catalogue, if it is cached.
     pub catalogue: Option<Rc<Vec<Listing>>>,
-    /// What the office sees, once that was shown.
+    /// The office's view, if it is cached.
     pub office: Option<OfficeView>,
 }
 
 impl ViewCache {
-    /// Nothing is remembered yet, which is right of every world.
+    /// Returns the empty cache, which is valid for every world.
     pub fn nothing() -> ViewCache
         ensures { (w : World) → IsCacheOf result w }
     {
@@ -35,9 +35,8 @@ impl ViewCache {
         }
     }
 
-    /// Keeps of what is remembered what still holds after the change: the catalogue unless it is
-    /// one of a roll that is shown in it or the second round opens, and what the office sees where
-    /// the change tells it.
+    /// Updates the cache after the change. New lecturers or projects and the opening of the second
+    /// round invalidate the catalogue. `office_after` updates or invalidates the office's view.
     fn refresh(&mut self, change: &Change)
         ensures { (w : World) → IsCacheOf self.old w
             → IsCacheOf self.new (changed w (change_model change.now)) }
@@ -56,9 +55,8 @@ impl ViewCache {
         }
     }
 
-    /// Remembers of the changed world, where the change was made, what was remembered and still
-    /// holds; where it was refused, whatever the error, all that was remembered stays. It takes no
-    /// memory.
+    /// Updates the cache if the change was made, and leaves it as it is if the change failed.
+    /// Allocates no memory.
     pub fn follow<E>(&mut self, change: &Change, made: &Result<(), E>)
         ensures made { OnOk made.now
             ((w : World) → IsCacheOf self.old w
@@ -71,7 +69,7 @@ impl ViewCache {
     }
 }
 
-/// The keys but for this one.
+/// Removes this key from the keys.
 fn but_for(mut keys: Vec<Key>, key: &Key) -> Vec<Key>
     ensures { result.items ≡ filter (λ x. not (equals x key.now)) keys.items }
 {
@@ -79,7 +77,7 @@ fn but_for(mut keys: Vec<Key>, key: &Key) -> Vec<Key>
     keys
 }
 
-/// What the office sees after the student's list was put, where what it saw before tells that.
+/// Returns the office's view after a student's new list, or `None` to invalidate it.
 fn after_list(view: OfficeView, student: &Key, projects: &[Key]) -> Option<OfficeView>
     ensures { IfSome result
         (λ seen. (w : World) → view ≡ office_sees w
@@ -94,7 +92,7 @@ fn after_list(view: OfficeView, student: &Key, projects: &[Key]) -> Option<Offic
     })
 }
 
-/// What the office sees after the lecturer's ranking was put, where what it saw before tells that.
+/// Returns the office's view after a lecturer's new ranking, or `None` to invalidate it.
 fn after_ranking(view: OfficeView, lecturer: &Key, students: &[Key]) -> Option<OfficeView>
     ensures { IfSome result
         (λ seen. (w : World) → view ≡ office_sees w
@@ -109,8 +107,7 @@ fn after_ranking(view: OfficeView, lecturer: &Key, students: &[Key]) -> Option<O
     })
 }
 
-/// What the office sees after the missing rankings were made: the same, but that nobody is still to
-/// rank.
+/// Returns the office's view after the missing rankings are filled: nobody is still to rank.
 fn after_fill(mut view: OfficeView) -> OfficeView
     ensures { (w : World) → view ≡ office_sees w → result ≡ office_sees (changed w Fill) }
 {
@@ -118,7 +115,7 @@ fn after_fill(mut view: OfficeView) -> OfficeView
     view
 }
 
-/// What the office sees after the change, where what it saw before tells that.
+/// Returns the office's view after the change, or `None` to invalidate it.
 fn office_after(seen: Option<OfficeView>, change: &Change) -> Option<OfficeView>
     ensures { IfSome result
         (λ after. (w : World) → IfSome seen (λ view. view ≡ office_sees w)

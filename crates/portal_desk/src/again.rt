@@ -8,11 +8,11 @@ ghost use Rattle.std.specs.IoError.{error_kind};
 use std::io;
 use std::io::{ErrorKind, Read, Write};
 
-/// One read, tried again where a signal interrupted it.
+/// Reads once, and retries if a signal interrupts the read.
 ///
 /// # Errors
 ///
-/// The reader answered another error.
+/// The reader returned an error other than `Interrupted`.
 pub fn read_again<R: Read>(reader: &mut R, buf: &mut [u8]) -> io::Result<usize>
     ensures bound { ReadsAtMost result buf.new }
     ensures bytes { ReadConsumes (R.remaining reader.old) (R.remaining reader.new) result buf.new }
@@ -31,11 +31,11 @@ pub fn read_again<R: Read>(reader: &mut R, buf: &mut [u8]) -> io::Result<usize>
     Err(io::Error::from(ErrorKind::Other))
 }
 
-/// One write, tried again where a signal interrupted it.
+/// Writes once, and retries if a signal interrupts the write.
 ///
 /// # Errors
 ///
-/// The writer answered another error.
+/// The writer returned an error other than `Interrupted`.
 pub fn write_again<W: Write>(writer: &mut W, buf: &[u8]) -> io::Result<usize>
     ensures bound { WritesAtMost result buf.now }
     ensures bytes { WriteAppends (W.contents writer.old) (W.contents writer.new) result buf.now }

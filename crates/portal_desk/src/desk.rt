@@ -28,7 +28,7 @@ use portal_wire::{Ending, call_of, reply_of};
 use std::alloc::Global;
 use std::marker::Model;
 
-/// Acts on requests over what keeps a world.
+/// A desk, which serves requests and streams over a keeper.
 #[derive(Drop)]
 pub struct Desk<K: Keeper> {
     keeper: K,
@@ -47,7 +47,7 @@ impl<K: Keeper> Model for Desk<K> {
 }
 
 impl<K: Keeper> Desk<K> {
-    /// Takes what keeps a world, a good one where it is clean.
+    /// Makes a desk over a keeper; the world of a clean keeper has to be good.
     pub fn new(keeper: K) -> Desk<K>
         requires { K.clean keeper → Good (K.world keeper) }
         ensures keeper { result.keeper ≡ keeper }
@@ -59,7 +59,7 @@ impl<K: Keeper> Desk<K> {
         }
     }
 
-    /// Whether the store failed.
+    /// Returns whether the store has failed.
     pub fn failed(&self) -> bool
         ensures failed { result ≡ self.now.failed }
         ensures good { K.clean self.now.keeper → Good (K.world self.now.keeper) }
@@ -67,7 +67,7 @@ impl<K: Keeper> Desk<K> {
         self.failed
     }
 
-    /// Gives back what keeps the world.
+    /// Returns the keeper.
     pub fn into_keeper(self) -> K
         ensures same { result ≡ self.keeper }
         ensures good { K.clean result → Good (K.world result) }
@@ -76,7 +76,7 @@ impl<K: Keeper> Desk<K> {
         keeper
     }
 
-    /// Takes what came of a call: after a fault of the store, and only then, the desk has failed.
+    /// Returns the reply for the outcome of a call; a fault of the store makes the desk fail.
     fn record_outcome(&mut self, outcome: Result<Reply, KeepFault>) -> Reply
         ensures keeper { self.new.keeper ≡ self.old.keeper }
         ensures failed { self.new.failed ≡ (self.old.failed || is_store outcome) }
@@ -93,8 +93,8 @@ impl<K: Keeper> Desk<K> {
         }
     }
 
-    /// Acts on one request, as one step of the world. Where memory or the store fails the reply is
-    /// 503, and once the store has failed every later reply is.
+    /// Acts on one request, as one step of the world. The reply is 503 if memory runs out or the
+    /// store fails. Once the store has failed, every reply is 503.
     pub fn respond(&mut self, alloc: Global, request: &Request) -> Reply
         ensures clean { K.clean self.new.keeper → K.clean self.old.keeper }
         ensures lasts { reply_model result ≢ unavailable
@@ -168,12 +168,12 @@ impl<K: Keeper> Desk<K> {
         Ok(())
     }
 
-    /// Serves the requests of a stream, one after another: each acts, and its reply is written
-    /// whole, before more is read.
+    /// Serves the requests of a stream in order, at most 256. It acts on a request and writes the
+    /// whole reply before it reads on.
     ///
     /// # Errors
     ///
-    /// The reader or the writer failed, memory ran out, or the store failed.
+    /// The source or the sink failed, memory ran out, or the store failed.
     pub fn serve<R: Source, W: Sink>(
         &mut self,
         alloc: Global,
@@ -241,7 +241,7 @@ impl<K: Keeper> Desk<K> {
     }
 }
 
-/// The reply to a request that makes no call, or 503 for want of memory.
+/// Returns the reply to a request that makes no call, or 503 if memory runs out.
 fn turn_away(alloc: Global, refusal: &Refusal) -> Reply
     ensures told { TurnsAway refusal.now (reply_model result) }
     ensures whole { HasWholeNumbers (body_model result.body) }
@@ -252,14 +252,14 @@ fn turn_away(alloc: Global, refusal: &Refusal) -> Reply
     }
 }
 
-/// Whether the method is HEAD.
+/// Returns whether the method is HEAD.
 fn asks_head(request: &Request) -> bool
     ensures { result ≡ is_head request.now.method.items }
 {
     request.method.as_slice() == b"HEAD".as_slice()
 }
 
-/// Whether the reply to a request closes, after so many others.
+/// Returns whether the connection closes after this request, which follows `done` others.
 fn closes_now(request: &Request, done: u32) -> bool
     requires { done < 256 }
     ensures { result ≡ closes_at (256 - done) (seen request.now) }
@@ -267,14 +267,14 @@ fn closes_now(request: &Request, done: u32) -> bool
     request.close || 256 - done <= 1
 }
 
-/// The ending after a reply that closes.
+/// Returns the ending after the last reply; `close` says that the request closes the connection.
 fn ending_of(close: bool) -> Ending
     ensures { last result ≡ last_for close }
 {
     if close { Ending::Closed } else { Ending::Limit }
 }
 
-/// A stream that was served to its end.
+/// Makes the result for a stream that was served to its end.
 fn served(requests: u32, ending: Ending) -> Served
     ensures requests { result.requests ≡ requests }
     ensures ending { result.ending ≡ ending }
@@ -282,7 +282,7 @@ fn served(requests: u32, ending: Ending) -> Served
     Served { requests, ending }
 }
 
-/// A stream that was served in part.
+/// Makes the fault for a stream that was served in part.
 fn stopped(cause: Cause, requests: u32) -> ServeFault
     ensures cause { result.cause ≡ cause }
     ensures requests { result.requests ≡ requests }

@@ -9,47 +9,47 @@ use crate::again::{read_again, write_again};
 use std::io::{Read, Write};
 use std::marker::Model;
 
-/// A device did not do what was asked.
+/// The error of a failed read or write.
 #[derive(Clone, Copy, Debug, PartialEq, Eq, Drop)]
 pub struct Failed;
 
-/// What gives bytes.
+/// A source of bytes that counts its failed calls.
 pub trait Source {
-    /// The bytes that are left, where they are told.
+    /// The bytes that are left, if they are known.
     ghost remaining: { Self → Option (List ℕ) };
 
-    /// Which device it is, where one is lent: no call changes that.
+    /// The identity of a borrowed device, which no call changes.
     ghost name: { Self → ℕ } = { λ _. 0 };
 
-    /// How many calls failed, or the greatest number.
+    /// The number of failed calls, up to `u64::MAX`.
     ghost failed: { Self → ℕ };
 
-    /// Reads some bytes, none only at the end or with no room. A call that fails counts once, and
-    /// moves no byte.
+    /// Reads some bytes, and none only at the end or into an empty buffer. A failed call counts
+    /// once and consumes no bytes.
     fn read(&mut self, buf: &mut [u8]) -> Result<usize, Failed>
         ensures bound { ReadsAtMost result buf.new }
         ensures bytes { ReadConsumes (remaining self.old) (remaining self.new) result buf.new }
         ensures counts { Counts result (failed self.old) (failed self.new) }
         ensures same_device { name self.new ≡ name self.old };
 
-    /// How many calls failed.
+    /// Returns the number of failed calls, up to `u64::MAX`.
     fn failures(&self) -> u64
         ensures { result ≡ failed self.now };
 }
 
-/// What takes bytes.
+/// A sink of bytes that counts its failed calls.
 pub trait Sink {
-    /// The bytes that it holds, where they are told.
+    /// The bytes that the sink holds, if they are known.
     ghost contents: { Self → Option (List ℕ) };
 
-    /// Which device it is, where one is lent: no call changes that.
+    /// The identity of a borrowed device, which no call changes.
     ghost name: { Self → ℕ } = { λ _. 0 };
 
-    /// How many calls failed, or the greatest number.
+    /// The number of failed calls, up to `u64::MAX`.
     ghost failed: { Self → ℕ };
 
-    /// Takes some bytes, at least one where there is one. A call that fails counts once, and moves
-    /// no byte.
+    /// Writes some bytes, and at least one unless the buffer is empty. A failed call counts once
+    /// and writes no bytes.
     fn write(&mut self, buf: &[u8]) -> Result<usize, Failed>
         ensures bound { WritesAtMost result buf.now }
         ensures some { IfOk result (λ n. 0 < length buf.now → 0 < n) }
@@ -57,14 +57,14 @@ pub trait Sink {
         ensures counts { Counts result (failed self.old) (failed self.new) }
         ensures same_device { name self.new ≡ name self.old };
 
-    /// How many calls failed.
+    /// Returns the number of failed calls, up to `u64::MAX`.
     fn failures(&self) -> u64
         ensures { result ≡ failed self.now };
 }
 
-/// A reader or a writer of std, with a count of the calls that failed: it passes on what the reader
-/// or writer answers, tries again where a signal interrupted it, and only another error of it, or a
-/// write that takes none of some bytes, is `Failed`.
+/// A reader or writer of std that counts its failed calls. It retries a call that a signal
+/// interrupts. Any other error is `Failed`, and so is a write that takes no byte of a non-empty
+/// buffer.
 #[derive(Drop)]
 pub struct Counted<T> {
     inner: T,
@@ -80,7 +80,7 @@ impl<T> Model for Counted<T> {
 }
 
 impl<T> Counted<T> {
-    /// Counts from none on.
+    /// Wraps a reader or writer, and starts the count at 0.
     pub fn new(inner: T) -> Counted<T>
         ensures inner { result.inner ≡ inner }
         ensures none { result.failures ≡ 0 }
@@ -88,7 +88,7 @@ impl<T> Counted<T> {
         Counted { inner, failures: 0 }
     }
 
-    /// Gives back what was counted.
+    /// Returns the reader or writer.
     pub fn into_inner(self) -> T
         ensures { result ≡ self.inner }
     {
@@ -143,7 +143,7 @@ impl<T: Write> Sink for Counted<T> {
     }
 }
 
-/// Writes all the bytes, or some first part of them that lacks the last.
+/// Writes all the bytes. On failure it has written a proper prefix of them.
 pub(crate) fn write_whole<W: Sink>(sink: &mut W, bytes: &[u8]) -> Result<(), Failed>
     ensures whole { OnOk result (Appends (W.contents sink.old) (W.contents sink.new) bytes.now) }
     ensures part { OnErr result ((k : ℕ) × (k < length bytes.now)

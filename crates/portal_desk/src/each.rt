@@ -9,8 +9,8 @@ use crate::devices::Counted;
 use portal_core::Keeper;
 use std::alloc::Global;
 
-/// Serves streams one after another, and gives what was written for each. There is no answer where
-/// serving a stream failed, or memory ran out.
+/// Serves streams one after another, and returns what was written for each. Returns `None` if
+/// serving a stream fails or memory runs out.
 pub fn serve_each<K: Keeper>(
     alloc: Global,
     desk: &mut Desk<K>,

@@ -16,11 +16,10 @@ ghost use Rattle.portal_desk.specs.Kept.{state_of};
 use portal_core::Keeper;
 use portal_core::laws::{published_best, run_good};
 
-/// Of any two lists of streams, each served stream after stream with no reply 503: where a caller
-/// starts with the same view and hears the same, the replies to the caller are the same bytes, and
-/// so is the last view. And where two worlds differ at most in the order within students' lists,
-/// and what is asked too, the replies are the same bytes, up to and with the first accepted move to
-/// published, but for the replies to a student's own list.
+/// Law: take two lists of visits without a 503 reply. If a caller starts with the same view and
+/// hears the same in both, the caller's replies and last view are equal. Now let the first worlds
+/// and the requests differ at most in the order within students' lists. Then all replies are equal,
+/// up to and including the first accepted move to published, except replies with a student's list.
 pub fn same_bytes()
     ensures replies { (c : Key) (w v : World) (visits others : List Visit) (items : List HeardItem)
         → AreVisits w visits → AreAnswered visits → Hears c w visits items
@@ -34,16 +33,16 @@ pub fn same_bytes()
         → AlikeTexts (exchanges_of visits) (exchanges_of others) }
 {}
 
-/// What `serve` tells of streams that were served one after another over a clean keeper are visits.
+/// Law: visits describe successive calls of `serve` if each call leaves its keeper clean.
 pub fn served_is_visit<K: Keeper>()
     ensures { (k : K) (sessions : List (Session K))
         → AreServed (state_of K.disk K.clean K.world) k sessions
         → (visits : List Visit) × AllTellOf sessions visits × AreVisits (K.world k) visits }
 {}
 
-/// Two lists of streams that any two desks have served, over keepers of any kind. What they wrote
-/// is told by visits; and where no reply in them is 503, and a caller starts with the same view and
-/// hears the same in both, the replies to that caller are equal byte for byte.
+/// Law: visits describe what two desks write, over keepers of any kind that stay clean. Suppose no
+/// reply is 503, and a caller starts with the same view and hears the same in both lists. Then the
+/// replies to that caller are equal byte for byte.
 pub fn equal_byte_for_byte<K: Keeper, L: Keeper>()
     ensures { (c : Key) (k : K) (l : L) (sessions : List (Session K)) (others : List (Session L))
         → AreServed (state_of K.disk K.clean K.world) k sessions
@@ -56,16 +55,15 @@ pub fn equal_byte_for_byte<K: Keeper, L: Keeper>()
         → replies_in c first ≡ replies_in c second) }
 {}
 
-/// The main promise. Two desks have each served a list of streams, one after another, over keepers
-/// of any kind; a call may have stopped before its stream ended. Each first keeper was clean and
-/// kept a good world, no reply was 503, and each last keeper's disk has returned what was written.
-/// Between two streams a keeper may have been closed and opened again. Then there are visits that
-/// tell of these streams.
+/// Law: the main promise. Two desks each serve a list of streams in turn, over keepers of any kind.
+/// A call of `serve` may stop before its stream ends, and a keeper may be closed and reopened
+/// between streams. Each first keeper is clean with a good world, no reply is 503, and each last
+/// keeper's disk has returned what was written. Then visits describe these streams.
 ///
-/// Each world in them is good, so that each published result is stable; and what a step publishes
-/// is the best for the students. No request of a student or a lecturer shows anything to another
-/// caller but the office. Where a caller starts with the same view and hears the same in both
-/// lists, the replies to that caller are equal byte for byte, and so is the last view.
+/// Each world in these visits is good, so each published result is stable. Each step that publishes
+/// leaves the student-optimal result. A student's or lecturer's request changes no view but the
+/// caller's and the office's. Suppose a caller starts with the same view and hears the same in both
+/// lists. Then the replies to that caller are equal byte for byte, and so is the last view.
 pub fn headline<K: Keeper, L: Keeper>()
     ensures { (k : K) (l : L) (sessions : List (Session K)) (others : List (Session L))
         → IsServed (state_of K.disk K.clean K.world) k sessions

@@ -1,4 +1,4 @@
-//! The desk: acts on requests over any keeper of a world, and serves streams of them.
+//! The desk: serves streams of requests over any keeper.
 #![tactic(auto)]
 
 mod again;

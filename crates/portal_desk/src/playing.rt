@@ -22,7 +22,7 @@ use spa_model::{Instance, Key, Matching};
 use spa_student::solve;
 use std::alloc::{AllocError, Global};
 
-/// The body that has the text of a sheet.
+/// Makes the body with the text of a sheet.
 fn sheet_body(alloc: Global, view: &OfficeView, sheet: Sheet) -> Result<Body, AllocError>
     ensures { IfOk result (λ body. body_model body ≡ sheet_text view.now sheet) }
 {
@@ -32,7 +32,7 @@ fn sheet_body(alloc: Global, view: &OfficeView, sheet: Sheet) -> Result<Body, Al
     }
 }
 
-/// The reply with its sheet written, where the office is given one.
+/// Replaces the body of the office's reply by the sheet if the act asks for one.
 fn written(alloc: Global, view: &View, act: &Act, reply: Reply) -> Result<Reply, AllocError>
     requires { HasWholeNumbers (body_model reply.body) }
     ensures told { IfOk result (λ whole. reply_model whole
@@ -53,7 +53,7 @@ fn written(alloc: Global, view: &View, act: &Act, reply: Reply) -> Result<Reply,
     })
 }
 
-/// What is decided for a caller who sees this, its sheet written.
+/// Decides a call for a caller with this view, and writes the sheet if there is one.
 fn decide_whole(alloc: Global, view: &View, call: &Call) -> Result<Decision, AllocError>
     ensures decided { IfOk result (λ d. decision_model d
         ≡ answer.decision view.now (call_model call.now)) }
@@ -64,7 +64,7 @@ fn decide_whole(alloc: Global, view: &View, call: &Call) -> Result<Decision, All
     Ok(Decision { reply, act })
 }
 
-/// What is decided for the caller with this code.
+/// Decides a call for the caller with this code.
 fn ask<K: Keeper>(
     alloc: Global,
     keeper: &mut K,
@@ -88,7 +88,7 @@ fn ask<K: Keeper>(
     }
 }
 
-/// The pairs of a matching, by student.
+/// Returns the pairs of a matching, in the order of the students.
 fn pairs_of(
     alloc: Global,
     instance: &Instance,
@@ -136,7 +136,7 @@ fn publish<K: Keeper>(alloc: Global, keeper: &mut K) -> Result<(), KeepFault>
     }
 }
 
-/// Does what was decided.
+/// Performs an act.
 fn perform<K: Keeper>(alloc: Global, keeper: &mut K, act: Act) -> Result<(), KeepFault>
     requires good { K.clean keeper.old → Good (K.world keeper.old) }
     requires can { K.clean keeper.old → CanDo (K.world keeper.old) (act_model act) }
@@ -155,7 +155,7 @@ fn perform<K: Keeper>(alloc: Global, keeper: &mut K, act: Act) -> Result<(), Kee
     }
 }
 
-/// Plays one call, as a step of the world that is kept.
+/// Plays one call as a step of the keeper's world, and returns the reply.
 pub fn play<K: Keeper>(
     alloc: Global,
     keeper: &mut K,

@@ -12,10 +12,10 @@ use crate::devices::{Failed, Source};
 use portal_frame::{Frame, frame};
 use std::alloc::{AllocError, Global};
 
-/// The longest head and the longest body together.
+/// The length of the longest head and the longest body together, in bytes.
 const LONGEST: usize = 1_064_960;
 
-/// Why no more was read.
+/// Why no frame was found.
 #[derive(Clone, Copy, Debug, PartialEq, Eq, Drop)]
 pub(crate) enum FrameFault {
     Read,
@@ -38,7 +38,7 @@ impl From<Failed> for FrameFault {
     }
 }
 
-/// Reads a piece into the buffer, and says whether the source has ended.
+/// Reads once into the buffer, and returns whether the source has ended.
 fn read_piece<R: Source>(source: &mut R, buffer: &mut Vec<u8>) -> Result<bool, FrameFault>
     requires { length buffer.old.items < 1064960 }
     ensures bytes { IfOk result (ReadsMore (R.remaining source.old)
@@ -67,7 +67,7 @@ fn read_piece<R: Source>(source: &mut R, buffer: &mut Vec<u8>) -> Result<bool, F
     Ok(false)
 }
 
-/// Reads until the bytes begin with a request, a refusal or the end.
+/// Reads until the buffer begins with a request, a fault or the end of the stream.
 pub(crate) fn next_frame<R: Source>(
     alloc: Global,
     source: &mut R,
@@ -100,7 +100,7 @@ pub(crate) fn next_frame<R: Source>(
     }
 }
 
-/// Drops the first bytes.
+/// Removes the first `used` bytes of the buffer.
 pub(crate) fn cut_front(buffer: &mut Vec<u8>, used: usize)
     requires { used ≤ length buffer.old.items }
     ensures { buffer.new.items ≡ drop used buffer.old.items }

@@ -18,7 +18,7 @@ use portal_frame::Refusal;
 use portal_wire::{reply_bytes, reply_of};
 use std::alloc::Global;
 
-/// Writes bytes whole.
+/// Writes all the bytes to a sink.
 fn send<W: Sink>(bytes: &[u8], sink: &mut W) -> Result<(), Cause>
     ensures ok { OnOk result (Appends (W.contents sink.old) (W.contents sink.new) bytes.now) }
     ensures err { IfErr result (λ cause. Partly cause (W.contents sink.old)
@@ -34,7 +34,7 @@ fn send<W: Sink>(bytes: &[u8], sink: &mut W) -> Result<(), Cause>
     }
 }
 
-/// Writes a reply whole.
+/// Writes a whole reply to a sink.
 pub(crate) fn send_reply<W: Sink>(
     alloc: Global,
     reply: &Reply,
@@ -58,7 +58,7 @@ pub(crate) fn send_reply<W: Sink>(
     }
 }
 
-/// Writes the reply to the refusal that a stream ends in.
+/// Writes the reply for the refusal that ends a stream.
 pub(crate) fn send_refusal<W: Sink>(
     alloc: Global,
     refusal: &Refusal,

@@ -5,13 +5,13 @@ use portal_wire::Ending;
 /// Why serving stopped early.
 #[derive(Clone, Copy, Debug, PartialEq, Eq, Drop)]
 pub enum Cause {
-    /// The reader answered an error.
+    /// The source failed.
     Read,
-    /// The writer answered an error.
+    /// The sink failed.
     Write,
     /// There was not enough memory.
     Memory,
-    /// The store failed; the reply that says so was written first.
+    /// The store failed; a 503 reply was written before serving stopped.
     Store,
 }
 
@@ -27,6 +27,6 @@ pub struct Served {
 #[derive(Clone, Copy, Debug, PartialEq, Eq, Drop)]
 pub struct ServeFault {
     pub cause: Cause,
-    /// How many requests acted, the last of which may lack its reply or a part of it.
+    /// How many requests acted. The reply to the last one may be missing or incomplete.
     pub requests: u32,
 }

@@ -8,7 +8,7 @@ ghost use Rattle.portal_frame.specs.Stream.{before_comma, closes_after};
 
 use httparse::spans::HeaderSpan;
 
-/// The bytes from the first that is no blank and no tab.
+/// Skips the leading spaces and tabs.
 fn skip(bytes: &[u8]) -> &[u8]
     ensures { result.now ≡ skip_ows bytes.now }
 {
@@ -22,7 +22,7 @@ fn skip(bytes: &[u8]) -> &[u8]
     rest
 }
 
-/// Whether a part is the word close.
+/// Returns whether a part is the word `close` in any case, with spaces and tabs around it.
 fn is_close_part(part: &[u8]) -> bool
     ensures { result ≡ is_close part.now }
 {
@@ -34,7 +34,7 @@ fn is_close_part(part: &[u8]) -> bool
     word.eq_ignore_ascii_case(b"close") && skip(after).is_empty()
 }
 
-/// The bytes up to the first comma.
+/// Returns the bytes before the first comma, or all bytes if there is none.
 fn part_of(value: &[u8]) -> &[u8]
     ensures { result.now ≡ before_comma value.now }
 {
@@ -46,7 +46,7 @@ fn part_of(value: &[u8]) -> &[u8]
     part
 }
 
-/// Whether some part of the value is the word close.
+/// Returns whether some comma-separated part of a value is the word `close`.
 fn has_close_part(value: &[u8]) -> bool
     ensures { result ≡ has_close value.now }
 {
@@ -63,14 +63,14 @@ fn has_close_part(value: &[u8]) -> bool
     false
 }
 
-/// Whether a name is that of the Connection line.
+/// Returns whether a header name is `Connection` in any case.
 fn is_connection(name: &[u8]) -> bool
     ensures { result ≡ same_name name.now (codes "connection") }
 {
     name.eq_ignore_ascii_case(b"connection")
 }
 
-/// Whether the Connection lines ask to close.
+/// Returns whether a `Connection` header asks to close the connection.
 fn asks_to_close(bytes: &[u8], headers: &[HeaderSpan]) -> bool
     requires { All (IsHeaderWithin (length bytes.now)) headers.now }
     ensures { result ≡ asks_close
@@ -84,7 +84,7 @@ fn asks_to_close(bytes: &[u8], headers: &[HeaderSpan]) -> bool
     false
 }
 
-/// Whether the connection ends after a request with these lines.
+/// Returns whether the connection closes after a request: in HTTP/1.0, or if a header asks for it.
 pub(crate) fn ends_after(minor: u8, bytes: &[u8], headers: &[HeaderSpan]) -> bool
     requires { All (IsHeaderWithin (length bytes.now)) headers.now }
     ensures { result ≡ closes_after minor (map (header_bytes bytes.now) headers.now) }

@@ -5,22 +5,22 @@ ghost use Rattle.portal_frame.specs.inner.Counting.{lines_from, step as step_of,
 ghost use Rattle.portal_frame.specs.inner.Counting.{counts as counted};
 ghost use Rattle.portal_frame.specs.Stream.{is_overlong};
 
-/// A place in the lines of a head.
+/// A position in the lines of a head.
 #[derive(Clone, Copy, Debug, PartialEq, Eq, Drop)]
 pub(crate) enum At {
-    /// Before the first line that is not empty.
+    /// At the start of a line, after empty lines only.
     Leading,
-    /// There, after a CR.
+    /// After a CR at `Leading`.
     LeadingCr,
-    /// At the start of a line.
+    /// At the start of a line that follows a non-empty line.
     Fresh,
-    /// There, after a CR.
+    /// After a CR at `Fresh`.
     FreshCr,
-    /// Inside a line.
+    /// Inside a non-empty line.
     Inside,
 }
 
-/// The place after one more byte.
+/// Returns the position after one more byte.
 fn step(at: At, byte: u8) -> At
     ensures { result ≡ step_of at byte }
 {
@@ -49,7 +49,7 @@ fn step(at: At, byte: u8) -> At
     }
 }
 
-/// Whether the byte ends an empty line.
+/// Returns whether the byte ends an empty line after a non-empty one.
 fn stops(at: At, byte: u8) -> bool
     ensures { result ≡ stops_at at byte }
 {
@@ -60,7 +60,7 @@ fn stops(at: At, byte: u8) -> bool
     }
 }
 
-/// How many lines the byte ends.
+/// Returns how many non-empty lines the byte ends: 0 or 1.
 fn counts(at: At, byte: u8) -> usize
     ensures exact { result ≡ counted at byte }
     ensures few { result ≤ 1 }
@@ -72,7 +72,7 @@ fn counts(at: At, byte: u8) -> usize
     }
 }
 
-/// How many whole lines stand there before the first empty one, after the leading empty ones.
+/// Counts the complete lines of a head, from its first non-empty line to the next empty one.
 fn lines_in(bytes: &[u8]) -> usize
     ensures { result ≡ lines_from At.Leading bytes.now }
 {
@@ -88,7 +88,7 @@ fn lines_in(bytes: &[u8]) -> usize
     lines
 }
 
-/// Whether 34 lines follow the leading empty ones, and none of them is empty.
+/// Returns whether a head has 34 lines or more; the limit is a start line and 32 headers.
 pub(crate) fn is_overlong_head(bytes: &[u8]) -> bool
     ensures { result ≡ is_overlong bytes.now }
 {

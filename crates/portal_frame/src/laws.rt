@@ -6,13 +6,13 @@ ghost use Rattle.portal_frame.specs.Stream.{Item, Opens};
 use httparse::Status;
 use httparse::spans::{EMPTY_HEADER_SPAN, parse_request};
 
-/// What stands at the front of the rest of a stream is one thing.
+/// Law: the rest of a stream begins with at most one item: a request, a fault or the end.
 pub fn opens_once()
     ensures { (bytes : List ℕ) (one other : Item) → Opens bytes one → Opens bytes other
         → one ≡ other }
 {}
 
-/// Something stands at the front of each rest: a request, a fault or the end.
+/// Law: the rest of a stream begins with some item: a request, a fault or the end.
 pub fn opens_some(bytes: &[u8])
     ensures { (item : Item) × Opens bytes.now item }
 {

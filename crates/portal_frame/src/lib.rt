@@ -22,7 +22,7 @@ use httparse::spans::{EMPTY_HEADER_SPAN, HeaderSpan, RequestSpans, parse_request
 use httparse::{Error, Status};
 use std::alloc::{AllocError, Global};
 
-/// Whether the bytes are empty lines alone, the last of which may lack its LF.
+/// Returns whether the bytes are only empty lines; the last one may lack its LF.
 fn is_all_blank(bytes: &[u8]) -> bool
     ensures { result ≡ is_blank bytes.now }
 {
@@ -38,7 +38,7 @@ fn is_all_blank(bytes: &[u8]) -> bool
     true
 }
 
-/// What bytes are that have no head at their front.
+/// Returns the frame for bytes that begin with no complete head within the limits.
 fn frame_open(bytes: &[u8], ended: bool) -> Frame
     requires none { HasNoHead bytes.now }
     requires full { 16384 ≤ length bytes.now → (more : List ℕ) → HasNoHead (bytes.now ++ more) }
@@ -72,7 +72,7 @@ fn frame_open(bytes: &[u8], ended: bool) -> Frame
     }
 }
 
-/// What bytes are that begin with a head.
+/// Returns the frame for bytes that begin with a complete head.
 fn frame_head(
     alloc: Global,
     bytes: &[u8],
@@ -116,11 +116,11 @@ fn frame_head(
     Ok(Frame::Request(request, spans.len + n))
 }
 
-/// What the bytes of a stream so far are, which may go on unless it has ended.
+/// Returns what the bytes of a stream begin with; `ended` says that no more bytes follow.
 ///
-/// Answers `Need` while a head or a body is not whole, `End` where nothing is left, a request and
-/// how many bytes it takes, or the refusal of the first fault. Each answer but `Need` stands
-/// however the stream goes on. An error is want of memory alone.
+/// Returns `Need` while a head or a body is incomplete, and `End` if the stream ended between
+/// requests. Otherwise returns a request with its length in bytes, or the refusal of the first
+/// fault. Further bytes change no answer but `Need`. The only error is a memory shortage.
 pub fn frame(alloc: Global, bytes: &[u8], ended: bool) -> Result<Frame, AllocError>
     ensures framed { IfOk result (Framed bytes.now ended) }
     ensures due { IfOk result (IsDue bytes.now ended) }

@@ -3,21 +3,21 @@
 ghost use Rattle.std.specs.Prelude.{◌≡◌};
 ghost use Rattle.portal_frame.specs.Stream.{refused, told, plain};
 
-/// A request, by its parts.
+/// The parts of a request.
 #[derive(Drop)]
 pub struct Request {
     pub method: Vec<u8>,
-    /// The target up to its first question mark.
+    /// The request target up to its first question mark.
     pub path: Vec<u8>,
-    /// The value of the only `portal-code` line, otherwise empty.
+    /// The value of the `portal-code` header if there is exactly one, otherwise empty.
     pub code: Vec<u8>,
-    /// Whether the connection ends after the reply.
+    /// Whether the connection closes after the reply.
     pub close: bool,
     pub body: Vec<u8>,
 }
 
-/// A refusal: its status, its word, the methods that the path has where another was asked for, and
-/// the row of a roll, from 1, where the fault has one.
+/// A refusal with its HTTP status and error word. For a wrong method `allow` lists the methods of
+/// the path. For a bad row of a roll `row` is its number, from 1.
 #[derive(Clone, Copy, Drop)]
 pub struct Refusal {
     pub status: u16,
@@ -26,16 +26,16 @@ pub struct Refusal {
     pub row: Option<u32>,
 }
 
-/// What the bytes so far are.
+/// What the bytes of a stream begin with.
 #[derive(Drop)]
 pub enum Frame {
-    /// They may still become a request.
+    /// More bytes are needed.
     Need,
-    /// Nothing is left.
+    /// The stream has ended between requests.
     End,
-    /// They begin with this request, which takes so many of them.
+    /// A request, and the number of bytes that it takes.
     Request(Request, usize),
-    /// No request can be read here or after; `head_only` where the method is HEAD.
+    /// A fault after which no request can be read; `head_only` says that the method is HEAD.
     Bad { refusal: Refusal, head_only: bool },
 }
 
@@ -50,7 +50,7 @@ pub(crate) enum Fault {
 }
 
 impl Fault {
-    /// The refusal of this fault of framing.
+    /// Returns the refusal for this fault.
     #[tactic(auto, unfolding(crate::specs::Stream::bad_head, crate::specs::Stream::bad_host, crate::specs::Stream::coded_body, crate::specs::Stream::bad_length, crate::specs::Stream::too_large))]
     pub(crate) fn refusal(self) -> Refusal
         ensures { refused result ≡ told self }
@@ -65,7 +65,7 @@ impl Fault {
     }
 }
 
-/// A refusal by a word alone.
+/// Makes a refusal that has only a status and an error word.
 fn by_word(status: u16, word: &'static str) -> Refusal
     ensures { refused result ≡ plain status word.now }
 {

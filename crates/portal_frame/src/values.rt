@@ -10,7 +10,7 @@ use crate::types::Fault;
 use httparse::spans::HeaderSpan;
 use std::alloc::{AllocError, Global};
 
-/// The values of one name.
+/// The values of the headers with one name: none, one, or several.
 #[derive(Clone, Copy, Drop)]
 pub(crate) enum Found<'b> {
     Nothing,
@@ -18,14 +18,14 @@ pub(crate) enum Found<'b> {
     Many,
 }
 
-/// Whether a line has this name.
+/// Returns whether two header names are equal, ignoring case.
 fn is_named(name: &[u8], wanted: &[u8]) -> bool
     ensures { result ≡ same_name name.now wanted.now }
 {
     name.eq_ignore_ascii_case(wanted)
 }
 
-/// The values of the lines with this name.
+/// Finds the values of the headers with this name.
 pub(crate) fn found_value<'b>(bytes: &'b [u8], headers: &[HeaderSpan], name: &[u8]) -> Found<'b>
     requires { All (IsHeaderWithin (length bytes.now)) headers.now }
     ensures { IsFound result (values_of name.now (map (header_bytes bytes.now) headers.now)) }
@@ -43,7 +43,7 @@ pub(crate) fn found_value<'b>(bytes: &'b [u8], headers: &[HeaderSpan], name: &[u
     found
 }
 
-/// The number that the value of Content-Length writes.
+/// Parses the value of `Content-Length`, which may be at most 1,048,576.
 fn number_of(value: &[u8]) -> Result<usize, Fault>
     ensures { result ≡ length_of (value.now ∷ []) }
 {
@@ -63,7 +63,7 @@ fn number_of(value: &[u8]) -> Result<usize, Fault>
     Ok(number as usize)
 }
 
-/// The first fault of the lines, or the length of the body.
+/// Returns the length of the body, or the first fault of the headers.
 pub(crate) fn check_lines(bytes: &[u8], headers: &[HeaderSpan], minor: u8) -> Result<usize, Fault>
     requires { All (IsHeaderWithin (length bytes.now)) headers.now }
     ensures { result ≡ body_length minor (map (header_bytes bytes.now) headers.now) }
@@ -88,7 +88,7 @@ pub(crate) fn check_lines(bytes: &[u8], headers: &[HeaderSpan], minor: u8) -> Re
     }
 }
 
-/// The code of a request: the value of the only such line.
+/// Copies the value of the `portal-code` header; returns no bytes unless there is exactly one.
 pub(crate) fn code_of(
     alloc: Global,
     bytes: &[u8],
@@ -104,14 +104,14 @@ pub(crate) fn code_of(
     }
 }
 
-/// The same bytes in a vector of their own.
+/// Copies the bytes to a new vector.
 pub(crate) fn copied(alloc: Global, bytes: &[u8]) -> Result<Vec<u8>, AllocError>
     ensures { IfOk result (λ copy. copy.items ≡ bytes.now) }
 {
     Vec::from_slice(alloc, bytes)
 }
 
-/// The target up to its first question mark.
+/// Copies the request target up to its first question mark.
 pub(crate) fn path_in(alloc: Global, target: &[u8]) -> Result<Vec<u8>, AllocError>
     ensures { IfOk result (λ path. path.items ≡ path_of target.now) }
 {

@@ -15,8 +15,8 @@ use std::alloc::{AllocError, Global};
 use std::collections::HashMap;
 use std::marker::Model;
 
-/// A roll of students, to be asked whose list holds a project. Keys can be made that its table
-/// tells apart one by one; a search then looks at each project once at most.
+/// An index of a roll of students: for each project, the roll positions of the students who list
+/// it. Crafted keys can all collide; a lookup then compares each project at most once.
 #[derive(Drop)]
 pub(crate) struct ApplicantIndex<'a> {
     students: &'a [StudentEntry],
@@ -35,7 +35,7 @@ impl<'a> Model for ApplicantIndex<'a> {
     ghost invariant = { λ w. IsIndexOf w.students.now w.places };
 }
 
-/// Notes the place of a student at a project.
+/// Adds a student's position in the roll to the entry of a project.
 fn note<'a>(
     alloc: Global,
     places: &mut HashMap<&'a [u8], Vec<usize>>,
@@ -51,7 +51,7 @@ fn note<'a>(
     Ok(())
 }
 
-/// Notes the place of a student at each project of the list.
+/// Adds a student's position in the roll to the entry of each project on the list.
 fn note_all<'a>(
     alloc: Global,
     places: &mut HashMap<&'a [u8], Vec<usize>>,
@@ -68,7 +68,7 @@ fn note_all<'a>(
     Ok(())
 }
 
-/// Marks these places.
+/// Sets the marks at these positions, and ignores positions beyond the end.
 fn mark(marks: &mut [bool], places: &[usize])
     ensures len { length marks.new ≡ length marks.old }
     ensures marks { (i : ℕ) → i < length marks.old
@@ -82,7 +82,7 @@ fn mark(marks: &mut [bool], places: &[usize])
 }
 
 impl<'a> ApplicantIndex<'a> {
-    /// This roll.
+    /// Builds the index of a roll.
     pub(crate) fn of(
         alloc: Global,
         students: &'a [StudentEntry],
@@ -96,7 +96,7 @@ impl<'a> ApplicantIndex<'a> {
         Ok(ApplicantIndex { students, places })
     }
 
-    /// For each student of the roll, whether the list holds one of the projects.
+    /// Returns, for each student of the roll, whether the list holds one of the projects.
     fn marks(&self, alloc: Global, projects: &[&Key]) -> Result<Vec<bool>, AllocError>
         ensures len { IfOk result (λ v. length v.items ≡ length self.now) }
         ensures marks { IfOk result (λ v. (i : ℕ) → i < length self.now
@@ -113,7 +113,7 @@ impl<'a> ApplicantIndex<'a> {
         Ok(marks)
     }
 
-    /// The keys of the students whose list holds one of the projects.
+    /// Returns the keys of the students whose list holds one of the projects.
     pub(crate) fn wanting(
         &self,
         alloc: Global,

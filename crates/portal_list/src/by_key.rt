@@ -8,7 +8,7 @@ ghost use Rattle.portal_core.specs.Words.{equals, put, put_all};
 use portal_core::Keyed;
 use spa_rows::Key;
 
-/// Where the row with this key stands.
+/// Returns the index of a row with this key, if there is one.
 pub(crate) fn index_of<T: Keyed>(rows: &[T], key: &Key) -> Option<usize>
     ensures some { IfSome result
         (λ i. (i < length rows.now)
@@ -24,7 +24,7 @@ pub(crate) fn index_of<T: Keyed>(rows: &[T], key: &Key) -> Option<usize>
     None
 }
 
-/// Where a row with this key belongs.
+/// Returns the index of the first row with a greater key, or the length if there is none.
 fn place_for<T: Keyed>(rows: &[T], key: &Key) -> usize
     ensures low { result ≤ length rows.now }
     ensures place { (row : T) → T.key_of row ≡ key.now
@@ -38,7 +38,7 @@ fn place_for<T: Keyed>(rows: &[T], key: &Key) -> usize
     rows.len()
 }
 
-/// Puts a row where its key belongs, in the room that there is.
+/// Inserts a row in key order. The vector must have spare capacity.
 fn put_row<T: Keyed + Drop>(rows: &mut Vec<T>, row: T)
     requires { vec_len rows.old < vec_capacity rows.old }
     ensures items { rows.new.items ≡ put T.key_of row rows.old.items }
@@ -51,7 +51,7 @@ fn put_row<T: Keyed + Drop>(rows: &mut Vec<T>, row: T)
     }
 }
 
-/// Puts rows where their keys belong, in the room that there is.
+/// Inserts rows in key order. The vector must have spare capacity for all of them.
 pub(crate) fn put_rows<T: Keyed + Drop>(rows: &mut Vec<T>, fresh: Vec<T>)
     requires { vec_len rows.old + vec_len fresh ≤ vec_capacity rows.old }
     ensures { rows.new.items ≡ put_all T.key_of fresh.items rows.old.items }

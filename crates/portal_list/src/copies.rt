@@ -7,7 +7,7 @@ use portal_core::{Name, Person, ProjectRow, copy_keys};
 use spa_rows::Key;
 use std::alloc::{AllocError, Global};
 
-/// Whether the list has the key.
+/// Returns whether the list contains the key.
 pub(crate) fn holds(keys: &[Key], key: &Key) -> bool
     ensures { result ≡ has keys.now key.now }
 {
@@ -23,7 +23,7 @@ pub(crate) fn person_of(alloc: Global, key: &Key, name: &Name) -> Result<Person,
     })
 }
 
-/// The same project again, if there is one.
+/// Copies the project, if there is one.
 pub(crate) fn place_copy(alloc: Global, project: Option<&Key>) -> Result<Option<Key>, AllocError>
     ensures { IfOk result (λ o. o ≡ option_map (λ p. p.now) project.entry) }
 {
@@ -33,7 +33,7 @@ pub(crate) fn place_copy(alloc: Global, project: Option<&Key>) -> Result<Option<
     }
 }
 
-/// The same ranking again.
+/// Copies the ranking, if there is one.
 pub(crate) fn ranking_copy(
     alloc: Global,
     ranking: &Option<Vec<Key>>,
@@ -47,7 +47,7 @@ pub(crate) fn ranking_copy(
     }
 }
 
-/// A copy of rows of projects.
+/// Copies rows of projects.
 pub(crate) fn project_rows_of(
     alloc: Global,
     rows: &[ProjectRow],

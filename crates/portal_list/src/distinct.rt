@@ -7,7 +7,7 @@ use spa_rows::Key;
 use std::alloc::{AllocError, Global};
 use std::collections::BTreeSet;
 
-/// Whether no text stands twice.
+/// Returns whether the texts are distinct.
 pub(crate) fn are_distinct(alloc: Global, texts: &[&[u8]]) -> Result<bool, AllocError>
     ensures { IfOk result (λ yes. IsTrue yes ↔ AreDistinct (map (λ text. text.now) texts.now)) }
 {
@@ -20,7 +20,7 @@ pub(crate) fn are_distinct(alloc: Global, texts: &[&[u8]]) -> Result<bool, Alloc
     Ok(true)
 }
 
-/// The bytes of each key.
+/// Returns the bytes of each key.
 fn bytes_of<'a>(alloc: Global, keys: &'a [Key]) -> Result<Vec<&'a [u8]>, AllocError>
     ensures { IfOk result (λ texts. map (λ text. text.now) texts.items ≡ keys.now) }
 {
@@ -31,7 +31,7 @@ fn bytes_of<'a>(alloc: Global, keys: &'a [Key]) -> Result<Vec<&'a [u8]>, AllocEr
     Ok(texts)
 }
 
-/// Whether no key stands twice.
+/// Returns whether the keys are distinct.
 pub(crate) fn keys_are_distinct(alloc: Global, keys: &[Key]) -> Result<bool, AllocError>
     ensures { IfOk result (λ yes. IsTrue yes ↔ AreDistinct keys.now) }
 {

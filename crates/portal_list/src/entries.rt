@@ -13,8 +13,8 @@ use spa_rows::Key;
 use std::alloc::{AllocError, Global};
 use std::marker::Model;
 
-/// A lecturer's row, and the ranking of the round if one is there; in the second round also that of
-/// the first.
+/// A lecturer's row, and the ranking of the current round if there is one. In the second round it
+/// also has the ranking of the first.
 #[derive(Drop)]
 pub(crate) struct LecturerEntry {
     pub row: LecturerRow,
@@ -35,8 +35,8 @@ impl Model for LecturerEntry {
     } };
 }
 
-/// A student's row, the list of projects, and the project that the result gives, of the round; in
-/// the second round also those of the first.
+/// A student's row, and the list and the placement of the current round. In the second round it
+/// also has those of the first.
 #[derive(Drop)]
 pub(crate) struct StudentEntry {
     pub row: StudentRow,
@@ -83,7 +83,7 @@ impl Model for Entries {
 }
 
 impl Entries {
-    /// Gives each student who takes part the project of the pairs, or none.
+    /// Gives each student who takes part the project that the pairs assign, or none.
     pub(crate) fn place(&mut self, alloc: Global, pairs: &[(Key, Key)]) -> Result<(), AllocError>
         ensures made { OnOk result (self.new
             ≡ record self.old { students = map (with_place pairs.now) self.old.students }) }
@@ -92,9 +92,9 @@ impl Entries {
         place_all(alloc, &mut self.students, pairs)
     }
 
-    /// Follows a change of a list, a ranking, the phase, or a fill, and says so. New rolls, the
-    /// result and the second round are not followed; then, and where memory is short, all stays as
-    /// it was.
+    /// Updates the entries for a change of a list, a ranking or the phase, or for a fill, and
+    /// returns `true`. For new rolls, a result or the second round it returns `false`. In that
+    /// case, and if an allocation fails, the entries are unchanged.
     pub fn follow(&mut self, alloc: Global, change: &Change) -> Result<bool, AllocError>
         ensures followed { IfOk result (λ yes. yes ≡ is_followed (change_model change.now)) }
         ensures made { result ≡ Ok true → (w : World) → Sound w → HasEntries self.old w

@@ -15,7 +15,7 @@ use portal_core::ProjectRow;
 use spa_rows::Key;
 use std::alloc::{AllocError, Global};
 
-/// Each of these lecturers, with the keys of the applicants.
+/// Returns each of these lecturers with the keys of the lecturer's applicants.
 fn with_applicants(
     alloc: Global,
     lecturers: &[Key],
@@ -35,8 +35,8 @@ fn with_applicants(
 }
 
 impl Entries {
-    /// The lecturers who are still to rank, in the order of the roll, each with the keys of the
-    /// applicants in their order: the rankings that a fill would put.
+    /// Returns the lecturers who are still to rank, in roll order, each with the keys of the
+    /// applicants in key order. These are the rankings that a fill would add.
     pub fn fills(&self, alloc: Global) -> Result<Vec<(Key, Vec<Key>)>, AllocError>
         ensures { IfOk result (λ v. (w : World) → HasEntries self.now w
             → map {B = words.Key × List words.Key} (λ f. (f.0, f.1.items)) v.items

@@ -10,7 +10,7 @@ use spa_rows::Key;
 use std::alloc::{AllocError, Global};
 use std::collections::VecDeque;
 
-/// Takes what stands next, if it is for this key.
+/// Removes the first pair if it has this key, and returns its value.
 fn take_for<V: Drop>(rest: &mut VecDeque<(Key, V)>, key: &Key) -> Option<V>
     ensures taken { result ≡ next_for key.now rest.old.items }
     ensures left { rest.new.items ≡ rest_for key.now rest.old.items }
@@ -26,8 +26,8 @@ fn take_for<V: Drop>(rest: &mut VecDeque<(Key, V)>, key: &Key) -> Option<V>
     Some(value)
 }
 
-/// The list of the earlier round: in the second round what stands next, if it is for this key; in
-/// the first an empty one.
+/// Returns an empty list in the first round. In the second it removes the first pair if that has
+/// this key, and returns its list.
 fn earlier_for(
     alloc: Global,
     round: Round,
@@ -45,8 +45,8 @@ fn earlier_for(
     }
 }
 
-/// The lecturers with their rankings, also those of the earlier round, each of which is for one of
-/// them, in their order.
+/// Joins each lecturer with the rankings of both rounds, all in roll order. Returns `None` if a
+/// ranking is left over: it is for no lecturer, or out of order.
 pub(crate) fn lecturer_entries(
     alloc: Global,
     rows: Vec<LecturerRow>,
@@ -76,8 +76,8 @@ pub(crate) fn lecturer_entries(
     })
 }
 
-/// The students with their lists and places, also those of the earlier round, where each has a
-/// list, in the second round two, and each list and place is for one of them, in their order.
+/// Joins each student with lists and placements, all in roll order. Returns `None` if a student
+/// lacks a list (two in the second round), or if a list or placement is left over.
 pub(crate) fn student_entries(
     alloc: Global,
     round: Round,

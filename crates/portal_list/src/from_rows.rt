@@ -18,7 +18,7 @@ use spa_rows::Key;
 use std::alloc::{AllocError, Global};
 use std::marker::Model;
 
-/// The rows of a world, as tables keep them.
+/// The rows of a world, as tables store them.
 #[derive(Drop)]
 pub struct WorldRows {
     pub round: Round,
@@ -27,17 +27,17 @@ pub struct WorldRows {
     pub lecturers: Vec<LecturerRow>,
     pub projects: Vec<ProjectRow>,
     pub students: Vec<StudentRow>,
-    /// Each student's list, by student.
+    /// Each student's list, in the order of students.
     pub choices: Vec<(Key, Vec<Key>)>,
-    /// The rankings that are there, by lecturer.
+    /// The rankings that exist, in the order of lecturers.
     pub rankings: Vec<(Key, Vec<Key>)>,
-    /// The result: pairs of a student and a project, by student.
+    /// The result: pairs of a student and a project, in the order of students.
     pub pairs: Vec<(Key, Key)>,
-    /// In the second round, each student's list of the first, by student; else empty.
+    /// In the second round, each student's list of the first, in the same order; otherwise empty.
     pub earlier_choices: Vec<(Key, Vec<Key>)>,
-    /// In the second round, the rankings of the first that are there, by lecturer; else empty.
+    /// In the second round, the rankings of the first, in the same order; otherwise empty.
     pub earlier_rankings: Vec<(Key, Vec<Key>)>,
-    /// In the second round, the result of the first, by student; else empty.
+    /// In the second round, the result of the first, in the same order; otherwise empty.
     pub earlier_pairs: Vec<(Key, Key)>,
 }
 
@@ -63,10 +63,10 @@ impl Model for WorldRows {
     } };
 }
 
-/// Why rows give no keeper.
+/// Why rows or entries are refused.
 #[derive(Clone, Copy, Debug, PartialEq, Eq)]
 pub enum RowsFault {
-    /// They are the rows of no sound world.
+    /// They represent no sound world, or a ranking that an instance needs is missing.
     NotGood,
     /// There was not enough memory.
     Memory,
@@ -80,7 +80,7 @@ impl From<AllocError> for RowsFault {
     }
 }
 
-/// Whether the rows of the rolls are those of a world.
+/// Returns whether the rolls obey the rules of a sound world.
 fn rolls_of_rows_fit(alloc: Global, rows: &WorldRows) -> Result<bool, AllocError>
     ensures { IfOk result (λ yes. IsTrue yes
         ↔ RollsFit rows.now.office rows.now.lecturers rows.now.projects rows.now.students) }
@@ -94,7 +94,7 @@ fn rolls_of_rows_fit(alloc: Global, rows: &WorldRows) -> Result<bool, AllocError
     )
 }
 
-/// The keeper of these rows, if they are those of a world.
+/// Builds the keeper that has these rows. Returns `None` only if no sound world has them.
 fn fitted(alloc: Global, rows: WorldRows) -> Result<Option<ListKeeper>, AllocError>
     ensures { IfOk result (λ found. MatchOption found ((w : World) → rows ≡ world_rows w → Sound w
         → ⊥)
@@ -143,7 +143,7 @@ fn fitted(alloc: Global, rows: WorldRows) -> Result<Option<ListKeeper>, AllocErr
 }
 
 impl ListKeeper {
-    /// The keeper of the rows of a sound world.
+    /// Builds a keeper from the rows of a sound world, and refuses other rows as `NotGood`.
     pub fn from_rows(alloc: Global, rows: WorldRows) -> Result<ListKeeper, RowsFault>
         ensures ok { IfOk result (λ keeper. rows ≡ world_rows keeper) }
         ensures sound { IfOk result (λ keeper. Sound keeper) }
@@ -162,7 +162,7 @@ impl ListKeeper {
         Ok(keeper)
     }
 
-    /// The entries of its world.
+    /// Returns the entries of the keeper's world.
     pub fn into_entries(self) -> Entries
         ensures { HasEntries result self }
     {
@@ -171,8 +171,8 @@ impl ListKeeper {
 }
 
 impl Entries {
-    /// The entries of the rows of a sound world. No list is judged: of other rows entries may come
-    /// that mean nothing, or `NotGood`.
+    /// Builds entries from the rows of a sound world, without checking that it is sound. Other rows
+    /// give `NotGood` or meaningless entries.
     pub fn from_rows(alloc: Global, rows: WorldRows) -> Result<Entries, RowsFault>
         ensures entries { IfOk result (λ e. (w : World) → rows ≡ world_rows w → Sound w
             → HasEntries e w) }

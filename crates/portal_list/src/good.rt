@@ -19,7 +19,7 @@ use spa_check::is_stable;
 use spa_model::{Instance, Matching};
 use std::alloc::{AllocError, Global};
 
-/// The number of the project that the result gives; the count of projects where that is unknown.
+/// Returns the number of the student's project: the count of projects if it is unknown.
 fn placement_in(instance: &Instance, student: &StudentEntry) -> Option<usize>
     ensures { result ≡ option_map (number_in instance.now.project_keys) student.now.placed }
 {
@@ -29,7 +29,7 @@ fn placement_in(instance: &Instance, student: &StudentEntry) -> Option<usize>
     }
 }
 
-/// The result of who takes part in the round, by the numbers of projects.
+/// Returns the project number, if any, of each student who takes part in the round.
 fn placements_in(
     alloc: Global,
     instance: &Instance,
@@ -49,7 +49,7 @@ fn placements_in(
     Ok(places)
 }
 
-/// Whether the projects are a matching that no pair blocks.
+/// Returns whether the placements are a stable matching.
 fn are_stable(instance: &Instance, places: Vec<Option<usize>>) -> bool
     ensures { IsTrue result ↔ IsStable instance.now places.items }
 {
@@ -60,7 +60,7 @@ fn are_stable(instance: &Instance, places: Vec<Option<usize>>) -> bool
     is_stable(instance, &matching)
 }
 
-/// The lecturer as when the first round was published.
+/// Returns the lecturer as of the publication of the first round.
 fn first_lecturer(alloc: Global, lecturer: &LecturerEntry) -> Result<LecturerEntry, AllocError>
     ensures { IfOk result (λ l. l ≡ first_published lecturer.now) }
 {
@@ -84,7 +84,7 @@ fn first_lecturers(
     Ok(found)
 }
 
-/// The student as when the first round was published.
+/// Returns the student as of the publication of the first round.
 fn first_student(alloc: Global, student: &StudentEntry) -> Result<StudentEntry, AllocError>
     ensures { IfOk result (λ s. s ≡ first_placed student.now) }
 {
@@ -108,7 +108,7 @@ fn first_students(alloc: Global, students: &[StudentEntry]) -> Result<Vec<Studen
 }
 
 impl ListKeeper {
-    /// Whether the result of the round, once it is published, is a stable matching.
+    /// Returns whether the result of the current round, if published, is a stable matching.
     fn is_settled(&self, alloc: Global) -> Result<bool, AllocError>
         requires { Sound self.now }
         ensures { IfOk result (λ yes. IsTrue yes ↔ IsStableIfPublished self.now) }
@@ -122,7 +122,7 @@ impl ListKeeper {
         Ok(are_stable(&instance, places))
     }
 
-    /// The world in which the first round was published.
+    /// Returns the world in which the first round was published.
     fn first(&self, alloc: Global) -> Result<ListKeeper, AllocError>
         ensures { IfOk result (λ keeper. keeper ≡ first self.now) }
     {
@@ -139,7 +139,7 @@ impl ListKeeper {
         })
     }
 
-    /// Whether the world, whose rolls fit, is sound, and its result a stable matching.
+    /// Returns whether a world with valid rolls is sound, and its result, if published, stable.
     fn is_round(&self, alloc: Global) -> Result<bool, AllocError>
         requires { RollsOf self.now }
         ensures { IfOk result (λ yes. IsTrue yes ↔ IsRound self.now) }
@@ -150,7 +150,7 @@ impl ListKeeper {
         self.is_settled(alloc)
     }
 
-    /// Whether the first round is as it was published, where the second is played.
+    /// Returns whether the published first round is sound and stable, or `true` in the first round.
     fn is_before_good(&self, alloc: Global) -> Result<bool, AllocError>
         requires { Sound self.now }
         ensures { IfOk result (λ yes. IsTrue yes
@@ -165,8 +165,8 @@ impl ListKeeper {
         }
     }
 
-    /// Whether the world is good: what each round published is a stable matching, and what the
-    /// first made is sound.
+    /// Returns whether this sound world is good. Its result, if published, must be stable; in the
+    /// second round the first round as published must be sound and stable.
     pub fn is_good(&self, alloc: Global) -> Result<bool, AllocError>
         requires { Sound self.now }
         ensures { IfOk result (λ good. IsTrue good ↔ Good self.now) }

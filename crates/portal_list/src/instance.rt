@@ -18,14 +18,14 @@ use spa_model::{Instance, InstanceFault, InstanceRows, LecturerLine, ProjectLine
 use spa_rows::Key;
 use std::alloc::{AllocError, Global};
 
-/// The bytes of a key.
+/// Copies the bytes of a key.
 fn text_of(alloc: Global, key: &Key) -> Result<Vec<u8>, AllocError>
     ensures { IfOk result (λ text. text.items ≡ key.now) }
 {
     key.as_bytes().to_vec(alloc)
 }
 
-/// The bytes of each key, for a line of an instance.
+/// Copies the bytes of each key.
 fn key_texts(alloc: Global, keys: &[Key]) -> Result<Vec<Vec<u8>>, AllocError>
     ensures { IfOk result (λ texts. map (λ text. text.items) texts.items ≡ keys.now) }
 {
@@ -102,7 +102,7 @@ fn student_lines(alloc: Global, entries: &[StudentEntry]) -> Result<Vec<StudentL
     Ok(lines)
 }
 
-/// The lines of the entries.
+/// Converts the entries into the lines of an instance.
 fn rows_of(alloc: Global, entries: &Entries) -> Result<InstanceRows, AllocError>
     ensures { IfOk result (λ rows. rows ≡ instance_rows entries.now) }
 {
@@ -113,8 +113,8 @@ fn rows_of(alloc: Global, entries: &Entries) -> Result<InstanceRows, AllocError>
     })
 }
 
-/// The instance of the entries of a first round, which are not judged; `NotGood` where they have
-/// none.
+/// Builds the instance of entries of a first round, without checking that their world is sound.
+/// Returns `NotGood` if the lines form no valid instance.
 fn instance_among(alloc: Global, entries: &Entries) -> Result<Instance, RowsFault>
     requires { entries.now.round ≡ First }
     ensures instance { IfOk result (λ instance. (w : World) → HasEntries entries.now w → Sound w
@@ -135,7 +135,7 @@ fn instance_among(alloc: Global, entries: &Entries) -> Result<Instance, RowsFaul
     }
 }
 
-/// The instance of the round of the entries of a sound world in which nobody is still to rank.
+/// Builds the instance of the current round of a sound world in which no ranking is missing.
 pub(crate) fn instance_of(alloc: Global, entries: &Entries) -> Result<Instance, AllocError>
     requires ready { (w : World) × HasEntries entries.now w × Sound w
         × AllByRecursion (λ l. is_still_to_rank w l ≡ false) w.lecturers }
@@ -150,8 +150,8 @@ pub(crate) fn instance_of(alloc: Global, entries: &Entries) -> Result<Instance, 
 }
 
 impl Entries {
-    /// The instance of the round of the entries of a sound world in which nobody is still to rank.
-    /// They are not judged: of others an instance may come that means nothing, or `NotGood`.
+    /// Builds the instance of the current round of a sound world in which no ranking is missing.
+    /// Other entries give `NotGood` or a meaningless instance.
     pub fn instance(&self, alloc: Global) -> Result<Instance, RowsFault>
         ensures instance { IfOk result (λ instance. (w : World) → HasEntries self.now w → Sound w
             → instance ≡ meant_by.instance w) }

@@ -1,4 +1,4 @@
-//! `ListKeeper` implements `Keeper` with a world in memory.
+//! `ListKeeper` implements `Keeper` in memory, with a method for each kind of change.
 
 ghost use Rattle.std.specs.Prelude.{◌≡◌, true, [], IfOk, IfErr, OnOk, OnErr};
 ghost use Rattle.portal_core.specs.View as seen;
@@ -26,13 +26,13 @@ use std::alloc::{AllocError, Global};
 use std::marker::Model;
 use std::rc::Rc;
 
-/// A world in vectors, whose rows stand by rising key.
+/// A world in vectors, with rows in key order.
 #[derive(Drop)]
 pub struct ListKeeper {
     pub(crate) phase: Phase,
     pub(crate) office: Code,
     pub(crate) entries: Entries,
-    /// The catalogue of the round, once it was asked for.
+    /// The catalogue of the round, once computed.
     pub(crate) catalogue: Option<Rc<Vec<Listing>>>,
 }
 
@@ -51,7 +51,7 @@ impl Model for ListKeeper {
 }
 
 impl ListKeeper {
-    /// The empty world in setup of the first round, whose office has this code.
+    /// Makes the empty world in setup of the first round, with this office code.
     pub fn new(alloc: Global, office: Code) -> ListKeeper
         ensures empty { result ≡ record {
           round = Round.First;
@@ -77,7 +77,7 @@ impl ListKeeper {
         }
     }
 
-    /// The catalogue of the keeper's round, shared where it is kept.
+    /// Returns the catalogue of the round: the cached one, or else a new one.
     pub(crate) fn catalogue(&self, alloc: Global) -> Result<Rc<Vec<Listing>>, AllocError>
         ensures { IfOk result (λ shared. shared.value.items ≡ seen.catalogue self.now) }
     {
@@ -90,7 +90,7 @@ impl ListKeeper {
         }
     }
 
-    /// Makes the catalogue, where it is not kept.
+    /// Computes and caches the catalogue, unless it is cached.
     fn keep_catalogue(&mut self, alloc: Global) -> Result<(), AllocError>
         ensures { self.new ≡ self.old }
     {
@@ -100,7 +100,7 @@ impl ListKeeper {
         Ok(())
     }
 
-    /// What the lecturer or the student with this code sees.
+    /// Returns the view of the lecturer or student with this code, or `Nobody`.
     fn shown_to_member(&self, alloc: Global, code: &[u8]) -> Result<View, AllocError>
         ensures { IfOk result (λ view. view
             ≡ seen.sight_of self.now
@@ -116,7 +116,7 @@ impl ListKeeper {
         }
     }
 
-    /// What the caller with this code sees.
+    /// Returns the view of the caller with this code.
     pub(crate) fn shown_to(&self, alloc: Global, code: &[u8]) -> Result<View, AllocError>
         ensures { IfOk result (λ view. view ≡ seen.view self.now code.now) }
     {
@@ -126,7 +126,7 @@ impl ListKeeper {
         self.shown_to_member(alloc, code)
     }
 
-    /// What the caller with this code sees; the catalogue is kept.
+    /// Returns the view of the caller with this code, and caches the catalogue.
     fn show(&mut self, alloc: Global, code: &[u8]) -> Result<View, AllocError>
         ensures shown { IfOk result (λ view. view ≡ seen.view self.old code.now) }
         ensures same { self.new ≡ self.old }
@@ -135,7 +135,7 @@ impl ListKeeper {
         self.shown_to(alloc, code)
     }
 
-    /// Adds lecturers, in the first round.
+    /// Adds lecturers in the first round, and does nothing in the second.
     fn enrol_lecturers(&mut self, alloc: Global, rows: &[LecturerRow]) -> Result<(), AllocError>
         ensures made { OnOk result (self.new ≡ changed self.old (Lecturers rows.now)) }
         ensures same { OnErr result (self.new ≡ self.old) }
@@ -151,7 +151,7 @@ impl ListKeeper {
         }
     }
 
-    /// Adds projects, in the first round.
+    /// Adds projects in the first round, and does nothing in the second.
     fn enrol_projects(&mut self, alloc: Global, rows: &[ProjectRow]) -> Result<(), AllocError>
         ensures made { OnOk result (self.new ≡ changed self.old (Projects rows.now)) }
         ensures same { OnErr result (self.new ≡ self.old) }
@@ -167,7 +167,7 @@ impl ListKeeper {
         }
     }
 
-    /// Adds students, in the first round.
+    /// Adds students in the first round, and does nothing in the second.
     fn enrol_students(&mut self, alloc: Global, rows: &[StudentRow]) -> Result<(), AllocError>
         ensures made { OnOk result (self.new ≡ changed self.old (Students rows.now)) }
         ensures same { OnErr result (self.new ≡ self.old) }
@@ -181,7 +181,7 @@ impl ListKeeper {
         }
     }
 
-    /// Opens the second round, where the first is published. It takes no memory.
+    /// Opens the second round if the first is published, without allocating.
     fn open_second(&mut self, alloc: Global)
         ensures { self.new ≡ changed self.old SecondRound }
     {
@@ -197,8 +197,8 @@ impl ListKeeper {
         }
     }
 
-    /// Gives each student who takes part the project of the pairs, or none, and publishes the
-    /// result.
+    /// Gives each student who takes part the project that the pairs assign, or none, and sets the
+    /// phase to published.
     fn publish(&mut self, alloc: Global, pairs: &[(Key, Key)]) -> Result<(), AllocError>
         ensures made { OnOk result (self.new ≡ changed self.old (Placements pairs.now)) }
         ensures same { OnErr result (self.new ≡ self.old) }
@@ -208,7 +208,7 @@ impl ListKeeper {
         Ok(())
     }
 
-    /// Follows a change of a list or a ranking, or a fill.
+    /// Applies a change of a list or a ranking, or a fill.
     fn follow(&mut self, alloc: Global, change: &Change) -> Result<(), AllocError>
         requires sound { Sound self.old }
         requires followed { is_followed (change_model change.now) ≡ true }
@@ -220,7 +220,7 @@ impl ListKeeper {
         Ok(())
     }
 
-    /// Makes one change, or leaves all as it was where memory is short.
+    /// Makes one change. If an allocation fails, nothing changes.
     pub(crate) fn make(&mut self, alloc: Global, change: &Change) -> Result<(), AllocError>
         requires { Sound self.old }
         ensures made { OnOk result (self.new ≡ changed self.old (change_model change.now)) }
@@ -259,7 +259,7 @@ impl Keeper for ListKeeper {
         ensures shown { IfOk result (λ view. view ≡ seen.view self.old code.now) }
         ensures same { self.new ≡ self.old }
 
-        // There is no store that could fail.
+        // There is no store, so only an allocation can fail.
         ensures memory { IfErr result (λ fault. fault ≡ KeepFault.Memory) }
     {
         self.show(alloc, code).map_err(|_| KeepFault::Memory)

@@ -1,4 +1,4 @@
-//! Tests whether rows are sorted by key, and whether one has a given key.
+//! Implements `Keyed` for entries; tests whether keys rise, and whether one is given.
 
 ghost use Rattle.std.specs.Prelude.{◌≡◌, ◌↔◌, ℕ, List, IsTrue, map};
 ghost use Rattle.std.specs.Ordering.{nat_cmp};
@@ -27,14 +27,14 @@ impl Keyed for StudentEntry {
     }
 }
 
-/// Whether the keys of the rows rise.
+/// Returns whether the keys of the rows rise strictly.
 pub(crate) fn keys_rise<K: Keyed>(rows: &[K]) -> bool
     ensures { IsTrue result ↔ Rise (map K.key_of rows.now) }
 {
     rows.is_sorted_by(|a, b| a.key() < b.key())
 }
 
-/// Whether a row has the key, among rows whose keys rise.
+/// Returns whether a row has the key, among rows with rising keys.
 pub(crate) fn is_known<K: Keyed>(rows: &[K], key: &Key) -> bool
     requires { Rise (map K.key_of rows.now) }
     ensures { result ≡ has (map K.key_of rows.now) key.now }

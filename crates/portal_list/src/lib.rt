@@ -1,4 +1,4 @@
-//! A keeper of the world in plain vectors of rows, and the catalogue that rows of the rolls make.
+//! A keeper that stores the world in memory, in vectors of rows.
 #![tactic(auto)]
 
 mod applicant_index;

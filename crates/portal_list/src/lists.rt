@@ -52,7 +52,7 @@ fn have_no_placements(students: &[StudentEntry]) -> bool
     true
 }
 
-/// Whether nothing is there that is made in a later phase.
+/// Returns whether no list, ranking or placement exists before its phase.
 fn phase_fits(phase: Phase, entries: &Entries) -> bool
     ensures { IsTrue result ↔ PhaseFits phase entries.now }
 {
@@ -69,7 +69,7 @@ fn phase_fits(phase: Phase, entries: &Entries) -> bool
     }
 }
 
-/// Whether nothing of an earlier round is there.
+/// Returns whether the student has no list and no placement of an earlier round.
 fn has_nothing_earlier(student: &StudentEntry) -> bool
     ensures { IsTrue result ↔ HasNothingEarlier student.now }
 {
@@ -98,8 +98,8 @@ fn have_no_earlier_rankings(lecturers: &[LecturerEntry]) -> bool
     true
 }
 
-/// Whether who has a project of the first round has made no list of the second, and has no place of
-/// it.
+/// Returns whether the student, if placed in the first round, has no list and no placement in the
+/// current round.
 fn is_out_if_placed(student: &StudentEntry) -> bool
     ensures { IsTrue result ↔ IsOutIfPlaced student.now }
 {
@@ -117,7 +117,7 @@ fn are_out_if_placed(students: &[StudentEntry]) -> bool
     true
 }
 
-/// Whether what there is of an earlier round fits the round.
+/// Returns whether the phase and the data of the earlier round fit the round.
 fn round_fits(phase: Phase, entries: &Entries) -> bool
     ensures { IsTrue result ↔ RoundFits phase entries.now }
 {
@@ -130,7 +130,7 @@ fn round_fits(phase: Phase, entries: &Entries) -> bool
     }
 }
 
-/// Whether each is the key of a project.
+/// Returns whether every key is that of a project.
 fn are_projects(projects: &[ProjectRow], keys: &[Key]) -> bool
     requires { Rise (map project_key projects.now) }
     ensures { IsTrue result
@@ -139,7 +139,7 @@ fn are_projects(projects: &[ProjectRow], keys: &[Key]) -> bool
     keys.iter().all(|key| is_known(projects, key))
 }
 
-/// Whether the list is one of at most 20 projects, none twice.
+/// Returns whether the list has at most 20 keys, all of projects and all distinct.
 fn is_choice(alloc: Global, projects: &[ProjectRow], choice: &[Key]) -> Result<bool, AllocError>
     requires { Rise (map project_key projects.now) }
     ensures { IfOk result (λ yes. IsTrue yes ↔ IsChoice (map project_key projects.now) choice.now) }
@@ -170,7 +170,7 @@ fn choices_fit(
     Ok(true)
 }
 
-/// Whether each list is one of projects that take part in the round.
+/// Returns whether each list is valid for the projects that take part in the round.
 fn choices_in_play_fit(alloc: Global, entries: &Entries) -> Result<bool, AllocError>
     requires { Rise (map project_key entries.now.projects) }
     ensures { IfOk result (λ yes. IsTrue yes ↔ HasChoices entries.now) }
@@ -184,7 +184,7 @@ fn choices_in_play_fit(alloc: Global, entries: &Entries) -> Result<bool, AllocEr
     }
 }
 
-/// The keys of the lecturer's applicants.
+/// Returns the keys of the lecturer's applicants.
 pub(crate) fn applicants<'a>(
     alloc: Global,
     projects: &[ProjectRow],
@@ -198,7 +198,7 @@ pub(crate) fn applicants<'a>(
     wanted.wanting(alloc, &own)
 }
 
-/// Whether each is an applicant.
+/// Returns whether every key is that of an applicant.
 fn are_applicants(applicants: &[&Key], keys: &[Key]) -> bool
     requires { Rise (map (λ k. k.now) applicants.now) }
     ensures { IsTrue result
@@ -207,7 +207,7 @@ fn are_applicants(applicants: &[&Key], keys: &[Key]) -> bool
     keys.iter().all(|key| is_known(applicants, key))
 }
 
-/// Whether the ranking has each applicant once, and no one else.
+/// Returns whether the ranking has each applicant once, and nobody else.
 fn is_ranking(alloc: Global, applicants: &[&Key], ranking: &[Key]) -> Result<bool, AllocError>
     requires { Rise (map (λ k. k.now) applicants.now) }
     ensures { IfOk result (λ yes. IsTrue yes
@@ -222,8 +222,8 @@ fn is_ranking(alloc: Global, applicants: &[&Key], ranking: &[Key]) -> Result<boo
     keys_are_distinct(alloc, ranking)
 }
 
-/// Whether the ranking, if there is one, is one of the applicants; where it is asked for, it has to
-/// be there if there are any.
+/// Returns whether the ranking, if there is one, ranks exactly the applicants. If it is required
+/// (`asked`), it may be missing only if there are no applicants.
 fn is_ranked(
     alloc: Global,
     asked: bool,
@@ -241,8 +241,8 @@ fn is_ranked(
     }
 }
 
-/// Whether the lecturer's ranking is one of the applicants, who are looked for only where that
-/// matters.
+/// Returns whether the lecturer's ranking passes `is_ranked`. It finds the applicants only if the
+/// answer depends on them.
 fn ranking_fits(
     alloc: Global,
     asked: bool,
@@ -284,7 +284,7 @@ fn rankings_fit(
     Ok(true)
 }
 
-/// Whether lists, rankings and the result are those of a sound world.
+/// Returns whether lists, rankings and placements obey the rules of a sound world.
 pub(crate) fn lists_fit(alloc: Global, phase: Phase, entries: &Entries) -> Result<bool, AllocError>
     requires projects { Rise (map project_key entries.now.projects) }
     requires students { Rise (map student_key entries.now.students) }

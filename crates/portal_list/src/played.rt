@@ -14,7 +14,7 @@ use portal_core::{ProjectRow, Round, copy_keys, lecturer_left, project_left};
 use spa_rows::Key;
 use std::alloc::{AllocError, Global};
 
-/// Whether the student takes part in the round.
+/// Returns whether the student takes part in the round.
 pub(crate) fn takes_part(round: Round, student: &StudentEntry) -> bool
     ensures { result ≡ meant.takes_part round student.now }
 {
@@ -24,7 +24,7 @@ pub(crate) fn takes_part(round: Round, student: &StudentEntry) -> bool
     }
 }
 
-/// The student's pair of the first round's result, if there is one.
+/// Returns the student's pair in the first round's result, if there is one.
 fn earlier_pair(alloc: Global, student: &StudentEntry) -> Result<Option<(Key, Key)>, AllocError>
     ensures { IfOk result (λ o. o
         ≡ option_map (λ p. (student.now.row.key, p)) student.now.earlier_placement) }
@@ -35,7 +35,7 @@ fn earlier_pair(alloc: Global, student: &StudentEntry) -> Result<Option<(Key, Ke
     }
 }
 
-/// The pairs of the first round's result.
+/// Returns the pairs of the first round's result.
 fn earlier_pairs(alloc: Global, students: &[StudentEntry]) -> Result<Vec<(Key, Key)>, AllocError>
     ensures { IfOk result (λ v. v.items ≡ pairs_with (λ s. s.earlier_placement) students.now) }
 {
@@ -48,7 +48,7 @@ fn earlier_pairs(alloc: Global, students: &[StudentEntry]) -> Result<Vec<(Key, K
     Ok(pairs)
 }
 
-/// The lecturer with the room that is left, if there is any.
+/// Returns the lecturer with the remaining room as capacity, or `None` if no room remains.
 fn lecturer_played(
     alloc: Global,
     projects: &[ProjectRow],
@@ -67,7 +67,7 @@ fn lecturer_played(
     }
 }
 
-/// The lecturers with room, each with the room that is left.
+/// Returns the lecturers with room left, each with the remaining room as capacity.
 fn lecturers_played(
     alloc: Global,
     lecturers: &[LecturerEntry],
@@ -86,14 +86,14 @@ fn lecturers_played(
     Ok(found)
 }
 
-/// Whether a lecturer has the key.
+/// Returns whether a lecturer has the key.
 fn is_there(lecturers: &[LecturerEntry], key: &Key) -> bool
     ensures { result ≡ list_any (λ l. equals key.now l.row.key) lecturers.now }
 {
     lecturers.iter().any(|l| *key == l.row.key)
 }
 
-/// The project with the room that is left, if there is any and its lecturer is one of these.
+/// Returns the project with its remaining room, if any remains and its lecturer is one of these.
 fn project_played(
     alloc: Global,
     lecturers: &[LecturerEntry],
@@ -109,7 +109,7 @@ fn project_played(
     }
 }
 
-/// The projects with room whose lecturers are these, each with the room that is left.
+/// Returns the projects of these lecturers with room left, each with the remaining room.
 fn projects_played(
     alloc: Global,
     lecturers: &[LecturerEntry],
@@ -128,7 +128,7 @@ fn projects_played(
     Ok(found)
 }
 
-/// The student, with nothing of the first round.
+/// Copies the student without the data of the first round.
 fn alone(alloc: Global, student: &StudentEntry) -> Result<StudentEntry, AllocError>
     ensures { IfOk result (λ s. s ≡ alone_student student.now) }
 {
@@ -141,7 +141,7 @@ fn alone(alloc: Global, student: &StudentEntry) -> Result<StudentEntry, AllocErr
     })
 }
 
-/// The students without a project of the first round.
+/// Copies the students who have no project of the first round, without its data.
 fn students_played(
     alloc: Global,
     students: &[StudentEntry],
@@ -157,7 +157,7 @@ fn students_played(
     Ok(found)
 }
 
-/// Who takes part in the second round, with the room that the first left.
+/// Returns the entries that take part in the second round, with the remaining room.
 pub(crate) fn played(alloc: Global, entries: &Entries) -> Result<Entries, AllocError>
     ensures { IfOk result (λ e. e ≡ all_played entries.now) }
 {

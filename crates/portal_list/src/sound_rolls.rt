@@ -13,7 +13,7 @@ use portal_core::{Code, LecturerRow, ProjectRow, StudentRow};
 use spa_rows::limits::{MOST_LECTURERS, MOST_PROJECTS, MOST_STUDENTS, is_capacity};
 use std::alloc::{AllocError, Global};
 
-/// Whether the row has its form; its texts have theirs by their types.
+/// Returns whether the row is valid. The types of its texts leave only the capacity to check.
 fn is_lecturer(row: &LecturerRow) -> bool
     ensures { IsTrue result ↔ IsLecturer row.now }
 {
@@ -23,7 +23,7 @@ fn is_lecturer(row: &LecturerRow) -> bool
     is_capacity(row.capacity)
 }
 
-/// Whether the row has its form; its texts have theirs by their types.
+/// Returns whether the row is valid. The types of its texts leave only the capacity to check.
 fn is_project(row: &ProjectRow) -> bool
     ensures { IsTrue result ↔ IsProject row.now }
 {
@@ -33,7 +33,7 @@ fn is_project(row: &ProjectRow) -> bool
     is_capacity(row.capacity)
 }
 
-/// A row has its form, since its texts have theirs by their types.
+/// States for the proofs that a row is valid, because the types of its texts ensure it.
 fn has_student_form(row: &StudentRow)
     ensures { IsStudent row.now }
 {
@@ -72,7 +72,7 @@ fn have_student_form(rows: &[StudentRow])
     }
 }
 
-/// Whether each project is of a lecturer who is there.
+/// Returns whether each project's lecturer is on the roll.
 fn lecturers_are_known(lecturers: &[LecturerRow], projects: &[ProjectRow]) -> bool
     requires { Rise (lecturer_row_keys lecturers.now) }
     ensures { IsTrue result
@@ -106,7 +106,7 @@ fn student_codes<'a>(alloc: Global, rows: &'a [StudentRow]) -> Result<Vec<&'a [u
     Ok(codes)
 }
 
-/// Whether no two callers have one code.
+/// Returns whether no two callers have the same code.
 fn codes_differ(
     alloc: Global,
     office: &Code,
@@ -125,14 +125,14 @@ fn codes_differ(
     are_distinct(alloc, &codes)
 }
 
-/// Whether the keys of each roll rise.
+/// Returns whether the keys of each roll rise strictly.
 fn rolls_rise(lecturers: &[LecturerRow], projects: &[ProjectRow], students: &[StudentRow]) -> bool
     ensures { IsTrue result ↔ KeysRise lecturers.now projects.now students.now }
 {
     keys_rise(lecturers) && keys_rise(projects) && keys_rise(students)
 }
 
-/// Whether no roll has more rows than there may be.
+/// Returns whether each roll is within its limit of rows.
 fn are_few(lecturers: &[LecturerRow], projects: &[ProjectRow], students: &[StudentRow]) -> bool
     ensures { IsTrue result ↔ AreFew lecturers.now projects.now students.now }
 {
@@ -141,7 +141,7 @@ fn are_few(lecturers: &[LecturerRow], projects: &[ProjectRow], students: &[Stude
         && students.len() <= MOST_STUDENTS
 }
 
-/// Whether the rows of the rolls are those of a world.
+/// Returns whether the rolls obey the rules of a sound world.
 pub(crate) fn rolls_fit(
     alloc: Global,
     office: &Code,

@@ -22,7 +22,7 @@ use placements::{pairs_of, placement_shown};
 use portal_core::{LecturerView, OfficeView, Phase, StudentView, copy_keys};
 use std::alloc::{AllocError, Global};
 
-/// The lecturer with this code.
+/// Finds the lecturer with this code.
 pub(crate) fn lecturer_with<'a>(
     lecturers: &'a [LecturerEntry],
     code: &[u8],
@@ -38,7 +38,7 @@ pub(crate) fn lecturer_with<'a>(
     None
 }
 
-/// The student with this code.
+/// Finds the student with this code.
 pub(crate) fn student_with<'a>(
     students: &'a [StudentEntry],
     code: &[u8],

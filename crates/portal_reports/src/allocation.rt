@@ -9,14 +9,14 @@ use portal_core::{OfficeView, Placings, StudentRow};
 use spa_rows::Key;
 use std::alloc::{AllocError, Global};
 
-/// How many students the pairs give to the project.
+/// Returns how many students the pairs give to the project.
 fn students_at(pairs: &[(Key, Key)], project: &Key) -> usize
     ensures { result ≡ sheet.students_at pairs.now project.now }
 {
     pairs.iter().filter(|pair| pair.1 == *project).count()
 }
 
-/// The line of a student.
+/// Formats the line of a student.
 fn student_line(
     alloc: Global,
     placings: &Placings,
@@ -31,7 +31,7 @@ fn student_line(
     }
 }
 
-/// Adds the lines of the students.
+/// Appends the lines of the students.
 fn put_students(text: &mut Vec<u8>, alloc: Global, view: &OfficeView) -> Result<(), AllocError>
     ensures { OnOk result (text.new.items ≡ text.old.items
         ++ flat_map (sheet.student_line view.now) view.now.students) }
@@ -44,7 +44,7 @@ fn put_students(text: &mut Vec<u8>, alloc: Global, view: &OfficeView) -> Result<
     Ok(())
 }
 
-/// Adds the lines of the projects.
+/// Appends the lines of the projects.
 fn put_projects(text: &mut Vec<u8>, alloc: Global, view: &OfficeView) -> Result<(), AllocError>
     ensures { OnOk result (text.new.items ≡ text.old.items
         ++ flat_map (sheet.project_line view.now) view.now.projects) }
@@ -57,8 +57,8 @@ fn put_projects(text: &mut Vec<u8>, alloc: Global, view: &OfficeView) -> Result<
     Ok(())
 }
 
-/// The result: a line for each student by key, a line for each project by key, and how many
-/// students have a project. An error is want of memory.
+/// Returns the result as text: a line for each student, a line for each project, both by key, and
+/// how many students have a project. An error means that memory ran out.
 pub fn allocation_text(alloc: Global, view: &OfficeView) -> Result<Vec<u8>, AllocError>
     ensures { IfOk result (λ text. text.items ≡ sheet.report_text view.now) }
 {

@@ -1,4 +1,4 @@
-//! The office's texts: the state of the round, and its result.
+//! Writes the office's texts: the status of the round, and its result.
 #![tactic(auto)]
 
 mod allocation;

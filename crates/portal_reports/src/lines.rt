@@ -10,7 +10,7 @@ use portal_core::{Phase, ProjectRow};
 use spa_rows::Key;
 use std::alloc::{AllocError, Global};
 
-/// The text of a key, which is short.
+/// Returns the text of a key, which has at most 16 ASCII bytes.
 fn short(key: &Key) -> &str
     ensures text { result.now ≡ key.now }
     ensures short { IsTrue (form.is_short key.now) }
@@ -19,7 +19,7 @@ fn short(key: &Key) -> &str
     key.as_str()
 }
 
-/// A label, and a number.
+/// Formats a line with a label and a number.
 pub(crate) fn number_line(alloc: Global, label: &str, number: usize) -> Result<String, AllocError>
     requires { IsTrue (form.is_short label.now) }
     ensures { IfOk result (λ line. string_bytes line ≡ spec.number_line label.now number) }
@@ -27,14 +27,14 @@ pub(crate) fn number_line(alloc: Global, label: &str, number: usize) -> Result<S
     format!(in alloc; "{label:<16}{number:>6}\n")
 }
 
-/// The line of the phase.
+/// Formats the line of the phase.
 pub(crate) fn phase_line(alloc: Global, phase: Phase) -> Result<String, AllocError>
     ensures { IfOk result (λ line. string_bytes line ≡ spec.phase_line phase) }
 {
     format!(in alloc; "{:<16}{}\n", "phase", phase.word())
 }
 
-/// The line of a student who has a project.
+/// Formats the line of a student who has a project.
 pub(crate) fn placed_line(
     alloc: Global,
     student: &Key,
@@ -48,7 +48,7 @@ pub(crate) fn placed_line(
     format!(in alloc; "{key:<16}  {place:<16}  {}\n", project.lecturer.as_str())
 }
 
-/// The line of a student who has none.
+/// Formats the line of a student who has no project.
 pub(crate) fn unplaced_line(alloc: Global, student: &Key) -> Result<String, AllocError>
     ensures { IfOk result (λ line. string_bytes line ≡ sheet.padded_left 16 student.now
         ++ codes "  " ++ sheet.project_and_lecturer None ++ sheet.line_feed) }
@@ -57,7 +57,7 @@ pub(crate) fn unplaced_line(alloc: Global, student: &Key) -> Result<String, Allo
     format!(in alloc; "{key:<16}  (none)\n")
 }
 
-/// The line of a project that has so many students.
+/// Formats the line of a project with this many students.
 pub(crate) fn project_line(
     alloc: Global,
     project: &ProjectRow,
@@ -72,7 +72,7 @@ pub(crate) fn project_line(
     format!(in alloc; "{key:<16}{students:>4} of {:>4}\n", project.capacity)
 }
 
-/// The line of how many students have a project.
+/// Formats the line that says how many students have a project.
 pub(crate) fn assigned_line(
     alloc: Global,
     assigned: usize,

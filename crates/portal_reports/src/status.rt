@@ -8,7 +8,7 @@ use crate::lines::{number_line, phase_line};
 use portal_core::{OfficeView, Round};
 use std::alloc::{AllocError, Global};
 
-/// Adds a line with a number.
+/// Appends a line with a label and a number.
 fn put_number(
     text: &mut Vec<u8>,
     alloc: Global,
@@ -22,7 +22,7 @@ fn put_number(
     text.extend_from_slice(line.as_bytes())
 }
 
-/// Adds the round, in the second.
+/// Appends the line of the round if it is the second.
 fn put_round(text: &mut Vec<u8>, alloc: Global, round: Round) -> Result<(), AllocError>
     ensures { OnOk result (text.new.items ≡ text.old.items ++ spec.round_lines round) }
 {
@@ -32,7 +32,7 @@ fn put_round(text: &mut Vec<u8>, alloc: Global, round: Round) -> Result<(), Allo
     }
 }
 
-/// Adds the sizes of the rolls.
+/// Appends the sizes of the rolls.
 fn put_rolls(text: &mut Vec<u8>, alloc: Global, view: &OfficeView) -> Result<(), AllocError>
     ensures { OnOk result (text.new.items ≡ text.old.items
         ++ spec.number_line (codes "lecturers") (length view.now.lecturers)
@@ -44,7 +44,7 @@ fn put_rolls(text: &mut Vec<u8>, alloc: Global, view: &OfficeView) -> Result<(),
     put_number(text, alloc, "students", view.students.len())
 }
 
-/// Adds how many lists and rankings are missing.
+/// Appends how many students have no list, and how many lecturers are still to rank.
 fn put_missing(text: &mut Vec<u8>, alloc: Global, view: &OfficeView) -> Result<(), AllocError>
     ensures { OnOk result (text.new.items ≡ text.old.items
         ++ spec.number_line (codes "without list") (length view.now.without_list)
@@ -55,7 +55,7 @@ fn put_missing(text: &mut Vec<u8>, alloc: Global, view: &OfficeView) -> Result<(
     Ok(())
 }
 
-/// Adds how many students have a project, once a result is there.
+/// Appends how many students have a project, if a result is available.
 fn put_assigned(text: &mut Vec<u8>, alloc: Global, view: &OfficeView) -> Result<(), AllocError>
     ensures { OnOk result (text.new.items ≡ text.old.items ++ spec.assigned_number view.now) }
 {
@@ -66,9 +66,9 @@ fn put_assigned(text: &mut Vec<u8>, alloc: Global, view: &OfficeView) -> Result<
     }
 }
 
-/// The state of the round: the phase, in the second round its number, the sizes of the rolls, how
-/// many lists and rankings are missing, and, once a result is there, how many students have a
-/// project. An error is want of memory.
+/// Returns the status as text: phase, round if it is the second, sizes of the rolls, and numbers of
+/// missing lists and rankings. If a result is available, the text ends with how many students have
+/// a project. An error means that memory ran out.
 pub fn status_text(alloc: Global, view: &OfficeView) -> Result<Vec<u8>, AllocError>
     ensures { IfOk result (λ text. text.items ≡ spec.status_text view.now) }
 {

@@ -49,7 +49,7 @@ fn put_student(
     }
 }
 
-/// The text that a writer holds.
+/// Returns the text that a writer holds.
 fn text_of(writer: Writer<Vec<u8>>) -> Result<Vec<u8>, AllocError>
     ensures { IfOk result (λ v. (text : List ℕ) → HasWritten writer text → v.items ≡ text) }
 {
@@ -59,8 +59,8 @@ fn text_of(writer: Writer<Vec<u8>>) -> Result<Vec<u8>, AllocError>
     }
 }
 
-/// The result as CSV: a header, and a record for each student by key. An error is want of memory
-/// alone.
+/// Returns the result as CSV: a header, then a record for each student, by key. An error means that
+/// memory ran out.
 pub fn write_allocation(alloc: Global, view: &OfficeView) -> Result<Vec<u8>, AllocError>
     ensures { IfOk result (λ text. text.items ≡ sheet.csv_text view.now) }
 {

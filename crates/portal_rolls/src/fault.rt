@@ -6,22 +6,22 @@ ghost use Rattle.portal_rolls.specs.declared.fault.RollFault.TheVariants.{Memory
 use std::alloc::{AllocError, AllocFailed};
 use thiserror::Error;
 
-/// The first fault of a file, or that memory ran out.
+/// The first fault of a file, or a memory shortage.
 #[derive(Clone, Copy, Debug, PartialEq, Eq, Error)]
 pub enum RollFault {
     /// The file has no record.
     #[error("there is no header")]
     NoHeader,
-    /// The first record is not the names of the columns.
+    /// The first record does not consist of the names of the columns.
     #[error("the header has other names")]
     BadHeader,
-    /// A record has another number of fields.
+    /// A record has more or fewer fields than the header; holds the record's number.
     #[error("record {0} has another number of fields")]
     FieldCount(u32),
-    /// A field is not UTF-8.
+    /// A field is not UTF-8; holds the record's number.
     #[error("record {0} has a field that is no text")]
     NotText(u32),
-    /// A field has not its form: the record and the column.
+    /// A field is malformed; holds the numbers of the record and the column.
     #[error("record {0} has a bad field in column {1}")]
     BadField(u32, u32),
     /// There are more records than the limit.

@@ -37,7 +37,7 @@ pub(crate) struct ThreeFields<'a> {
     pub third: &'a [u8],
 }
 
-/// The field at a place of a record that has one there.
+/// Returns the field with this index, which the record has.
 fn field(row: &ByteRecord, at: usize) -> &[u8]
     requires { at < length (fields_of row.now) }
     ensures { Some result.now ≡ field_at (fields_of row.now) at }
@@ -48,7 +48,7 @@ fn field(row: &ByteRecord, at: usize) -> &[u8]
     field
 }
 
-/// The fields of a record of four.
+/// Returns the fields of a record that has four.
 pub(crate) fn four(row: &ByteRecord) -> FourFields<'_>
     requires { length (fields_of row.now) ≡ 4 }
     ensures { fields_of row.now ≡ form.four result }
@@ -61,7 +61,7 @@ pub(crate) fn four(row: &ByteRecord) -> FourFields<'_>
     }
 }
 
-/// The fields of a record of three.
+/// Returns the fields of a record that has three.
 pub(crate) fn three(row: &ByteRecord) -> ThreeFields<'_>
     requires { length (fields_of row.now) ≡ 3 }
     ensures { fields_of row.now ≡ form.three result }
@@ -73,7 +73,7 @@ pub(crate) fn three(row: &ByteRecord) -> ThreeFields<'_>
     }
 }
 
-/// Whether the fields of a record are these names.
+/// Returns whether the fields of a record are these names.
 pub(crate) fn has_names(row: &ByteRecord, names: &[&str]) -> bool
     ensures { result ≡ same_record (map (λ n. n.now) names.now) (fields_of row.now) }
 {
@@ -88,14 +88,14 @@ pub(crate) fn has_names(row: &ByteRecord, names: &[&str]) -> bool
     true
 }
 
-/// Whether a field is UTF-8.
+/// Returns whether a field is UTF-8.
 fn is_text(field: &[u8]) -> bool
     ensures { result ≡ is_utf8 field.now }
 {
     str::from_utf8(field).is_ok()
 }
 
-/// Whether each field of a record is UTF-8.
+/// Returns whether each field of a record is UTF-8.
 pub(crate) fn is_all_text(row: &ByteRecord) -> bool
     ensures { result ≡ list_all is_utf8 (fields_of row.now) }
 {
@@ -107,14 +107,14 @@ pub(crate) fn is_all_text(row: &ByteRecord) -> bool
     true
 }
 
-/// Whether each byte is a digit.
+/// Returns whether each byte is an ASCII digit.
 fn is_digits(field: &[u8]) -> bool
     ensures { result ≡ list_all is_ascii_digit field.now }
 {
     field.iter().all(|b| b.is_ascii_digit())
 }
 
-/// The number that 1 to 7 digits spell.
+/// Parses a number of 1 to 7 digits.
 pub(crate) fn capacity_of(field: &[u8]) -> Option<u32>
     ensures { result ≡ form.capacity_in field.now }
 {
@@ -128,7 +128,7 @@ pub(crate) fn capacity_of(field: &[u8]) -> Option<u32>
     Some(value)
 }
 
-/// The capacity, from 1 to 200, in a column of a record.
+/// Parses a capacity of 1 to 200 in a column of a record.
 pub(crate) fn limited(row: u32, column: u32, field: &[u8]) -> Result<u32, RollFault>
     ensures { result ≡ form.limited row column field.now }
 {
@@ -138,7 +138,7 @@ pub(crate) fn limited(row: u32, column: u32, field: &[u8]) -> Result<u32, RollFa
     }
 }
 
-/// The key in a column of a record.
+/// Parses the key in a column of a record.
 pub(crate) fn key_at(alloc: Global, row: u32, column: u32, field: &[u8]) -> Result<Key, RollFault>
     ensures { Gives form.same result (form.formed is_key row column field.now) }
 {
@@ -149,7 +149,7 @@ pub(crate) fn key_at(alloc: Global, row: u32, column: u32, field: &[u8]) -> Resu
     }
 }
 
-/// The name in a column of a record.
+/// Parses the name in a column of a record.
 pub(crate) fn name_at(alloc: Global, row: u32, column: u32, field: &[u8]) -> Result<Name, RollFault>
     ensures { Gives form.same result (form.formed is_name row column field.now) }
 {
@@ -160,7 +160,7 @@ pub(crate) fn name_at(alloc: Global, row: u32, column: u32, field: &[u8]) -> Res
     }
 }
 
-/// The code in a column of a record.
+/// Parses the code in a column of a record.
 pub(crate) fn code_at(alloc: Global, row: u32, column: u32, field: &[u8]) -> Result<Code, RollFault>
     ensures { Gives form.same result (form.formed is_code row column field.now) }
 {
@@ -171,7 +171,7 @@ pub(crate) fn code_at(alloc: Global, row: u32, column: u32, field: &[u8]) -> Res
     }
 }
 
-/// The keys of a list, which stand between single blanks.
+/// Splits a list at each blank. An empty field is an empty list.
 pub(crate) fn list_of(alloc: Global, field: &[u8]) -> Result<Vec<Vec<u8>>, AllocError>
     ensures { IfOk result (λ v. form.text_views v.items ≡ spec.list_of field.now) }
 {

@@ -15,7 +15,7 @@ use csv::ByteRecord;
 use spa_rows::{InstanceRows, LecturerLine, PairLine, ProjectLine, StudentLine};
 use std::alloc::Global;
 
-/// What a record is about.
+/// The kind of a record.
 #[derive(Clone, Copy, Debug, PartialEq, Eq)]
 pub(crate) enum Mark {
     Lecturer,
@@ -24,7 +24,7 @@ pub(crate) enum Mark {
     Pair,
 }
 
-/// What a letter stands for.
+/// Decodes the letter in the first field of a record.
 fn mark_of(field: &[u8]) -> Option<Mark>
     ensures { result ≡ spec.mark_of field.now }
 {
@@ -37,7 +37,7 @@ fn mark_of(field: &[u8]) -> Option<Mark>
     }
 }
 
-/// The line of a record with this mark.
+/// Parses the line of a record of this kind.
 fn line_at(
     alloc: Global,
     mark: Mark,
@@ -99,7 +99,7 @@ fn line_at(
     }
 }
 
-/// The lines of an instance file.
+/// Instance files, as a `Kind`.
 struct InstanceFile;
 
 impl Kind for InstanceFile {
@@ -124,7 +124,7 @@ impl Kind for InstanceFile {
     }
 }
 
-/// The lines of a file, each put to its kind.
+/// Groups the lines of a file by kind.
 fn file_of(alloc: Global, lines: Vec<Line>) -> Result<File, RollFault>
     ensures ok { IfOk result (λ file. form.file file ≡ spec.file_of lines.items) }
     ensures fault { IfErr result (λ e. e ≡ RollFault.Memory) }
@@ -136,11 +136,11 @@ fn file_of(alloc: Global, lines: Vec<Line>) -> Result<File, RollFault>
     Ok(file)
 }
 
-/// The rows of an instance file and the pairs of its matching, or the file's first fault.
+/// Reads the rows of an instance file and the pairs of its matching.
 ///
 /// # Errors
 ///
-/// The first fault with its row and column, or that memory ran out.
+/// Returns the first fault, with its row and column if it has them, or `Memory`.
 pub fn read_instance(alloc: Global, text: &[u8]) -> Result<(InstanceRows, Vec<PairLine>), RollFault>
     ensures { Gives view.parts result (spec.rows text.now) }
 {

@@ -1,4 +1,4 @@
-//! Reading CSV: the rolls, and instance files.
+//! Reads rolls and instance files as CSV, and writes the result as CSV.
 #![tactic(auto)]
 
 mod allocation;

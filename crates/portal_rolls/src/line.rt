@@ -10,7 +10,7 @@ use crate::fault::RollFault;
 use spa_rows::{InstanceRows, LecturerLine, PairLine, ProjectLine, StudentLine};
 use std::alloc::Global;
 
-/// A line of any kind.
+/// A line of an instance file, of any kind.
 #[derive(Drop)]
 pub(crate) enum Line {
     Lecturer(LecturerLine),
@@ -19,7 +19,7 @@ pub(crate) enum Line {
     Pair(PairLine),
 }
 
-/// The lines of a file, each kind in its order.
+/// The lines of a file by kind, each kind in the order of the file.
 #[derive(Drop)]
 pub(crate) struct File {
     lecturers: Vec<LecturerLine>,
@@ -29,7 +29,7 @@ pub(crate) struct File {
 }
 
 impl File {
-    /// A file with no line.
+    /// Creates a file without lines.
     pub(crate) fn new(alloc: Global) -> File
         ensures { form.file result ≡ spec.file_of [] }
     {
@@ -41,7 +41,7 @@ impl File {
         }
     }
 
-    /// Adds a line at the end of its kind.
+    /// Appends a line to the lines of its kind.
     pub(crate) fn put(&mut self, line: Line) -> Result<(), RollFault>
         ensures ok { OnOk result ((lines : List declared.Line)
             → form.file self.old ≡ spec.file_of lines
@@ -57,7 +57,7 @@ impl File {
         Ok(())
     }
 
-    /// The rows of the instance, and the pairs of the matching.
+    /// Returns the rows of the instance and the pairs of the matching.
     pub(crate) fn into_parts(self) -> (InstanceRows, Vec<PairLine>)
         ensures { view.parts result ≡ form.file self }
     {

@@ -15,31 +15,31 @@ use crate::record::take_record;
 use csv::{ByteRecord, Reader, ReaderBuilder};
 use std::alloc::Global;
 
-/// A kind of file: the names of its columns, how many records may stand under them, and what a
-/// record says.
+/// A kind of file: the names of its columns, the greatest number of records, and how a record is
+/// parsed.
 pub(crate) trait Kind {
-    /// What one record says.
+    /// The parsed form of one record.
     type Line: Drop;
 
     /// The definition of this kind of file.
     ghost format: { Format Self.Line };
 
-    /// The names of the columns.
+    /// Returns the names of the columns.
     fn names() -> &'static [&'static str]
         ensures { map (λ n. n.now) result.now ≡ format.header };
 
-    /// The most records under the header.
+    /// Returns the greatest number of records after the header.
     fn limit() -> u32
         ensures value { result ≡ format.limit }
         ensures small { result < 10000 };
 
-    /// What a record of as many fields as the header says, where each field is text.
+    /// Parses a record that has as many fields as the header, each of them UTF-8.
     fn says(alloc: Global, number: u32, row: &ByteRecord) -> Result<Self::Line, RollFault>
         requires { length (fields_of row.now) ≡ length format.header }
         ensures { Gives form.same result (format.says number (fields_of row.now)) };
 }
 
-/// What a record says.
+/// Checks that a record has the right number of fields, all UTF-8, then parses it.
 fn line_of<K: Kind>(alloc: Global, number: u32, row: &ByteRecord) -> Result<K::Line, RollFault>
     ensures { Gives form.same result (line_in K.format number (fields_of row.now)) }
 {
@@ -52,7 +52,7 @@ fn line_of<K: Kind>(alloc: Global, number: u32, row: &ByteRecord) -> Result<K::L
     K::says(alloc, number, row)
 }
 
-/// A reader of the records of a text.
+/// Creates a reader of the records of a text.
 fn reader_of(alloc: Global, text: &[u8]) -> Reader<&[u8]>
     ensures set_up { IsSetUp result }
     ensures has { Has result (records_of text.entry.now) }
@@ -63,7 +63,7 @@ fn reader_of(alloc: Global, text: &[u8]) -> Reader<&[u8]>
         .from_reader(alloc, text)
 }
 
-/// What the records say that a reader has left, the header first.
+/// Checks that the next record of a reader is the header, then parses all later ones.
 fn read_lines<K: Kind>(
     alloc: Global,
     rdr: &mut Reader<&[u8]>,
@@ -92,7 +92,7 @@ fn read_lines<K: Kind>(
     Ok(lines)
 }
 
-/// What a text says, or its first fault.
+/// Parses a whole text, or returns its first fault as an error.
 pub(crate) fn read_text<K: Kind>(alloc: Global, text: &[u8]) -> Result<Vec<K::Line>, RollFault>
     ensures { Gives view.items result (lines_of K.format (records_of text.now)) }
 {

@@ -103,11 +103,11 @@ impl Kind for StudentRoll {
     }
 }
 
-/// The rows of a roll of lecturers, or its first fault.
+/// Reads the rows of a roll of lecturers.
 ///
 /// # Errors
 ///
-/// The first fault with its row and column, or that memory ran out.
+/// Returns the first fault, with its row and column if it has them, or `Memory`.
 pub fn read_lecturers(alloc: Global, text: &[u8]) -> Result<Vec<LecturerRow>, RollFault>
     ensures read { Gives view.items result (spec.lecturers text.now) }
     ensures formed { IfOk result (λ rows. AllByRecursion IsLecturer rows.items) }
@@ -115,11 +115,11 @@ pub fn read_lecturers(alloc: Global, text: &[u8]) -> Result<Vec<LecturerRow>, Ro
     read_text::<LecturerRoll>(alloc, text)
 }
 
-/// The rows of a roll of projects, or its first fault.
+/// Reads the rows of a roll of projects.
 ///
 /// # Errors
 ///
-/// The first fault with its row and column, or that memory ran out.
+/// Returns the first fault, with its row and column if it has them, or `Memory`.
 pub fn read_projects(alloc: Global, text: &[u8]) -> Result<Vec<ProjectRow>, RollFault>
     ensures read { Gives view.items result (spec.projects text.now) }
     ensures formed { IfOk result (λ rows. AllByRecursion IsProject rows.items) }
@@ -127,11 +127,11 @@ pub fn read_projects(alloc: Global, text: &[u8]) -> Result<Vec<ProjectRow>, Roll
     read_text::<ProjectRoll>(alloc, text)
 }
 
-/// The rows of a roll of students, or its first fault.
+/// Reads the rows of a roll of students.
 ///
 /// # Errors
 ///
-/// The first fault with its row and column, or that memory ran out.
+/// Returns the first fault, with its row and column if it has them, or `Memory`.
 pub fn read_students(alloc: Global, text: &[u8]) -> Result<Vec<StudentRow>, RollFault>
     ensures read { Gives view.items result (spec.students text.now) }
     ensures formed { IfOk result (λ rows. AllByRecursion IsStudent rows.items) }

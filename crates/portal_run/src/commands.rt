@@ -21,10 +21,10 @@ use std::convert::AsStr;
 use std::io::{Read, Write};
 use std::{fs, io};
 
-/// The most that a text's own status is: a fault of a reader, a writer or memory is 3.
+/// The highest exit status of a help text or a usage error; 3 reports a fault.
 const MOST: u8 = 2;
 
-/// Answers to what a reader gives.
+/// Reads an instance file from a reader, and writes the answer.
 fn answer<R: Read, W: Write>(alloc: Global, task: Task, reader: &mut R, writer: &mut W) -> u8
     ensures bound { result ≤ 3 }
     ensures takes { ConsumesAtMost 4194305 (R.remaining reader.old) (R.remaining reader.new) }
@@ -44,7 +44,7 @@ fn answer<R: Read, W: Write>(alloc: Global, task: Task, reader: &mut R, writer: 
     }
 }
 
-/// Answers to what a file holds, if it could be opened.
+/// Writes the answer to an opened file, or reports a read fault if opening failed.
 fn answer_opened<F: Read + Drop, W: Write>(
     alloc: Global,
     task: Task,
@@ -65,7 +65,7 @@ fn answer_opened<F: Read + Drop, W: Write>(
     }
 }
 
-/// Answers to a file, or to the standard input where none is named.
+/// Writes the answer to a named file, or to the standard input if no file is named.
 fn answer_file<R: Read, W: Write>(
     rt: &HostRuntime,
     task: Task,
@@ -87,10 +87,10 @@ fn answer_file<R: Read, W: Write>(
     }
 }
 
-/// Does a command, and gives the exit status. What `check` and `solve` write of a file that is
-/// named is the answer, by that command's own task, to what the opened file gave; 3 where it could
-/// not be read or written. `upgrade` writes the line of the answer that the store gave for the
-/// file's connection, and gives that answer's status; or those of a file that is not there.
+/// Performs a command and returns the exit status. `check` and `solve` write the answer to their
+/// task for the bytes of the instance file; the status is 3 if reading or writing fails. `upgrade`
+/// writes the line for the store's answer and returns its status. It reports a missing file as
+/// `refused not_portal` with status 2.
 #[tactic(auto, using(crate::proofs::Taken::few_taken, crate::proofs::Taken::same_left))]
 pub fn perform<R: Read, W: Write>(
     rt: &HostRuntime,
@@ -130,10 +130,10 @@ pub fn perform<R: Read, W: Write>(
     }
 }
 
-/// Does what the words ask for, and gives the exit status. At most 272,629,760 bytes are taken from
-/// a reader that tells its bytes, and for a command on instance files at most 4,194,305. What
-/// `check FILE` and `solve FILE` write, where no `-` stands in front of the name, is an answer by
-/// that command's own task; 3 where the file could not be read or the answer not written.
+/// Performs the command that the words name, and returns the exit status. It takes at most
+/// 272,629,760 bytes from a reader whose bytes are known; `check` and `solve` take at most
+/// 4,194,305. `check FILE` and `solve FILE` write the answer to their task unless the name begins
+/// with `-`. Their status is 3 if reading the file or writing the answer fails.
 #[tactic(auto, using(crate::proofs::Taken::same_left))]
 pub fn run<S: AsStr, R: Read, W: Write>(
     rt: &HostRuntime,

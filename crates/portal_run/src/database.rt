@@ -17,7 +17,7 @@ pub(crate) type InFile = Store<FileStore<File>>;
 /// A desk over a database in a file.
 pub(crate) type FileDesk = Desk<InFile>;
 
-/// A connection to a file, which is made where it is not there.
+/// Connects to a database file, which is created if it does not exist.
 pub(crate) fn connect(rt: &HostRuntime, path: &str) -> Result<Connection<FileStore<File>>, Refusal>
     ensures idle { IfOk result (λ conn. conn.in_transaction ≡ false) }
     ensures fault { IfErr result (λ why. status_of why ≡ 3) }
@@ -29,7 +29,7 @@ pub(crate) fn connect(rt: &HostRuntime, path: &str) -> Result<Connection<FileSto
     }
 }
 
-/// Whether no file is there.
+/// Returns whether a file does not exist.
 fn is_missing(rt: &HostRuntime, path: &str) -> bool {
     match fs::metadata(rt, path) {
         Ok(_) => false,
@@ -37,7 +37,7 @@ fn is_missing(rt: &HostRuntime, path: &str) -> bool {
     }
 }
 
-/// A connection to a file that is there. One that is not is none of the portal's, and is not made.
+/// Connects to an existing database file. A missing file is refused as `NotPortal`, not created.
 pub(crate) fn connect_there(
     rt: &HostRuntime,
     path: &str,
@@ -51,7 +51,7 @@ pub(crate) fn connect_there(
     connect(rt, path)
 }
 
-/// A desk over the store of a connection.
+/// Opens the store of a connection, and makes a desk over it.
 fn desk_over<S: Alter + Drop>(alloc: Global, conn: Connection<S>) -> Result<Desk<Store<S>>, Refusal>
     requires { conn.in_transaction ≡ false }
 {
@@ -66,13 +66,13 @@ fn desk_over<S: Alter + Drop>(alloc: Global, conn: Connection<S>) -> Result<Desk
     }
 }
 
-/// A desk over the database of a file that is there.
+/// Opens the database in an existing file, and makes a desk over it.
 pub(crate) fn open(rt: &HostRuntime, path: &str) -> Result<FileDesk, Refusal> {
     let conn = connect_there(rt, path)?;
     desk_over(rt.alloc(), conn)
 }
 
-/// Closes the database of a store. What was committed stays, whatever comes of it.
+/// Closes the database of a store. Committed changes last even if closing fails.
 pub(crate) fn close(store: InFile) {
     let _ = store.into_connection().close();
 }

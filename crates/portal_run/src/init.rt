@@ -15,19 +15,19 @@ use sqlite_trees::store::Store as Tables;
 use std::alloc::Global;
 use std::io::{Read, Write};
 
-/// Why there is no code.
+/// Why no code was read.
 #[derive(Clone, Copy, Debug, Drop, PartialEq, Eq)]
 enum NoCode {
-    /// The first line is none.
+    /// The first line is not a code.
     Bad,
     Read,
     Memory,
 }
 
-/// The most bytes of the input that are looked at.
+/// The most bytes of the input that are read.
 const MOST: usize = 64;
 
-/// The first line of these bytes, without its end; none where so many have no end of line.
+/// Returns the first line without its line end, or `None` if it has `MOST` bytes or more.
 fn line_of(bytes: &[u8]) -> Option<&[u8]> {
     let line = match bytes.iter().position(|byte| *byte == b'\n') {
         Some(end) => &bytes[..end],
@@ -42,7 +42,7 @@ fn line_of(bytes: &[u8]) -> Option<&[u8]> {
     }
 }
 
-/// The code in the first line of an input.
+/// Reads the code in the first line of an input.
 fn code_of<R: Read>(alloc: Global, reader: &mut R) -> Result<Code, NoCode>
     ensures takes { ConsumesAtMost 64 (R.remaining reader.old) (R.remaining reader.new) }
 {
@@ -61,7 +61,7 @@ fn code_of<R: Read>(alloc: Global, reader: &mut R) -> Result<Code, NoCode>
     }
 }
 
-/// Makes the portal's tables in a file.
+/// Creates the portal's tables in a database file.
 fn create(rt: &HostRuntime, path: &str, office: Code) -> Result<(), Refusal> {
     let conn = connect(rt, path)?;
     match Store::create(rt.alloc(), conn, office) {
@@ -78,8 +78,8 @@ fn create(rt: &HostRuntime, path: &str, office: Code) -> Result<(), Refusal> {
     }
 }
 
-/// Makes the database of a file, whose office has the code of the first line of the input. A text
-/// that is no code is told before the file is looked at.
+/// Creates the database in a file; the office's code is the first line of the input. A bad code is
+/// refused before the file is opened. Returns the exit status.
 pub(crate) fn init<R: Read, W: Write>(
     rt: &HostRuntime,
     path: &str,
@@ -97,7 +97,7 @@ pub(crate) fn init<R: Read, W: Write>(
     }
 }
 
-/// Upgrades the tables behind a connection, and says what the store answered.
+/// Upgrades the database of a connection, and reports success or the fault.
 fn upgrade_opened<W: Write>(alloc: Global, conn: Connection<FileStore<File>>, writer: &mut W) -> u8
     requires { conn.in_transaction ≡ false }
     ensures bound { result ≤ 3 }
@@ -118,7 +118,7 @@ fn upgrade_opened<W: Write>(alloc: Global, conn: Connection<FileStore<File>>, wr
     }
 }
 
-/// Brings the database of a file that is there from version 1 to version 2.
+/// Upgrades the database in an existing file from version 1 to version 2.
 pub(crate) fn upgrade_database<W: Write>(rt: &HostRuntime, path: &str, writer: &mut W) -> u8
     ensures bound { result ≤ 3 }
     ensures says { result < 3 → SaysUpgrade ⟦<FileStore<File> as Tables>⟧ result

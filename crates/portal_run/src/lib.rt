@@ -1,4 +1,4 @@
-//! The commands of the portal, over any reader and any writer.
+//! Runs the program's commands, over any reader and writer.
 #![tactic(auto)]
 
 mod commands;

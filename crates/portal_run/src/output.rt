@@ -5,7 +5,7 @@ ghost use Rattle.std.specs.Io.KnownBytes.{Appends};
 
 use std::io::Write;
 
-/// Writes a text, and gives its status, or 3 where the writer refused it.
+/// Writes a text and returns its exit status, or 3 if the writer fails.
 pub fn say<W: Write>(writer: &mut W, text: &[u8], status: u8) -> u8
     ensures status { (result ≡ status) ⊎ (result ≡ 3) }
     ensures written { result ≢ 3 → Appends (W.contents writer.old)
@@ -18,28 +18,28 @@ pub fn say<W: Write>(writer: &mut W, text: &[u8], status: u8) -> u8
     3
 }
 
-/// Says that memory ran out.
+/// Reports that memory ran out.
 pub(crate) fn say_memory<W: Write>(writer: &mut W) -> u8
     ensures { result ≡ 3 }
 {
     say(writer, b"fault memory\n", 3)
 }
 
-/// Says that the store failed.
+/// Reports that the store failed.
 pub(crate) fn say_store<W: Write>(writer: &mut W) -> u8
     ensures { result ≡ 3 }
 {
     say(writer, b"fault store\n", 3)
 }
 
-/// Says that the input could not be read.
+/// Reports that the input could not be read.
 pub(crate) fn say_read<W: Write>(writer: &mut W) -> u8
     ensures { result ≡ 3 }
 {
     say(writer, b"fault read\n", 3)
 }
 
-/// Says that the output could not be written.
+/// Reports that the output could not be written.
 pub(crate) fn say_write<W: Write>(writer: &mut W) -> u8
     ensures { result ≡ 3 }
 {

@@ -8,7 +8,7 @@ use crate::output::{say, say_memory, say_store};
 use portal_store::{CreateFault, OpenFault, UpgradeFault};
 use std::io::Write;
 
-/// Why a command did nothing with a database.
+/// Why a command refuses a database, or a fault of the store or of memory.
 #[derive(Clone, Copy, Debug, Drop, PartialEq, Eq)]
 pub(crate) enum Refusal {
     NotPortal,
@@ -19,7 +19,7 @@ pub(crate) enum Refusal {
     Memory,
 }
 
-/// Why a database was not opened.
+/// Converts a fault of opening a database.
 pub(crate) fn not_opened(fault: OpenFault) -> Refusal
     ensures not_portal { (result ≡ Refusal.NotPortal) ↔ (fault ≡ OpenFault.NotPortal) }
     ensures version { (result ≡ Refusal.OtherVersion) ↔ (fault ≡ OpenFault.OtherVersion) }
@@ -36,7 +36,7 @@ pub(crate) fn not_opened(fault: OpenFault) -> Refusal
     }
 }
 
-/// Why a database was not made.
+/// Converts a fault of creating a database.
 pub(crate) fn not_made(fault: CreateFault) -> Refusal
     ensures exists { (result ≡ Refusal.Exists) ↔ (fault ≡ CreateFault.Exists) }
     ensures store { (result ≡ Refusal.Store) ↔ (fault ≡ CreateFault.Store) }
@@ -49,7 +49,7 @@ pub(crate) fn not_made(fault: CreateFault) -> Refusal
     }
 }
 
-/// Why a database was not brought to version 2.
+/// Converts a fault of upgrading a database.
 fn not_upgraded(fault: UpgradeFault) -> Refusal
     ensures not_portal { (result ≡ Refusal.NotPortal) ↔ (fault ≡ UpgradeFault.NotPortal) }
     ensures version { (result ≡ Refusal.OtherVersion) ↔ (fault ≡ UpgradeFault.OtherVersion) }
@@ -70,7 +70,7 @@ fn not_upgraded(fault: UpgradeFault) -> Refusal
     }
 }
 
-/// Says why a command did nothing with a database.
+/// Reports why a command refuses a database, and returns the exit status.
 pub(crate) fn refuse<W: Write>(writer: &mut W, why: Refusal) -> u8
     ensures { Says (refusal_line why) (status_of why) result (W.contents writer.old)
         (W.contents writer.new) }
@@ -85,7 +85,7 @@ pub(crate) fn refuse<W: Write>(writer: &mut W, why: Refusal) -> u8
     }
 }
 
-/// Says what the store answered to an upgrade: that it is done, or why the tables were refused.
+/// Reports the success of an upgrade, or why it failed, and returns the exit status.
 pub(crate) fn say_upgrade<W: Write>(writer: &mut W, refused: Option<UpgradeFault>) -> u8
     ensures { Says (upgrade_line refused) (upgrade_status refused) result (W.contents writer.old)
         (W.contents writer.new) }
@@ -96,7 +96,7 @@ pub(crate) fn say_upgrade<W: Write>(writer: &mut W, refused: Option<UpgradeFault
     }
 }
 
-/// Says that something was done with a database, by its own line, or why it was not.
+/// Writes `line` on success, or reports the refusal, and returns the exit status.
 pub(crate) fn say_done<W: Write>(writer: &mut W, done: Result<(), Refusal>, line: &[u8]) -> u8
     ensures done { IfOk done (λ _. Says line.now 0 result (W.contents writer.old)
         (W.contents writer.new)) }

@@ -13,7 +13,7 @@ use std::alloc::{AllocError, Global};
 use std::io::{Read, Write};
 use std::net::{Ipv4Addr, SocketAddr, SocketAddrV4, TcpListener};
 
-/// Says which port is listened on; 0 where it was said.
+/// Reports the port that the portal listens on, and returns 0 on success.
 fn say_port<W: Write>(alloc: Global, port: u16, writer: &mut W) -> u8
     ensures { result ≤ 3 }
 {
@@ -23,7 +23,7 @@ fn say_port<W: Write>(alloc: Global, port: u16, writer: &mut W) -> u8
     }
 }
 
-/// Says how many connections were served, or why no more were.
+/// Reports how many connections were served, or why serving stopped early.
 fn say_hall<W: Write>(alloc: Global, hall: Hall, writer: &mut W) -> u8
     ensures { result ≤ 3 }
 {
@@ -38,7 +38,7 @@ fn say_hall<W: Write>(alloc: Global, hall: Hall, writer: &mut W) -> u8
     }
 }
 
-/// Listens on a port of this machine alone, and serves the connections.
+/// Listens on a port of 127.0.0.1, and serves the connections.
 fn listen<W: Write>(
     rt: &HostRuntime,
     desk: &mut FileDesk,
@@ -60,7 +60,7 @@ fn listen<W: Write>(
     say_hall(rt.alloc(), hall, writer)
 }
 
-/// Serves the portal of a file on a port, for so many connections.
+/// Serves up to `connections` connections on a port, over the database in a file.
 pub(crate) fn serve_database<W: Write>(
     rt: &HostRuntime,
     path: &str,
@@ -80,7 +80,7 @@ pub(crate) fn serve_database<W: Write>(
     }
 }
 
-/// Says why a connection ended early.
+/// Reports why a connection ended early.
 fn say_cause<W: Write>(writer: &mut W, cause: Cause) -> u8
     ensures { result ≤ 3 }
 {
@@ -92,7 +92,7 @@ fn say_cause<W: Write>(writer: &mut W, cause: Cause) -> u8
     }
 }
 
-/// Hands on all that was written.
+/// Flushes the output, and returns the exit status.
 fn flush<W: Write>(writer: &mut W) -> u8
     ensures { result ≤ 3 }
 {
@@ -102,7 +102,7 @@ fn flush<W: Write>(writer: &mut W) -> u8
     }
 }
 
-/// Answers the requests of the input on the output, as one connection.
+/// Serves the input and the output as one connection.
 #[tactic(auto, using(crate::proofs::Taken::same_left))]
 pub(crate) fn pipe_database<R: Read, W: Write>(
     rt: &HostRuntime,
@@ -126,7 +126,7 @@ pub(crate) fn pipe_database<R: Read, W: Write>(
     }
 }
 
-/// The report of a desk's database.
+/// Returns the office's report on a desk's database, and closes the database.
 fn report_of(alloc: Global, desk: FileDesk) -> Result<Vec<u8>, Unreported> {
     let mut store = desk.into_keeper();
     let told = match store.office_code(alloc) {
@@ -138,7 +138,7 @@ fn report_of(alloc: Global, desk: FileDesk) -> Result<Vec<u8>, Unreported> {
     told
 }
 
-/// Prints where the year of a file stands, and the result once it is published.
+/// Prints the office's report: the status of the round, then the result if there is one.
 pub(crate) fn report_database<W: Write>(rt: &HostRuntime, path: &str, writer: &mut W) -> u8
     ensures { result ≤ 3 }
 {

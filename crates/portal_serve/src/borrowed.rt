@@ -5,9 +5,9 @@ ghost use Rattle.std.specs.Prelude.{◌≡◌};
 use portal_desk::{Failed, Sink, Source, read_again, write_again};
 use std::io::{Read, Write};
 
-/// A reader or a writer of somebody else, with a count of the calls that failed: it passes on what
-/// the reader or writer answers, and only an error of it, or a write that takes none of some bytes,
-/// is `Failed`.
+/// A borrowed reader or writer that counts its failed calls. It retries a call that a signal
+/// interrupts. Any other error is `Failed`, and so is a write that takes no byte of a non-empty
+/// buffer.
 #[derive(Drop)]
 pub(crate) struct Borrowed<'a, T> {
     device: &'a mut T,

@@ -10,32 +10,32 @@ use std::time::{Clock, Duration, Instant};
 /// How many seconds a connection may be silent.
 const SILENCE: u64 = 30;
 
-/// How many seconds a request may take from its first byte on, and its reply.
+/// How many seconds a request may take from its first byte on, and how many its reply may take.
 const WHOLE: u64 = 60;
 
-/// How many seconds a connection may take in all: no byte of a request is read after them.
+/// How many seconds after its first read a connection still reads requests.
 const LONGEST: u64 = 300;
 
-/// How many seconds a client may be silent that still sends when its connection is at its end.
+/// How many seconds a client may be silent while its last bytes are dropped.
 const PARTING: u64 = 5;
 
-/// The most bytes that are dropped when a connection is at its end: the longest head and the
+/// The number of dropped bytes after which a connection closes: those of the longest head and the
 /// longest body.
 const DROPPED: usize = 1_064_960;
 
-/// The most bytes of one read that drops them.
+/// The most bytes that one read drops.
 const PIECE: usize = 4096;
 
-/// What a connection has of its time.
+/// A connection, with the times from which its timeouts count.
 #[derive(Drop)]
 pub(crate) struct Connection<'a, T: Clock, S: TimedStream> {
     clock: &'a T,
     stream: &'a S,
     /// When the connection was first read from.
     began: Cell<Option<Instant>>,
-    /// When the first byte of the request came that is not answered yet, or may have come.
+    /// When the first byte of the unanswered request came, or the earliest time when it may have.
     asked: Cell<Option<Instant>>,
-    /// When the first byte of the reply went out, after which nothing was read yet.
+    /// When writing began after the last byte was read; `None` if nothing was written since.
     told: Cell<Option<Instant>>,
 }
 
@@ -54,7 +54,7 @@ impl<'a, T: Clock, S: TimedStream> Connection<'a, T, S> {
         }
     }
 
-    /// What is left of so many seconds that began then; all of them where nothing began.
+    /// Returns what is left of `seconds` since `began`, or all of them if `began` is `None`.
     fn left(&self, began: Option<Instant>, seconds: u64) -> io::Result<Duration> {
         let Some(began) = began else {
             return Ok(Duration::from_secs(seconds));
@@ -66,8 +66,8 @@ impl<'a, T: Clock, S: TimedStream> Connection<'a, T, S> {
         }
     }
 
-    /// How long the next read may wait: while the request, and the connection, have time left, and
-    /// no longer than a connection may be silent.
+    /// Returns how long the next read may wait: the shortest of the allowed silence, the request's
+    /// remaining time and the connection's remaining time.
     fn patience(&self) -> io::Result<Duration> {
         if self.began.get().is_none() {
             self.began.set(Some(Instant::now(self.clock)?));
@@ -77,8 +77,8 @@ impl<'a, T: Clock, S: TimedStream> Connection<'a, T, S> {
         Ok(whole.min(longest).min(Duration::from_secs(SILENCE)))
     }
 
-    /// Notes that bytes of a request came. Where a reply was written since the last read, the
-    /// request's first bytes may have come with the one before it: its time then began with that
+    /// Records that bytes of a request came. If a reply was written since the last read, the
+    /// request's first bytes may have come before it. The request's time then starts with that
     /// reply.
     fn note_asked(&self) -> io::Result<()> {
         let replied = self.told.get();
@@ -92,7 +92,7 @@ impl<'a, T: Clock, S: TimedStream> Connection<'a, T, S> {
         Ok(())
     }
 
-    /// Notes that bytes of a reply are to go out.
+    /// Records that bytes of a reply are about to be written.
     fn note_told(&self) -> io::Result<()> {
         self.asked.set(None);
         if self.told.get().is_none() {
@@ -101,17 +101,17 @@ impl<'a, T: Clock, S: TimedStream> Connection<'a, T, S> {
         Ok(())
     }
 
-    /// How long the next read of what is dropped may wait, where that began then.
+    /// Returns how long the next read of dropped bytes may wait; dropping started at `began`.
     fn parting(&self, began: Option<Instant>) -> io::Result<Duration> {
         let whole = self.left(began, WHOLE)?;
         let longest = self.left(self.began.get(), LONGEST)?;
         Ok(whole.min(longest).min(Duration::from_secs(PARTING)))
     }
 
-    /// Ends the connection so that what was written reaches the client: a connection that is closed
-    /// with bytes unread is reset, and a reply may be lost. So nothing more is sent, and what still
-    /// comes is dropped: within the connection's time, for 60 seconds and 1,064,960 bytes at most,
-    /// and until the client is silent for 5 seconds.
+    /// Ends the connection so that the last reply reaches the client. Closing it with unread bytes
+    /// would reset it, and a reply could be lost. So this shuts down writing and drops what
+    /// arrives. It stops when the client closes or is silent for 5 seconds, after 60 seconds or
+    /// 1,064,960 bytes, or when the connection's time is over.
     pub(crate) fn end(&self) -> io::Result<()> {
         self.stream.end_writing()?;
         let mut reader = PartingReader {
@@ -131,7 +131,7 @@ impl<'a, T: Clock, S: TimedStream> Connection<'a, T, S> {
     }
 }
 
-/// Reads of a connection, none of which waits longer than the request may take.
+/// A reader of a connection; each read waits no longer than `Connection::patience` allows.
 #[derive(Drop)]
 pub(crate) struct ConnectionReader<'a, T: Clock, S: TimedStream> {
     pub(crate) connection: &'a Connection<'a, T, S>,
@@ -148,7 +148,7 @@ impl<'a, T: Clock, S: TimedStream> Read for ConnectionReader<'a, T, S> {
     }
 }
 
-/// Reads of what is dropped at the end of a connection.
+/// A reader of the bytes that are dropped at the end of a connection.
 #[derive(Drop)]
 struct PartingReader<'a, T: Clock, S: TimedStream> {
     connection: &'a Connection<'a, T, S>,
@@ -164,7 +164,7 @@ impl<'a, T: Clock, S: TimedStream> Read for PartingReader<'a, T, S> {
     }
 }
 
-/// Writes to a connection, none of which waits longer than the reply may take.
+/// A writer to a connection; each write waits no longer than the reply may take.
 #[derive(Drop)]
 pub(crate) struct ConnectionWriter<'a, T: Clock, S: TimedStream> {
     pub(crate) connection: &'a Connection<'a, T, S>,

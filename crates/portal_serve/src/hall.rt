@@ -10,45 +10,45 @@ ghost use Rattle.portal_serve.specs.declared.hall.Outcome.{Outcome};
 use portal_core::Keeper;
 use portal_desk::{Cause, Desk, ServeFault, Served};
 
-/// Why no more connections are taken.
+/// Why no more connections are accepted.
 #[derive(Clone, Copy, Debug, Drop, PartialEq, Eq)]
 pub enum Ended {
-    /// As many as were asked for were served.
+    /// The requested number of connections was served.
     Full,
     /// The desk has failed.
     StoreFault,
-    /// No connection could be had.
+    /// No connection could be accepted.
     ListenFault,
 }
 
-/// The connections that were served.
+/// The numbers of connections and faults, and why serving ended.
 #[derive(Clone, Copy, Debug, Drop, PartialEq, Eq)]
 pub struct Hall {
-    /// How many were accepted.
+    /// How many connections were accepted.
     pub accepted: u32,
-    /// How many of them ended by a fault of the connection or for want of memory.
+    /// How many of them ended with a fault of the connection or a memory shortage.
     pub faults: u32,
     pub ended: Ended,
 }
 
-/// What came of a connection.
+/// The outcome of a connection.
 #[derive(Clone, Copy, Debug, Drop, PartialEq, Eq)]
 pub struct Outcome {
-    /// How it ended.
+    /// How the connection ended.
     pub ended: Result<Served, ServeFault>,
-    /// Whether the desk had failed then.
+    /// Whether the desk had failed by then.
     pub failed: bool,
 }
 
-/// Gives connections, one after another, and serves each on a desk.
+/// A series of connections, each of which is served on a desk.
 pub trait Connections {
-    /// What came of the connections so far, where it is told.
+    /// The outcomes of the connections so far, if they are recorded.
     ghost outcomes: { Self → Option (List Outcome) } = { λ _. None };
 
-    /// No connection can be had.
+    /// No further connection can be accepted.
     ghost over: { Self → Type 0 } = { λ _. Unit {0} };
 
-    /// Serves the next connection, and tells what came of it; none where no connection can be had.
+    /// Serves the next connection and returns its outcome, or `None` if none can be accepted.
     fn serve_next<K: Keeper>(&mut self, desk: &mut Desk<K>) -> Option<Outcome>
         ensures clean { K.clean desk.new.keeper → K.clean desk.old.keeper }
         ensures adds { Adds (outcomes self.old) (outcomes self.new) (option_to_list result) }
@@ -61,8 +61,8 @@ pub trait Connections {
         ensures over { result ≡ None → over self.new };
 }
 
-/// Whether a connection ended by a fault of its own: the reader's, the writer's or want of memory,
-/// and not the store's.
+/// Returns whether a connection ended with a fault of its own: of the reader, of the writer or of
+/// memory, but not of the store.
 pub(crate) fn is_fault(ended: &Result<Served, ServeFault>) -> bool
     ensures { result ≡ is_own_fault ended.now }
 {
@@ -75,7 +75,7 @@ pub(crate) fn is_fault(ended: &Result<Served, ServeFault>) -> bool
     }
 }
 
-/// How many connections ended by a fault of their own, where so many did before this one.
+/// Adds 1 to the number of faults if the connection ended with a fault of its own.
 fn faults_with(faults: u32, ended: &Result<Served, ServeFault>) -> u32
     requires { faults < 2 ^ 32 - 1 }
     ensures { result ≡ faults + (if is_own_fault ended.now then 1 else 0) }
@@ -83,7 +83,7 @@ fn faults_with(faults: u32, ended: &Result<Served, ServeFault>) -> u32
     if is_fault(ended) { faults + 1 } else { faults }
 }
 
-/// Serves one connection after another: so many, or until the desk fails or none can be had.
+/// Serves up to `most` connections in turn. Stops early if the desk fails or none can be accepted.
 pub fn serve_each<C: Connections, K: Keeper>(
     connections: &mut C,
     most: u32,

@@ -1,5 +1,4 @@
-//! Serves connections over any keeper: those of a socket, one after another, or the one of a reader
-//! and a writer.
+//! Serves connections over any keeper: from a listener, in turn, or a reader and a writer.
 #![tactic(auto)]
 
 mod borrowed;

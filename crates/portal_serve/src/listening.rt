@@ -13,14 +13,14 @@ use portal_desk::{Counted, Desk, ServeFault, Served};
 use std::net::TcpListener;
 use std::time::Clock;
 
-/// Serves one connection. Where it is silent for 30 seconds, where a request is not whole 60
-/// seconds after its first byte (or after the reply before it began to be written, since that byte
-/// may have come with the request before), where a reply is not taken in 60 seconds, or where more
-/// is asked for 300 seconds after it began, it ends by a fault.
+/// Serves one connection within time limits; a missed limit ends it with a fault. The client may be
+/// silent for 30 seconds, and has 60 seconds to take a reply. A request has 60 seconds from its
+/// first byte, or from the first reply since the last read: its first byte may have come before
+/// that reply. The connection reads no request after 300 seconds.
 ///
 /// # Errors
 ///
-/// The stream failed or had no more time, memory ran out, or the store failed.
+/// The stream failed or missed a time limit, memory ran out, or the store failed.
 pub fn serve_stream<T: Clock + AllocGlobal, S: TimedStream, K: Keeper>(
     rt: &T,
     stream: &S,
@@ -44,13 +44,13 @@ pub fn serve_stream<T: Clock + AllocGlobal, S: TimedStream, K: Keeper>(
     });
     let ended = desk.serve(rt.alloc(), &mut reader, &mut writer);
     if !is_fault(&ended) {
-        // The last reply stands whole: the connection is ended so that the client has it.
+        // Every reply is written whole, so close gracefully to let the last one reach the client.
         let _ = connection.end();
     }
     ended
 }
 
-/// The connections of a listener, which tells nothing of what came of them.
+/// The connections of a listener; their outcomes are not recorded.
 #[derive(Drop)]
 struct Listening<'a, T> {
     rt: &'a T,
@@ -69,8 +69,8 @@ impl<'a, T: Clock + AllocGlobal> Connections for Listening<'a, T> {
     }
 }
 
-/// Serves connections of a listener, one after another: so many, or until the desk fails or the
-/// listener does. Each has the time that `serve_stream` tells.
+/// Serves up to `connections` connections of a listener in turn, each within the time limits of
+/// `serve_stream`. Stops early if the desk or the listener fails.
 pub fn serve_on<T: Clock + AllocGlobal, K: Keeper>(
     rt: &T,
     listener: &TcpListener,

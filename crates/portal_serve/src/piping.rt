@@ -13,11 +13,11 @@ use portal_desk::{Desk, ServeFault, Served};
 use std::alloc::Global;
 use std::io::{Read, Write};
 
-/// Answers the requests of a reader on a writer.
+/// Serves the requests of a reader, and writes the replies to a writer.
 ///
 /// # Errors
 ///
-/// The reader or the writer answered an error, memory ran out, or the store failed.
+/// The reader or the writer failed, memory ran out, or the store failed.
 pub fn pipe<K: Keeper, R: Read, W: Write>(
     alloc: Global,
     desk: &mut Desk<K>,

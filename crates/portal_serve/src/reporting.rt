@@ -18,7 +18,7 @@ pub enum Unreported {
     Memory,
 }
 
-/// The state of the round, and, once a result is there, after an empty line, the result.
+/// Writes the status of the round, then an empty line and the result if there is a result.
 fn text_of(alloc: Global, view: &OfficeView) -> Result<Vec<u8>, AllocError>
     ensures { IfOk result (λ text. text.items ≡ told_of view.now) }
 {
@@ -32,7 +32,7 @@ fn text_of(alloc: Global, view: &OfficeView) -> Result<Vec<u8>, AllocError>
     Ok(text)
 }
 
-/// The report, if it is the office that sees this.
+/// Returns the report if the view is the office's.
 fn told(alloc: Global, view: &View) -> Result<Vec<u8>, Unreported>
     ensures text { IfOk result (λ text. IsOfficeReport view.now text.items) }
     ensures other { result ≡ Err Unreported.Store → IsOther view.now }
@@ -46,11 +46,11 @@ fn told(alloc: Global, view: &View) -> Result<Vec<u8>, Unreported>
     }
 }
 
-/// The report of a keeper whose office has this code.
+/// Returns the office's report on a keeper's world; `office` has to be the office's code.
 ///
 /// # Errors
 ///
-/// The keeper failed, or the code is another one.
+/// The keeper failed, memory ran out, or the code is not the office's.
 pub fn report<K: Keeper>(
     alloc: Global,
     keeper: &mut K,

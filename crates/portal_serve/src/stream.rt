@@ -7,9 +7,9 @@ use std::io::{Read, Write};
 use std::net::{Shutdown, TcpStream};
 use std::time::Duration;
 
-/// A stream of bytes in both directions, each of whose calls has a timeout.
+/// A two-way stream of bytes whose reads and writes have timeouts.
 pub trait TimedStream {
-    /// Reads some bytes, none only at the end or with no room.
+    /// Reads some bytes, and none only at the end or into an empty buffer.
     ///
     /// # Errors
     ///
@@ -25,7 +25,7 @@ pub trait TimedStream {
     fn write_within(&self, buf: &[u8], timeout: Duration) -> io::Result<usize>
         ensures { WritesAtMost result buf.now };
 
-    /// Sends no more.
+    /// Shuts down the writing half of the stream.
     ///
     /// # Errors
     ///

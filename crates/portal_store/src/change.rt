@@ -26,8 +26,8 @@ use portal_tables::{TableFault, commit};
 use sqlite::{Alter, Connection};
 use std::alloc::Global;
 
-/// Takes the step of the change in a round and commits it, or leaves all as it was; the entries
-/// stay those of the world before. `Damaged` where rows that are read are those of no good world.
+/// Commits the change, or leaves the tables unchanged. `entries` still match the world before it.
+/// `Damaged` means that the rows it read represent no good world.
 fn take_step<S: Alter>(
     alloc: Global,
     conn: &mut Connection<S>,
@@ -69,8 +69,8 @@ fn take_step<S: Alter>(
     }
 }
 
-/// Takes the step of the change and commits it, or leaves all as it was; the entries stay those of
-/// the world before. `Damaged` where rows that are read are those of no good world.
+/// Commits the change, or leaves the tables unchanged. `entries` still match the world before it.
+/// `Damaged` means that the rows it read represent no good world.
 fn take<S: Alter>(
     alloc: Global,
     conn: &mut Connection<S>,
@@ -88,9 +88,8 @@ fn take<S: Alter>(
     take_step(alloc, conn, entries, round, change)
 }
 
-/// Makes the change and commits it, or leaves all as it was; the entries stay those of the world
-/// before. A fault of the store is counted, and so are rows that are read and are those of no good
-/// world.
+/// Commits the change, or leaves the tables unchanged. `entries` still match the world before it.
+/// Counts a fault of the store; rows that represent no good world are one.
 pub(crate) fn make<S: Alter>(
     alloc: Global,
     conn: &mut Connection<S>,

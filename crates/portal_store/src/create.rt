@@ -21,10 +21,10 @@ use sqlite::{Alter, Connection, MemStore};
 use std::alloc::Global;
 
 impl<S: Alter> Store<S> {
-    /// Makes the portal's tables in a database that has none of them: the empty world in setup,
-    /// whose office has this code. A refusal hands the connection back, and the file holds what it
-    /// held where the connection is clean. `Exists` comes where a table or a view of one of the
-    /// eleven names is there, and only then; no clause says when `Store` or `Memory` comes.
+    /// Makes the portal's tables in a database without them: an empty world in setup, with this
+    /// office code. Returns `Exists` if and only if a table or view has one of the eleven names. No
+    /// clause says when it returns `Store` or `Memory`. An error hands the connection back, and the
+    /// file is unchanged if the disk is clean and the connection open.
     pub fn create(
         alloc: Global,
         mut conn: Connection<S>,
@@ -86,8 +86,8 @@ impl<S: Alter> Store<S> {
 }
 
 impl Store<MemStore> {
-    /// The portal in memory: the empty world in setup, whose office has this code. `Exists` does
-    /// not come.
+    /// Makes the portal in memory: an empty world in setup, with this office code. Never returns
+    /// `Exists`.
     pub fn create_memory(alloc: Global, office: Code) -> Result<Store<MemStore>, CreateFault>
         ensures own { IfOk result (λ s. IsTrue s.own) }
         ensures clean { IfOk result (λ s. IsCleanStore over_memory s) }

@@ -16,7 +16,7 @@ use portal_list::RowsFault;
 use portal_tables::TableFault;
 use sqlite::{Error, ErrorCode};
 
-/// Want of memory, or a fault of the store; never that tables are there.
+/// Converts a fault of the tables into `Memory` or `Store`, never into `Exists`.
 pub(crate) fn create_fault_of(fault: TableFault) -> CreateFault
     ensures exists { result ≢ CreateFault.Exists }
     ensures memory { (result ≡ CreateFault.Memory) ↔ (fault ≡ TableFault.Memory) }
@@ -27,7 +27,7 @@ pub(crate) fn create_fault_of(fault: TableFault) -> CreateFault
     }
 }
 
-/// Rows of no sound world are damaged.
+/// Converts a fault of rows. Rows of no sound world are `Damaged`.
 pub(crate) fn rows_fault_of(fault: RowsFault) -> TableFault
     ensures damaged { (result ≡ TableFault.Damaged) ↔ (fault ≡ RowsFault.NotGood) }
     ensures memory { (result ≡ TableFault.Memory) ↔ (fault ≡ RowsFault.Memory) }
@@ -38,7 +38,7 @@ pub(crate) fn rows_fault_of(fault: RowsFault) -> TableFault
     }
 }
 
-/// Want of memory, or a fault of the store: nothing is said of the tables.
+/// Converts an error into `Memory` or `Store`, which say nothing about the tables.
 pub(crate) fn open_fault_of(error: Error) -> OpenFault
     ensures nothing { SaysNothing result }
     ensures memory { (result ≡ OpenFault.Memory)
@@ -50,8 +50,8 @@ pub(crate) fn open_fault_of(error: Error) -> OpenFault
     }
 }
 
-/// What it means that a table cannot be queried: a fault of the device is one of the store, and all
-/// else says that the table is not there as the portal has it.
+/// Converts the error of a query that works on the portal's own tables. Memory shortage becomes
+/// `Memory`, a fault of the device `Store`, and any other error `NotPortal`.
 pub(crate) fn table_fault_of(error: Error) -> OpenFault
     ensures damaged { result ≢ OpenFault.Damaged }
     ensures version { result ≢ OpenFault.OtherVersion }
@@ -77,7 +77,7 @@ pub(crate) fn table_fault_of(error: Error) -> OpenFault
     }
 }
 
-/// What it means to an opening that no world was loaded.
+/// Converts a fault of loading the world into the same fault of opening.
 pub(crate) fn load_open_fault_of(fault: TableFault) -> OpenFault
     ensures nothing { (fault ≡ TableFault.Damaged → ⊥) → SaysNothing result }
     ensures damaged { (result ≡ OpenFault.Damaged) ↔ (fault ≡ TableFault.Damaged) }
@@ -90,7 +90,7 @@ pub(crate) fn load_open_fault_of(fault: TableFault) -> OpenFault
     }
 }
 
-/// What it means to an upgrade that the tables of version 1 are not opened.
+/// Converts a fault of opening tables of version 1 into the same fault of upgrading.
 pub(crate) fn upgrade_fault_of(fault: OpenFault) -> UpgradeFault
     ensures bars { (db : Trees) → RefusalSays fault first_version (HasGoodFirst first_version db) db
         → Bars result db }
@@ -107,7 +107,7 @@ pub(crate) fn upgrade_fault_of(fault: OpenFault) -> UpgradeFault
     }
 }
 
-/// What it means that the tables are not upgraded: want of memory, or a fault of the store.
+/// Converts a fault of changing the tables in an upgrade into `Memory` or `Store`.
 pub(crate) fn upgrading_fault_of(fault: TableFault) -> UpgradeFault
     ensures bars { (db : Trees) → Bars result db }
     ensures exists { result ≢ UpgradeFault.Exists }
@@ -119,8 +119,8 @@ pub(crate) fn upgrading_fault_of(fault: TableFault) -> UpgradeFault
     }
 }
 
-/// What the keeper says of a fault, which is counted where it is one of the store. Once the count
-/// is at its top, which no run comes to, `Memory` is said of any.
+/// Converts a fault into the keeper's, and counts it if that is `Store`. At the greatest count,
+/// which no run reaches, every fault becomes `Memory`.
 pub(crate) fn told(faults: &mut u64, fault: TableFault) -> KeepFault
     ensures memory { result ≡ KeepFault.Memory → faults.new ≡ faults.old }
     ensures store { result ≡ KeepFault.Store → faults.new ≡ faults.old + 1 }

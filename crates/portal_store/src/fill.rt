@@ -20,7 +20,7 @@ use spa_rows::Key;
 use sqlite::{Alter, Connection, Error, Transaction};
 use std::alloc::Global;
 
-/// Each of these rankings becomes the lecturer's.
+/// The step that stores each of these rankings as its lecturer's.
 struct PutRankings<'a> {
     round: Round,
     rankings: &'a [(Key, Vec<Key>)],
@@ -44,9 +44,8 @@ impl Step for PutRankings<'_> {
     }
 }
 
-/// Gives each lecturer still to rank the applicants, in the order of their keys; the entries that
-/// are read for it stay at hand. `Damaged` where the rows that are read are those of no sound
-/// world.
+/// Gives each lecturer who is still to rank a ranking of the applicants in key order. Caches the
+/// entries that it reads. `Damaged` means that the rows it read represent no good world.
 pub(crate) fn fill_rankings<S: Alter>(
     alloc: Global,
     conn: &mut Connection<S>,

@@ -11,7 +11,7 @@ use portal_core::{Change, KeepFault};
 use portal_list::Entries;
 use std::alloc::Global;
 
-/// The entries after the change, where they follow it.
+/// Returns the entries after the change, or `None` if they do not follow it.
 fn after(alloc: Global, mut entries: Entries, change: &Change) -> Option<Entries>
     ensures { (w : World) → Sound w → HasEntries entries w
         → AreEntries result (changed w (change_model change.now)) }
@@ -22,8 +22,8 @@ fn after(alloc: Global, mut entries: Entries, change: &Change) -> Option<Entries
     }
 }
 
-/// After a change that was made the entries of the changed world, or none: where memory is short,
-/// and of rolls and the result, which no entries follow. Otherwise what was remembered stays.
+/// Updates the cached entries after a successful change, or drops them if they do not follow it or
+/// memory runs out. A failed change leaves them as they are.
 pub(crate) fn follow(
     alloc: Global,
     entries: &mut Option<Entries>,

@@ -19,8 +19,8 @@ use spa_model::Instance;
 use sqlite::{Alter, Connection};
 use std::alloc::Global;
 
-/// The instance of these entries, which are not judged. Where they have none, that is a fault of
-/// the store, and counted.
+/// Builds the instance of these entries, without checking them. If they have no instance, it counts
+/// and returns a fault of the store.
 pub(crate) fn instance_of(
     alloc: Global,
     entries: &Entries,
@@ -36,8 +36,8 @@ pub(crate) fn instance_of(
     }
 }
 
-/// The instance of the rolls, the lists and the rankings, as they stand in the tables: no list is
-/// judged. A fault of the store is counted.
+/// Builds the instance of the current round from the tables, without checking the lists. A fault of
+/// the store is counted.
 pub(crate) fn instance_in<S: Alter>(
     alloc: Global,
     conn: &mut Connection<S>,

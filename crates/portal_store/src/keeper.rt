@@ -29,7 +29,7 @@ use sqlite::Alter;
 use std::alloc::Global;
 
 impl<S: Alter> Store<S> {
-    /// Sees that tables which were the portal's own still are.
+    /// Returns `Store` if the tables were the portal's own and no longer are.
     fn check_own(&self) -> Result<(), TableFault>
         ensures { IsTrue self.now.own → OnOk result (IsCurrentSchema self.now.conn.schema) }
     {
@@ -39,8 +39,8 @@ impl<S: Alter> Store<S> {
         Err(TableFault::Store)
     }
 
-    /// The code of the office. `Store` comes for an error of the connection, and where there is no
-    /// row of the office.
+    /// Returns the office's code. `Store` means an error of the connection, tables that are no
+    /// longer the portal's own, or no valid row of the office.
     pub fn office_code(&mut self, alloc: Global) -> Result<Code, KeepFault>
         ensures clean { IsCleanStore S.Store self.new → IsCleanStore S.Store self.old }
         ensures code { IsCleanStore S.Store self.new
@@ -68,7 +68,7 @@ impl<S: Alter> Keeper for Store<S> {
 
     ghost faults = { λ s. s.faults };
 
-    /// What the caller with this code sees, by queries of what that caller may see.
+    /// Returns the caller's view, from the cache and by queries of what that caller may see.
     fn view(&mut self, alloc: Global, code: &[u8]) -> Result<View, KeepFault>
         ensures clean { IsCleanStore S.Store self.new → IsCleanStore S.Store self.old }
         ensures shown { IfOk result (λ view. IsCleanStore S.Store self.new
@@ -93,8 +93,7 @@ impl<S: Alter> Keeper for Store<S> {
         )
     }
 
-    /// The instance of the world of the tables: of the entries that are remembered, or of what is
-    /// read.
+    /// Builds the instance of the current round, from the cached entries or else from the tables.
     fn instance(&mut self, alloc: Global) -> Result<Instance, KeepFault>
         requires good { IsCleanStore S.Store self.old → Good (kept_world S.Store self.old) }
         ensures clean { IsCleanStore S.Store self.new → IsCleanStore S.Store self.old }
@@ -116,9 +115,9 @@ impl<S: Alter> Keeper for Store<S> {
         }
     }
 
-    /// Makes one change of a good world, which has to leave a good world, in one transaction. After
-    /// Ok the change is on the disk. `Memory` and `Store` leave all as it was, where the store is
-    /// clean; a crash leaves the tables before or after.
+    /// Makes one change in one transaction; the worlds before and after it must be good. After `Ok`
+    /// the change is on the disk. An error leaves a clean store unchanged. A crash leaves the
+    /// tables before or after the change.
     fn apply(&mut self, alloc: Global, change: &Change) -> Result<(), KeepFault>
         requires good { IsCleanStore S.Store self.old → Good (kept_world S.Store self.old) }
         requires leaves_good { IsCleanStore S.Store self.old

@@ -1,4 +1,4 @@
-//! A keeper in a database of eleven tables, each change of which is one transaction.
+//! A keeper that stores the world in a database; each change is one transaction.
 #![tactic(auto)]
 
 mod change;

@@ -17,8 +17,8 @@ use spa_rows::Key;
 use sqlite::{Alter, Connection, Error, Transaction};
 use std::alloc::Global;
 
-/// The student's list becomes these projects, best first. A list that is longer than any may be is
-/// refused as too big.
+/// The step that replaces the student's list by these projects, best first. It refuses more than
+/// 2,000 projects with `TooBig`.
 pub(crate) struct PutChoices<'a> {
     pub round: Round,
     pub student: &'a Key,
@@ -38,9 +38,9 @@ impl Step for PutChoices<'_> {
     }
 }
 
-/// The ranking of a lecturer who is on the roll becomes these students, best first, and a row says
-/// that it is there: of the first round the lecturer's own, of the second one of `ranked2`. As
-/// `PutChoices` otherwise.
+/// The step that replaces the ranking of a lecturer on the roll by these students, best first. It
+/// also marks that the ranking exists: in the lecturer's row in the first round, in a row of
+/// `ranked2` in the second. Like `PutChoices`, it refuses more than 2,000 entries.
 pub(crate) struct PutRanking<'a> {
     pub round: Round,
     pub lecturer: &'a Key,

@@ -23,7 +23,7 @@ use portal_views::{Contents, contents_in};
 use sqlite::{Alter, Connection};
 use std::alloc::Global;
 
-/// The rows of the world of the first round that tables of this version stand for.
+/// Loads the rows of the first round's world from tables of this schema version.
 pub(crate) fn load_first<S: Alter>(
     alloc: Global,
     conn: &mut Connection<S>,
@@ -52,7 +52,7 @@ pub(crate) fn load_first<S: Alter>(
     })
 }
 
-/// The rows of a second round after the first.
+/// Combines the rows of the first round and of the second into those of the second's world.
 fn after_first(first: WorldRows, phase: Phase, contents: Contents) -> WorldRows
     ensures { result ≡ meant_by.after_first first phase (rows_held contents) }
 {
@@ -72,7 +72,7 @@ fn after_first(first: WorldRows, phase: Phase, contents: Contents) -> WorldRows
     }
 }
 
-/// The rows of the world of the second round that the tables stand for.
+/// Loads the rows of the second round's world.
 fn load_second<S: Alter>(alloc: Global, conn: &mut Connection<S>) -> Result<WorldRows, TableFault>
     ensures { Reads Second S.Store IsDatabase
         (Answers (λ db. LoadsIn Second db.trees)
@@ -85,7 +85,7 @@ fn load_second<S: Alter>(alloc: Global, conn: &mut Connection<S>) -> Result<Worl
     Ok(after_first(first, phase, contents))
 }
 
-/// The rows of the world that the tables stand for.
+/// Loads the rows of the world that the tables represent.
 pub(crate) fn load<S: Alter>(
     alloc: Global,
     conn: &mut Connection<S>,
@@ -101,8 +101,8 @@ pub(crate) fn load<S: Alter>(
     }
 }
 
-/// The entries of the world that the tables stand for. No list is judged: where the world is not
-/// sound, `Damaged` or entries may come that mean nothing.
+/// Loads the entries of the world that the tables represent, without checking the lists. If that
+/// world is not sound, it may return `Damaged` or meaningless entries.
 pub(crate) fn load_entries<S: Alter>(
     alloc: Global,
     conn: &mut Connection<S>,

@@ -13,7 +13,7 @@ use portal_tables::{VERSION, office_in};
 use sqlite::{Alter, Connection};
 use std::alloc::Global;
 
-/// The code of the office. A fault of the store is counted.
+/// Reads the office's code, and counts a fault of the store.
 pub(crate) fn office_code<S: Alter>(
     alloc: Global,
     conn: &mut Connection<S>,

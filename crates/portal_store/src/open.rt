@@ -34,8 +34,7 @@ use portal_tables::{PortalSchema, VERSION, second_in};
 use sqlite::{Alter, Connection};
 use std::alloc::Global;
 
-/// Whether each of the second round's tables can be queried. Those that are the portal's own can,
-/// and are not asked.
+/// Checks that the second round's tables can be queried, unless they are the portal's own.
 fn see_second_tables<S: Alter>(conn: &mut Connection<S>, own: bool) -> Result<(), OpenFault>
     ensures idle { conn.old.in_transaction ≡ false → conn.new.in_transaction ≡ false }
     ensures disk { HasCleanDisk (state S.Store conn.new) → HasCleanDisk (state S.Store conn.old) }
@@ -54,7 +53,7 @@ fn see_second_tables<S: Alter>(conn: &mut Connection<S>, own: bool) -> Result<()
     see_table(conn, Query::SecondPlacements)
 }
 
-/// Whether a query of a whole table shows no row.
+/// Checks that a query of a whole table returns no row.
 fn see_none<S: Alter>(conn: &mut Connection<S>, query: Query<'_>) -> Result<(), OpenFault>
     ensures { Reads (round_asked query.entry) S.Store (λ _. ReadsAll query.entry)
         (Answers (λ db _. queried_rows query.entry db.trees ≡ [])
@@ -68,7 +67,7 @@ fn see_none<S: Alter>(conn: &mut Connection<S>, query: Query<'_>) -> Result<(), 
     }
 }
 
-/// Whether nothing of a second round is there.
+/// Checks that the second round has no lists, rankings or placements.
 fn see_nothing<S: Alter>(conn: &mut Connection<S>) -> Result<(), OpenFault>
     ensures { Reads Second S.Store Always
         (Answers (λ db _. AreEmpty db.trees) (λ db fault. Denies fault (AreEmpty db.trees)))
@@ -80,7 +79,7 @@ fn see_nothing<S: Alter>(conn: &mut Connection<S>) -> Result<(), OpenFault>
     see_none(conn, Query::SecondPlacements)
 }
 
-/// Whether the first round is published.
+/// Checks that the first round is published.
 fn see_published<S: Alter>(alloc: Global, conn: &mut Connection<S>) -> Result<(), OpenFault>
     ensures { Reads First S.Store IsDatabase
         (Answers (λ db _. phase_in First db.trees ≡ Published)
@@ -94,8 +93,8 @@ fn see_published<S: Alter>(alloc: Global, conn: &mut Connection<S>) -> Result<()
     }
 }
 
-/// Whether what `second` tells is so: of no second round nothing is there, and the first is
-/// published before it.
+/// Checks that without a second round its other tables are empty, and that with one the first round
+/// is published.
 fn see_second<S: Alter>(alloc: Global, conn: &mut Connection<S>) -> Result<(), OpenFault>
     ensures { Reads Second S.Store IsDatabase
         (Answers (λ db _. HasSecond (round_in db.trees) db.trees)
@@ -113,7 +112,7 @@ fn see_second<S: Alter>(alloc: Global, conn: &mut Connection<S>) -> Result<(), O
     }
 }
 
-/// Whether the rows of the second round have numbers of their own.
+/// Checks that rowids are distinct in the second round's tables of many rows.
 fn see_second_numbers<S: Alter>(conn: &mut Connection<S>) -> Result<(), OpenFault>
     ensures refused { IfErr result SaysNothing }
     ensures reads { Reads Second S.Store Always
@@ -125,7 +124,7 @@ fn see_second_numbers<S: Alter>(conn: &mut Connection<S>) -> Result<(), OpenFaul
     see_row_numbers(conn, Table::OfPlaces)
 }
 
-/// Whether the rows of all tables have numbers of their own.
+/// Checks that rowids are distinct in all tables of many rows.
 fn see_numbers<S: Alter>(conn: &mut Connection<S>) -> Result<(), OpenFault>
     ensures refused { IfErr result SaysNothing }
     ensures reads { Reads Second S.Store Always (Gives (λ db _. NumbersDiffer db.trees))
@@ -135,7 +134,7 @@ fn see_numbers<S: Alter>(conn: &mut Connection<S>) -> Result<(), OpenFault>
     see_second_numbers(conn)
 }
 
-/// The entries of the world that the rows stand for, where it is good.
+/// Loads the world, checks that it is good, and returns its entries.
 fn see_world<S: Alter>(alloc: Global, conn: &mut Connection<S>) -> Result<Entries, OpenFault>
     ensures { Reads Second S.Store IsDatabase
         (Answers (λ db e. IsJudged db.trees × HasEntries e (world_of db.trees))
@@ -151,8 +150,7 @@ fn see_world<S: Alter>(alloc: Global, conn: &mut Connection<S>) -> Result<Entrie
     }
 }
 
-/// What is tested of the tables of both rounds, in this order: the numbers of rows, what `second`
-/// tells, and the world, whose entries come.
+/// Checks the rowids, then the row of `second`, then the world, and returns its entries.
 fn judge_both<S: Alter>(alloc: Global, conn: &mut Connection<S>) -> Result<Entries, OpenFault>
     ensures { Reads Second S.Store (IsSoundIfOpen S.Store conn.old)
         (Answers (λ db e. Admits db.trees × HasEntries e (world_of db.trees))
@@ -164,9 +162,8 @@ fn judge_both<S: Alter>(alloc: Global, conn: &mut Connection<S>) -> Result<Entri
     see_world(alloc, conn)
 }
 
-/// What is tested of the tables, in this order: whether those of the first round can be queried and
-/// are of the version, whether those of the second can be, and what they show. `own` says that they
-/// are the portal's own. The entries of their world come.
+/// Checks that the first round's tables can be queried and have the version, then that the second's
+/// can be queried, then their rows. Returns the entries of the world.
 fn examine<S: Alter>(
     alloc: Global,
     conn: &mut Connection<S>,
@@ -185,13 +182,16 @@ fn examine<S: Alter>(
 }
 
 impl<S: Alter> Store<S> {
-    /// Opens the portal in a database that has its tables, where they stand for a good world. A
-    /// refusal hands the connection back: `NotPortal` where a table cannot be queried or `portal`
-    /// has no row, `OtherVersion` where that row is of another version than 2, `Damaged` where it
-    /// is of version 2 and the rows stand for no good world, `Store` for an error of the
-    /// connection, and `Memory`. The first three tell of the tables, and never come from a fault of
-    /// the device or want of memory. The version is looked at before the tables of the second
-    /// round.
+    /// Opens the portal in a database whose tables represent a good world. It checks the version
+    /// before it queries the tables of the second round.
+    ///
+    /// # Errors
+    ///
+    /// Every error hands the connection back. `NotPortal`: a table cannot be queried, or `portal`
+    /// has no row. `OtherVersion`: that row has a version other than 2. `Damaged`: it has version
+    /// 2, and the rows represent no good world. `Store`: the store reports an error. `Memory`:
+    /// memory runs out. A fault of the device or memory shortage never causes one of the first
+    /// three.
     pub fn open(alloc: Global, mut conn: Connection<S>) -> Result<Store<S>, NotOpened<OpenFault, S>>
         requires idle { conn.in_transaction ≡ false }
         ensures own { IfOk result (λ s. IsTrue s.own ↔ IsCurrentSchema conn.schema) }

@@ -14,7 +14,7 @@ use portal_tables::{Step, TableFault, commit, set_second};
 use sqlite::{Alter, Connection, Error, Transaction};
 use std::alloc::Global;
 
-/// `second` tells the first phase of the second round.
+/// The step that writes the first phase of the second round into `second`.
 #[derive(Drop)]
 struct OpenSecond;
 
@@ -26,7 +26,7 @@ impl Step for OpenSecond {
     }
 }
 
-/// Whether the second round opens from this phase of a round.
+/// Returns whether the second round opens from this round and phase.
 fn opens_from(round: Round, phase: Phase) -> bool
     ensures { result ≡ (not (is_second round) && is_published phase) }
 {
@@ -36,7 +36,7 @@ fn opens_from(round: Round, phase: Phase) -> bool
     }
 }
 
-/// Opens the second round where the first is published; else nothing is changed.
+/// Opens the second round if the first is published, and otherwise changes nothing.
 pub(crate) fn open_second<S: Alter>(
     alloc: Global,
     conn: &mut Connection<S>,

@@ -17,7 +17,7 @@ use portal_tables::{Step, TableFault, commit, phase_number, set_second};
 use sqlite::{Alter, Connection, Error, Transaction};
 use std::alloc::Global;
 
-/// The portal moves to this phase.
+/// The step that moves the portal to this phase.
 struct SetPhase {
     round: Round,
     phase: Phase,
@@ -35,8 +35,8 @@ impl Step for SetPhase {
     }
 }
 
-/// Moves the portal to this phase. Where no entries are at hand they are read first, so that a
-/// publication finds them. `Damaged` where the rows that are read are those of no sound world.
+/// Moves the portal to this phase. If no entries are cached, it loads them first, so that a
+/// publication finds them. `Damaged` means that the rows it read represent no good world.
 pub(crate) fn set_phase<S: Alter>(
     alloc: Global,
     conn: &mut Connection<S>,

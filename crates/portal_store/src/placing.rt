@@ -23,7 +23,7 @@ use sqlite::types::ValueRef;
 use sqlite::{Alter, Connection, Error, Row, Transaction};
 use std::alloc::{AllocError, Global};
 
-/// The project that the pairs give to the student with this key.
+/// Returns the project of the first pair with this student's key, if there is one.
 fn project_bytes<'a>(pairs: &Pairs<'a>, student: &[u8]) -> Option<&'a [u8]>
     ensures { option_map (λ p. p.now) result ≡ placement_in pairs.now student.now }
 {
@@ -31,7 +31,7 @@ fn project_bytes<'a>(pairs: &Pairs<'a>, student: &[u8]) -> Option<&'a [u8]>
     Some(project.as_bytes())
 }
 
-/// What the pairs say of the students of whom these rows are shown.
+/// Returns each of these students with the project that the pairs give, or without one.
 fn assignments<'a>(
     alloc: Global,
     rows: &'a [Row],
@@ -50,8 +50,8 @@ fn assignments<'a>(
     Ok(all)
 }
 
-/// The result of the first round is made public, where the rows are the roll of students: their
-/// places, and then the phase.
+/// The step that publishes the first round's result: it writes the placements, then the phase.
+/// `rows` must be the roll of students.
 struct PutResult<'a> {
     rows: &'a [Row],
     pairs: &'a [(Key, Key)],
@@ -69,7 +69,7 @@ impl Step for PutResult<'_> {
     }
 }
 
-/// Whether the student of whom the row is shown has no project of the first round.
+/// Returns whether the row's student has no project of the first round.
 fn is_left(row: &Row) -> bool
     ensures { result ≡ is_none (text_or_none (column row.now 3)) }
 {
@@ -79,8 +79,8 @@ fn is_left(row: &Row) -> bool
     }
 }
 
-/// What the pairs say of the student of whom the row is shown, who has no project of the first
-/// round.
+/// Returns the pair of the row's student, if there is one and the student has no project of the
+/// first round.
 fn pair_left(alloc: Global, row: &Row, pairs: &Pairs<'_>) -> Result<Option<(Key, Key)>, TableFault>
     ensures { IfOk result (λ o. o ≡ pair_left pairs.now row.now) }
 {
@@ -93,7 +93,7 @@ fn pair_left(alloc: Global, row: &Row, pairs: &Pairs<'_>) -> Result<Option<(Key,
     }
 }
 
-/// What the pairs say of the students of whom the rows are shown.
+/// Returns the pairs of the students in these rows who have no project of the first round.
 fn pairs_left(
     alloc: Global,
     rows: &[Row],
@@ -111,8 +111,8 @@ fn pairs_left(
     Ok(found)
 }
 
-/// The result of the second round is made public, of those who have no project of the first: their
-/// pairs, and then the phase.
+/// The step that publishes the second round's result: it writes the placements of students without
+/// a project of the first round, then the phase.
 struct PutSecond<'a> {
     left: &'a [(Key, Key)],
 }
@@ -127,9 +127,9 @@ impl Step for PutSecond<'_> {
     }
 }
 
-/// Gives each student who takes part in the round the project of the first pair with the student's
-/// key, or none where there is no such pair, and sets the phase to published, all in one
-/// transaction. After an error nothing is changed; after Ok a crash leaves the result.
+/// Publishes the result in one transaction. Each student who takes part in the round gets the
+/// project of the first pair with the student's key, or none. An error changes nothing; after `Ok`
+/// the result survives a crash.
 pub(crate) fn publish<S: Alter>(
     alloc: Global,
     conn: &mut Connection<S>,

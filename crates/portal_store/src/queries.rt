@@ -26,7 +26,7 @@ use portal_views::{lecturer_view, office_view, student_view};
 use sqlite::{Alter, Connection};
 use std::alloc::Global;
 
-/// What the office sees, read of the tables with the catalogue.
+/// Makes the office's view by queries; the catalogue comes from the cache if it is there.
 fn read_office<S: Alter>(
     alloc: Global,
     conn: &mut Connection<S>,
@@ -42,7 +42,7 @@ fn read_office<S: Alter>(
     office_view(alloc, conn, round, office, catalogue)
 }
 
-/// What the office sees, remembered from then on.
+/// Returns the office's view, and caches it.
 fn show_office<S: Alter>(
     alloc: Global,
     conn: &mut Connection<S>,
@@ -63,7 +63,7 @@ fn show_office<S: Alter>(
     Ok(View::Office(view))
 }
 
-/// What the student with the code sees, if there is one.
+/// Returns the view of the student with the code, or `Nobody`.
 fn show_student<S: Alter>(
     alloc: Global,
     conn: &mut Connection<S>,
@@ -84,7 +84,7 @@ fn show_student<S: Alter>(
     Ok(View::Student(student_view(alloc, conn, round, phase, &row, catalogue)?))
 }
 
-/// What the caller sees who is not the office.
+/// Returns the view of a caller other than the office.
 fn show_person<S: Alter>(
     alloc: Global,
     conn: &mut Connection<S>,
@@ -105,7 +105,7 @@ fn show_person<S: Alter>(
     Ok(View::Lecturer(lecturer_view(alloc, conn, round, phase, &row, catalogue)?))
 }
 
-/// What the caller sees.
+/// Returns the view of the caller with the code.
 fn show<S: Alter>(
     alloc: Global,
     conn: &mut Connection<S>,
@@ -123,8 +123,8 @@ fn show<S: Alter>(
     show_person(alloc, conn, round, cache, office.phase, code)
 }
 
-/// What the caller with the code sees, with what is remembered, or is from now on. A fault of the
-/// store is counted.
+/// Returns the view of the caller with the code, using and filling the cache. A fault of the store
+/// is counted.
 pub(crate) fn counted_view<S: Alter>(
     alloc: Global,
     conn: &mut Connection<S>,
@@ -143,14 +143,14 @@ pub(crate) fn counted_view<S: Alter>(
     }
 }
 
-/// What the caller with the code sees: a student or a lecturer by queries of what that role may
-/// see, the office by queries of the rolls and of who has a list, an applicant and a place. For the
-/// catalogue of a second round the students' keys and the projects that the first gave them are
-/// read, and nothing else of them.
+/// Returns the view of the caller with the code. For a student or a lecturer it queries what that
+/// role may see. For the office it queries the rolls, and who has a list, an applicant and a
+/// placement. The second round's catalogue also needs the students' keys and first-round projects;
+/// it reads nothing else of them.
 ///
 /// # Errors
 ///
-/// Memory ran out, the connection answered an error, or the rows are those of no good world.
+/// Returns a fault if memory runs out, the connection fails or the rows represent no good world.
 pub fn view<S: Alter>(
     alloc: Global,
     conn: &mut Connection<S>,

@@ -13,7 +13,7 @@ use portal_tables::{Step, TableFault, commit};
 use sqlite::{Alter, Connection, Error, Transaction};
 use std::alloc::Global;
 
-/// Rows of one of the rolls.
+/// New rows of one of the rolls.
 #[derive(Clone, Copy, Drop)]
 pub(crate) enum NewRows<'a> {
     Lecturers(&'a [LecturerRow]),
@@ -21,7 +21,7 @@ pub(crate) enum NewRows<'a> {
     Students(&'a [StudentRow]),
 }
 
-/// They come to their roll; in the second round none come.
+/// The step that adds rows to their roll; in the second round it changes nothing.
 struct AddRows<'a> {
     round: Round,
     rows: NewRows<'a>,
@@ -43,7 +43,7 @@ impl Step for AddRows<'_> {
     }
 }
 
-/// Rows come to their roll; in the second round none come, and nothing is changed.
+/// Adds rows to their roll; in the second round it changes nothing.
 pub(crate) fn add_rows<S: Alter>(
     alloc: Global,
     conn: &mut Connection<S>,

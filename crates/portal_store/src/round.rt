@@ -16,7 +16,7 @@ use portal_tables::{Office, TableFault, VERSION, office_in, second_in};
 use sqlite::{Alter, Connection};
 use std::alloc::Global;
 
-/// The round, by the row of `second`: the second one where that tells a phase.
+/// Reads the current round: the second if the row of `second` has a phase other than 0.
 pub(crate) fn round_in<S: Alter>(
     alloc: Global,
     conn: &mut Connection<S>,
@@ -33,7 +33,7 @@ pub(crate) fn round_in<S: Alter>(
     }
 }
 
-/// The second round, if it has a phase, or the first with that of the office's row.
+/// Returns the second round if it has a phase, or else the first with the phase of the office.
 fn now_of(second: Phase, office: Office) -> (Round, Office)
     ensures first { is_setup second ≡ true → result ≡ (First, office) }
     ensures second { is_setup second ≡ false
@@ -51,7 +51,7 @@ fn now_of(second: Phase, office: Office) -> (Round, Office)
     }
 }
 
-/// The round, with its phase and the code of the office.
+/// Reads the current round, its phase and the office's code.
 pub(crate) fn current_round<S: Alter>(
     alloc: Global,
     conn: &mut Connection<S>,
@@ -65,7 +65,7 @@ pub(crate) fn current_round<S: Alter>(
     Ok(now_of(second, office))
 }
 
-/// The phase of the first round, which is published where there is a second.
+/// Reads the phase of the first round.
 pub(crate) fn first_phase<S: Alter>(
     alloc: Global,
     conn: &mut Connection<S>,

@@ -34,7 +34,7 @@ use portal_tables::{is_number, row_numbers_differ};
 use sqlite::{Alter, Connection, Row};
 use std::alloc::Global;
 
-/// Whether a table can be queried.
+/// Checks that a table can be queried.
 pub(crate) fn see_table<S: Alter>(
     conn: &mut Connection<S>,
     query: Query<'_>,
@@ -50,8 +50,7 @@ pub(crate) fn see_table<S: Alter>(
     }
 }
 
-/// Whether each of the first round's tables can be queried. Those that are the portal's own can,
-/// and are not asked.
+/// Checks that the first round's tables can be queried, unless they are the portal's own.
 fn see_tables<S: Alter>(conn: &mut Connection<S>, own: bool) -> Result<(), OpenFault>
     ensures idle { conn.old.in_transaction ≡ false → conn.new.in_transaction ≡ false }
     ensures disk { HasCleanDisk (state S.Store conn.new) → HasCleanDisk (state S.Store conn.old) }
@@ -71,7 +70,7 @@ fn see_tables<S: Alter>(conn: &mut Connection<S>, own: bool) -> Result<(), OpenF
     see_table(conn, Query::AllLists(Lists::Rankings))
 }
 
-/// Whether there is a row of the office, of this version.
+/// Checks that there is a row of the office, and that it has this version.
 fn judge_office(rows: &[Row], version: u32) -> Result<(), OpenFault>
     ensures none { (result ≡ Err OpenFault.NotPortal) ↔ (rows.now ≡ []) }
     ensures version { OnOk result ((row : Cells) × (rest : List Cells) × (rows.now ≡ row ∷ rest)
@@ -93,7 +92,7 @@ fn judge_office(rows: &[Row], version: u32) -> Result<(), OpenFault>
     }
 }
 
-/// Whether `portal` has a row, of this version.
+/// Checks that `portal` has a row, and that it has this version.
 fn see_office<S: Alter>(conn: &mut Connection<S>, version: u32) -> Result<(), OpenFault>
     ensures { Reads First S.Store Always
         (Answers (λ db _. HasVersion version db.trees)
@@ -106,7 +105,7 @@ fn see_office<S: Alter>(conn: &mut Connection<S>, version: u32) -> Result<(), Op
     }
 }
 
-/// Whether the first round's tables can be queried, and are of this version; `own` says that they
+/// Checks that the first round's tables can be queried and have this version. `own` says that they
 /// are the portal's own.
 pub(crate) fn see_first<S: Alter>(
     conn: &mut Connection<S>,
@@ -124,8 +123,8 @@ pub(crate) fn see_first<S: Alter>(
     see_office(conn, version)
 }
 
-/// Whether the rows of a table have numbers of their own. Those of a sound store have, so that all
-/// else is a fault of the store.
+/// Checks that the rowids of a table are distinct. They are in a sound database, so otherwise it
+/// returns `Store`.
 pub(crate) fn see_row_numbers<S: Alter>(
     conn: &mut Connection<S>,
     table: Table,
@@ -141,7 +140,7 @@ pub(crate) fn see_row_numbers<S: Alter>(
     }
 }
 
-/// Whether the rows of the three rolls have numbers of their own.
+/// Checks that the rowids of each roll are distinct.
 fn see_rolls_numbers<S: Alter>(conn: &mut Connection<S>) -> Result<(), OpenFault>
     ensures refused { IfErr result SaysNothing }
     ensures reads { Reads First S.Store Always
@@ -154,7 +153,7 @@ fn see_rolls_numbers<S: Alter>(conn: &mut Connection<S>) -> Result<(), OpenFault
     see_row_numbers(conn, Table::OfRoll(Roll::Students))
 }
 
-/// Whether the rows of the lists of the first round have numbers of their own.
+/// Checks that the rowids of the first round's lists and rankings are distinct.
 fn see_lists_numbers<S: Alter>(conn: &mut Connection<S>) -> Result<(), OpenFault>
     ensures refused { IfErr result SaysNothing }
     ensures reads { Reads First S.Store Always
@@ -165,7 +164,7 @@ fn see_lists_numbers<S: Alter>(conn: &mut Connection<S>) -> Result<(), OpenFault
     see_row_numbers(conn, Table::OfLists(Lists::Rankings))
 }
 
-/// Whether the keeper's world is good.
+/// Checks that the keeper's world is good.
 pub(crate) fn judge_world(alloc: Global, keeper: &ListKeeper) -> Result<(), OpenFault>
     requires { Sound keeper.now }
     ensures good { OnOk result (Good keeper.now) }
@@ -180,7 +179,7 @@ pub(crate) fn judge_world(alloc: Global, keeper: &ListKeeper) -> Result<(), Open
     }
 }
 
-/// The entries of the world that the rows stand for, where it is good.
+/// Loads the first round's world, checks that it is good, and returns its entries.
 fn see_first_world<S: Alter>(
     alloc: Global,
     conn: &mut Connection<S>,
@@ -200,7 +199,7 @@ fn see_first_world<S: Alter>(
     }
 }
 
-/// Whether the rows of the first round have numbers of their own.
+/// Checks that rowids are distinct in the first round's tables of many rows.
 pub(crate) fn see_first_numbers<S: Alter>(conn: &mut Connection<S>) -> Result<(), OpenFault>
     ensures refused { IfErr result SaysNothing }
     ensures reads { Reads First S.Store Always
@@ -210,8 +209,8 @@ pub(crate) fn see_first_numbers<S: Alter>(conn: &mut Connection<S>) -> Result<()
     see_lists_numbers(conn)
 }
 
-/// What is tested of the first round's tables, of a version, in this order: the numbers of rows,
-/// and the world, whose entries come.
+/// Checks the first round's tables of this version: the rowids, then the world, whose entries it
+/// returns.
 pub(crate) fn judge_first<S: Alter>(
     alloc: Global,
     conn: &mut Connection<S>,

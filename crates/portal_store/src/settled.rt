@@ -6,7 +6,7 @@ ghost use Rattle.sqlite.specs.State.{IsLive};
 
 use sqlite::{Alter, Connection};
 
-/// Does nothing. Its clauses tell the proofs that a connection in no transaction shows what is
+/// Does nothing. Its contract states that a connection outside a transaction shows what is
 /// committed, and that an open one has a sound database.
 pub(crate) fn settled<S: Alter>(conn: &Connection<S>)
     requires idle { conn.now.in_transaction ≡ false }

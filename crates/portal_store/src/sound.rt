@@ -18,8 +18,8 @@ use portal_tables::TableFault;
 use sqlite::{Alter, Connection};
 use std::alloc::Global;
 
-/// A keeper of the rows of the first round in tables of this version; it is sound, and may lack
-/// stability.
+/// Loads a keeper of the first round from tables of this schema version. Its world is sound, but
+/// its result need not be stable.
 pub(crate) fn first_keeper<S: Alter>(
     alloc: Global,
     conn: &mut Connection<S>,
@@ -38,7 +38,7 @@ pub(crate) fn first_keeper<S: Alter>(
     }
 }
 
-/// A keeper of the rows of the tables; it is sound, and may lack stability.
+/// Loads a keeper from the tables. Its world is sound, but its results need not be stable.
 pub(crate) fn load_keeper<S: Alter>(
     alloc: Global,
     conn: &mut Connection<S>,

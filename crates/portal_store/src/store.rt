@@ -15,15 +15,15 @@ use std::marker::Model;
 #[derive(Drop)]
 pub struct Store<S: Alter> {
     pub(crate) conn: Connection<S>,
-    /// Whether the tables are those that `create` makes, and no other is there.
+    /// Whether the schema was exactly the portal's own when the store was made.
     pub(crate) own: bool,
-    /// What the portal's own tables are.
+    /// The schema of the portal's own tables.
     pub(crate) pattern: PortalSchema,
-    /// What was shown of the world, until that is changed.
+    /// The cached catalogue and office's view.
     pub(crate) cache: ViewCache,
-    /// The entries of the world, once they were read and as long as they follow its changes.
+    /// The cached entries of the world.
     pub(crate) entries: Option<Entries>,
-    /// How many calls were answered with a fault of the store.
+    /// The number of calls that returned a fault of the store.
     pub(crate) faults: u64,
 }
 
@@ -40,18 +40,18 @@ impl<S: Alter> Model for Store<S> {
     ghost invariant = { λ s. IsAtRest S.Store s.conn s.own s.cache s.entries };
 }
 
-/// Why there is no store, and the connection that was handed in.
+/// Why there is no store, and the connection that the caller passed in.
 pub struct NotOpened<F, S: Alter> {
     pub fault: F,
     pub connection: Connection<S>,
 }
 
-/// Why no store was made.
+/// Why no store was created.
 #[derive(Clone, Copy, Debug, Drop, PartialEq, Eq)]
 pub enum CreateFault {
-    /// A table of one of the names is there.
+    /// A table or a view has one of the eleven names.
     Exists,
-    /// The store answered an error.
+    /// The store reported an error.
     Store,
     /// There was not enough memory.
     Memory,
@@ -60,38 +60,38 @@ pub enum CreateFault {
 /// Why no store was opened.
 #[derive(Clone, Copy, Debug, Drop, PartialEq, Eq)]
 pub enum OpenFault {
-    /// One of the tables cannot be queried, or there is no row of the office.
+    /// A table cannot be queried, or `portal` has no row.
     NotPortal,
-    /// The tables are of another version.
+    /// The tables have another schema version.
     OtherVersion,
-    /// The rows stand for no good world.
+    /// The rows represent no good world.
     Damaged,
-    /// The store answered an error.
+    /// The store reported an error.
     Store,
     /// There was not enough memory.
     Memory,
 }
 
-/// Why no store was made of tables of version 1.
+/// Why tables of version 1 were not upgraded.
 #[derive(Clone, Copy, Debug, Drop, PartialEq, Eq)]
 pub enum UpgradeFault {
-    /// One of the six tables cannot be queried, or there is no row of the office.
+    /// One of the six tables cannot be queried, or `portal` has no row.
     NotPortal,
-    /// The tables are of another version than 1.
+    /// The tables have a schema version other than 1.
     OtherVersion,
-    /// The rows stand for no good world.
+    /// The rows represent no good world.
     Damaged,
-    /// The store answered an error.
+    /// The store reported an error.
     Store,
     /// There was not enough memory.
     Memory,
-    /// A table or a view of one of the five names is there.
+    /// A table or a view has one of the five new names.
     Exists,
 }
 
 impl<S: Alter> Store<S> {
-    /// The connection, as it is, in no transaction. The tables of a clean store are in it as the
-    /// portal keeps them.
+    /// Closes the store and returns its connection, which is in no transaction. The tables of a
+    /// clean store are consistent in it.
     pub fn into_connection(self) -> Connection<S>
         ensures same { result ≡ self.conn }
         ensures idle { result.in_transaction ≡ false }
@@ -108,9 +108,9 @@ impl<S: Alter> Store<S> {
         conn
     }
 
-    /// The store, closed and opened again over its connection. Where its disk returns what was
-    /// written, it did so before, and a clean store is clean again and has the same world. The
-    /// refusals are those of `open`.
+    /// Closes the store and opens it again over its connection. If the disk is then clean, it was
+    /// clean before, and a clean store is clean again with the same world. The errors are those of
+    /// `open`.
     pub fn reopen(self, alloc: Global) -> Result<Store<S>, NotOpened<OpenFault, S>>
         ensures disk { IfOk result (λ s. HasDisk S.Store s → HasDisk S.Store self) }
         ensures lasts { IfOk result (λ s. HasDisk S.Store s → IsCleanStore S.Store self

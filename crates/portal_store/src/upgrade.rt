@@ -28,9 +28,8 @@ use portal_tables::{FIRST_VERSION, PortalSchema, upgrade_tables};
 use sqlite::{Alter, Connection};
 use std::alloc::Global;
 
-/// What is tested of the tables of version 1, in this order: whether they can be queried and are of
-/// the version, and what they show. `own` says that they are the portal's own. The entries of their
-/// world come.
+/// Checks that the tables of version 1 can be queried and have the version, then their rows.
+/// Returns the entries of their world. `own` says that they are the portal's own.
 fn examine_first<S: Alter>(
     alloc: Global,
     conn: &mut Connection<S>,
@@ -47,8 +46,7 @@ fn examine_first<S: Alter>(
     judge_first(alloc, conn, FIRST_VERSION)
 }
 
-/// Upgrades the tables where they pass and no name is taken; the entries of their world come. `own`
-/// says that they are the portal's own.
+/// Upgrades the tables if they pass and no name is taken, and returns the entries of their world.
 fn upgraded<S: Alter>(
     alloc: Global,
     conn: &mut Connection<S>,
@@ -93,14 +91,16 @@ fn upgraded<S: Alter>(
 }
 
 impl<S: Alter> Store<S> {
-    /// Makes the tables of version 2 of those of version 1, in one transaction, where they stand
-    /// for a good world, which stays. A refusal hands the connection back, and the file holds what
-    /// it held where the connection is clean: `NotPortal` where a table of version 1 cannot be
-    /// queried or `portal` has no row, `OtherVersion` where that row is of another version than 1,
-    /// `Damaged` where it is of version 1 and the rows stand for no good world, `Exists` where a
-    /// table or a view of one of the five new names is there, `Store` for an error of the
-    /// connection, and `Memory`. The first four come in this order, and never from a fault of the
-    /// device or want of memory.
+    /// Upgrades tables of a good world from version 1 to 2 in one transaction; the world stays.
+    ///
+    /// # Errors
+    ///
+    /// Every error hands the connection back, with the file unchanged if the disk is clean and the
+    /// connection open. `NotPortal`: a table cannot be queried, or `portal` has no row.
+    /// `OtherVersion`: that row has a version other than 1. `Damaged`: it has version 1, and the
+    /// rows represent no good world. `Exists`: a table or view has one of the five new names.
+    /// `Store`: the store reports an error. `Memory`: memory runs out. The first four are checked
+    /// in this order, and a fault of the device or memory shortage never causes them.
     pub fn upgrade(
         alloc: Global,
         mut conn: Connection<S>,

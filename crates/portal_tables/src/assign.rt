@@ -10,7 +10,7 @@ use sqlite::types::ValueRef;
 use sqlite::{Alter, Error, Transaction};
 use std::marker::Model;
 
-/// A student, by key, and the project that the student is to be assigned to, or none.
+/// A student's key, and the key of the project to assign to the student, or `None`.
 #[derive(Drop)]
 pub struct Assignment<'a> {
     pub student: &'a [u8],
@@ -26,7 +26,7 @@ impl<'a> Model for Assignment<'a> {
     ghost view = { λ a. (a.student.now, option_map (λ p. p.now) a.project) };
 }
 
-/// The text, or NULL where there is none.
+/// Returns the text as an SQL value, or NULL for `None`.
 fn text_or_null(text: Option<&[u8]>) -> ValueRef<'_>
     ensures { owned result ≡ text_or_null_of (option_map (λ t. t.now) text.entry) }
 {
@@ -36,7 +36,7 @@ fn text_or_null(text: Option<&[u8]>) -> ValueRef<'_>
     }
 }
 
-/// Writes the project that a student is assigned to, or that there is none.
+/// Writes a student's assigned project, or NULL if there is none.
 fn set_assigned<S: Alter>(tx: &mut Transaction<'_, S>, a: &Assignment<'_>) -> Result<(), Error>
     ensures { Does S.Store (Made (Assigns (a.now ∷ []))) result tx.old tx.new }
 {
@@ -47,8 +47,8 @@ fn set_assigned<S: Alter>(tx: &mut Transaction<'_, S>, a: &Assignment<'_>) -> Re
     )
 }
 
-/// Writes the project of each of these students, or that there is none, one after another. The
-/// first error ends it, and is handed on.
+/// Writes each student's assigned project, or NULL, one student after another. Stops at the first
+/// error and returns it.
 pub fn assign_all<S: Alter>(
     tx: &mut Transaction<'_, S>,
     all: &[Assignment<'_>],

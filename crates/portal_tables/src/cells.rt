@@ -13,7 +13,7 @@ use sqlite::Row;
 use sqlite::types::ValueRef;
 use std::alloc::Global;
 
-/// The bytes in the cell of a row, counted from 0, or none where the cell has no text and no blob.
+/// Returns the bytes of the text or blob in column `at` (from 0), or an empty slice otherwise.
 pub fn bytes_at(row: &Row, at: usize) -> &[u8]
     ensures { result.now ≡ bytes (column row.now at) }
 {
@@ -23,7 +23,7 @@ pub fn bytes_at(row: &Row, at: usize) -> &[u8]
     }
 }
 
-/// The number in a cell, or 0 where there is none from 0 on.
+/// Returns the number in a cell, or 0 if the cell holds no positive integer.
 pub(crate) fn number_at(row: &Row, at: usize) -> u64
     ensures { result ≡ number_in (column row.now at) }
 {
@@ -33,8 +33,8 @@ pub(crate) fn number_at(row: &Row, at: usize) -> u64
     }
 }
 
-/// The key in a cell. The fault is `Damaged` where the bytes have not the form of a key, and
-/// `Memory` where they cannot be copied.
+/// Decodes the key in a cell. Fails with `Damaged` if the bytes are not a valid key, and with
+/// `Memory` if memory runs out.
 pub fn key_at(alloc: Global, row: &Row, at: usize) -> Result<Key, TableFault>
     ensures ok { IfOk result (λ key. key ≡ bytes (column row.now at)) }
     ensures damaged { result ≡ Err TableFault.Damaged → is_key (bytes (column row.now at)) ≡ false }
@@ -46,7 +46,7 @@ pub fn key_at(alloc: Global, row: &Row, at: usize) -> Result<Key, TableFault>
     }
 }
 
-/// The name or title in a cell. The fault is `Damaged` where the bytes have not the form of a name.
+/// Decodes the name or title in a cell. Fails with `Damaged` if the bytes are not a valid name.
 pub fn name_at(alloc: Global, row: &Row, at: usize) -> Result<Name, TableFault>
     ensures ok { IfOk result (λ name. name ≡ bytes (column row.now at)) }
     ensures damaged { result ≡ Err TableFault.Damaged
@@ -59,7 +59,7 @@ pub fn name_at(alloc: Global, row: &Row, at: usize) -> Result<Name, TableFault>
     }
 }
 
-/// The code in a cell. The fault is `Damaged` where the bytes have not the form of a code.
+/// Decodes the code in a cell. Fails with `Damaged` if the bytes are not a valid code.
 pub(crate) fn code_at(alloc: Global, row: &Row, at: usize) -> Result<Code, TableFault>
     ensures ok { IfOk result (λ code. code ≡ bytes (column row.now at)) }
     ensures damaged { result ≡ Err TableFault.Damaged
@@ -72,7 +72,7 @@ pub(crate) fn code_at(alloc: Global, row: &Row, at: usize) -> Result<Code, Table
     }
 }
 
-/// The capacity in a cell, in students. The fault is `Damaged` where it is not from 1 to 200.
+/// Decodes the capacity in a cell, in students. Fails with `Damaged` unless it is 1 to 200.
 pub fn capacity_at(row: &Row, at: usize) -> Result<u32, TableFault>
     ensures ok { IfOk result (λ capacity. capacity ≡ number_in (column row.now at)) }
     ensures damaged { result ≡ Err TableFault.Damaged → 1 ≤ number_in (column row.now at)
@@ -85,8 +85,8 @@ pub fn capacity_at(row: &Row, at: usize) -> Result<u32, TableFault>
     Ok(number as u32)
 }
 
-/// The key in a cell that may be NULL, or none. The fault is `Damaged` where anything else is
-/// there.
+/// Decodes the key in a cell, or returns `None` for NULL. Fails with `Damaged` if the cell holds
+/// anything else, and with `Memory` if memory runs out.
 pub fn assigned_at(alloc: Global, row: &Row, at: usize) -> Result<Option<Key>, TableFault>
     ensures ok { IfOk result (λ key. key ≡ text_or_none (column row.now at)) }
     ensures damaged { result ≡ Err TableFault.Damaged
@@ -103,7 +103,7 @@ pub fn assigned_at(alloc: Global, row: &Row, at: usize) -> Result<Option<Key>, T
     }
 }
 
-/// Whether a cell that may hold a key is NULL.
+/// Returns whether a cell is NULL or absent.
 pub(crate) fn is_null(row: &Row, at: usize) -> bool
     ensures { result ≡ is_none (text_or_none (column row.now at)) }
 {

@@ -16,16 +16,16 @@ use spa_rows::Key;
 use sqlite::Row;
 use std::alloc::Global;
 
-/// What a row that a query shows is decoded to. The fault is `Damaged` at most where the row is not
-/// fine, `Memory` where there is not enough memory.
+/// A type that rows of a query are decoded to. Decoding fails with `Damaged` only if `is_fine` does
+/// not hold of the row, and with `Memory` if memory runs out.
 pub trait FromCells: Drop {
-    /// What a row with these cells is decoded to.
+    /// The value that a row with these cells is decoded to.
     ghost shown: { Cells → Self };
 
-    /// Which cells are never refused as damaged.
+    /// The condition under which a row is never refused as damaged.
     ghost is_fine: { Cells → Type 0 };
 
-    /// The row decoded.
+    /// Decodes the row.
     fn from_cells(alloc: Global, row: &Row) -> Result<Self, TableFault>
         ensures ok { IfOk result (λ x. x ≡ shown row.now) }
         ensures damaged { result ≡ Err TableFault.Damaged → is_fine row.now → ⊥ };
@@ -75,7 +75,7 @@ impl FromCells for StudentRow {
     }
 }
 
-/// What a row of a list names.
+/// The item in a row of a list, whose key is in column 1.
 impl FromCells for Key {
     ghost shown = { shown_name };
 
@@ -86,7 +86,7 @@ impl FromCells for Key {
     }
 }
 
-/// A row that is looked at further is kept as it is.
+/// A copy of the row, for callers that decode its cells themselves.
 impl FromCells for Row {
     ghost shown = { λ c. c };
 
@@ -98,7 +98,7 @@ impl FromCells for Row {
     }
 }
 
-/// Each row decoded, in the order of the rows, or the fault of the first that is refused.
+/// Decodes the rows in order. Stops at the first fault and returns it.
 pub fn decoded<T: FromCells>(alloc: Global, rows: &[Row]) -> Result<Vec<T>, TableFault>
     ensures ok { IfOk result (λ v. v.items ≡ map T.shown rows.now) }
     ensures damaged { result ≡ Err TableFault.Damaged → AllByRecursion T.is_fine rows.now → ⊥ }
@@ -110,7 +110,7 @@ pub fn decoded<T: FromCells>(alloc: Global, rows: &[Row]) -> Result<Vec<T>, Tabl
     Ok(all)
 }
 
-/// The row, or what it is decoded to, if there is one. The fault is `Damaged` where there are more.
+/// Returns the only item, or `None` without items. Fails with `Damaged` if there are several.
 pub fn at_most_one<T: Drop>(mut rows: Vec<T>) -> Result<Option<T>, TableFault>
     ensures ok { IfOk result (λ row. as_list row ≡ rows.items) }
     ensures damaged { result ≡ Err TableFault.Damaged → length rows.items ≤ 1 → ⊥ }
@@ -127,14 +127,14 @@ fn is_lower(a: &Row, b: &Row) -> bool
     bytes_at(a, 0).cmp(bytes_at(b, 0)).is_lt()
 }
 
-/// Whether the keys that the rows begin with rise.
+/// Returns whether the keys in column 0 are strictly ascending.
 pub fn do_rise(rows: &[Row]) -> bool
     ensures { IsTrue result ↔ Rise (map first_cell rows.now) }
 {
     rows.is_sorted_by(|a, b| is_lower(a, b))
 }
 
-/// Whether the rows have the places 1, 2 and so on.
+/// Returns whether the places in column 0 are 1, 2 and so on, in this order.
 fn do_count_up(rows: &[Row]) -> bool
     ensures { IsTrue result ↔ CountUp 1 (map shown_rank rows.now) }
 {
@@ -146,8 +146,8 @@ fn do_count_up(rows: &[Row]) -> bool
     true
 }
 
-/// The names of a list whose rows show place and name. The fault is `Damaged` where the places are
-/// not 1, 2 and so on, or a name has not the form of a key.
+/// Decodes the items of a list from rows of place and item. Fails with `Damaged` if the places are
+/// not 1, 2 and so on, or an item is not a valid key.
 pub(crate) fn list_from(alloc: Global, rows: &[Row]) -> Result<Vec<Key>, TableFault>
     ensures names { IfOk result (λ v. v.items ≡ map shown_name rows.now) }
     ensures whole { IfOk result (λ v. CountUp 1 (map shown_rank rows.now)) }

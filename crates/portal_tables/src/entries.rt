@@ -22,9 +22,9 @@ use spa_rows::Key;
 use sqlite::{Alter, Connection, Row};
 use std::alloc::Global;
 
-/// One owner's list, whose places are 1, 2 and so on. The fault is `Damaged` where they are not or
-/// a name is no key, `Store` where the store answered an error, and `Memory` where that was want of
-/// memory or the list has no room.
+/// Reads one owner's list in the order of its places. Fails with `Damaged` if they are not 1, 2 and
+/// so on or an item is not a valid key. Fails with `Store` if the store reports an error, and with
+/// `Memory` if memory runs out.
 pub fn list_in<S: Alter>(
     alloc: Global,
     conn: &mut Connection<S>,
@@ -40,8 +40,8 @@ pub fn list_in<S: Alter>(
     list_from(alloc, &rows)
 }
 
-/// Whether the owner whose row this is has a list. A query is made for a ranking of the second
-/// round alone. The fault is that of the store.
+/// Returns whether the owner in this row has a list. Every student has one. Only rankings of the
+/// second round need a query. Never fails with `Damaged`.
 pub fn has_list_in<S: Alter>(
     conn: &mut Connection<S>,
     lists: Lists,
@@ -58,7 +58,7 @@ pub fn has_list_in<S: Alter>(
     }
 }
 
-/// The owner's list, if the owner is to have one.
+/// Returns the owner with the list if `is_there`. Otherwise checks that the list is empty.
 fn kept_entry(
     is_there: bool,
     owner: Key,
@@ -79,7 +79,7 @@ fn kept_entry(
     Ok(None)
 }
 
-/// The list of the owner whose row this is, if the owner is to have one.
+/// Reads the list of the owner in this row, or returns `None` if the owner has none.
 pub fn entry_in<S: Alter>(
     alloc: Global,
     conn: &mut Connection<S>,
@@ -97,9 +97,8 @@ pub fn entry_in<S: Alter>(
     kept_entry(is_there, key, list)
 }
 
-/// The lists of the owners whose rows are shown, by a query for each. The fault is `Damaged` where
-/// an owner's key is none, a list is not one that `list_in` would give, or a lecturer has rows and
-/// no ranking; else as there.
+/// Reads the lists of the owners in these rows, with queries for each owner. Fails with `Damaged`
+/// if an owner's key is invalid or a lecturer has rows but no ranking; otherwise like `list_in`.
 fn entries_each<S: Alter>(
     alloc: Global,
     conn: &mut Connection<S>,
@@ -120,7 +119,7 @@ fn entries_each<S: Alter>(
     Ok(entries)
 }
 
-/// Whether each row begins with a key that one of the owners has, whose keys rise.
+/// Returns whether each row begins with an owner's key. The owners are sorted by key.
 fn are_named(owners: &[Row], rows: &[Row]) -> bool
     requires { Rise (map first_cell owners.now) }
     ensures { IsTrue result
@@ -129,7 +128,7 @@ fn are_named(owners: &[Row], rows: &[Row]) -> bool
     rows.iter().all(|row| is_named(owners, bytes_at(row, 0)))
 }
 
-/// Whether the owners' keys rise and each row begins with one of them.
+/// Returns whether the owners' keys are strictly ascending and each row begins with one of them.
 fn are_owned(owners: &[Row], rows: &[Row]) -> bool
     ensures rise { IsTrue result → Rise (map first_cell owners.now) }
     ensures owned { Rise (map first_cell owners.now)
@@ -139,8 +138,8 @@ fn are_owned(owners: &[Row], rows: &[Row]) -> bool
     do_rise(owners) && are_named(owners, rows)
 }
 
-/// Tells `Damaged` where a row of the lists is of nobody among the owners, whose keys are to rise.
-/// The foreign keys of a sound database leave no such row; a program that does not keep them may.
+/// Checks that the owners' keys are strictly ascending and that each row of the lists has one of
+/// them. Foreign keys forbid other rows, but a program that does not enforce them may write some.
 fn see_owners<S: Alter>(
     alloc: Global,
     conn: &mut Connection<S>,
@@ -159,9 +158,10 @@ fn see_owners<S: Alter>(
     }
 }
 
-/// The lists of the owners whose rows are shown, by a query for each. The fault is `Damaged` where
-/// the owners' keys do not rise, a row is of none of them, an owner's key is none, a list is not
-/// one that `list_in` would give, or a lecturer has rows and no ranking; else as there.
+/// Reads the lists of the owners in these rows, with queries for each owner. Fails with `Damaged`
+/// if the owners' keys are not strictly ascending, or a list row belongs to none of them. An
+/// invalid owner's key, or a lecturer with rows but no ranking, is `Damaged` too. Otherwise fails
+/// like `list_in`.
 pub fn entries_in<S: Alter>(
     alloc: Global,
     conn: &mut Connection<S>,

@@ -9,12 +9,12 @@ use portal_core::KeepFault;
 use sqlite::{Error, ErrorCode};
 use std::alloc::{AllocError, AllocFailed};
 
-/// Why tables are not read or written.
+/// The reasons why reading or writing the tables fails.
 #[derive(Drop)]
 pub enum TableFault {
     /// The rows are not as the portal writes them.
     Damaged,
-    /// The store answered an error.
+    /// The store reported an error.
     Store,
     /// There was not enough memory.
     Memory,
@@ -28,7 +28,7 @@ impl<T: Drop> From<AllocFailed<T>> for TableFault {
     }
 }
 
-/// Want of memory is told as that, and every other error as one of the store.
+/// An out-of-memory error becomes `Memory`, and every other error becomes `Store`.
 impl From<Error> for TableFault {
     ghost from_gives = { λ error fault. ((fault ≡ Memory) ↔ (error ≡ SqliteFailure OutOfMemory))
         × (fault ≡ Damaged → ⊥) };
@@ -49,8 +49,8 @@ impl From<AllocError> for TableFault {
     }
 }
 
-/// To a keeper, rows that are not as the portal writes them are a fault of its store, and want of
-/// memory alone is not.
+/// A keeper reports a memory shortage as such. It reports damaged rows and errors of the store as a
+/// fault of the store.
 impl From<TableFault> for KeepFault {
     ghost from_gives = { λ fault told. (told ≡ keep.Memory) ↔ (fault ≡ Memory) };
 

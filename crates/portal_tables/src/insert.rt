@@ -18,7 +18,7 @@ use sqlite::types::{ToSql, ValueRef};
 use sqlite::{Alter, Error, Transaction};
 use std::alloc::{AllocError, Global};
 
-/// Adds the row of `portal`: the version of all tables, phase 0 and the office's code.
+/// Inserts the row of `portal`: the current schema version, phase 0 and the office's code.
 pub(crate) fn add_portal<S: Alter>(tx: &mut Transaction<'_, S>, office: &[u8]) -> Result<(), Error>
     ensures { Does S.Store (Made
         (Adds portal_tree
@@ -31,7 +31,7 @@ pub(crate) fn add_portal<S: Alter>(tx: &mut Transaction<'_, S>, office: &[u8]) -
     )
 }
 
-/// Adds the row of `second`: no second round.
+/// Inserts the row of `second` with phase 0, which means that there is no second round.
 pub(crate) fn add_second<S: Alter>(tx: &mut Transaction<'_, S>) -> Result<(), Error>
     ensures { Does S.Store (Made
         (Adds second_tree (second_cells (pos 0) ∷ []))) result tx.old tx.new }
@@ -39,30 +39,30 @@ pub(crate) fn add_second<S: Alter>(tx: &mut Transaction<'_, S>) -> Result<(), Er
     write(tx, "INSERT INTO second (phase) VALUES (0)", &[])
 }
 
-/// A table to which rows of a type come.
+/// A table that takes rows of type `R`.
 pub trait Target<R> {
-    // the table's number
+    // the table's tree number
     ghost tree: { Self → ℕ };
 
-    // what stands in a row behind its number, and the values that it is made of
+    // the cells of a row after its rowid, and the parameters that insert the row
     ghost cells: { R → Row };
 
     ghost values: { R → Row };
 
-    /// The text that adds one row, given its values.
+    /// Returns the statement that inserts one row. Its parameters are the row's values.
     fn text<S: Alter>(&self) -> &'static str
         ensures { AddsBy S.Store result.now 1 (tree self.now) values cells };
 
-    /// The text that adds eight rows, given the values of one after the other.
+    /// Returns the statement that inserts eight rows. Its parameters are their values in order.
     fn text_of_eight<S: Alter>(&self) -> &'static str
         ensures { AddsBy S.Store result.now 8 (tree self.now) values cells };
 
-    /// Puts the row's values behind those that are there. The error is want of memory.
+    /// Appends the row's values to `all`. Fails only if memory runs out.
     fn put_values<'v>(row: &'v R, all: &mut Vec<ValueRef<'v>>) -> Result<(), AllocError>
         ensures { OnOk result (bound all.new.items ≡ bound all.old.items ++ values row.now) };
 }
 
-/// How many rows the next statement adds, of as many as are left, and its text.
+/// Returns how many of the remaining rows the next statement inserts, and the statement.
 fn next_text<S: Alter, R, T: Target<R>>(table: &T, left: usize) -> (usize, &'static str)
     ensures adds { AddsBy S.Store result.1.now result.0 (T.tree table.now) T.values T.cells }
     ensures some { 0 < result.0 }
@@ -75,7 +75,7 @@ fn next_text<S: Alter, R, T: Target<R>>(table: &T, left: usize) -> (usize, &'sta
     }
 }
 
-/// Runs the text with the values of these rows.
+/// Executes the statement with the values of these rows as parameters.
 fn write_rows<S: Alter, R, T: Target<R>>(
     alloc: Global,
     tx: &mut Transaction<'_, S>,
@@ -91,8 +91,8 @@ fn write_rows<S: Alter, R, T: Target<R>>(
     write(tx, text, &values)
 }
 
-/// Adds the rows to the table, in turn. The first error ends it, and is handed on; it may be want
-/// of memory.
+/// Inserts the rows into the table in order. Stops at the first error and returns it. The error may
+/// be a memory shortage.
 pub fn add_all<S: Alter, R, T: Target<R>>(
     alloc: Global,
     tx: &mut Transaction<'_, S>,

@@ -1,7 +1,5 @@
-//! The tables of the portal in a database of the crate `sqlite`: how they are made, what each
-//! statement does to one of them, what a query shows of one, and how what is shown is decoded into
-//! the portal's rows of rolls, the names of a list and the row of the office. It knows rows and
-//! numbers of trees and no world.
+//! The portal's tables in a database of the crate `sqlite`: creates them, executes statements on
+//! them, runs queries, and decodes the rows that queries show. It works on rows, without worlds.
 #![tactic(auto)]
 
 mod assign;

@@ -10,9 +10,9 @@ use portal_core::Round;
 /// The tables of lists.
 #[derive(Clone, Copy, Drop)]
 pub enum Lists {
-    /// Students' lists of projects.
+    /// Students' lists of projects in the first round.
     Choices,
-    /// Lecturers' rankings of students.
+    /// Lecturers' rankings of students in the first round.
     Rankings,
     /// Students' lists of the second round.
     SecondChoices,
@@ -21,7 +21,7 @@ pub enum Lists {
 }
 
 impl Lists {
-    /// The students' lists of a round.
+    /// Returns the table of the students' lists of a round.
     pub fn choices_of(round: Round) -> Lists
         ensures is { result ≡ meant.choice_table round }
         ensures round { round_of result ≡ round }
@@ -32,7 +32,7 @@ impl Lists {
         }
     }
 
-    /// The rankings of a round.
+    /// Returns the table of the rankings of a round.
     pub fn rankings_of(round: Round) -> Lists
         ensures is { result ≡ meant.ranking_table round }
         ensures round { round_of result ≡ round }
@@ -43,7 +43,7 @@ impl Lists {
         }
     }
 
-    /// The text that takes the rows of one owner away.
+    /// Returns the statement that deletes one owner's rows.
     pub(crate) fn clear_text(self) -> &'static str
         ensures { result.now ≡ texts.clear_text (names self) }
     {

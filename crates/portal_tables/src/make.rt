@@ -56,7 +56,7 @@ const ASSIGNED2: &str =
     "CREATE TABLE assigned2 (student TEXT NOT NULL PRIMARY KEY REFERENCES student (key), \
      project TEXT NOT NULL REFERENCES project (key)) STRICT";
 
-/// Makes the six tables of the first round, all empty, where the database has no table.
+/// Creates the six tables of the first round, all empty, in a database with an empty schema.
 fn make_first<S: Alter>(tx: &mut Transaction<'_, S>) -> Result<(), Error>
     ensures { Does S.Store (Made MakesFirst) result tx.old tx.new }
 {
@@ -68,7 +68,7 @@ fn make_first<S: Alter>(tx: &mut Transaction<'_, S>) -> Result<(), Error>
     write(tx, RANKING, &[])
 }
 
-/// Makes the five tables of the second round, all empty, beside the six.
+/// Creates the five tables of the second round, all empty, after the first round's six.
 pub(crate) fn make_second<S: Alter>(tx: &mut Transaction<'_, S>) -> Result<(), Error>
     ensures { Does S.Store (Made MakesSecond) result tx.old tx.new }
 {
@@ -79,8 +79,8 @@ pub(crate) fn make_second<S: Alter>(tx: &mut Transaction<'_, S>) -> Result<(), E
     write(tx, ASSIGNED2, &[])
 }
 
-/// Makes the portal's tables, all empty, where the database has no table. An error of the store is
-/// handed on; the transaction should then be dropped, which undoes it.
+/// Creates all the portal's tables, empty, in a database with an empty schema. After an error the
+/// caller should drop the transaction to roll it back.
 pub(crate) fn make_tables<S: Alter>(tx: &mut Transaction<'_, S>) -> Result<(), Error>
     ensures { Does S.Store (Made Makes) result tx.old tx.new }
 {
@@ -88,8 +88,8 @@ pub(crate) fn make_tables<S: Alter>(tx: &mut Transaction<'_, S>) -> Result<(), E
     make_second(tx)
 }
 
-/// The tables with the row of the office, of this code, and that of no second round; all other
-/// tables are empty.
+/// The step that creates the tables. Only `portal` and `second` get a row: the first holds this
+/// office code, and the second says that there is no second round.
 struct MakePortal<'a> {
     office: &'a [u8],
 }
@@ -105,9 +105,9 @@ impl Step for MakePortal<'_> {
     }
 }
 
-/// Makes the portal's tables, the row of the office and that of no second round in a transaction of
-/// their own. After an error nothing is there of them, and the fault is not `Damaged`; after Ok a
-/// crash leaves them alone.
+/// Creates the portal's tables, with their rows in `portal` and `second`, in one transaction. After
+/// an error nothing has changed, if the disk is clean and the connection still open. The fault is
+/// never `Damaged`. After `Ok`, a crash leaves the new tables, if the disk is clean.
 pub fn create_portal<S: Alter>(
     alloc: Global,
     conn: &mut Connection<S>,

@@ -9,7 +9,7 @@ use crate::cells::bytes_at;
 use sqlite::Row;
 use std::cmp::Ordering;
 
-/// Where a row begins with the key, among rows whose keys rise.
+/// Returns the index of the row that begins with the key, in rows sorted by key.
 pub(crate) fn place_named(rows: &[Row], key: &[u8]) -> Option<usize>
     requires { Rise (map first_cell rows.now) }
     ensures within { IfSome result (λ i. i < length rows.now) }
@@ -27,7 +27,7 @@ pub(crate) fn place_named(rows: &[Row], key: &[u8]) -> Option<usize>
     }
 }
 
-/// Whether a row begins with the key, among rows whose keys rise.
+/// Returns whether a row begins with the key, in rows sorted by strictly ascending key.
 pub fn is_named(rows: &[Row], key: &[u8]) -> bool
     requires { Rise (map first_cell rows.now) }
     ensures { result ≡ has (map first_cell rows.now) key.now }

@@ -10,12 +10,12 @@ ghost use Rattle.portal_tables.specs.Making.{has_names};
 use sqlite_schema::names::same_name;
 use sqlite_schema::schema::{Schema, Table, View};
 
-/// Which tables' names are meant.
+/// A set of table names.
 #[derive(Clone, Copy, Drop)]
 pub enum Names {
-    /// Those of all the portal's tables.
+    /// The names of all the portal's tables.
     All,
-    /// Those of the tables of the second round.
+    /// The names of the second round's tables.
     OfSecond,
 }
 
@@ -41,7 +41,7 @@ fn is_second_name(name: &[u8]) -> bool
 }
 
 impl Names {
-    /// Whether this is one of the names.
+    /// Returns whether this is one of the names, ignoring case.
     fn has(self, name: &[u8]) -> bool
         ensures { result ≡ has_name self name.now }
     {
@@ -52,7 +52,7 @@ impl Names {
     }
 }
 
-/// Whether this is a view, or a table that the connection cannot read.
+/// Returns whether this is a view, or a table that the connection cannot read.
 fn is_view(view: &View) -> bool
     ensures { result ≡ stands_for_table view.now.name view.now.foreign }
 {
@@ -62,14 +62,14 @@ fn is_view(view: &View) -> bool
     }
 }
 
-/// Whether a table has one of the names.
+/// Returns whether a table has one of the names.
 fn has_tables(names: Names, tables: &[Table]) -> bool
     ensures { result ≡ list_any (is_named_table names) tables.now }
 {
     tables.iter().any(|table| names.has(table.name.as_slice()))
 }
 
-/// Whether a view, or a table that the connection cannot read, has one of the names.
+/// Returns whether a view, or a table that the connection cannot read, has one of the names.
 fn has_views(names: Names, views: &[View]) -> bool
     ensures { result ≡ list_any (is_named_view names) views.now }
 {
@@ -78,14 +78,14 @@ fn has_views(names: Names, views: &[View]) -> bool
         .any(|view| names.has(view.name.as_slice()) && is_view(view))
 }
 
-/// Whether a table or a view of one of the names is there, whatever the case of its letters.
+/// Returns whether a table or a view has one of the names, ignoring case.
 pub fn is_there(schema: &Schema, names: Names) -> bool
     ensures { result ≡ has_names names schema.now }
 {
     has_tables(names, schema.tables.as_slice()) || has_views(names, schema.views.as_slice())
 }
 
-/// Whether there is no table, no index and no view.
+/// Returns whether the schema has no table, no index and no view.
 pub fn is_empty(schema: &Schema) -> bool
     ensures { IsTrue result ↔ (schema.now ≡ no_schema) }
 {

@@ -18,22 +18,22 @@ use sqlite::types::ValueRef;
 use sqlite::{Alter, Connection, Row};
 use std::alloc::Global;
 
-/// The version of the schema with all tables, which the row of `portal` tells.
+/// The schema version with all eleven tables, as stored in the row of `portal`.
 pub const VERSION: u32 = 2;
 
-/// The version of the six tables alone.
+/// The schema version with only the six tables of the first round.
 pub const FIRST_VERSION: u32 = 1;
 
-/// What the row of the office says.
+/// The content of the office's row.
 #[derive(Drop)]
 pub struct Office {
     /// The phase of the round.
     pub phase: Phase,
-    /// The code by which the office is known.
+    /// The code that identifies the office.
     pub code: Code,
 }
 
-/// Whether the cell holds this number.
+/// Returns whether the cell holds this integer.
 pub fn is_number(row: &Row, at: usize, number: u32) -> bool
     ensures { IsTrue result ↔ (column row.now at ≡ Int (pos number)) }
 {
@@ -43,7 +43,7 @@ pub fn is_number(row: &Row, at: usize, number: u32) -> bool
     }
 }
 
-/// The number that stands for a phase in a table.
+/// Returns the number that represents a phase in a table.
 pub fn phase_number(phase: Phase) -> u32
     ensures { result ≡ number_of_phase phase }
 {
@@ -55,7 +55,7 @@ pub fn phase_number(phase: Phase) -> u32
     }
 }
 
-/// The phase that the number in a cell stands for.
+/// Returns the phase that the number in a cell represents, or `None` for any other value.
 pub(crate) fn phase_at(row: &Row, at: usize) -> Option<Phase>
     ensures some { IfSome result (λ phase. column row.now at ≡ Int (pos (number_of_phase phase))) }
     ensures none { IfNone result
@@ -70,7 +70,7 @@ pub(crate) fn phase_at(row: &Row, at: usize) -> Option<Phase>
     }
 }
 
-/// The code in a cell that has a text.
+/// Decodes the code in a cell. Fails with `Damaged` unless the cell holds a valid code as text.
 fn text_code_at(alloc: Global, row: &Row, at: usize) -> Result<Code, TableFault>
     ensures ok { IfOk result (λ code. column row.now at ≡ Words code) }
     ensures damaged { result ≡ Err TableFault.Damaged → (code : List ℕ)
@@ -82,7 +82,7 @@ fn text_code_at(alloc: Global, row: &Row, at: usize) -> Result<Code, TableFault>
     }
 }
 
-/// The office, of its row, whose id is 1.
+/// Decodes the office's row, which must have id 1 and this version.
 fn office_at(alloc: Global, row: &Row, version: u32) -> Result<Office, TableFault>
     ensures ok { IfOk result (λ office. IsOffice version office.phase office.code row.now) }
     ensures damaged { result ≡ Err TableFault.Damaged → (phase : ThePhase) (code : List ℕ)
@@ -98,8 +98,8 @@ fn office_at(alloc: Global, row: &Row, version: u32) -> Result<Office, TableFaul
     Ok(Office { phase, code })
 }
 
-/// The office, of the only row of its table. The fault is `Damaged` where there is not one row,
-/// with id 1, the version, a phase and a code.
+/// Decodes the only row of the office's table. Fails with `Damaged` unless there is exactly one
+/// row, with id 1, this version, a phase and a code.
 fn office_from(alloc: Global, rows: &[Row], version: u32) -> Result<Office, TableFault>
     ensures ok { IfOk result (λ office. (row : Cells) × (rows.now ≡ row ∷ [])
         × IsOffice version office.phase office.code row) }
@@ -113,8 +113,8 @@ fn office_from(alloc: Global, rows: &[Row], version: u32) -> Result<Office, Tabl
     }
 }
 
-/// The office, of its table. The fault is `Damaged` where the table has not the one row, of this
-/// version, `Store` where the store answered an error.
+/// Reads the office's row. Fails with `Damaged` unless it is the only row, valid and of this
+/// version. Fails with `Store` or `Memory` if the query does.
 pub fn office_in<S: Alter>(
     alloc: Global,
     conn: &mut Connection<S>,

@@ -27,7 +27,7 @@ use spa_rows::Key;
 use sqlite::{Alter, Connection, Row};
 use std::alloc::Global;
 
-/// What the only row names, if there is a row.
+/// Returns the key in the only row, or `None` without rows.
 fn only_name(alloc: Global, rows: &[Row]) -> Result<Option<Key>, TableFault>
     ensures ok { IfOk result (λ p. as_list p ≡ map shown_name rows.now) }
     ensures damaged { result ≡ Err TableFault.Damaged → length rows.now ≤ 1
@@ -37,7 +37,7 @@ fn only_name(alloc: Global, rows: &[Row]) -> Result<Option<Key>, TableFault>
     at_most_one(names)
 }
 
-/// The place in the second round of the student with the key.
+/// Reads the second round's placement of the student with this key.
 pub fn second_placement_in<S: Alter>(
     alloc: Global,
     conn: &mut Connection<S>,
@@ -52,9 +52,9 @@ pub fn second_placement_in<S: Alter>(
     only_name(alloc, &rows)
 }
 
-/// The place in a round of the student whose row this is. The fault is `Damaged` where it is no key
-/// or the second round has several, `Store` where the store answered an error, `Memory` where there
-/// is not enough memory.
+/// Returns a round's placement of the student in this row. Fails with `Damaged` if it is not a
+/// valid key or the second round has several. Fails with `Store` if the store reports an error, and
+/// with `Memory` if memory runs out.
 pub(crate) fn placement_in<S: Alter>(
     alloc: Global,
     conn: &mut Connection<S>,
@@ -72,7 +72,7 @@ pub(crate) fn placement_in<S: Alter>(
     }
 }
 
-/// The place that the round before gave to the student whose row this is.
+/// Returns the earlier placement of the student in this row, which is `None` in the first round.
 fn place_before_at(alloc: Global, round: Round, row: &Row) -> Result<Option<Key>, TableFault>
     ensures ok { IfOk result (λ p. p ≡ placement_before round row.now) }
     ensures damaged { result ≡ Err TableFault.Damaged → HasFirstPlace row.now → ⊥ }
@@ -83,7 +83,7 @@ fn place_before_at(alloc: Global, round: Round, row: &Row) -> Result<Option<Key>
     }
 }
 
-/// Whether the student whose row this is takes part in the round: the one before gave no place.
+/// Returns whether the student in this row has no earlier placement, and so takes part.
 pub fn takes_part(round: Round, row: &Row) -> bool
     ensures { result ≡ is_none (placement_before round row.now) }
 {
@@ -93,7 +93,7 @@ pub fn takes_part(round: Round, row: &Row) -> bool
     }
 }
 
-/// The place in a round, once the phase shows it.
+/// Returns a round's placement if the phase is `Published`, otherwise `None`.
 fn published_in<S: Alter>(
     alloc: Global,
     conn: &mut Connection<S>,
@@ -113,8 +113,8 @@ fn published_in<S: Alter>(
     }
 }
 
-/// The place that the student whose row this is is shown in the phase. The faults are those of
-/// `placement_in`.
+/// Returns the placement that the student in this row sees: the earlier one, or else the round's
+/// own once it is published. Fails like `placement_in`.
 pub fn result_in<S: Alter>(
     alloc: Global,
     conn: &mut Connection<S>,
@@ -133,8 +133,8 @@ pub fn result_in<S: Alter>(
     published_in(alloc, conn, round, phase, row)
 }
 
-/// The place in a round of the student whose row this is, or with a phase the one that is shown in
-/// it.
+/// Returns a round's placement of the student in this row or, given a phase, the one that the
+/// student sees in that phase.
 fn placement_asked<S: Alter>(
     alloc: Global,
     conn: &mut Connection<S>,
@@ -153,7 +153,7 @@ fn placement_asked<S: Alter>(
     }
 }
 
-/// The student whose row this is with the place, if there is one.
+/// Pairs the key of the student in this row with the placement, if there is one.
 fn with_placement(
     alloc: Global,
     row: &Row,
@@ -168,7 +168,7 @@ fn with_placement(
     }
 }
 
-/// The pair of the student whose row this is.
+/// Returns the key of the student in this row with the placement from `placement_asked`.
 fn pair_in<S: Alter>(
     alloc: Global,
     conn: &mut Connection<S>,
@@ -185,9 +185,9 @@ fn pair_in<S: Alter>(
     with_placement(alloc, row, place)
 }
 
-/// A round's result, or with a phase what is shown in it of all results: the pairs of the students
-/// whose rows these are, in their order. The faults are those of `placement_in`, and `Damaged`
-/// where a student's key is none.
+/// Returns a round's result as pairs of student and project, in the order of the students' rows.
+/// Given a phase, it returns the placements that the students see in that phase. Fails like
+/// `placement_in`, and with `Damaged` if a student's key is invalid.
 pub fn pairs_in<S: Alter>(
     alloc: Global,
     conn: &mut Connection<S>,
@@ -210,7 +210,7 @@ pub fn pairs_in<S: Alter>(
     Ok(pairs)
 }
 
-/// The pair of the student whose key and place these are, if there is a place.
+/// Decodes a row of key and placement into a pair, or `None` without a placement.
 fn pair_at(alloc: Global, row: &Row) -> Result<Option<(Key, Key)>, TableFault>
     ensures ok { IfOk result (λ pair. pair ≡ pair_told row.now) }
     ensures damaged { result ≡ Err TableFault.Damaged → HasKeys row.now → ⊥ }
@@ -221,7 +221,7 @@ fn pair_at(alloc: Global, row: &Row) -> Result<Option<(Key, Key)>, TableFault>
     }
 }
 
-/// The pairs of the students whose keys and places these are, in their order.
+/// Decodes rows of key and placement into pairs, in order, without the unplaced students.
 fn pairs_from(alloc: Global, rows: &[Row]) -> Result<Vec<(Key, Key)>, TableFault>
     ensures ok { IfOk result (λ v. v.items ≡ filter_map pair_told rows.now) }
     ensures damaged { result ≡ Err TableFault.Damaged → AllByRecursion HasKeys rows.now → ⊥ }
@@ -235,9 +235,9 @@ fn pairs_from(alloc: Global, rows: &[Row]) -> Result<Vec<(Key, Key)>, TableFault
     Ok(pairs)
 }
 
-/// The result of the first round, of keys and places alone: pairs of a student and a project, by
-/// student. The fault is `Damaged` where the students' keys do not rise, or a key or a place has
-/// not the form of a key.
+/// Reads the first round's result as pairs of student and project, sorted by student. It reads only
+/// these two columns. Fails with `Damaged` if the students' keys are not strictly ascending, or a
+/// student's or project's key is invalid.
 pub fn first_pairs_in<S: Alter>(
     alloc: Global,
     conn: &mut Connection<S>,

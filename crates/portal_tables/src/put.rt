@@ -16,7 +16,7 @@ use sqlite::types::ValueRef;
 use sqlite::{Alter, Error, ErrorCode, Transaction};
 use std::alloc::{AllocError, Global};
 
-/// Takes the rows of an owner's list away.
+/// Deletes the rows of an owner's list.
 pub fn clear_list<S: Alter>(
     tx: &mut Transaction<'_, S>,
     lists: Lists,
@@ -27,7 +27,7 @@ pub fn clear_list<S: Alter>(
     write(tx, lists.clear_text(), &[ValueRef::Text(owner)])
 }
 
-/// The rows of a list: its items at the places from 1 on. The error is want of memory.
+/// Returns the rows of a list, with places from 1 on. Fails only if memory runs out.
 fn places_of<'a>(
     alloc: Global,
     owner: &'a Key,
@@ -49,9 +49,9 @@ fn places_of<'a>(
     Ok(rows)
 }
 
-/// The owner's list becomes these items, best first, in place of any other. A list that is longer
-/// than any may be is refused as too big; the first error of the store ends it and is handed on,
-/// and it may be want of memory.
+/// Replaces an owner's list by these items, best first. Fails with `TooBig` for more than
+/// `MOST_STUDENTS` items. Otherwise it stops at the first error and returns it. The error may be a
+/// memory shortage.
 pub fn put_list<S: Alter>(
     alloc: Global,
     tx: &mut Transaction<'_, S>,

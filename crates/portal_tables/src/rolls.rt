@@ -18,10 +18,10 @@ use portal_core::{LecturerRow, ProjectRow, StudentRow};
 use sqlite::{Alter, Connection, Row};
 use std::alloc::Global;
 
-/// The rolls, as queries show them by key.
+/// The rows of the rolls, as queries return them, sorted by key.
 #[derive(Drop)]
 pub struct Rolls {
-    /// Key, name, code, capacity, and 1 where a ranking is there.
+    /// Key, name, code, capacity, and 1 if there is a ranking in the first round, otherwise 0.
     pub lecturers: Vec<Row>,
     /// Key, lecturer, title and capacity.
     pub projects: Vec<Row>,
@@ -29,7 +29,7 @@ pub struct Rolls {
     pub students: Vec<Row>,
 }
 
-/// The rows, if the keys that they begin with rise.
+/// Returns the rows if the keys in column 0 are strictly ascending, otherwise `Damaged`.
 fn risen(rows: Vec<Row>) -> Result<Vec<Row>, TableFault>
     ensures ok { IfOk result (λ v. (v ≡ rows) × Rise (map first_cell rows.items)) }
     ensures damaged { result ≡ Err TableFault.Damaged → Rise (map first_cell rows.items) → ⊥ }
@@ -41,9 +41,9 @@ fn risen(rows: Vec<Row>) -> Result<Vec<Row>, TableFault>
     }
 }
 
-/// The rows that a query shows, if the keys that they begin with rise. The fault is `Damaged` where
-/// they do not, `Store` where the store answered an error, `Memory` where there is not enough
-/// memory.
+/// Reads the rows of a query. Fails with `Damaged` if the keys in column 0 are not strictly
+/// ascending. Fails with `Store` if the store reports an error, and with `Memory` if memory runs
+/// out.
 pub fn rising<S: Alter>(
     alloc: Global,
     conn: &mut Connection<S>,
@@ -59,8 +59,8 @@ pub fn rising<S: Alter>(
     risen(rows)
 }
 
-/// A roll by key. The fault is `Damaged` where the keys do not rise, `Store` where the store
-/// answered an error.
+/// Reads a roll, sorted by key. Fails with `Damaged` if the keys are not strictly ascending, and
+/// otherwise like `rising`.
 pub fn roll_in<S: Alter>(
     alloc: Global,
     conn: &mut Connection<S>,
@@ -74,7 +74,7 @@ pub fn roll_in<S: Alter>(
     rising(alloc, conn, Query::Whole(roll))
 }
 
-/// The three rolls by key, or the fault of the first that cannot be read.
+/// Reads the three rolls, each sorted by key. Stops at the first fault and returns it.
 pub fn rolls_in<S: Alter>(alloc: Global, conn: &mut Connection<S>) -> Result<Rolls, TableFault>
     ensures { Reads First S.Store Always
         (Answers (λ db. AreRolls db.trees)
@@ -91,7 +91,7 @@ pub fn rolls_in<S: Alter>(alloc: Global, conn: &mut Connection<S>) -> Result<Rol
     })
 }
 
-/// What the rows of the rolls are decoded to, in their order.
+/// The decoded rows of the rolls, in the order of the rows.
 #[derive(Drop)]
 pub struct Parts {
     pub lecturers: Vec<LecturerRow>,
@@ -99,8 +99,8 @@ pub struct Parts {
     pub students: Vec<StudentRow>,
 }
 
-/// The rows of the rolls, decoded. The fault is `Damaged` where a cell has not the form that it is
-/// to have.
+/// Decodes the rows of the rolls. Fails with `Damaged` if a cell holds an invalid value, and with
+/// `Memory` if memory runs out.
 pub fn parts_of(alloc: Global, rolls: &Rolls) -> Result<Parts, TableFault>
     ensures lecturers { IfOk result (λ p. p.lecturers.items
         ≡ map shown_lecturer rolls.now.lecturers.items) }

@@ -17,7 +17,7 @@ fn number_of(row: &Row) -> Option<i64>
     row.get::<i64>(0).ok()
 }
 
-/// Whether the rows begin with whole numbers that rise.
+/// Returns whether the rows begin with strictly ascending integers.
 fn do_rise(rows: &[Row]) -> bool
     ensures { IsTrue result → rises None rows.now ≡ true }
 {
@@ -36,7 +36,7 @@ fn do_rise(rows: &[Row]) -> bool
     true
 }
 
-/// Whether the rows of a table have numbers of their own.
+/// Returns whether the rowids of a table are distinct.
 pub fn row_numbers_differ<S: Alter>(conn: &mut Connection<S>, table: Table) -> Result<bool, Error>
     ensures { Reads (table_round table) S.Store Always
         (Gives (λ db apart. IsTrue apart → RowNumbersDiffer (db.trees (table_tree table))))

@@ -18,13 +18,12 @@ use sqlite_value::value::Bytes;
 use std::alloc::Global;
 use std::marker::Model;
 
-/// What can be compared whole.
+/// A part of a schema that can be compared in full.
 trait Same {
     fn is_the_same(&self, other: &Self) -> bool
         ensures { IsTrue result ↔ (self.now ≡ other.now) };
 }
 
-/// Whether the lists are the same.
 fn are_same<T: Same>(a: &[T], b: &[T]) -> bool
     ensures { IsTrue result ↔ (a.now ≡ b.now) }
 {
@@ -93,7 +92,7 @@ impl Same for Index {
     }
 }
 
-/// The rules of a table.
+/// Returns whether two tables have the same primary key, UNIQUE constraints and foreign keys.
 fn has_same_rules(a: &Table, b: &Table) -> bool
     ensures { IsTrue result ↔ SameRules a.now b.now }
 {
@@ -103,7 +102,7 @@ fn has_same_rules(a: &Table, b: &Table) -> bool
         && are_same(a.references.as_slice(), b.references.as_slice())
 }
 
-/// The defaults of a table, but for what they compute.
+/// Returns whether two tables have the same computed defaults, except for their terms.
 fn has_same_defaults(a: &Table, b: &Table) -> bool
     ensures { IsTrue result ↔ SameDefaults a.now b.now }
 {
@@ -138,7 +137,8 @@ fn are_same_tables(a: &[Table], b: &[Table]) -> bool
     true
 }
 
-/// Whether the schema has these tables, but for checks, and these indexes, and no view.
+/// Returns whether the schema has these tables and indexes and no view. The terms of CHECK and
+/// DEFAULT are not compared.
 fn is_same_schema(schema: &Schema, tables: &[Table], indexes: &[Index]) -> bool
     ensures { IsTrue result
         ↔ SameSchema schema.now
@@ -149,7 +149,7 @@ fn is_same_schema(schema: &Schema, tables: &[Table], indexes: &[Index]) -> bool
         && schema.views.is_empty()
 }
 
-/// Makes the portal's tables over an empty database in memory.
+/// Creates the portal's tables in an empty in-memory database.
 fn make_scratch(conn: &mut Connection<MemStore>) -> Result<(), Error>
     requires idle { conn.old.in_transaction ≡ false }
     requires empty { conn.old.schema ≡ no_schema }
@@ -161,7 +161,7 @@ fn make_scratch(conn: &mut Connection<MemStore>) -> Result<(), Error>
     Ok(())
 }
 
-/// A connection in memory with the portal's own tables.
+/// Opens an in-memory database and creates the portal's tables in it.
 fn scratch(alloc: Global) -> Result<Connection<MemStore>, Error>
     ensures { IfOk result (λ c. c.schema ≡ portal_schema) }
 {
@@ -170,7 +170,7 @@ fn scratch(alloc: Global) -> Result<Connection<MemStore>, Error>
     Ok(conn)
 }
 
-/// The portal's own tables over no row, to compare with.
+/// The portal's tables without rows, in an in-memory database, to compare schemas with.
 #[derive(Drop)]
 pub struct PortalSchema {
     conn: Connection<MemStore>,
@@ -188,14 +188,14 @@ impl Model for PortalSchema {
 }
 
 impl PortalSchema {
-    /// Makes the tables in memory. Any error of `sqlite` is handed on.
+    /// Creates the tables in memory. Returns any error of `sqlite`.
     pub fn new(alloc: Global) -> Result<PortalSchema, Error> {
         let conn = scratch(alloc)?;
         Ok(PortalSchema { conn })
     }
 
-    /// Whether the tables of a connection are those that `make_tables` makes, and no other table,
-    /// index or view is there. It reads nothing of the database.
+    /// Returns whether a connection's schema is the portal's, except for the terms of CHECK and
+    /// DEFAULT. Does not read the database.
     pub fn fits<S: Alter>(&self, conn: &Connection<S>) -> bool
         ensures current { IsTrue result ↔ IsCurrentSchema conn.now.schema }
         ensures own { IsTrue result → HasFirstSchema conn.now.schema }
@@ -204,7 +204,7 @@ impl PortalSchema {
         is_same_schema(conn.schema(), all.tables.as_slice(), all.indexes.as_slice())
     }
 
-    /// Whether they are the six of version 1, and no other is there.
+    /// Returns whether a connection's schema is that of version 1, compared in the same way.
     pub fn fits_first<S: Alter>(&self, conn: &Connection<S>) -> bool
         ensures first { IsTrue result ↔ IsFirstSchema conn.now.schema }
         ensures own { IsTrue result → HasFirstSchema conn.now.schema }

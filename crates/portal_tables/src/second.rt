@@ -22,8 +22,7 @@ use sqlite::types::{ToSql, ValueRef};
 use sqlite::{Alter, Connection, Error, Row, Transaction};
 use std::alloc::{AllocError, Global};
 
-/// The phase of the second round, of the only row of its table: setup where there is no second
-/// round.
+/// Decodes the second round's phase from the only row of its table, or fails with `Damaged`.
 fn second_from(rows: &[Row]) -> Result<Phase, TableFault>
     ensures ok { IfOk result (λ phase. IsSecond phase rows.now) }
     ensures damaged { result ≡ Err TableFault.Damaged
@@ -38,9 +37,9 @@ fn second_from(rows: &[Row]) -> Result<Phase, TableFault>
     phase_at(row, 1).ok_or(TableFault::Damaged)
 }
 
-/// The phase of the second round, of its table: setup where there is no second round. The fault is
-/// `Damaged` where the table has not the one row that tells a phase, `Store` where the store
-/// answered an error.
+/// Reads the phase of the second round, which is setup if there is no second round. Fails with
+/// `Damaged` unless the table has exactly one row, with id 1 and a phase. Fails with `Store` if the
+/// store reports an error, and with `Memory` if memory runs out.
 pub fn second_in<S: Alter>(alloc: Global, conn: &mut Connection<S>) -> Result<Phase, TableFault>
     ensures { Reads InSecond S.Store Always
         (Answers (λ db phase. IsDatabase db
@@ -53,7 +52,7 @@ pub fn second_in<S: Alter>(alloc: Global, conn: &mut Connection<S>) -> Result<Ph
     second_from(&rows)
 }
 
-/// Writes the phase of the second round, 1 to 3, or 0 for none, into the row of `second`.
+/// Writes the second round's phase into the row of `second`: 1 to 3, or 0 for no second round.
 pub fn set_second<S: Alter>(tx: &mut Transaction<'_, S>, phase: u32) -> Result<(), Error>
     ensures { Does S.Store (Made (MovesSecond phase)) result tx.old tx.new }
 {
@@ -64,7 +63,7 @@ pub fn set_second<S: Alter>(tx: &mut Transaction<'_, S>, phase: u32) -> Result<(
     )
 }
 
-/// Says of a lecturer that a ranking of the second round is there.
+/// Records that a lecturer has a ranking in the second round.
 pub fn rank_second<S: Alter>(tx: &mut Transaction<'_, S>, lecturer: &[u8]) -> Result<(), Error>
     ensures { Does S.Store (Made (RanksSecond lecturer.now)) result tx.old tx.new }
 {
@@ -80,7 +79,7 @@ pub fn rank_second<S: Alter>(tx: &mut Transaction<'_, S>, lecturer: &[u8]) -> Re
     )
 }
 
-/// The result of the second round.
+/// The table of the second round's result.
 #[derive(Clone, Copy, Drop)]
 struct Places;
 
@@ -108,8 +107,8 @@ impl Target<(Key, Key)> for Places {
     }
 }
 
-/// The result of the second round becomes these pairs of a student and a project, in place of any
-/// other. The first error of the store ends it and is handed on, and it may be want of memory.
+/// Replaces the second round's result by these pairs of student and project. Stops at the first
+/// error and returns it. The error may be a memory shortage.
 pub fn put_placements<S: Alter>(
     alloc: Global,
     tx: &mut Transaction<'_, S>,

@@ -18,10 +18,10 @@ use sqlite::{Alter, Connection, Error, Row};
 use std::alloc::Global;
 use std::slice;
 
-/// The rolls.
+/// The rolls, each with the columns that a query of it returns.
 #[derive(Clone, Copy, Drop)]
 pub enum Roll {
-    /// Key, name, code, capacity, and 1 where a ranking is there.
+    /// Key, name, code, capacity, and 1 if there is a ranking in the first round, otherwise 0.
     Lecturers,
     /// Key, lecturer, title and capacity.
     Projects,
@@ -29,7 +29,7 @@ pub enum Roll {
     Students,
 }
 
-/// The tables of many rows.
+/// The tables that can have many rows.
 #[derive(Clone, Copy, Drop)]
 pub enum Table {
     OfRoll(Roll),
@@ -40,46 +40,46 @@ pub enum Table {
     OfPlaces,
 }
 
-/// What can be asked of a table.
+/// The queries. Each reads one table and returns the columns that its doc names.
 #[derive(Clone, Copy, Drop)]
 pub enum Query<'a> {
     /// The row of the office: id, version, phase and code.
     Office,
-    /// A roll by key, with all its columns.
+    /// A whole roll, sorted by key, with all its columns.
     Whole(Roll),
-    /// The lecturers with a code, with all columns.
+    /// The lecturers with this code, with all columns.
     LecturerByCode(&'a [u8]),
-    /// The students with a code, with all columns.
+    /// The students with this code, with all columns.
     StudentByCode(&'a [u8]),
-    /// The key of the lecturer with this key, where there is one.
+    /// The key of the lecturer with this key, if there is one.
     LecturerByKey(&'a [u8]),
-    /// What a lecturer may be told of the student with a key, where there is one: key, name and
+    /// What a lecturer may see of the student with this key, if there is one: key, name and
     /// assigned project.
     StudentTold(&'a [u8]),
-    /// All lists, in whatever order their rows stand: owner, place and name.
+    /// All rows of a table of lists, in any order: owner, place and item.
     AllLists(Lists),
-    /// One owner's list by place: place and name.
+    /// One owner's list, sorted by place: place and item.
     ListOf(Lists, &'a [u8]),
-    /// The students whose lists of a round name a project, by key.
+    /// The keys of the students who list this project in a round, sorted.
     Choosers(Round, &'a [u8]),
-    /// The students who have a list of a round, by key: those of the first rows of lists.
+    /// The keys of the students who have a list in a round, sorted: those with an item at place 1.
     Listed(Round),
-    /// The keys of a lecturer's projects, by key.
+    /// The keys of a lecturer's projects, sorted.
     ProjectsOf(&'a [u8]),
-    /// The result of the first round by student: key and assigned project, which is NULL where
+    /// The first round's result, sorted by student: key and assigned project, which is NULL if
     /// there is none.
     FirstPlacements,
     /// The row of the second round: id and phase.
     Second,
-    /// The lecturers with a ranking in the second round, by key.
+    /// The keys of the lecturers with a ranking in the second round, sorted.
     SecondRanked,
-    /// Of those the lecturer with a key, where there is one.
+    /// The key of this lecturer, if the lecturer has a ranking in the second round.
     SecondRankedBy(&'a [u8]),
-    /// The result of the second round by student: student and project.
+    /// The second round's result, sorted by student: student and project.
     SecondPlacements,
-    /// Of that the row of one student, where there is one.
+    /// The second round's result for this student, if there is one: student and project.
     SecondPlaceOf(&'a [u8]),
-    /// The numbers of a table's rows.
+    /// The rowids of a table, sorted.
     Numbers(Table),
 }
 
@@ -175,7 +175,7 @@ impl<'a> Query<'a> {
         }
     }
 
-    /// The value that the text asks for.
+    /// Returns the parameter of the query, if it has one.
     fn value(self) -> Option<ValueRef<'a>>
         ensures { bound (as_list result) ≡ given self.entry }
     {
@@ -211,7 +211,7 @@ fn values<'a>(value: &'a Option<ValueRef<'a>>) -> &'a [ValueRef<'a>]
     }
 }
 
-/// The rows that a query shows, or the store's own error.
+/// Runs a query and returns its rows, or the store's own error.
 pub fn read<S: Alter>(conn: &mut Connection<S>, query: Query<'_>) -> Result<Vec<Row>, Error>
     ensures { Reads (round_asked query.entry) S.Store Always
         (Gives (λ db rows. Shows query.entry db.trees rows.items)) result conn.old conn.new }
@@ -219,8 +219,8 @@ pub fn read<S: Alter>(conn: &mut Connection<S>, query: Query<'_>) -> Result<Vec<
     conn.query_all(query.text(), values(&query.value()))
 }
 
-/// What a query shows, each row decoded as it is read, or the first fault: of the store, or of a
-/// row that is refused.
+/// Runs a query and decodes each row as it is read. Stops at the first fault: an error of the
+/// store, or a row that decoding refuses.
 pub fn read_each<S: Alter, T: FromCells>(
     alloc: Global,
     conn: &mut Connection<S>,
@@ -235,7 +235,7 @@ pub fn read_each<S: Alter, T: FromCells>(
     run::read_each(alloc, conn, query.text(), values(&query.value()))
 }
 
-/// What a query shows, each row kept as it is, or the first fault of the store.
+/// Runs a query and returns copies of its rows. Never fails with `Damaged`.
 pub fn read_rows<S: Alter>(
     alloc: Global,
     conn: &mut Connection<S>,
@@ -248,7 +248,7 @@ pub fn read_rows<S: Alter>(
     read_each(alloc, conn, query)
 }
 
-/// Whether a query shows a row. No more than one is read.
+/// Returns whether a query returns any row. Reads at most one row.
 pub fn finds_any<S: Alter>(conn: &mut Connection<S>, query: Query<'_>) -> Result<bool, Error>
     ensures { Reads (round_asked query.entry) S.Store Always
         (Gives (λ db. FindsAny (Shows query.entry db.trees))) result conn.old conn.new }

@@ -10,19 +10,19 @@ use crate::fault::TableFault;
 use sqlite::{Alter, Connection, Error, Transaction};
 use std::alloc::Global;
 
-/// What is done to the tables within one transaction.
+/// A change of the tables within one transaction.
 pub trait Step {
-    // what it makes of the database
+    // how the step changes the database
     ghost makes: { Self → Database → Database → Type 0 };
 
-    /// Does it. After an error of the store the transaction should be dropped, which undoes it.
+    /// Performs the step. After an error the caller should drop the transaction to roll it back.
     fn take<S: Alter>(self, alloc: Global, tx: &mut Transaction<'_, S>) -> Result<(), Error>
         ensures { Does S.Store (GoesOn (makes self)) result tx.old tx.new };
 }
 
-/// Takes the step in a transaction of its own and commits it. After an error nothing is changed,
-/// where the disk is clean and the connection is still open, and the fault is not `Damaged`; after
-/// Ok a crash leaves what the step made.
+/// Performs the step in a transaction of its own and commits it. After an error nothing has
+/// changed, if the disk is clean and the connection still open. The fault is never `Damaged`. After
+/// `Ok`, a crash leaves the result of the step, if the disk is clean.
 pub fn commit<S: Alter, T: Step>(
     alloc: Global,
     conn: &mut Connection<S>,
@@ -40,7 +40,7 @@ pub fn commit<S: Alter, T: Step>(
     ensures crash { Survives (state S.Store conn.old) (state S.Store conn.new)
         (IsAfter (T.makes step) (state S.Store conn.old)) }
 {
-    // asked for what it teaches: with no transaction open, what is shown is committed
+    // called for its contract: without an open transaction, the visible state is committed
     let _idle = conn.is_autocommit();
     let mut tx = conn.transaction();
     step.take(alloc, &mut tx)?;

@@ -29,7 +29,7 @@ pub(crate) fn set_version<S: Alter>(tx: &mut Transaction<'_, S>, version: u32) -
     )
 }
 
-/// Says of a lecturer that a ranking is there.
+/// Records that a lecturer has a ranking in the first round.
 pub fn set_ranked<S: Alter>(tx: &mut Transaction<'_, S>, lecturer: &[u8]) -> Result<(), Error>
     ensures { Does S.Store (Made (Ranks lecturer.now)) result tx.old tx.new }
 {

@@ -15,8 +15,7 @@ use crate::update::set_version;
 use sqlite::{Alter, Connection, Error, Transaction};
 use std::alloc::Global;
 
-/// The tables of the second round beside those of the first, with the row of no second round and
-/// the version of all.
+/// The step that adds the second round's tables and the row of `second`, and sets the version.
 #[derive(Drop)]
 struct Upgrade;
 
@@ -30,9 +29,10 @@ impl Step for Upgrade {
     }
 }
 
-/// Makes all tables of the six, in a transaction of its own, and leaves what the six hold. After an
-/// error nothing is changed, and the fault is not `Damaged`; a crash leaves the six as they were,
-/// or all tables, and after Ok all.
+/// Adds the second round's tables to the six of version 1, in one transaction. In their rows only
+/// the version changes. After an error nothing has changed, if the disk is clean and the connection
+/// still open. The fault is never `Damaged`. If the disk is clean, a crash leaves version 1 or the
+/// upgraded tables, and after `Ok` always the latter.
 pub fn upgrade_tables<S: Alter>(alloc: Global, conn: &mut Connection<S>) -> Result<(), TableFault>
     requires idle { conn.old.in_transaction ≡ false }
     ensures idle { conn.new.in_transaction ≡ false }

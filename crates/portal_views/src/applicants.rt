@@ -17,7 +17,7 @@ use spa_rows::Key;
 use sqlite::{Alter, Connection};
 use std::alloc::{AllocError, Global};
 
-/// The lines of the project's applicants that the phase shows.
+/// Reads the lines of the project's applicants, or returns none before the ranking phase.
 fn lines_in<S: Alter>(
     alloc: Global,
     conn: &mut Connection<S>,
@@ -35,7 +35,7 @@ fn lines_in<S: Alter>(
     Ok(Vec::new(alloc))
 }
 
-/// Whether the result gives this project.
+/// Returns whether a placement is at this project.
 fn is_placed_at(placed: &Option<Key>, project: &Key) -> bool
     ensures { result ≡ is_at project.now placed.now }
 {
@@ -45,7 +45,7 @@ fn is_placed_at(placed: &Option<Key>, project: &Key) -> bool
     }
 }
 
-/// The students on the lines whom the result places at the project.
+/// Returns the students on the lines who are placed at the project.
 fn placed_at(
     alloc: Global,
     lines: &[ApplicantLine],
@@ -62,7 +62,7 @@ fn placed_at(
     Ok(found)
 }
 
-/// The students on the lines whom a published result places at the project.
+/// Returns what `placed_at` returns if the result is published, and otherwise no students.
 fn placed_if_published(
     alloc: Global,
     phase: Phase,
@@ -77,7 +77,7 @@ fn placed_if_published(
     }
 }
 
-/// The students whom the round before placed at the project.
+/// Reads the students whom the first round placed at the project, if this is the second.
 fn before_in<S: Alter>(
     alloc: Global,
     conn: &mut Connection<S>,
@@ -97,8 +97,8 @@ fn before_in<S: Alter>(
     }
 }
 
-/// The students whom the results that are shown place at the project, by the lines of its
-/// applicants.
+/// Returns the students shown as placed at the project, sorted by key. Placements in this round
+/// come from the applicants' lines, and earlier ones from queries.
 fn placed_with<S: Alter>(
     alloc: Global,
     conn: &mut Connection<S>,
@@ -117,7 +117,7 @@ fn placed_with<S: Alter>(
     Ok(placed)
 }
 
-/// What is told of a lecturer's projects.
+/// The applicants and the placed students of each of a lecturer's projects.
 #[derive(Drop)]
 pub(crate) struct ProjectStudents {
     pub applicants: Vec<(Key, Vec<Person>)>,
@@ -125,7 +125,7 @@ pub(crate) struct ProjectStudents {
 }
 
 impl ProjectStudents {
-    /// Tells of one project more, by the lines of its applicants and who is placed at it.
+    /// Adds a project, with the persons on its applicants' lines and its placed students.
     fn add(
         &mut self,
         alloc: Global,
@@ -146,7 +146,7 @@ impl ProjectStudents {
     }
 }
 
-/// What is told in the phase of the projects with these keys.
+/// Reads the applicants and the placed students of these projects that the phase shows.
 pub(crate) fn project_students<S: Alter>(
     alloc: Global,
     conn: &mut Connection<S>,

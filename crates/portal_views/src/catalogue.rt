@@ -23,7 +23,7 @@ use sqlite::{Alter, Connection, Row};
 use std::alloc::{AllocError, Global};
 use std::rc::Rc;
 
-/// The lecturers with room, each with the room that the first round's pairs left.
+/// Returns the lecturers with room after the first round, each with the remaining capacity.
 fn lecturers_left(
     alloc: Global,
     lecturers: &[LecturerRow],
@@ -42,7 +42,7 @@ fn lecturers_left(
     Ok(found)
 }
 
-/// The projects with room, each with the room that the first round's pairs left.
+/// Returns the projects with room after the first round, each with the remaining capacity.
 fn projects_left(
     alloc: Global,
     projects: &[ProjectRow],
@@ -60,8 +60,8 @@ fn projects_left(
     Ok(found)
 }
 
-/// The catalogue of what the first round's pairs left: projects with room whose lecturers have
-/// room.
+/// Returns the second round's catalogue. It lists the projects with room after the first round
+/// whose lecturers also have room.
 fn listings_left(
     alloc: Global,
     lecturers: &[LecturerRow],
@@ -76,7 +76,7 @@ fn listings_left(
     listings_of(alloc, &teaching, &vacant)
 }
 
-/// The catalogue of these rows in the round. In the second the first round's result is read.
+/// Makes a round's catalogue of these rows. The second round reads the first round's result.
 fn listings_in<S: Alter>(
     alloc: Global,
     conn: &mut Connection<S>,
@@ -99,7 +99,7 @@ fn listings_in<S: Alter>(
     }
 }
 
-/// The lecturers and the projects that these rows of the rolls show.
+/// Decodes rows of the rolls of lecturers and projects.
 fn offers_from(
     alloc: Global,
     lecturers: &[Row],
@@ -116,7 +116,7 @@ fn offers_from(
     Ok((lecturers, projects))
 }
 
-/// The lecturers and the projects of the rolls, by key.
+/// Reads the lecturers and the projects of the rolls, sorted by key.
 fn offers_in<S: Alter>(
     alloc: Global,
     conn: &mut Connection<S>,
@@ -131,10 +131,10 @@ fn offers_in<S: Alter>(
     offers_from(alloc, &lecturers, &projects)
 }
 
-/// The catalogue of the tables in the round, by the projects' keys. Of students the second round's
-/// catalogue asks key and assigned project alone. The fault is `Damaged` where the keys of a roll
-/// do not rise or a cell that is read has not its form, `Store` where the store answered an error,
-/// `Memory` where there is not enough memory.
+/// Reads a round's catalogue, sorted by project key. For the second round it also reads the keys
+/// and assigned projects of the students. Fails with `Damaged` if a roll's keys are not strictly
+/// ascending or a cell holds an invalid value. Fails with `Store` if the store reports an error,
+/// and with `Memory` if memory runs out.
 pub fn catalogue_in<S: Alter>(
     alloc: Global,
     conn: &mut Connection<S>,

@@ -17,7 +17,7 @@ use spa_rows::Key;
 use sqlite::{Alter, Connection};
 use std::alloc::Global;
 
-/// The rows of the rolls, and of the lists and the result of a round.
+/// The rows of the rolls, with the lists, the rankings and the result of a round.
 #[derive(Drop)]
 pub struct Contents {
     pub lecturers: Vec<LecturerRow>,
@@ -25,13 +25,13 @@ pub struct Contents {
     pub students: Vec<StudentRow>,
     /// Each student's list, by student.
     pub choices: Vec<(Key, Vec<Key>)>,
-    /// The rankings that are there, by lecturer.
+    /// The rankings of the lecturers who have one, by lecturer.
     pub rankings: Vec<(Key, Vec<Key>)>,
     /// The result: pairs of a student and a project, by student.
     pub pairs: Vec<(Key, Key)>,
 }
 
-/// The rows of the rolls with the lists and the result, of what was read.
+/// Decodes the rolls and adds the lists, the rankings and the result.
 fn contents_from(
     alloc: Global,
     rolls: &Rolls,
@@ -58,7 +58,7 @@ fn contents_from(
     })
 }
 
-/// The rows of the rolls that were read, and of their lists and places in a round.
+/// Reads the lists, the rankings and the result of a round for these rolls.
 fn rows_in<S: Alter>(
     alloc: Global,
     conn: &mut Connection<S>,
@@ -78,11 +78,11 @@ fn rows_in<S: Alter>(
     contents_from(alloc, &rolls, choices, rankings, pairs)
 }
 
-/// The rows of the rolls, and of the lists and the result of a round, by a query of each roll and
-/// table of lists and one for each owner of a list. The fault is `Damaged` where the keys of a roll
-/// do not rise, a row of a list is of nobody, a cell has not its form, a list is not one that
-/// `list_in` would give or a student has two places, `Store` where the store answered an error,
-/// `Memory` where there is not enough memory.
+/// Reads the rolls, with the lists, the rankings and the result of a round. It makes queries for
+/// each roll, each table of lists and each owner. Fails with `Damaged` if a roll's keys are not
+/// strictly ascending or a cell holds an invalid value. A student with two placements, or a list
+/// that `entries_in` refuses, is `Damaged` too. Fails with `Store` if the store reports an error,
+/// and with `Memory` if memory runs out.
 pub fn contents_in<S: Alter>(
     alloc: Global,
     conn: &mut Connection<S>,

@@ -26,7 +26,7 @@ use sqlite::{Alter, Connection, Row};
 use std::alloc::{AllocError, Global};
 use std::rc::Rc;
 
-/// The keys of the lecturer's projects in the catalogue, in its order.
+/// Returns the keys of the lecturer's projects in the catalogue, in its order.
 fn keys_listed(
     alloc: Global,
     catalogue: &[Listing],
@@ -43,7 +43,7 @@ fn keys_listed(
     Ok(own)
 }
 
-/// The keys with which the rows begin.
+/// Decodes the keys in column 0 of the rows.
 fn keys_of(alloc: Global, rows: &[Row]) -> Result<Vec<Key>, TableFault>
     ensures ok { IfOk result (λ v. v.items ≡ map first_cell rows.now) }
     ensures damaged { result ≡ Err TableFault.Damaged → AllByRecursion HasKey rows.now → ⊥ }
@@ -55,7 +55,7 @@ fn keys_of(alloc: Global, rows: &[Row]) -> Result<Vec<Key>, TableFault>
     Ok(keys)
 }
 
-/// The keys of the lecturer's projects, by a query.
+/// Reads the keys of the lecturer's projects by a query.
 fn keys_asked<S: Alter>(
     alloc: Global,
     conn: &mut Connection<S>,
@@ -69,8 +69,8 @@ fn keys_asked<S: Alter>(
     keys_of(alloc, &rows)
 }
 
-/// The keys of the lecturer's projects: in the first round those of the catalogue, which has them
-/// all, in the second by a query.
+/// Returns the keys of the lecturer's projects. In the first round the catalogue has all of them,
+/// and the second round needs a query.
 fn own_projects<S: Alter>(
     alloc: Global,
     conn: &mut Connection<S>,
@@ -99,7 +99,7 @@ fn list_of(entry: Option<(Key, Vec<Key>)>) -> Option<Vec<Key>>
     }
 }
 
-/// The ranking of the lecturer whose row this is, if one is there.
+/// Reads the ranking of the lecturer in this row, if there is one.
 fn ranking_in<S: Alter>(
     alloc: Global,
     conn: &mut Connection<S>,
@@ -115,7 +115,7 @@ fn ranking_in<S: Alter>(
     Ok(list_of(entry))
 }
 
-/// What a lecturer sees, of what was read.
+/// Assembles a lecturer's view from the parts that were read.
 fn lecturer_view_from(
     alloc: Global,
     round: Round,
@@ -144,10 +144,10 @@ fn lecturer_view_from(
     })
 }
 
-/// What the lecturer sees whose row this is, in this round and phase, with the catalogue. In the
-/// first round it is to be that of the tables: the own projects are then taken of it. The fault is
-/// `Damaged` where rows are not as the portal writes them, `Store` where the store answered an
-/// error, `Memory` where there is not enough memory.
+/// Makes the view of the lecturer in this row, for this round and phase. In the first round the
+/// lecturer's projects come from the catalogue, which must be that of the tables. Fails with
+/// `Damaged` if rows are not as the portal writes them. Fails with `Store` if the store reports an
+/// error, and with `Memory` if memory runs out.
 pub fn lecturer_view<S: Alter>(
     alloc: Global,
     conn: &mut Connection<S>,

@@ -15,7 +15,7 @@ use spa_rows::Key;
 use sqlite::Row;
 use std::alloc::Global;
 
-/// The keys of the students who take part, but for those of the others, whose keys rise.
+/// Returns the keys of the students who take part, without those of `others`, which is sorted.
 fn keys_but(
     alloc: Global,
     round: Round,
@@ -38,9 +38,9 @@ fn keys_but(
     Ok(keys)
 }
 
-/// The keys of the students whose rows these are, who take part in the round, in their order, but
-/// for those that the others begin with. The fault is `Damaged` where the keys of the others do not
-/// rise or one of the rows does not begin with a key, `Memory` where there is not enough memory.
+/// Returns the keys of the students who take part in the round, in order, without those in column 0
+/// of `others`. Fails with `Damaged` if the keys of `others` are not strictly ascending, or a
+/// returned key is invalid. Fails with `Memory` if memory runs out.
 pub(crate) fn keys_not_among(
     alloc: Global,
     round: Round,

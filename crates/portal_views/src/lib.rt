@@ -1,6 +1,5 @@
-//! What a student, a lecturer and the office are shown, by queries of the tables: the catalogue,
-//! what may be told of students, what each of the three sees, and all rows of the rolls with their
-//! lists. It knows rows and no world.
+//! Computes by queries what a student, a lecturer or the office sees. It works on rows, without
+//! worlds.
 #![tactic(auto)]
 
 mod applicants;

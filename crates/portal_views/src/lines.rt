@@ -21,8 +21,8 @@ use spa_rows::Key;
 use sqlite::{Alter, Connection, Row};
 use std::alloc::{AllocError, Global};
 
-/// The person whose row of a roll this is: key and name come first. The fault is `Damaged` where
-/// one of them has not its form, `Memory` where there is not enough memory.
+/// Decodes the person in a row that begins with key and name. Fails with `Damaged` if one of them
+/// is invalid, and with `Memory` if memory runs out.
 pub(crate) fn person_at(alloc: Global, row: &Row) -> Result<Person, TableFault>
     ensures ok { IfOk result (λ p. p
         ≡ record { key = first_cell row.now; name = bytes (column row.now 1) }) }
@@ -34,12 +34,12 @@ pub(crate) fn person_at(alloc: Global, row: &Row) -> Result<Person, TableFault>
     })
 }
 
-/// What a lecturer may be told of a student.
+/// What a lecturer may see of a student.
 #[derive(Drop)]
 pub struct ApplicantLine {
     /// Key and name.
     pub person: Person,
-    /// The assigned project, if there is one.
+    /// The project at which the student is placed, if there is one.
     pub placed: Option<Key>,
 }
 
@@ -56,7 +56,7 @@ impl FromCells for ApplicantLine {
     }
 }
 
-/// The only line.
+/// Returns the only line. Fails with `Damaged` unless there is exactly one.
 fn only_line(lines: Vec<ApplicantLine>) -> Result<ApplicantLine, TableFault>
     ensures ok { IfOk result (λ l. lines.items ≡ l ∷ []) }
     ensures damaged { result ≡ Err TableFault.Damaged → length lines.items ≡ 1 → ⊥ }
@@ -67,7 +67,7 @@ fn only_line(lines: Vec<ApplicantLine>) -> Result<ApplicantLine, TableFault>
     }
 }
 
-/// The line with the place in the round, in place of the assigned project.
+/// Replaces the assigned project in the line by the placement in the round.
 fn line_of_round<S: Alter>(
     alloc: Global,
     conn: &mut Connection<S>,
@@ -91,7 +91,7 @@ fn line_of_round<S: Alter>(
     }
 }
 
-/// The line of the student with the key.
+/// Reads the line of the student with this key.
 fn line_in<S: Alter>(
     alloc: Global,
     conn: &mut Connection<S>,
@@ -108,7 +108,7 @@ fn line_in<S: Alter>(
     line_of_round(alloc, conn, round, line)
 }
 
-/// The lines of the students with whose keys the rows begin.
+/// Reads the lines of the students whose keys are in column 0 of the rows.
 fn lines_each<S: Alter>(
     alloc: Global,
     conn: &mut Connection<S>,
@@ -129,9 +129,9 @@ fn lines_each<S: Alter>(
     Ok(lines)
 }
 
-/// The lines of the students whose list of the round holds the project, by their keys. The fault is
-/// `Damaged` where rows are not as the portal writes them, `Store` where the store answered an
-/// error, `Memory` where there is not enough memory.
+/// Reads the lines of the students who list the project in the round, sorted by key. Fails with
+/// `Damaged` if rows are not as the portal writes them. Fails with `Store` if the store reports an
+/// error, and with `Memory` if memory runs out.
 pub(crate) fn lines_to<S: Alter>(
     alloc: Global,
     conn: &mut Connection<S>,
@@ -146,7 +146,7 @@ pub(crate) fn lines_to<S: Alter>(
     lines_each(alloc, conn, round, &rows)
 }
 
-/// The persons of the lines, in their order. The error is want of memory.
+/// Copies the persons of the lines, in order. Fails only if memory runs out.
 pub(crate) fn persons_of(alloc: Global, lines: &[ApplicantLine]) -> Result<Vec<Person>, AllocError>
     ensures { IfOk result (λ v. v.items ≡ map (λ l. l.person) lines.now) }
 {

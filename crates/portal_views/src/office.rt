@@ -26,7 +26,7 @@ use sqlite::{Alter, Connection, Row};
 use std::alloc::Global;
 use std::rc::Rc;
 
-/// The students who take part and have no list.
+/// Finds the students who take part in the round and have no list.
 fn without_list<S: Alter>(
     alloc: Global,
     conn: &mut Connection<S>,
@@ -42,7 +42,7 @@ fn without_list<S: Alter>(
     keys_not_among(alloc, round, students, &listed)
 }
 
-/// Whether the project is this lecturer's, and a student's list holds it.
+/// Returns whether the project is this lecturer's and is on a student's list.
 fn is_chosen_in<S: Alter>(
     conn: &mut Connection<S>,
     round: Round,
@@ -62,7 +62,7 @@ fn is_chosen_in<S: Alter>(
     Ok(finds_any(conn, Query::Choosers(round, bytes_at(project, 0)))?)
 }
 
-/// Whether a student's list holds a project of the lecturer.
+/// Returns whether a project of the lecturer is on a student's list.
 fn has_applicant<S: Alter>(
     conn: &mut Connection<S>,
     round: Round,
@@ -83,7 +83,7 @@ fn has_applicant<S: Alter>(
     Ok(false)
 }
 
-/// The key of the lecturer, if a student's list holds a project of the lecturer.
+/// Returns the lecturer's key if a project of the lecturer is on a student's list.
 fn wanted_in<S: Alter>(
     alloc: Global,
     conn: &mut Connection<S>,
@@ -104,7 +104,7 @@ fn wanted_in<S: Alter>(
     Ok(Some(key_at(alloc, lecturer, 0)?))
 }
 
-/// The key of the lecturer, who has an applicant and no ranking.
+/// Returns the lecturer's key if the lecturer has an applicant and no ranking.
 fn waiting_in<S: Alter>(
     alloc: Global,
     conn: &mut Connection<S>,
@@ -124,7 +124,7 @@ fn waiting_in<S: Alter>(
     wanted_in(alloc, conn, round, projects, lecturer)
 }
 
-/// The lecturers who have an applicant and no ranking.
+/// Finds the lecturers who have an applicant and no ranking.
 fn all_waiting<S: Alter>(
     alloc: Global,
     conn: &mut Connection<S>,
@@ -147,7 +147,7 @@ fn all_waiting<S: Alter>(
     Ok(keys)
 }
 
-/// The lecturers who are still to rank, once the lists are closed.
+/// Finds the lecturers who are still to rank, or none before the ranking phase.
 fn still_to_rank<S: Alter>(
     alloc: Global,
     conn: &mut Connection<S>,
@@ -169,7 +169,7 @@ fn still_to_rank<S: Alter>(
     Ok(Vec::new(alloc))
 }
 
-/// What the office sees, of what was read.
+/// Assembles the office's view from the parts that were read.
 fn office_view_from(
     alloc: Global,
     round: Round,
@@ -213,7 +213,7 @@ fn office_view_from(
     })
 }
 
-/// What the office sees, of the rolls.
+/// Makes the office's view from the rolls, with queries for the rest.
 fn view_of_rolls<S: Alter>(
     alloc: Global,
     conn: &mut Connection<S>,
@@ -238,9 +238,9 @@ fn view_of_rolls<S: Alter>(
     )
 }
 
-/// What the office sees in this round, whose row and catalogue these are. The fault is `Damaged`
-/// where rows are not as the portal writes them, `Store` where the store answered an error,
-/// `Memory` where there is not enough memory.
+/// Makes the office's view for this round from the office's row and the catalogue. Fails with
+/// `Damaged` if rows are not as the portal writes them. Fails with `Store` if the store reports an
+/// error, and with `Memory` if memory runs out.
 pub fn office_view<S: Alter>(
     alloc: Global,
     conn: &mut Connection<S>,

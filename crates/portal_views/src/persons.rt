@@ -8,7 +8,7 @@ use portal_core::Person;
 use spa_rows::Key;
 use std::alloc::AllocError;
 
-/// Where a person with this key belongs.
+/// Finds the index at which to insert a person with this key.
 fn place_for(persons: &[Person], key: &Key) -> usize
     ensures low { result ≤ length persons.now }
     ensures place { (person : ThatPerson) → person.key ≡ key.now
@@ -22,7 +22,7 @@ fn place_for(persons: &[Person], key: &Key) -> usize
     persons.len()
 }
 
-/// Puts a person where the key belongs.
+/// Inserts a person into a list sorted by key.
 fn put_person(persons: &mut Vec<Person>, person: Person) -> Result<(), AllocError>
     ensures { OnOk result (persons.new.items ≡ put person_key person persons.old.items) }
 {
@@ -31,7 +31,7 @@ fn put_person(persons: &mut Vec<Person>, person: Person) -> Result<(), AllocErro
     Ok(())
 }
 
-/// Puts persons where their keys belong. The error is want of memory.
+/// Inserts persons into a list sorted by key. Fails only if memory runs out.
 pub(crate) fn put_persons(persons: &mut Vec<Person>, more: Vec<Person>) -> Result<(), AllocError>
     ensures { OnOk result (persons.new.items
         ≡ put_all person_key more.items persons.old.items) }

@@ -16,7 +16,7 @@ use sqlite::{Alter, Connection, Row};
 use std::alloc::Global;
 use std::rc::Rc;
 
-/// What a student sees, of what was read.
+/// Assembles a student's view from the parts that were read.
 fn student_view_from(
     alloc: Global,
     round: Round,
@@ -40,10 +40,10 @@ fn student_view_from(
     })
 }
 
-/// What the student sees whose row this is, in this round and phase, with the catalogue. The fault
-/// is `Damaged` where key, name, a name of the list or a place has not its form, the list has a gap
-/// or the second round gives two places, `Store` where the store answered an error, `Memory` where
-/// there is not enough memory.
+/// Makes the view of the student in this row, for this round and phase, with the catalogue. Fails
+/// with `Damaged` if a key or the name is invalid, the list has a gap or the second round gives two
+/// placements. Fails with `Store` if the store reports an error, and with `Memory` if memory runs
+/// out.
 pub fn student_view<S: Alter>(
     alloc: Global,
     conn: &mut Connection<S>,

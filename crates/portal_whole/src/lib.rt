@@ -15,8 +15,8 @@ use std::alloc::Global;
 #[cfg(test)]
 mod tests;
 
-/// Serves streams one after another over a new portal in memory, and gives what was written for
-/// each. There is no answer where serving a stream failed, or memory ran out.
+/// Serves streams one after another over a new portal in memory, and returns what was written for
+/// each. Returns `None` if making the portal or serving a stream fails, or memory runs out.
 pub fn replies_in_memory(alloc: Global, office: Code, streams: &[&[u8]]) -> Option<Vec<Vec<u8>>>
     ensures promised { IfSome result (λ texts. KeepsPromise (first_world office)
         (map (λ stream. stream.now) streams.now) (map (λ text. text.items) texts.items)) }

@@ -3,14 +3,14 @@
 use crate::replies_in_memory;
 use portal_core::Code;
 
-/// The office enrols a lecturer.
+/// The office's request to add a lecturer.
 const ENROLS: &[u8] =
     b"POST /rolls/lecturers HTTP/1.1\r\nHost: h\r\nPortal-Code: office-code-0\r\nContent-Length: 43\r\n\r\nid,name,code,capacity\nL1,Lee,lee-code-01,2\n";
 
 const ENROLLED: &[u8] =
     b"HTTP/1.1 200 OK\r\ncontent-type: application/json\r\ncontent-length: 20\r\n\r\n{\"added\":1,\"same\":0}";
 
-/// The lecturer asks who that is.
+/// The lecturer's request for `/me`.
 const ASKS: &[u8] =
     b"GET /me HTTP/1.1\r\nHost: h\r\nPortal-Code: lee-code-01\r\nContent-Length: 0\r\n\r\n";
 

@@ -24,13 +24,13 @@ use std::alloc::{AllocError, Global};
 /// Why a request makes no call.
 #[derive(Clone, Copy, Debug, PartialEq, Eq, Drop)]
 pub(crate) enum CallFault {
-    /// The path is no route.
+    /// No route has the path.
     NoRoute,
-    /// The path takes other methods.
+    /// The route does not allow the method.
     BadMethod(Route),
-    /// The body has not its form.
+    /// The body does not have the required form.
     BadBody,
-    /// A row of a roll has not its form; the row, from 1.
+    /// A row of a roll is malformed; the field is its number, from 1.
     BadRow(u32),
     /// A roll has more rows than the limit.
     RollFull,
@@ -46,7 +46,7 @@ impl From<AllocError> for CallFault {
     }
 }
 
-// The routes are literals that do not meet, so that inserting one fails for want of memory alone.
+// No two of the literal routes conflict, so inserting one fails only if memory runs out.
 impl From<InsertError> for CallFault {
     ghost from_gives = { λ _ fault. fault ≡ why.Memory };
 
@@ -81,7 +81,7 @@ impl From<RollFault> for CallFault {
     }
 }
 
-/// The call of GET and HEAD.
+/// Returns the call of GET or HEAD at a route.
 fn get_call(route: Route) -> Result<Call, CallFault>
     ensures wish { IsCallOf (get_at route) result }
     ensures form { IfOk result (λ call. HasForm (call_model call)) }
@@ -101,7 +101,7 @@ fn get_call(route: Route) -> Result<Call, CallFault>
     }
 }
 
-/// The call of PUT.
+/// Returns the call of PUT at a route.
 fn put_call(alloc: Global, route: Route, body: &[u8]) -> Result<Call, CallFault>
     ensures wish { IsCallOf (put_at route body.now) result }
     ensures form { IfOk result (λ call. HasForm (call_model call)) }
@@ -113,7 +113,7 @@ fn put_call(alloc: Global, route: Route, body: &[u8]) -> Result<Call, CallFault>
     }
 }
 
-/// A move to the phase that a body names, of the round that it names or of the current one.
+/// Returns the move to the phase that a body names, in the round that it names or the current one.
 fn move_call(alloc: Global, body: &[u8]) -> Result<Call, CallFault>
     ensures wish { IsCallOf (by_body to_move (move_in body.now)) result }
     ensures form { IfOk result (λ call. HasForm (call_model call)) }
@@ -122,7 +122,7 @@ fn move_call(alloc: Global, body: &[u8]) -> Result<Call, CallFault>
     Ok(Call::Move { phase, round })
 }
 
-/// The filling of missing rankings, by a body that says nothing.
+/// Returns the call that fills missing rankings; its body is an object without members.
 fn fill_call(alloc: Global, body: &[u8]) -> Result<Call, CallFault>
     ensures wish { IsCallOf (by_body (λ u. AbstractCall.FillRankings)
         (nothing_in body.now)) result }
@@ -132,7 +132,7 @@ fn fill_call(alloc: Global, body: &[u8]) -> Result<Call, CallFault>
     Ok(Call::FillRankings)
 }
 
-/// The lecturers of a roll.
+/// Returns the call that adds the lecturers of a roll.
 fn add_lecturers(alloc: Global, body: &[u8]) -> Result<Call, CallFault>
     ensures wish { IsCallOf (by_roll AbstractCall.AddLecturers (roll.lecturers body.now)) result }
     ensures form { IfOk result (λ call. HasForm (call_model call)) }
@@ -140,7 +140,7 @@ fn add_lecturers(alloc: Global, body: &[u8]) -> Result<Call, CallFault>
     Ok(Call::AddLecturers(read_lecturers(alloc, body)?))
 }
 
-/// The projects of a roll.
+/// Returns the call that adds the projects of a roll.
 fn add_projects(alloc: Global, body: &[u8]) -> Result<Call, CallFault>
     ensures wish { IsCallOf (by_roll AbstractCall.AddProjects (roll.projects body.now)) result }
     ensures form { IfOk result (λ call. HasForm (call_model call)) }
@@ -148,7 +148,7 @@ fn add_projects(alloc: Global, body: &[u8]) -> Result<Call, CallFault>
     Ok(Call::AddProjects(read_projects(alloc, body)?))
 }
 
-/// The students of a roll.
+/// Returns the call that adds the students of a roll.
 fn add_students(alloc: Global, body: &[u8]) -> Result<Call, CallFault>
     ensures wish { IsCallOf (by_roll AbstractCall.AddStudents (roll.students body.now)) result }
     ensures form { IfOk result (λ call. HasForm (call_model call)) }
@@ -156,7 +156,7 @@ fn add_students(alloc: Global, body: &[u8]) -> Result<Call, CallFault>
     Ok(Call::AddStudents(read_students(alloc, body)?))
 }
 
-/// The call of POST.
+/// Returns the call of POST at a route.
 fn post_call(alloc: Global, route: Route, body: &[u8]) -> Result<Call, CallFault>
     ensures wish { IsCallOf (post_at route body.now) result }
     ensures form { IfOk result (λ call. HasForm (call_model call)) }
@@ -171,7 +171,7 @@ fn post_call(alloc: Global, route: Route, body: &[u8]) -> Result<Call, CallFault
     }
 }
 
-/// The call of a method at a route.
+/// Returns the call of a method at a route.
 fn call_at(alloc: Global, method: Method, route: Route, body: &[u8]) -> Result<Call, CallFault>
     ensures wish { IsCallOf (wish_at method route body.now) result }
     ensures form { IfOk result (λ call. HasForm (call_model call)) }
@@ -184,7 +184,7 @@ fn call_at(alloc: Global, method: Method, route: Route, body: &[u8]) -> Result<C
     }
 }
 
-/// The call that a request makes, or why it makes none.
+/// Returns the call that a request makes, or why it makes none.
 fn routed_call(alloc: Global, request: &Request) -> Result<Call, CallFault>
     ensures wish { IsCallOf (wish_of (seen request.now)) result }
     ensures form { IfOk result (λ call. HasForm (call_model call)) }
@@ -196,7 +196,7 @@ fn routed_call(alloc: Global, request: &Request) -> Result<Call, CallFault>
     call_at(alloc, method, route, request.body.as_slice())
 }
 
-/// A refusal by a status and a word alone.
+/// Makes a refusal that has only a status and an error word.
 fn plain(status: u16, word: &'static str) -> Refusal
     ensures { refused result ≡ stream.plain status word.now }
 {
@@ -208,7 +208,7 @@ fn plain(status: u16, word: &'static str) -> Refusal
     }
 }
 
-/// The refusal of a request that makes no call.
+/// Returns the refusal for a request that makes no call.
 fn refusal_of(fault: CallFault) -> Refusal
     ensures { refused result ≡ told_by fault }
 {
@@ -232,12 +232,12 @@ fn refusal_of(fault: CallFault) -> Refusal
     }
 }
 
-/// The caller's code and the call that a request makes.
+/// Returns the caller's code and the call that a request makes.
 ///
 /// # Errors
 ///
-/// In this order: the path is no route, the path takes other methods, the body has not its form; or
-/// that memory ran out.
+/// Refuses, in this order: a path without a route; a method that the route does not allow; a
+/// malformed body, or a roll with too many rows. Also refuses if memory runs out.
 pub fn call_of(alloc: Global, request: &Request) -> Result<(Vec<u8>, Call), Refusal>
     ensures code { IfOk result (λ found. found.0.items ≡ request.now.code.items) }
     ensures wish { IfOk result (λ found. wish_of (seen request.now) ≡ Calls (call_model found.1)) }

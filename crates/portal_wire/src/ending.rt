@@ -5,9 +5,9 @@
 pub enum Ending {
     /// The input ended between requests.
     End,
-    /// A request asked that the connection closes after its reply.
+    /// A request in HTTP/1.0 or with `Connection: close` was answered.
     Closed,
-    /// No request could be read; the word of the refusal.
+    /// A fault of framing ended the stream; the field is the word of its refusal.
     Refused(&'static str),
     /// The 256th request was answered.
     Limit,

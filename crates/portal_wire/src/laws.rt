@@ -6,7 +6,7 @@ ghost use Rattle.portal_wire.specs.Conversation.{Last, Requests};
 
 use portal_frame::laws::opens_some;
 
-/// A stream has one list of requests, one ending and one text of its ending.
+/// Law: a stream has at most one list of requests, one ending and one closing text.
 pub fn stream_once()
     ensures { (bytes : List ℕ) (asked others : List Request) (end last : Last)
         (closing text : List ℕ)
@@ -14,7 +14,7 @@ pub fn stream_once()
         → (asked ≡ others) × (end ≡ last) × (closing ≡ text) }
 {}
 
-/// Each stream has such a list, such an ending and such a text.
+/// Law: every stream has a list of requests, an ending and a closing text.
 pub fn stream_some(bytes: &[u8])
     ensures { (asked : List Request) × (end : Last) × (closing : List ℕ)
         × Requests bytes.now asked end closing }

@@ -1,4 +1,4 @@
-//! Requests and replies on the wire: what a request asks, and the bytes of a reply.
+//! Turns requests into calls, and replies into bytes.
 #![tactic(auto)]
 
 mod bodies;

@@ -6,7 +6,7 @@ ghost use Rattle.portal_wire.specs.Wish.{method_of};
 use http::method::MethodError;
 use std::alloc::{AllocError, Global};
 
-/// The methods that some route takes.
+/// A method that some route allows, or `Other`.
 #[derive(Clone, Copy, Debug, PartialEq, Eq, Drop)]
 pub(crate) enum Method {
     Get,
@@ -16,7 +16,7 @@ pub(crate) enum Method {
     Other,
 }
 
-/// Which method this is.
+/// Returns the method with this name.
 fn method_named(method: &str) -> Method
     ensures { result ≡ method_of method.now }
 {
@@ -29,7 +29,7 @@ fn method_named(method: &str) -> Method
     }
 }
 
-/// The method that these bytes name.
+/// Parses a method.
 pub(crate) fn method_in(alloc: Global, bytes: &[u8]) -> Result<Method, AllocError>
     ensures { IfOk result (λ method. method ≡ method_of bytes.now) }
 {

@@ -12,7 +12,7 @@ use portal_frame::Refusal;
 use serde_json::{Value, json};
 use std::alloc::{AllocError, Global};
 
-/// The body that tells a refusal.
+/// Makes the JSON body for a refusal.
 fn told_fault(alloc: Global, word: &str, row: Option<u32>) -> Result<Value, AllocError>
     ensures { IfOk result (λ body. view body ≡ fault_body word.now row) }
 {
@@ -22,7 +22,7 @@ fn told_fault(alloc: Global, word: &str, row: Option<u32>) -> Result<Value, Allo
     }
 }
 
-/// The reply to a refusal.
+/// Makes the reply for a refusal.
 ///
 /// # Errors
 ///

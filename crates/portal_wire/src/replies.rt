@@ -9,7 +9,7 @@ ghost use Rattle.portal_wire.specs.Conversation.{reply_lines, common_lines, allo
 use portal_core::{Body, Reply};
 use std::alloc::{AllocError, Global};
 
-/// The phrase of a status.
+/// Returns the reason phrase of a status.
 fn phrase(status: u16) -> &'static str
     ensures { result.now ≡ phrase_of status }
 {
@@ -27,7 +27,7 @@ fn phrase(status: u16) -> &'static str
     }
 }
 
-/// The content type of a body.
+/// Returns the content type of a body.
 fn content_type(body: &Body) -> &'static str
     ensures { result.now ≡ type_of (body_model body.now) }
 {
@@ -39,14 +39,14 @@ fn content_type(body: &Body) -> &'static str
     }
 }
 
-/// The bytes of the body that says that memory or the store failed.
+/// Makes the body of a 503 reply.
 fn unavailable_bytes(alloc: Global) -> Result<Vec<u8>, AllocError>
     ensures { IfOk result (λ bytes. bytes.items ≡ body_bytes (body_model Body.Unavailable)) }
 {
     Vec::from_slice(alloc, b"{\"error\":\"unavailable\"}")
 }
 
-/// The bytes of a body.
+/// Writes a body as bytes.
 fn bytes_of(alloc: Global, body: &Body) -> Result<Vec<u8>, AllocError>
     ensures { IfOk result (λ bytes. HasWholeNumbers (body_model body.now)
         → bytes.items ≡ body_bytes (body_model body.now)) }
@@ -59,7 +59,7 @@ fn bytes_of(alloc: Global, body: &Body) -> Result<Vec<u8>, AllocError>
     }
 }
 
-/// The status line and the lines that each reply has.
+/// Writes the status line and the headers that every reply has.
 fn first_lines(alloc: Global, reply: &Reply, length: usize) -> Result<String, AllocError>
     ensures { IfOk result (λ text. string_bytes text
         ≡ common_lines reply.now.status (body_model reply.now.body) length) }
@@ -72,7 +72,7 @@ fn first_lines(alloc: Global, reply: &Reply, length: usize) -> Result<String, Al
     )
 }
 
-/// Adds the line on methods, where there is one.
+/// Appends the header `allow`, unless no methods are given.
 fn push_allow(text: &mut String, allow: &str) -> Result<(), AllocError>
     ensures { OnOk result (string_bytes text.new ≡ string_bytes text.old ++ allow_line allow.now) }
 {
@@ -84,7 +84,7 @@ fn push_allow(text: &mut String, allow: &str) -> Result<(), AllocError>
     text.push_str("\r\n")
 }
 
-/// Adds the line that closes, if it does.
+/// Appends the header `connection: close` if the connection closes.
 fn push_close(text: &mut String, close: bool) -> Result<(), AllocError>
     ensures { OnOk result (string_bytes text.new ≡ string_bytes text.old ++ close_line close) }
 {
@@ -94,7 +94,7 @@ fn push_close(text: &mut String, close: bool) -> Result<(), AllocError>
     Ok(())
 }
 
-/// The lines of a reply, with the empty line after them.
+/// Writes the status line, the headers and the empty line after them.
 fn head_text(alloc: Global, reply: &Reply, length: usize, close: bool) -> Result<String, AllocError>
     ensures { IfOk result (λ text. string_bytes text
         ≡ reply_lines (reply_model reply.now) length close) }
@@ -106,8 +106,8 @@ fn head_text(alloc: Global, reply: &Reply, length: usize, close: bool) -> Result
     Ok(text)
 }
 
-/// The bytes of a reply: its lines and its body, which is left out with `head_only`; `close` says
-/// that the connection ends.
+/// Writes a reply as bytes. With `head_only` the body is omitted, but `content-length` gives its
+/// length. `close` adds the header that closes the connection.
 ///
 /// # Errors
 ///

@@ -8,7 +8,7 @@ ghost use Rattle.portal_wire.specs.inner.RouteRows.{the_rows, own_rows, roll_rou
 use matchit::{InsertError, Router};
 use std::alloc::Global;
 
-/// What a path names.
+/// A route of the portal.
 #[derive(Clone, Copy, Debug, PartialEq, Eq, Drop)]
 pub(crate) enum Route {
     Me,
@@ -16,9 +16,9 @@ pub(crate) enum Route {
     Choices,
     Applicants,
     Ranking,
-    /// The rankings that are missing.
+    /// The route `/ranking/fill`.
     Fill,
-    /// The result.
+    /// The route `/result`.
     Outcome,
     Lecturers,
     Projects,
@@ -30,7 +30,7 @@ pub(crate) enum Route {
     Report,
 }
 
-/// The routes of students and lecturers.
+/// Makes a router for the routes of students and lecturers.
 fn own_routes(alloc: Global) -> Result<Router<Route>, InsertError>
     ensures { IfOk result (λ router. router ≡ own_rows) }
 {
@@ -44,7 +44,7 @@ fn own_routes(alloc: Global) -> Result<Router<Route>, InsertError>
     Ok(router)
 }
 
-/// These, and those by which the office fills the rolls and moves the round.
+/// Makes a router for the same routes and those of the rolls and the phase.
 fn roll_routes(alloc: Global) -> Result<Router<Route>, InsertError>
     ensures { IfOk result (λ router. router ≡ roll_route_rows) }
 {
@@ -56,7 +56,7 @@ fn roll_routes(alloc: Global) -> Result<Router<Route>, InsertError>
     Ok(router)
 }
 
-/// All routes.
+/// Makes a router for all routes.
 fn all_routes(alloc: Global) -> Result<Router<Route>, InsertError>
     ensures { IfOk result (λ router. router ≡ the_rows) }
 {
@@ -69,7 +69,7 @@ fn all_routes(alloc: Global) -> Result<Router<Route>, InsertError>
     Ok(router)
 }
 
-/// What a router finds at a path.
+/// Finds the route of a path in a router.
 fn found_by(router: &Router<Route>, path: &str) -> Option<Route>
     ensures { result ≡ option_map (λ route. route.value) (first router.now path.now) }
 {
@@ -79,7 +79,7 @@ fn found_by(router: &Router<Route>, path: &str) -> Option<Route>
     }
 }
 
-/// What a path names, if anything.
+/// Finds the route of a path, if it has one.
 pub(crate) fn route_in(alloc: Global, path: &[u8]) -> Result<Option<Route>, InsertError>
     ensures { IfOk result (λ route. route ≡ route_at path.now) }
 {
@@ -90,7 +90,7 @@ pub(crate) fn route_in(alloc: Global, path: &[u8]) -> Result<Option<Route>, Inse
     Ok(found_by(&router, text))
 }
 
-/// The methods that a path takes.
+/// Returns the methods that a route allows, as the header `Allow` lists them.
 pub(crate) fn allow_at(route: Route) -> &'static str
     ensures { result.now ≡ allow_of route }
 {

@@ -37,7 +37,7 @@ Exit status: 0 printed, 2 the database is refused, 3 a device or memory failed."
 const UPGRADE_PRINTS: &str = "Prints `upgraded`.
 Exit status: 0 upgraded, 2 the database is refused, 3 a device or memory failed.";
 
-// A command with one optional file; `prints` says what it prints, and with which exit status.
+// Creates a command with one optional file; `prints` describes its output and exit status.
 fn of_file<'a>(
     alloc: Global,
     name: &'a str,
@@ -52,7 +52,7 @@ fn of_file<'a>(
         .arg(Arg::new(alloc, "FILE").help("The instance file; standard input without it"))
 }
 
-// A command on one database; `prints` says what it prints, and with which exit status.
+// Creates a command on one database; `prints` describes its output and exit status.
 fn of_database<'a>(
     alloc: Global,
     name: &'a str,
@@ -71,7 +71,7 @@ fn of_database<'a>(
         )
 }
 
-// The port to listen on.
+// Creates the option for the port to listen on.
 fn port<'a>(alloc: Global) -> Arg<'a>
     ensures rule { rule_of result ≡ port_rule }
     ensures local { result.global ≡ false }
@@ -84,7 +84,7 @@ fn port<'a>(alloc: Global) -> Arg<'a>
         .help("The port, 1 to 65535")
 }
 
-// How many connections are served.
+// Creates the option for the number of connections to serve.
 fn connections<'a>(alloc: Global) -> Arg<'a>
     ensures rule { rule_of result ≡ connections_rule }
     ensures local { result.global ≡ false }
@@ -97,7 +97,7 @@ fn connections<'a>(alloc: Global) -> Arg<'a>
         .help("End after so many connections, 1 to 1000000")
 }
 
-// The command that listens.
+// Creates the command that listens on a port.
 fn serve<'a>(alloc: Global) -> Result<Command<'a>, AllocError>
     ensures { IfOk result (λ c. Reads c serve_app) }
 {
@@ -111,7 +111,7 @@ fn serve<'a>(alloc: Global) -> Result<Command<'a>, AllocError>
     .arg(connections(alloc))
 }
 
-// The commands on instance files.
+// Creates the parser with only the commands on instance files.
 fn with_files<'a>(alloc: Global) -> Result<Command<'a>, AllocError>
     ensures { IfOk result (λ c. Reads c files_app) }
 {
@@ -135,7 +135,7 @@ fn with_files<'a>(alloc: Global) -> Result<Command<'a>, AllocError>
         .subcommand(solve)
 }
 
-/// The whole command line.
+/// Creates the parser of the whole command line.
 pub(crate) fn portal<'a>(alloc: Global) -> Result<Command<'a>, AllocError>
     ensures { IfOk result (λ c. Reads c portal_app) }
 {

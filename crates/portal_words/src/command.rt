@@ -13,37 +13,37 @@ use clap::{ArgMatches, Error};
 use std::alloc::{AllocError, Global};
 use std::convert::AsStr;
 
-/// What the program is to do.
+/// A command of the program, with its arguments.
 #[derive(Clone, Copy, Debug)]
 pub enum Command<'a> {
     /// Print the blocking pairs of a file, or of the standard input.
     Check(Option<&'a str>),
-    /// Print the students' best stable matching of a file, or of the standard input.
+    /// Print the student-optimal stable matching of a file, or of the standard input.
     Solve(Option<&'a str>),
-    /// Make a database, whose office has the code of the standard input.
+    /// Create a database. The first line of the standard input is the office's code.
     Init(&'a str),
-    /// Serve the portal of a database on a port, for so many connections.
+    /// Serve a database on a port, for a given number of connections.
     Serve {
         database: &'a str,
         port: u16,
         connections: u32,
     },
-    /// Answer the requests of the standard input as one connection.
+    /// Answer the requests on the standard input as one connection.
     Pipe(&'a str),
-    /// Print where the year stands in a database.
+    /// Print the status of a database, and its result if one is available.
     Report(&'a str),
-    /// Bring a database of version 1 to version 2.
+    /// Upgrade a database from version 1 to version 2.
     Upgrade(&'a str),
 }
 
-/// What the words ask for: a command, or a text and the status that goes with it.
+/// The outcome of parsing: a command to run, or a text to show with an exit status.
 #[derive(Debug, Drop)]
 pub enum Asked<'a> {
     Do(Command<'a>),
     Show { text: String, status: u8 },
 }
 
-// The command that listens.
+// Returns the command `serve` with its arguments.
 fn listening<'a>(matches: &ArgMatches<'a>) -> Option<Command<'a>> {
     Some(Command::Serve {
         database: matches.get_str("DB")?,
@@ -52,7 +52,7 @@ fn listening<'a>(matches: &ArgMatches<'a>) -> Option<Command<'a>> {
     })
 }
 
-// The command of a subcommand's name and its own matches.
+// Returns the command for a subcommand's name and matches.
 fn named<'a>(name: &str, matches: &ArgMatches<'a>) -> Option<Command<'a>>
     ensures check { name.now ≡ codes "check"
         → IsSomeAnd result (ChecksFile (first_of (codes "FILE") (rows_of (found_of matches.now)))) }
@@ -71,7 +71,7 @@ fn named<'a>(name: &str, matches: &ArgMatches<'a>) -> Option<Command<'a>>
     }
 }
 
-// The command that was met.
+// Returns the command for the subcommand that was matched.
 fn chosen<'a>(matches: &ArgMatches<'a>) -> Option<Command<'a>>
     ensures check { (file : Option Text)
         → MeetsFile (subcommand_rows_of matches.now) (codes "check") file
@@ -86,7 +86,7 @@ fn chosen<'a>(matches: &ArgMatches<'a>) -> Option<Command<'a>>
     }
 }
 
-// The matches of the words.
+// Parses the words into matches.
 fn parsed<'a, S: AsStr>(alloc: Global, words: &'a [S]) -> Result<ArgMatches<'a>, Error>
     ensures matches { (name : Text) (file : Option Text)
         → AsksFile (map S.text words.entry.now) name file
@@ -98,8 +98,8 @@ fn parsed<'a, S: AsStr>(alloc: Global, words: &'a [S]) -> Result<ArgMatches<'a>,
     portal(alloc)?.try_get_matches_from(words)
 }
 
-/// What the words ask for. The first word is the program's name; behind `check` and `solve` a word
-/// with no `-` in front names the file.
+/// Parses the words of a command line. The first word is the program's name. After `check` or
+/// `solve`, a word that does not begin with `-` names the file.
 pub fn command_of<'a, S: AsStr>(alloc: Global, words: &'a [S]) -> Result<Asked<'a>, AllocError>
     ensures check { drop 1 (map S.text words.entry.now) ≡ codes "check" ∷ []
         → IfOk result (λ a. a ≡ Asked.Do (Command.Check None)) }

@@ -7,7 +7,7 @@ ghost use Rattle.spa_check.specs.Listed.{IsBetterOff, IsFirstBetterOff};
 use crate::wants::wanted;
 use spa_model::{Instance, Matching};
 
-/// Whether the student has a project in `other` and a less preferred one or none in the matching.
+/// Returns whether `other` gives the student a better project, or one instead of none.
 fn is_better_off(instance: &Instance, matching: &Matching, other: &Matching, s: usize) -> bool
     requires fits { IsMatching instance.now matching.now }
     requires other_fits { IsMatching instance.now other.now }
@@ -20,7 +20,7 @@ fn is_better_off(instance: &Instance, matching: &Matching, other: &Matching, s: 
     }
 }
 
-/// The least student who has a project in `other` and a less preferred one or none in the matching.
+/// Finds the first student to whom `other` gives a better project, or one instead of none.
 pub fn better_off(instance: &Instance, matching: &Matching, other: &Matching) -> Option<usize>
     requires fits { IsMatching instance.now matching.now }
     requires other_fits { IsMatching instance.now other.now }

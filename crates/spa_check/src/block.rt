@@ -2,7 +2,7 @@
 
 use spa_model::Letter;
 
-/// A student and a project that block a matching, and by which case.
+/// A student and a project that block a matching, and the letter of their case.
 #[derive(Clone, Copy, Debug, PartialEq, Eq)]
 pub struct Block {
     pub student: usize,

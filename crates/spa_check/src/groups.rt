@@ -7,17 +7,17 @@ ghost use Rattle.spa_check.specs.inner.Groups.{AreProjectGroups, AreLecturerGrou
 use spa_model::{Instance, Matching};
 use std::alloc::{AllocError, Global};
 
-/// Some students: how many, and how far down their lecturer's list they reach, counted from 1.
+/// The number of students at a project or of a lecturer, and the worst of their positions on the
+/// lecturer's list. Positions count from 1. An empty group has 0.
 #[derive(Clone, Copy)]
 pub(crate) struct Group {
     pub(crate) count: usize,
     pub(crate) depth: usize,
 }
 
-/// Nobody.
 const EMPTY: Group = Group { count: 0, depth: 0 };
 
-/// The group with one more student, who stands at this depth.
+/// Returns the group with one more student, whose position is `depth`.
 fn joined(group: Group, depth: usize) -> Group
     requires { group.count + 1 < 2 ^ 64 }
     ensures count { result.count ≡ group.count + 1 }
@@ -29,7 +29,7 @@ fn joined(group: Group, depth: usize) -> Group
     }
 }
 
-/// The student's place on the lecturer's list, counted from 1.
+/// Returns the student's position on the lecturer's list, counted from 1.
 pub(crate) fn depth_of(instance: &Instance, l: usize, s: usize) -> usize
     requires lecturer { l < length instance.now.rankings }
     requires student { s < length instance.now.choices }
@@ -42,7 +42,7 @@ pub(crate) fn depth_of(instance: &Instance, l: usize, s: usize) -> usize
     }
 }
 
-/// The group of each project.
+/// Returns the group of students at each project.
 pub(crate) fn project_groups(
     alloc: Global,
     instance: &Instance,
@@ -61,7 +61,7 @@ pub(crate) fn project_groups(
     Ok(groups)
 }
 
-/// The group of each lecturer.
+/// Returns the group of students of each lecturer.
 pub(crate) fn lecturer_groups(
     alloc: Global,
     instance: &Instance,

@@ -1,4 +1,4 @@
-//! Which pairs block a matching.
+//! Finds the blocking pairs of a matching.
 #![tactic(auto)]
 
 mod better;

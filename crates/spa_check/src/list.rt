@@ -14,7 +14,7 @@ use crate::wants::{least_from, wanted};
 use spa_model::{Instance, Letter, Matching};
 use std::alloc::{AllocError, Global};
 
-/// The case by which a pair that the student wants blocks, if it does.
+/// Returns the letter of the pair if it blocks the matching. The student has to want the project.
 fn letter_of(
     instance: &Instance,
     matching: &Matching,
@@ -50,7 +50,7 @@ fn letter_of(
     }
 }
 
-/// Adds the pairs of this student that block, by project.
+/// Appends the blocking pairs of this student, sorted by project.
 fn add_blocks(
     instance: &Instance,
     matching: &Matching,
@@ -82,7 +82,7 @@ fn add_blocks(
     Ok(())
 }
 
-/// All pairs that block, by student, then by project.
+/// Returns all blocking pairs, sorted by student, then by project.
 pub fn blocking_pairs(
     alloc: Global,
     instance: &Instance,

@@ -8,7 +8,7 @@ ghost use Rattle.spa_model.specs.Spa.{IsWith, IsStable, is_lecturer, project_of,
 use crate::wants::wanted;
 use spa_model::{Instance, Letter, Matching};
 
-/// Whether the student is at a project of the lecturer.
+/// Returns whether the student is at a project of the lecturer.
 pub(crate) fn is_with(instance: &Instance, matching: &Matching, l: usize, s: usize) -> bool
     requires fits { IsMatching instance.now matching.now }
     requires in_range { s < length instance.now.choices }
@@ -21,7 +21,7 @@ pub(crate) fn is_with(instance: &Instance, matching: &Matching, l: usize, s: usi
     }
 }
 
-/// Whether some student at the project stands after s on its lecturer's list.
+/// Returns whether a student at the project comes after `s` on its lecturer's list.
 fn has_worse_at(instance: &Instance, matching: &Matching, p: usize, s: usize) -> bool
     requires fits { IsMatching instance.now matching.now }
     requires project { p < length instance.now.lecturers }
@@ -39,7 +39,7 @@ fn has_worse_at(instance: &Instance, matching: &Matching, p: usize, s: usize) ->
     false
 }
 
-/// Whether some student of the lecturer stands after s on the list.
+/// Returns whether a student of the lecturer comes after `s` on the lecturer's list.
 fn has_worse_with(instance: &Instance, matching: &Matching, l: usize, s: usize) -> bool
     requires fits { IsMatching instance.now matching.now }
     requires lecturer { l < length instance.now.rankings }
@@ -54,7 +54,7 @@ fn has_worse_with(instance: &Instance, matching: &Matching, l: usize, s: usize) 
     false
 }
 
-/// Whether s is with the lecturer, or some student there stands after s.
+/// Returns whether the lecturer has `s`, or a student who comes after `s` on the list.
 fn may_replace(instance: &Instance, matching: &Matching, l: usize, s: usize) -> bool
     requires fits { IsMatching instance.now matching.now }
     requires lecturer { l < length instance.now.rankings }
@@ -68,7 +68,7 @@ fn may_replace(instance: &Instance, matching: &Matching, l: usize, s: usize) -> 
     has_worse_with(instance, matching, l, s)
 }
 
-/// The case by which a pair that the student wants blocks, if it does.
+/// Returns the letter of the pair if it blocks the matching. The student has to want the project.
 pub(crate) fn letter_of(
     instance: &Instance,
     matching: &Matching,
@@ -98,7 +98,7 @@ pub(crate) fn letter_of(
     }
 }
 
-/// Whether no pair of this student blocks.
+/// Returns whether the student is in no blocking pair.
 fn is_content(instance: &Instance, matching: &Matching, s: usize) -> bool
     requires fits { IsMatching instance.now matching.now }
     requires in_range { s < length instance.now.choices }
@@ -113,7 +113,7 @@ fn is_content(instance: &Instance, matching: &Matching, s: usize) -> bool
     true
 }
 
-/// Whether no pair blocks.
+/// Returns whether the matching has no blocking pair.
 pub fn is_stable(instance: &Instance, matching: &Matching) -> bool
     requires { IsMatching instance.now matching.now }
     ensures { IsTrue result ↔ IsStable instance.now matching.now }

@@ -6,7 +6,7 @@ ghost use Rattle.spa_check.specs.inner.Groups.{not_below, IsLeastIn};
 
 use spa_model::{Instance, Matching};
 
-/// How many stand before x on the list; the list's length where it is not there.
+/// Returns the position of `x` on the list, or the list's length if `x` is not on it.
 pub(crate) fn place_in(list: &[usize], x: usize) -> usize
     ensures { result ≡ place list.now x }
 {
@@ -16,7 +16,7 @@ pub(crate) fn place_in(list: &[usize], x: usize) -> usize
     }
 }
 
-/// The projects that the student prefers to the own one, or all of the list where there is none.
+/// Returns the projects that the student prefers to the assigned one; all if none is assigned.
 pub(crate) fn wanted<'a>(instance: &'a Instance, matching: &Matching, s: usize) -> &'a [usize]
     requires fits { IsMatching instance.now matching.now }
     requires in_range { s < length instance.now.choices }
@@ -29,7 +29,7 @@ pub(crate) fn wanted<'a>(instance: &'a Instance, matching: &Matching, s: usize) 
     }
 }
 
-/// The least number of the list that is not below `from`.
+/// Returns the smallest number on the list that is at least `from`, if any.
 pub(crate) fn least_from(list: &[usize], from: usize) -> Option<usize>
     ensures { MatchOption result (length (not_below from list.now)
         ≡ 0) (IsLeastIn (not_below from list.now)) }

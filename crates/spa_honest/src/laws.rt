@@ -9,51 +9,50 @@ ghost use Rattle.spa_honest.specs.examples.Example.{bells, example, honest_list,
 ghost use Rattle.spa_honest.specs.examples.Example.{short_list, tides};
 ghost use Rattle.spa_honest.specs.examples.Waiting.{at_once, waiting};
 
-/// In any two stable matchings of an instance the same students have a project, and each lecturer
-/// has as many. So nobody is left out by the choice of a stable matching.
+/// Law: all stable matchings of an instance assign the same students, and equally many to each
+/// lecturer. So the choice of a stable matching does not decide who gets no project.
 pub fn same_assigned()
     ensures { SameAssigned }
 {}
 
-/// Each lawful instance has a best matching.
+/// Law: each lawful instance has a student-optimal stable matching.
 pub fn best_there_is()
     ensures { BestThereIs }
 {}
 
-/// Whatever the others list, no list gives a student a project that is better, by the honest list,
-/// than what the honest list gives; as long as each lecturer orders the same students alike.
+/// Law: judged by the honest list, no other list gives a student a better project, whatever the
+/// other students list. Each lecturer has to order the same students alike.
 pub fn honest_is_best()
     ensures { HonestIsBest }
 {}
 
-/// Whom a stable matching leaves without a project finds no room on the own list: each project
-/// there is full, or its lecturer is.
+/// Law: if a stable matching gives a student no project, each project on the student's list is
+/// full, or its lecturer is.
 pub fn left_finds_none()
     ensures { LeftFindsNone }
 {}
 
-/// Who waits gains nothing. Whatever a student listed, where a stable matching leaves the student
-/// out, none of the projects that still have room in it is better, by the honest list, than what
-/// the honest list gives.
+/// Law: waiting gains nothing. Suppose that a stable matching gives a student no project, whatever
+/// the student listed. Judged by the honest list, no project that still has room is better than
+/// what the honest list gives.
 pub fn waiting_never_pays()
     ensures { WaitingNeverPays }
 {}
 
-/// Whatever the students of a group list together, not all of them get a project that is better, by
-/// the own honest list, than what honest lists give; as long as each lecturer orders the same
-/// students alike.
+/// Law: whatever lists a group submits, at least one member gets nothing better than with honest
+/// lists, judged by that member's honest list. Each lecturer has to order the same students alike.
 pub fn no_group_gains()
     ensures { NoGroupGains }
 {}
 
-/// But one of a group may gain: in the example Ann, with Bells first, gets her last choice, and Cem
-/// gets Kites.
+/// Law: one member of a group may gain. In the example, Ann puts Bells first and gets it, although
+/// it is her last choice. Cem then gets Kites.
 pub fn one_may_gain()
     ensures { NobodyGains → ⊥ }
 {}
 
-/// In the example Ann gets Kites by the honest list. With what seems safe put first she gets Bells,
-/// her last choice; with the popular project left out Kites as before.
+/// Law: in the example, the honest list gives Ann Kites. With the safe project first, she gets
+/// Bells, her last choice. Without the popular project on the list, she still gets Kites.
 pub fn worked_example()
     ensures lawful { IsLawful (example honest_list) × IsLawful (example safe_list)
         × IsLawful (example short_list) }
@@ -62,8 +61,8 @@ pub fn worked_example()
     ensures short { IsBest (example short_list) (Some kites ∷ Some tides ∷ Some bells ∷ []) }
 {}
 
-/// An example of one who waits. By the honest list Ann gets Kites at once. If she asks for Tides
-/// alone and waits, she is left, and only Bells, her last choice, has room.
+/// Law: in an example of waiting, the honest list gives Ann Kites at once. If she lists only Tides,
+/// she gets no project, and only Bells, her last choice, has room.
 pub fn waited_example()
     ensures lawful { IsLawful at_once × IsLawful waiting }
     ensures at_once { IsBest at_once (Some kites ∷ Some tides ∷ Some bells ∷ None ∷ []) }

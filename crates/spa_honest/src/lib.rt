@@ -1,4 +1,4 @@
-//! Laws for the students: who is left out, and that the honest list is best.
+//! Laws for the students: a best matching exists, honest lists are best, waiting never pays.
 #![tactic(auto)]
 
 pub mod laws;

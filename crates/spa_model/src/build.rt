@@ -20,7 +20,7 @@ use spa_rows::{
 };
 use std::alloc::Global;
 
-/// The instance of lines that are sorted, and have no fault of lines or lists.
+/// Builds the instance of sorted lines that `check_lines` and `check_lists` accept.
 fn instance_of(
     alloc: Global,
     lecturers: &[LecturerLine],
@@ -57,7 +57,7 @@ fn instance_of(
 }
 
 impl Instance {
-    /// The instance of these rows, or the least of their faults at the least row that has it.
+    /// Builds the instance of these rows, or returns their first fault as an error.
     pub fn build(alloc: Global, rows: InstanceRows) -> Result<Instance, BadInstance>
         ensures ok { IfOk result (λ i. StandsFor rows i) }
         ensures sound { OnOk result (HasNoneBefore rows Memory) }

@@ -7,14 +7,14 @@ ghost use Rattle.spa_model.specs.inner.Fitting.{AreAcceptable};
 
 use crate::instance::Instance;
 
-/// Whether the number stands on the list.
+/// Returns whether `x` is on the list.
 pub(crate) fn is_on(list: &[usize], x: usize) -> bool
     ensures { IsTrue result ↔ IsOn list.now x }
 {
     list.contains(&x)
 }
 
-/// Whether each project stands on the list of its student.
+/// Returns whether each student's project is on the student's list.
 pub(crate) fn are_acceptable(instance: &Instance, projects: &[Option<usize>]) -> bool
     requires { length projects.now ≡ length instance.now.choices }
     ensures { IsTrue result ↔ AreAcceptable instance.now projects.now }
@@ -29,14 +29,14 @@ pub(crate) fn are_acceptable(instance: &Instance, projects: &[Option<usize>]) ->
     true
 }
 
-/// How many students the project has.
+/// Returns how many students the project has.
 pub(crate) fn count_at(projects: &[Option<usize>], p: usize) -> usize
     ensures { result ≡ at_project projects.now p }
 {
     projects.iter().filter(|q| **q == Some(p)).count()
 }
 
-/// Whether no project has more students than its capacity.
+/// Returns whether no project has more students than its capacity.
 pub(crate) fn projects_fit(instance: &Instance, projects: &[Option<usize>]) -> bool
     requires { AreAcceptable instance.now projects.now }
     ensures { IsTrue result ↔ ((p : ℕ) → at_project projects.now p ≤ capacity_of instance.now p) }
@@ -50,7 +50,7 @@ pub(crate) fn projects_fit(instance: &Instance, projects: &[Option<usize>]) -> b
     true
 }
 
-/// Whether the student is at a project of the lecturer.
+/// Returns whether the student is at a project of the lecturer.
 fn is_with(instance: &Instance, projects: &[Option<usize>], l: usize, s: usize) -> bool
     requires acceptable { AreAcceptable instance.now projects.now }
     requires in_range { s < length projects.now }
@@ -63,7 +63,7 @@ fn is_with(instance: &Instance, projects: &[Option<usize>], l: usize, s: usize) 
     }
 }
 
-/// How many students the lecturer has.
+/// Returns how many students the lecturer has.
 pub(crate) fn count_with(instance: &Instance, projects: &[Option<usize>], l: usize) -> usize
     requires { AreAcceptable instance.now projects.now }
     ensures { result ≡ at_lecturer instance.now projects.now l }
@@ -77,7 +77,7 @@ pub(crate) fn count_with(instance: &Instance, projects: &[Option<usize>], l: usi
     count
 }
 
-/// Whether no lecturer has more students than the capacity.
+/// Returns whether no lecturer has more students than the capacity.
 pub(crate) fn lecturers_fit(instance: &Instance, projects: &[Option<usize>]) -> bool
     requires { AreAcceptable instance.now projects.now }
     ensures { IsTrue result

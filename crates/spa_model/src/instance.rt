@@ -35,7 +35,7 @@ pub(crate) struct Lecturer {
     pub(crate) ranks: Vec<Option<u32>>,
 }
 
-/// Students, projects and lecturers, each sorted by key, with their lists as numbers.
+/// Students, projects and lecturers, each sorted by key. Lists hold indices instead of keys.
 #[derive(Drop)]
 pub struct Instance {
     pub(crate) students: Vec<Student>,
@@ -59,7 +59,7 @@ impl Model for Instance {
 }
 
 impl Instance {
-    /// How many students there are.
+    /// Returns the number of students.
     pub fn students(&self) -> usize
         ensures count { result ≡ length self.now.choices }
         ensures lawful { IsLawful self.now }
@@ -67,28 +67,28 @@ impl Instance {
         self.students.len()
     }
 
-    /// Brings the law of an instance into a proof, and does nothing else.
+    /// Makes `IsLawful` available to a proof, and does nothing else.
     pub fn lawful(&self)
         ensures { IsLawful self.now }
     {
         self.students();
     }
 
-    /// How many projects there are.
+    /// Returns the number of projects.
     pub fn projects(&self) -> usize
         ensures { result ≡ length self.now.lecturers }
     {
         self.projects.len()
     }
 
-    /// How many lecturers there are.
+    /// Returns the number of lecturers.
     pub fn lecturers(&self) -> usize
         ensures { result ≡ length self.now.rankings }
     {
         self.lecturers.len()
     }
 
-    /// The key of a student.
+    /// Returns the key of a student.
     pub fn student_key(&self, s: usize) -> &Key
         requires { s < length self.now.choices }
         ensures { result.now ≡ slice_index_or self.now.student_keys s [] }
@@ -96,7 +96,7 @@ impl Instance {
         &self.students[s].key
     }
 
-    /// The key of a project.
+    /// Returns the key of a project.
     pub fn project_key(&self, p: usize) -> &Key
         requires { p < length self.now.lecturers }
         ensures { result.now ≡ slice_index_or self.now.project_keys p [] }
@@ -104,7 +104,7 @@ impl Instance {
         &self.projects[p].key
     }
 
-    /// The key of a lecturer.
+    /// Returns the key of a lecturer.
     pub fn lecturer_key(&self, l: usize) -> &Key
         requires { l < length self.now.rankings }
         ensures { result.now ≡ slice_index_or self.now.lecturer_keys l [] }
@@ -112,7 +112,7 @@ impl Instance {
         &self.lecturers[l].key
     }
 
-    /// The lecturer who offers a project.
+    /// Returns the lecturer who offers a project.
     pub fn lecturer_of(&self, p: usize) -> usize
         requires { p < length self.now.lecturers }
         ensures gives { result ≡ lecturer_of self.now p }
@@ -121,7 +121,7 @@ impl Instance {
         self.projects[p].lecturer
     }
 
-    /// How many students a project takes.
+    /// Returns the capacity of a project, in students.
     pub fn project_capacity(&self, p: usize) -> u32
         requires { p < length self.now.lecturers }
         ensures { result ≡ capacity_of self.now p }
@@ -129,7 +129,7 @@ impl Instance {
         self.projects[p].capacity
     }
 
-    /// How many students a lecturer takes over all projects.
+    /// Returns the capacity of a lecturer, in students over all projects.
     pub fn lecturer_capacity(&self, l: usize) -> u32
         requires { l < length self.now.rankings }
         ensures { result ≡ limit_of self.now l }
@@ -137,7 +137,7 @@ impl Instance {
         self.lecturers[l].capacity
     }
 
-    /// A student's list of projects, best first.
+    /// Returns a student's list of projects, best first.
     pub fn choices(&self, s: usize) -> &[usize]
         requires { s < length self.now.choices }
         ensures { result.now ≡ choices_of self.now s }
@@ -145,7 +145,7 @@ impl Instance {
         self.students[s].choices.as_slice()
     }
 
-    /// A lecturer's list of students, best first.
+    /// Returns a lecturer's list of students, best first.
     pub fn ranking(&self, l: usize) -> &[usize]
         requires { l < length self.now.rankings }
         ensures { result.now ≡ ranking_of self.now l }
@@ -153,7 +153,7 @@ impl Instance {
         self.lecturers[l].ranking.as_slice()
     }
 
-    /// The place of a student on a lecturer's list, counted from 0.
+    /// Returns a student's position on a lecturer's list, counted from 0, or `None` if absent.
     pub fn rank(&self, l: usize, s: usize) -> Option<u32>
         requires lecturer { l < length self.now.rankings }
         requires student { s < length self.now.choices }
@@ -162,7 +162,7 @@ impl Instance {
         self.lecturers[l].ranks[s]
     }
 
-    /// Whether both students stand on the lecturer's list, and a stands before b.
+    /// Returns whether both students are on the lecturer's list and `a` comes before `b`.
     pub fn prefers(&self, l: usize, a: usize, b: usize) -> bool
         requires lecturer { l < length self.now.rankings }
         requires first { a < length self.now.choices }
@@ -175,7 +175,7 @@ impl Instance {
         }
     }
 
-    /// The number of the student with this key; the count of students where there is none.
+    /// Returns the index of the student with this key, or the number of students if none has it.
     pub(crate) fn student_number(&self, text: &[u8]) -> usize
         ensures { result ≡ number_in self.now.student_keys text.now }
     {
@@ -189,7 +189,7 @@ impl Instance {
         }
     }
 
-    /// The number of the project with this key; the count of projects where there is none.
+    /// Returns the index of the project with this key, or the number of projects if none has it.
     pub fn project_number(&self, text: &[u8]) -> usize
         ensures { result ≡ number_in self.now.project_keys text.now }
     {
@@ -203,7 +203,7 @@ impl Instance {
         }
     }
 
-    /// Whether these projects, one for each student, are a matching.
+    /// Returns whether these projects, one or none for each student, form a matching.
     pub fn accepts(&self, projects: &[Option<usize>]) -> bool
         ensures { IsTrue result ↔ IsMatching self.now projects.now }
     {
@@ -213,14 +213,14 @@ impl Instance {
             && lecturers_fit(self, projects)
     }
 
-    /// Whether the matching, of this or of any other instance, is one of this instance.
+    /// Returns whether a matching, perhaps of another instance, is a matching of this one.
     pub fn fits(&self, matching: &Matching) -> bool
         ensures { IsTrue result ↔ IsMatching self.now matching.now }
     {
         self.accepts(matching.projects())
     }
 
-    /// The project of a student in a matching of this instance.
+    /// Returns the project of a student in a matching of this instance.
     pub fn project_of(&self, matching: &Matching, student: usize) -> Option<usize>
         requires fits { IsMatching self.now matching.now }
         requires in_range { student < length self.now.choices }
@@ -232,7 +232,7 @@ impl Instance {
         matching.project(student)
     }
 
-    /// How many students a project has in a matching of this instance.
+    /// Returns how many students a project has in a matching of this instance.
     pub fn students_at(&self, matching: &Matching, p: usize) -> usize
         requires { IsMatching self.now matching.now }
         ensures { result ≡ at_project matching.now p }
@@ -240,7 +240,7 @@ impl Instance {
         count_at(matching.projects(), p)
     }
 
-    /// How many students a lecturer has in a matching of this instance.
+    /// Returns how many students a lecturer has in a matching of this instance.
     pub fn students_with(&self, matching: &Matching, l: usize) -> usize
         requires { IsMatching self.now matching.now }
         ensures { result ≡ at_lecturer self.now matching.now l }

@@ -8,18 +8,18 @@ ghost use Rattle.spa_model.specs.Spa.{Spa, Blocks, IsBest, IsLawful};
 ghost use Rattle.spa_model.specs.Pairs.{StandsFor};
 ghost use Rattle.spa_model.specs.declared.letter.Letter.{Letter};
 
-/// A pair that blocks a matching blocks it by one letter alone.
+/// Law: a pair blocks a matching with at most one letter.
 pub fn one_letter()
     ensures { (i : Spa) (m : List (Option ℕ)) (s p : ℕ) (x y : Letter) → Blocks i m s p x
         → Blocks i m s p y → x ≡ y }
 {}
 
-/// Two matchings that are best for the students are one.
+/// Law: an instance has at most one student-optimal stable matching.
 pub fn best_is_one()
     ensures { (i : Spa) (m n : List (Option ℕ)) → IsBest i m → IsBest i n → m ≡ n }
 {}
 
-/// Rows without a fault are those of one instance alone.
+/// Law: rows without a fault describe at most one lawful instance.
 pub fn instance_is_one()
     ensures { (rows : Rows) (i j : Spa) → HasNoneBefore rows Memory → IsLawful i → StandsFor rows i
         → IsLawful j → StandsFor rows j → i ≡ j }

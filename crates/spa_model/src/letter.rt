@@ -2,14 +2,14 @@
 
 use std::fmt;
 
-/// By which case a pair blocks.
+/// The case in which a pair blocks a matching.
 #[derive(Clone, Copy, Debug, PartialEq, Eq)]
 pub enum Letter {
     /// The project and its lecturer have room.
     A,
-    /// The project has room, and its full lecturer has the student already or a worse one.
+    /// The project has room, and its full lecturer already has this student or a lower-ranked one.
     B,
-    /// The full project has a worse student.
+    /// The project is full and has a lower-ranked student.
     C,
 }
 

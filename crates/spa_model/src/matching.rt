@@ -8,26 +8,26 @@ use spa_rows::PairLine;
 use std::alloc::{AllocError, Global};
 use std::marker::Model;
 
-/// What is wrong with the pairs of a matching; of several faults the first one here is told.
+/// A fault of a matching's pairs. Of several faults, the first in this order is reported.
 #[derive(Clone, Copy, Debug, PartialEq, Eq)]
 pub enum MatchingFault {
-    /// The text is no student's key.
+    /// The pair's student is unknown.
     NoSuchStudent,
-    /// The text is no project's key.
+    /// The pair's project is unknown.
     NoSuchProject,
     /// The project is not on the student's list.
     NotAcceptable,
-    /// The student stands in an earlier row.
+    /// The student is in an earlier pair.
     StudentTwice,
-    /// The project has more students than its capacity, from this row on.
+    /// This pair and the earlier ones exceed the project's capacity.
     ProjectOver,
-    /// The lecturer has more students than the capacity, from this row on.
+    /// This pair and the earlier ones exceed the lecturer's capacity.
     LecturerOver,
-    /// There was not enough memory.
+    /// Memory ran out.
     Memory,
 }
 
-/// A fault, and the least row that has it (0 for `Memory`).
+/// A fault, and the lowest-numbered row that has it (0 for `Memory`).
 #[derive(Clone, Copy, Debug, PartialEq, Eq)]
 pub struct BadMatching {
     pub fault: MatchingFault,
@@ -65,7 +65,7 @@ impl Matching {
     ghost use Rattle.spa_model.specs.Spa.{project_of, IsMatching};
     ghost use Rattle.spa_model.specs.Pairs.{HasPairs, IsPairRefusal, AreSound};
 
-    /// The matching of these pairs.
+    /// Builds the matching of these pairs, or returns their first fault as an error.
     pub fn build(
         alloc: Global,
         instance: &Instance,
@@ -85,7 +85,7 @@ impl Matching {
         Ok(Matching { projects: own })
     }
 
-    /// The matching of these projects, one for each student.
+    /// Creates a matching from each student's project or none.
     pub fn of(instance: &Instance, projects: Vec<Option<usize>>) -> Matching
         requires { IsMatching instance.now projects.items }
         ensures { result ≡ projects.items }
@@ -94,7 +94,7 @@ impl Matching {
         Matching { projects }
     }
 
-    /// The project of each student.
+    /// Returns the project of each student.
     pub(crate) fn projects(&self) -> &[Option<usize>]
         ensures { result.now ≡ self.now }
     {

@@ -14,7 +14,7 @@ use crate::matching::{BadMatching, MatchingFault};
 use spa_rows::PairLine;
 use std::alloc::{AllocError, Global};
 
-/// The number of each pair's student.
+/// Returns the index of each pair's student, or the number of students if it is unknown.
 pub(crate) fn student_numbers(
     alloc: Global,
     instance: &Instance,
@@ -28,7 +28,7 @@ pub(crate) fn student_numbers(
         .collect(alloc)
 }
 
-/// The number of each pair's project.
+/// Returns the index of each pair's project, or the number of projects if it is unknown.
 pub(crate) fn project_numbers(
     alloc: Global,
     instance: &Instance,
@@ -42,7 +42,7 @@ pub(crate) fn project_numbers(
         .collect(alloc)
 }
 
-/// The lesser of the row and the least one so far.
+/// Returns the smaller of `row` and `best`, or `row` if there is no `best`.
 fn least(best: Option<u32>, row: u32) -> u32
     ensures { result ≡ least_row best row }
 {
@@ -52,7 +52,7 @@ fn least(best: Option<u32>, row: u32) -> u32
     }
 }
 
-/// The least row whose text is no student's key.
+/// Finds the lowest-numbered row with an unknown student.
 fn no_such_student(instance: &Instance, lines: &[PairLine], students: &[usize]) -> Option<u32>
     requires { students.now ≡ map (student_in instance.now) lines.now }
     ensures { IsLeastOf (HasPairFault instance.now lines.now MatchingFault.NoSuchStudent) result }
@@ -66,7 +66,7 @@ fn no_such_student(instance: &Instance, lines: &[PairLine], students: &[usize]) 
     best
 }
 
-/// The least row whose text is no project's key.
+/// Finds the lowest-numbered row with an unknown project.
 fn no_such_project(instance: &Instance, lines: &[PairLine], projects: &[usize]) -> Option<u32>
     requires { projects.now ≡ map (project_in instance.now) lines.now }
     ensures { IsLeastOf (HasPairFault instance.now lines.now MatchingFault.NoSuchProject) result }
@@ -81,7 +81,7 @@ fn no_such_project(instance: &Instance, lines: &[PairLine], projects: &[usize]) 
     best
 }
 
-/// The least row whose project is not on the student's list.
+/// Finds the lowest-numbered row whose project is not on the student's list.
 fn not_acceptable(
     instance: &Instance,
     lines: &[PairLine],
@@ -103,7 +103,7 @@ fn not_acceptable(
     best
 }
 
-/// The least row whose student stands in an earlier one.
+/// Finds the lowest-numbered row whose student is in an earlier pair.
 fn student_twice(
     alloc: Global,
     instance: &Instance,
@@ -127,7 +127,7 @@ fn student_twice(
     Ok(best)
 }
 
-/// The least row at which a project has more students than its capacity.
+/// Finds the lowest-numbered row at which a project exceeds its capacity.
 fn project_over(
     alloc: Global,
     instance: &Instance,
@@ -152,7 +152,7 @@ fn project_over(
     Ok(best)
 }
 
-/// The least row at which a lecturer has more students than the capacity.
+/// Finds the lowest-numbered row at which a lecturer exceeds the capacity.
 fn lecturer_over(
     alloc: Global,
     instance: &Instance,
@@ -177,7 +177,7 @@ fn lecturer_over(
     Ok(best)
 }
 
-/// The fault, where some row has it.
+/// Returns an error with this fault at `row`, or `Ok` if `row` is `None`.
 fn refused(fault: MatchingFault, row: Option<u32>) -> Result<(), BadMatching>
     ensures ok { OnOk result (row ≡ None) }
     ensures err { IfErr result (λ e. (e.fault ≡ fault) × (row ≡ Some e.row)) }
@@ -188,7 +188,7 @@ fn refused(fault: MatchingFault, row: Option<u32>) -> Result<(), BadMatching>
     }
 }
 
-/// The first fault of the pairs, if they have one.
+/// Returns the first fault of the pairs as an error, if they have one.
 pub(crate) fn check_pairs(
     alloc: Global,
     instance: &Instance,
@@ -215,7 +215,7 @@ pub(crate) fn check_pairs(
     refused(MatchingFault::LecturerOver, over)
 }
 
-/// The project of each student who is in a pair.
+/// Returns the project that the pairs give each student, if any.
 pub(crate) fn assigned(
     alloc: Global,
     instance: &Instance,

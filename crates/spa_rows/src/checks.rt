@@ -14,7 +14,7 @@ use crate::limits::{MOST_LECTURERS, MOST_PROJECTS, MOST_STUDENTS};
 use crate::lines::InstanceRows;
 use std::alloc::{AllocError, Global};
 
-/// The lesser of two rows that may be there.
+/// Returns the smaller of two optional rows, or the only one present.
 fn lesser(a: Option<u32>, b: Option<u32>) -> Option<u32>
     ensures { result ≡ lesser_row a b }
 {
@@ -90,7 +90,7 @@ fn lists_too_long(rows: &InstanceRows) -> Option<u32>
     list_too_long(&rows.students)
 }
 
-/// Refuses the fault at the row that has it, if there is one.
+/// Returns an error with this fault at `row`, or `Ok` if `row` is `None`.
 pub fn refuse(fault: InstanceFault, row: Option<u32>) -> Result<(), BadInstance>
     ensures { MatchOption row (IsOk result) (λ r. result
         ≡ Err (record { fault = fault; row = r })) }
@@ -101,7 +101,7 @@ pub fn refuse(fault: InstanceFault, row: Option<u32>) -> Result<(), BadInstance>
     }
 }
 
-/// Refuses rows that have too many lines, or a line whose key or capacity is bad.
+/// Refuses too many lines, a malformed or repeated key, or a capacity that is not 1 to 200.
 pub fn check_lines(alloc: Global, rows: &InstanceRows) -> Result<(), BadInstance>
     ensures ok { OnOk result (HasNoneBefore rows.now InstanceFault.NoSuchLecturer) }
     ensures err { IfErr result (λ e. IsRefusal rows.now e.fault e.row) }
@@ -112,7 +112,7 @@ pub fn check_lines(alloc: Global, rows: &InstanceRows) -> Result<(), BadInstance
     refuse(InstanceFault::BadCapacity, bad_capacities(rows))
 }
 
-/// Refuses rows in which a line names what has no line, or a list repeats a text or is too long.
+/// Refuses an unknown lecturer or project, a repeat in a list, or over 20 projects on a list.
 pub fn check_lists(alloc: Global, rows: &InstanceRows) -> Result<(), BadInstance>
     requires { HasNoneBefore rows.now InstanceFault.NoSuchLecturer }
     ensures ok { OnOk result (HasNoneBefore rows.now InstanceFault.NotApplicant) }

@@ -5,34 +5,34 @@ ghost use Rattle.spa_rows.specs.declared.faults.InstanceFault.TheVariants.{Memor
 
 use std::alloc::AllocError;
 
-/// What is wrong with the rows of an instance; of several faults the first one here is told.
+/// A fault of an instance's rows. Of several faults, the first in this order is reported.
 #[derive(Clone, Copy, Debug, PartialEq, Eq)]
 pub enum InstanceFault {
     /// More than 300 lecturers, 1,000 projects or 2,000 students.
     TooMany,
-    /// A line's own key is no key.
+    /// A line's key does not have the form of a key.
     BadKey,
     /// A line has the key of an earlier line of its kind.
     KeyTwice,
-    /// A capacity is not 1 to 200.
+    /// A capacity is not in the range 1 to 200.
     BadCapacity,
     /// A project's lecturer has no line.
     NoSuchLecturer,
     /// A student lists a project that has no line.
     NoSuchProject,
-    /// A student's or lecturer's list has one text twice.
+    /// A student's or lecturer's list contains a text twice.
     RepeatInList,
     /// A student lists more than 20 projects.
     ListTooLong,
-    /// A lecturer's list names no student, or one who lists no project of the lecturer.
+    /// An entry on a lecturer's list is not a student who lists one of the lecturer's projects.
     NotApplicant,
-    /// A student who lists a project of the lecturer is not on the lecturer's list.
+    /// A lecturer's list lacks a student who lists one of the lecturer's projects.
     ApplicantMissing,
-    /// There was not enough memory.
+    /// Memory ran out.
     Memory,
 }
 
-/// A fault, and the least row that has it (0 for `TooMany` and `Memory`).
+/// A fault, and the lowest-numbered row that has it (0 for `TooMany` and `Memory`).
 #[derive(Clone, Copy, Debug, PartialEq, Eq)]
 pub struct BadInstance {
     pub fault: InstanceFault,

@@ -11,15 +11,15 @@ use std::alloc::{AllocError, Global};
 use std::collections::HashMap;
 use std::marker::Model;
 
-/// The place that this key has.
+/// Returns the index that the map holds for a key.
 fn place_of(places: &HashMap<&[u8], usize>, key: &[u8]) -> Option<usize>
     ensures { result ≡ get text_eq places.now key.entry }
 {
     places.get(&key).copied()
 }
 
-/// Lines, and the place of each key among them. Keys can be made that the map tells apart one by
-/// one; a search then looks at each line once at most.
+/// Lines, and a hash map from each key to the index of its line. Crafted keys can collide in the
+/// map; a search then compares each key at most once.
 #[derive(Drop)]
 pub struct Places<'a, L: Line> {
     lines: &'a [L],
@@ -38,7 +38,7 @@ impl<'a, L: Line> Model for Places<'a, L> {
 }
 
 impl<'a, L: Line> Places<'a, L> {
-    /// The places of these lines; where a key stands twice, the later one.
+    /// Indexes these lines by key. If a key occurs twice, its last line counts.
     pub fn of(alloc: Global, lines: &'a [L]) -> Result<Places<'a, L>, AllocError>
         ensures { IfOk result (λ places. places ≡ lines.now) }
     {
@@ -49,14 +49,14 @@ impl<'a, L: Line> Places<'a, L> {
         Ok(Places { lines, places })
     }
 
-    /// How many lines there are.
+    /// Returns the number of lines.
     pub fn len(&self) -> usize
         ensures { result ≡ length self.now }
     {
         self.lines.len()
     }
 
-    /// The place of a line with this key, if there is one.
+    /// Returns the index of a line with this key, if there is one.
     pub fn find(&self, key: &[u8]) -> Option<usize>
         ensures found { IfSome result (λ k. (k < length self.now)
             × ((d : L) → L.key_of (slice_index_or self.now k d) ≡ key.now)) }
@@ -65,7 +65,7 @@ impl<'a, L: Line> Places<'a, L> {
         place_of(&self.places, key)
     }
 
-    /// Whether a line has this key.
+    /// Returns whether a line has this key.
     pub fn has(&self, key: &[u8]) -> bool
         ensures { IsTrue result ↔ IsKeyOf self.now L.key_of key.now }
     {

@@ -17,16 +17,16 @@ use std::cmp::Ordering;
 use std::hash::{Hash, Hasher};
 use std::marker::Model;
 
-/// Why bytes are no key.
+/// The reason why bytes are not a key.
 #[derive(Debug, Drop, Clone, Copy, PartialEq, Eq)]
 pub enum KeyFault {
-    /// They are not 1 to 16 ASCII letters, digits, `-`, `_` and `.`.
+    /// The bytes are not 1 to 16 ASCII letters, digits, `-`, `_` or `.`.
     BadKey,
-    /// There was not enough memory.
+    /// Memory ran out.
     Memory,
 }
 
-/// The key of a student, a lecturer or a project: 1 to 16 ASCII letters, digits, `-`, `_` and `.`.
+/// The key of a student, a lecturer or a project: 1 to 16 ASCII letters, digits, `-`, `_` or `.`.
 #[derive(Debug, Drop)]
 pub struct Key {
     text: String,
@@ -55,7 +55,7 @@ fn are_key_bytes(bytes: &[u8]) -> bool
     bytes.iter().all(|byte| is_key_byte_of(*byte))
 }
 
-/// Whether the bytes have the form of a key.
+/// Returns whether the bytes have the form of a key.
 pub(crate) fn is_key_text(bytes: &[u8]) -> bool
     ensures { result ≡ is_key bytes.now }
 {
@@ -63,13 +63,13 @@ pub(crate) fn is_key_text(bytes: &[u8]) -> bool
 }
 
 impl Key {
-    /// The key of these bytes.
+    /// Parses a key from its bytes.
     #[tactic(auto, using(crate::proofs::Texts::key_text))]
     pub fn parse(alloc: Global, bytes: &[u8]) -> Result<Key, KeyFault>
         ensures ok { IfOk result (λ key. key ≡ bytes.now) }
         ensures form { OnOk result (IsTrue (is_key bytes.now)) }
         ensures bad { result ≡ Err KeyFault.BadKey → is_key bytes.now ≡ false }
-        // What has no form is always told so, and never as want of memory.
+        // Malformed bytes always give `BadKey`, never `Memory`.
         ensures formless { is_key bytes.now ≡ false → result ≡ Err KeyFault.BadKey }
     {
         if !is_key_text(bytes) {
@@ -84,7 +84,7 @@ impl Key {
         }
     }
 
-    /// Its bytes.
+    /// Returns the bytes of the key.
     pub fn as_bytes(&self) -> &[u8]
         ensures bytes { result.now ≡ self.now }
         ensures form { IsTrue (is_key self.now) }
@@ -92,14 +92,14 @@ impl Key {
         self.text.as_bytes()
     }
 
-    /// Its text.
+    /// Returns the text of the key.
     pub fn as_str(&self) -> &str
         ensures { result.now ≡ self.now }
     {
         self.text.as_str()
     }
 
-    /// The same key again.
+    /// Returns a copy of the key.
     pub fn copy(&self, alloc: Global) -> Result<Key, AllocError>
         ensures { IfOk result (λ key. key ≡ self.now) }
     {

@@ -17,7 +17,7 @@ use crate::lines::{LecturerLine, ProjectLine, StudentLine};
 use std::alloc::{AllocError, Global};
 use std::collections::{BTreeSet, HashSet};
 
-/// The lesser of the row and the least one so far.
+/// Returns the smaller of `row` and `best`, or `row` if there is no `best`.
 pub(crate) fn least(best: Option<u32>, row: u32) -> u32
     ensures { result ≡ least_row best row }
 {
@@ -27,7 +27,7 @@ pub(crate) fn least(best: Option<u32>, row: u32) -> u32
     }
 }
 
-/// The least row so far, once this row is known to be bad or not.
+/// Returns the least bad row so far, given the previous one and whether `row` is bad.
 pub fn least_with(best: Option<u32>, row: u32, is_bad: bool) -> Option<u32>
     ensures { result ≡ (if is_bad then Some (least_row best row) else best) }
 {
@@ -40,7 +40,7 @@ fn is_bad_capacity(capacity: u32) -> bool
     !is_capacity(capacity)
 }
 
-/// The least row of a line whose key has not the form of one.
+/// Finds the lowest-numbered row with a malformed key.
 pub(crate) fn bad_key<L: Line>(lines: &[L]) -> Option<u32>
     ensures { IsLeastOf (BadAt lines.now L.row_of (λ _ x. is_key (L.key_of x) ≡ false)) result }
 {
@@ -51,7 +51,7 @@ pub(crate) fn bad_key<L: Line>(lines: &[L]) -> Option<u32>
     best
 }
 
-/// The least row of a line with the key of an earlier one.
+/// Finds the lowest-numbered row that repeats the key of an earlier line.
 pub(crate) fn key_twice<L: Line>(alloc: Global, lines: &[L]) -> Result<Option<u32>, AllocError>
     ensures { IfOk result (IsLeastOf (BadAt lines.now L.row_of
         (λ j x. IsEarlierKey lines.now L.key_of j (L.key_of x)))) }
@@ -65,7 +65,7 @@ pub(crate) fn key_twice<L: Line>(alloc: Global, lines: &[L]) -> Result<Option<u3
     Ok(best)
 }
 
-/// The least row of a line whose capacity is not 1 to 200.
+/// Finds the lowest-numbered row whose capacity is not 1 to 200.
 pub(crate) fn bad_capacity<L: Limited>(lines: &[L]) -> Option<u32>
     ensures { IsLeastOf (BadAt lines.now L.Line.row_of
         (λ _ x. IsBadCapacity (L.capacity_of x))) result }
@@ -77,7 +77,7 @@ pub(crate) fn bad_capacity<L: Limited>(lines: &[L]) -> Option<u32>
     best
 }
 
-/// The least row of a project whose lecturer has no line.
+/// Finds the lowest-numbered row of a project whose lecturer has no line.
 pub(crate) fn no_such_lecturer(
     lecturers: &Places<LecturerLine>,
     projects: &[ProjectLine],
@@ -93,7 +93,7 @@ pub(crate) fn no_such_lecturer(
     best
 }
 
-/// Whether some text is the key of no project.
+/// Returns whether a text on the list is not the key of a project.
 fn names_none(projects: &Places<ProjectLine>, list: &[Vec<u8>]) -> bool
     ensures { IsTrue result ↔ NamesNone projects.now (λ x. x.key)
         (map (λ text. text.items) list.now) }
@@ -106,7 +106,7 @@ fn names_none(projects: &Places<ProjectLine>, list: &[Vec<u8>]) -> bool
     false
 }
 
-/// The least row of a student who lists what is no project.
+/// Finds the lowest-numbered row of a student who lists an unknown project.
 pub(crate) fn no_such_project(
     projects: &Places<ProjectLine>,
     students: &[StudentLine],
@@ -121,7 +121,7 @@ pub(crate) fn no_such_project(
     best
 }
 
-/// Whether two places of a short list have one text.
+/// Returns whether a text occurs twice in a short list.
 fn repeats_in_few(alloc: Global, list: &[Vec<u8>]) -> Result<bool, AllocError>
     ensures { IfOk result (λ yes. IsTrue yes ↔ Repeats (map (λ text. text.items) list.now)) }
 {
@@ -134,8 +134,8 @@ fn repeats_in_few(alloc: Global, list: &[Vec<u8>]) -> Result<bool, AllocError>
     Ok(false)
 }
 
-/// Whether two places of a long list have one text. Texts can be made that a hash set tells apart
-/// one by one, and a tree never takes long.
+/// Returns whether a text occurs twice in a long list. Crafted texts can collide in a hash set and
+/// make it slow. A tree stays fast.
 fn repeats_in_many(alloc: Global, list: &[Vec<u8>]) -> Result<bool, AllocError>
     ensures { IfOk result (λ yes. IsTrue yes ↔ Repeats (map (λ text. text.items) list.now)) }
 {
@@ -148,7 +148,7 @@ fn repeats_in_many(alloc: Global, list: &[Vec<u8>]) -> Result<bool, AllocError>
     Ok(false)
 }
 
-/// Whether two places of the list have one text.
+/// Returns whether a text occurs twice in the list.
 fn repeats(alloc: Global, list: &[Vec<u8>]) -> Result<bool, AllocError>
     ensures { IfOk result (λ yes. IsTrue yes ↔ Repeats (map (λ text. text.items) list.now)) }
 {
@@ -159,7 +159,7 @@ fn repeats(alloc: Global, list: &[Vec<u8>]) -> Result<bool, AllocError>
     }
 }
 
-/// The least row of a line whose list has one text twice.
+/// Finds the lowest-numbered row whose list contains a text twice.
 pub(crate) fn repeat_in_list<L: Listing>(
     alloc: Global,
     lines: &[L],
@@ -175,7 +175,7 @@ pub(crate) fn repeat_in_list<L: Listing>(
     Ok(best)
 }
 
-/// The least row of a student who lists more than 20 projects.
+/// Finds the lowest-numbered row of a student who lists more than 20 projects.
 pub(crate) fn list_too_long(students: &[StudentLine]) -> Option<u32>
     ensures { IsLeastOf (BadAt students.now (λ x. x.row) (λ _ x. 20 < length x.list)) result }
 {

@@ -1,4 +1,4 @@
-//! The rows of an instance of student-project allocation, and what can be wrong with them.
+//! The rows of an instance of student-project allocation, and the faults that rows can have.
 #![tactic(auto)]
 
 mod checks;

@@ -2,22 +2,22 @@
 
 ghost use Rattle.std.specs.Prelude.{◌↔◌, ◌≤◌, IsTrue};
 
-/// The most lecturers.
+/// The greatest number of lecturers.
 pub const MOST_LECTURERS: usize = 300;
 
-/// The most projects.
+/// The greatest number of projects.
 pub const MOST_PROJECTS: usize = 1000;
 
-/// The most students.
+/// The greatest number of students.
 pub const MOST_STUDENTS: usize = 2000;
 
-/// The most projects on a student's list.
+/// The greatest number of projects on a student's list.
 pub const LONGEST_CHOICE: usize = 20;
 
 /// The greatest capacity, in students.
 pub const MOST_PLACES: u32 = 200;
 
-/// Whether this many students can be the capacity of a project or a lecturer.
+/// Returns whether a project or a lecturer may have this capacity.
 pub fn is_capacity(students: u32) -> bool
     ensures { IsTrue result ↔ ((1 ≤ students) × (students ≤ 200)) }
 {

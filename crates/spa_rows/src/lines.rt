@@ -2,7 +2,7 @@
 
 use std::marker::Model;
 
-/// A lecturer, with the students of the list, best first.
+/// A lecturer with a list of students, best first.
 #[derive(Drop)]
 pub struct LecturerLine {
     pub row: u32,
@@ -25,7 +25,7 @@ impl Model for LecturerLine {
     } };
 }
 
-/// A project, and the lecturer who offers it.
+/// A project and the lecturer who offers it.
 #[derive(Drop)]
 pub struct ProjectLine {
     pub row: u32,
@@ -47,7 +47,7 @@ impl Model for ProjectLine {
     } };
 }
 
-/// A student, with the projects of the list, best first.
+/// A student with a list of projects, best first.
 #[derive(Drop)]
 pub struct StudentLine {
     pub row: u32,
@@ -68,7 +68,7 @@ impl Model for StudentLine {
     } };
 }
 
-/// A student at a project.
+/// A pair of a matching: the student is at the project.
 #[derive(Drop)]
 pub struct PairLine {
     pub row: u32,
@@ -88,7 +88,7 @@ impl Model for PairLine {
     } };
 }
 
-/// The lines of an instance, each kind in its order.
+/// The lines of an instance by kind, each kind in its given order.
 #[derive(Drop)]
 pub struct InstanceRows {
     pub lecturers: Vec<LecturerLine>,

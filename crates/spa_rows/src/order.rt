@@ -9,7 +9,7 @@ use crate::lines::InstanceRows;
 use std::alloc::AllocError;
 use std::cmp::Ordering;
 
-/// Puts the lines in the order of their keys.
+/// Sorts the lines by key.
 fn sort_lines<L: Line>(lines: &mut Vec<L>) -> Result<(), AllocError>
     ensures same { IsPermutation lines.old.items lines.new.items }
     ensures sorted { OnOk result (IsSortedByKey L.key_of (slice_cmp nat_cmp) lines.new.items) }
@@ -21,7 +21,7 @@ fn sort_lines<L: Line>(lines: &mut Vec<L>) -> Result<(), AllocError>
     )
 }
 
-/// Puts each kind of lines in the order of its keys.
+/// Sorts the lines of each kind by key.
 pub fn sort_rows(rows: &mut InstanceRows) -> Result<(), AllocError>
     ensures lecturers { IsPermutation rows.old.lecturers rows.new.lecturers }
     ensures projects { IsPermutation rows.old.projects rows.new.projects }

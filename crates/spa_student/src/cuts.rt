@@ -14,25 +14,25 @@ ghost use Rattle.spa_student.specs.inner.Worst.{IsWorstAt, IsWorstWith};
 use spa_model::{Instance, Matching};
 use std::alloc::{AllocError, Global};
 
-/// How far the search for the best matching has come.
+/// The state of the search for the student-optimal stable matching.
 #[derive(Drop)]
 pub(crate) struct Progress {
-    /// By student: the place of the first entry that is not passed.
+    /// For each student, the position of the first list entry that is not passed.
     cursors: Vec<usize>,
-    /// By student: the project, if any.
+    /// For each student, the provisional project, if any.
     projects: Vec<Option<usize>>,
-    /// By project: from which place on students of the lecturer's ranking are cut.
+    /// For each project: students at this position on the lecturer's ranking or later don't get it.
     project_cuts: Vec<usize>,
-    /// By lecturer: the same, for all of the lecturer's projects.
+    /// For each lecturer: students at this position or later get none of the lecturer's projects.
     lecturer_cuts: Vec<usize>,
-    /// By project: how many students it has.
+    /// For each project, the number of its students.
     project_counts: Vec<usize>,
-    /// By lecturer: how many students all the projects have.
+    /// For each lecturer, the number of students over all projects.
     lecturer_counts: Vec<usize>,
 }
 
 impl Progress {
-    /// Whether the student stands at or past the cut of the project, or of its lecturer.
+    /// Returns whether the student is at or past the cut of the project or of its lecturer.
     fn is_past_cut(&self, instance: &Instance, s: usize, p: usize) -> bool
         requires marks { AreMarks instance.now self.now }
         requires acceptable { IsAcceptable instance.now s p }
@@ -49,8 +49,8 @@ impl Progress {
         }
     }
 
-    /// The place of the first entry that is neither passed nor cut; the list's length where there
-    /// is none.
+    /// Returns the position of the first entry that is neither passed nor cut. Without such an
+    /// entry, returns the list's length.
     fn next(&self, instance: &Instance, s: usize) -> usize
         requires marks { AreMarks instance.now self.now }
         requires in_range { s < length instance.now.choices }
@@ -81,7 +81,7 @@ impl Progress {
         }
     }
 
-    /// Whether the student has a project of the lecturer who offers this one.
+    /// Returns whether the student has a project of the lecturer who offers `p`.
     fn is_with(&self, instance: &Instance, s: usize, p: usize) -> bool
         requires marks { AreMarks instance.now self.now }
         requires in_range { s < length self.now.projects.items }
@@ -96,7 +96,7 @@ impl Progress {
         }
     }
 
-    /// The place, on the lecturer's ranking, of the worst student at the project.
+    /// Returns the position, on the lecturer's ranking, of the worst student at the project.
     fn worst_at(&self, instance: &Instance, p: usize) -> usize
         requires marks { AreMarks instance.now self.now }
         requires uncut { IsUncut instance.now self.now }
@@ -116,8 +116,8 @@ impl Progress {
         unreachable!()
     }
 
-    /// The place, on its lecturer's ranking, of the worst student at any of the lecturer's
-    /// projects.
+    /// Returns the position, on the ranking of the project's lecturer, of the worst student at any
+    /// of the lecturer's projects.
     fn worst_with(&self, instance: &Instance, p: usize) -> usize
         requires marks { AreMarks instance.now self.now }
         requires uncut { IsUncut instance.now self.now }
@@ -140,7 +140,7 @@ impl Progress {
         unreachable!()
     }
 
-    /// A student leaves the own project, and the cursor moves on.
+    /// Removes student `w` from project `u`, and moves the student's cursor to the next entry.
     fn leave(&mut self, instance: &Instance, w: usize, u: usize)
         requires marks { AreMarks instance.now self.old }
         requires counts { AreCounts instance.now self.old }
@@ -161,7 +161,7 @@ impl Progress {
         self.lecturer_counts[l] -= 1;
     }
 
-    /// The worst student at the project is let go; from there on, students are cut.
+    /// Removes and returns the project's worst student. The cut moves to the student's position.
     fn let_go_at(&mut self, instance: &Instance, p: usize) -> usize
         requires marks { AreMarks instance.now self.old }
         requires counts { AreCounts instance.now self.old }
@@ -185,7 +185,7 @@ impl Progress {
         w
     }
 
-    /// The worst student of the project's lecturer is let go; from there on, students are cut.
+    /// Removes and returns the lecturer's worst student. The cut moves to the student's position.
     fn let_go_with(&mut self, instance: &Instance, p: usize) -> usize
         requires marks { AreMarks instance.now self.old }
         requires counts { AreCounts instance.now self.old }
@@ -215,7 +215,7 @@ impl Progress {
         w
     }
 
-    /// A free student is put at a project, and nobody is let go yet.
+    /// Assigns a free student to a project, and removes nobody yet.
     fn place(&mut self, instance: &Instance, s: usize, p: usize)
         requires state { IsUnderWay instance.now self.old }
         requires next { IsNextEntry instance.now self.old s p }
@@ -231,8 +231,8 @@ impl Progress {
         self.lecturer_counts[l] += 1;
     }
 
-    /// A free student is put at a project. Who is let go, if anybody: where the project is over
-    /// its capacity, the worst student there, else where its lecturer is, the lecturer's worst.
+    /// Assigns a free student to a project. If the project is now over capacity, removes its worst
+    /// student; otherwise does the same for the lecturer. Returns the removed student, if any.
     fn put(&mut self, instance: &Instance, s: usize, p: usize) -> Option<usize>
         requires state { IsUnderWay instance.now self.old }
         requires next { IsNextEntry instance.now self.old s p }
@@ -252,8 +252,8 @@ impl Progress {
         None
     }
 
-    /// The cursor of a free student goes to the first entry that is not cut, and the student is put
-    /// there. Who is let go, if anybody.
+    /// Moves a free student's cursor to the first entry that is not cut, and assigns the student to
+    /// it if there is one. Returns the student who is then removed, if any.
     fn turn(&mut self, instance: &Instance, s: usize) -> Option<usize>
         requires state { IsUnderWay instance.now self.old }
         requires in_range { s < length instance.now.choices }
@@ -276,7 +276,7 @@ impl Progress {
         }
     }
 
-    /// A free student has turns, and then who is let go, until nobody is.
+    /// Gives a free student a turn, then each student whom a turn removes, until nobody is removed.
     fn settle(&mut self, instance: &Instance, s: usize)
         requires state { IsUnderWay instance.now self.old }
         requires in_range { s < length instance.now.choices }
@@ -291,7 +291,7 @@ impl Progress {
         }
     }
 
-    /// Every student who is free has turns, one after the other.
+    /// Settles each student who is free, one after the other.
     fn run(&mut self, instance: &Instance)
         requires { IsUnderWay instance.now self.old }
         ensures { IsBest instance.now self.new.projects.items }
@@ -303,7 +303,7 @@ impl Progress {
         }
     }
 
-    /// Nobody has a project, and nobody is cut.
+    /// Creates the initial state: nobody has a project, and nobody is cut.
     fn new(alloc: Global, instance: &Instance) -> Result<Progress, AllocError>
         ensures { IfOk result (λ q. IsUnderWay instance.now q) }
     {
@@ -319,7 +319,7 @@ impl Progress {
     }
 }
 
-/// For each project the length of its lecturer's ranking.
+/// Returns, for each project, the length of its lecturer's ranking.
 fn first_project_cuts(alloc: Global, instance: &Instance) -> Result<Vec<usize>, AllocError>
     ensures { IfOk result (λ cuts. cuts.items ≡ map
         (λ l. length (ranking_of instance.now l)) instance.now.lecturers) }
@@ -331,7 +331,7 @@ fn first_project_cuts(alloc: Global, instance: &Instance) -> Result<Vec<usize>, 
     Ok(cuts)
 }
 
-/// For each lecturer the length of the ranking.
+/// Returns, for each lecturer, the length of the ranking.
 fn first_lecturer_cuts(alloc: Global, instance: &Instance) -> Result<Vec<usize>, AllocError>
     ensures { IfOk result (λ cuts. cuts.items ≡ map length instance.now.rankings) }
 {
@@ -342,7 +342,7 @@ fn first_lecturer_cuts(alloc: Global, instance: &Instance) -> Result<Vec<usize>,
     Ok(cuts)
 }
 
-/// The best stable matching for the students.
+/// Computes the student-optimal stable matching.
 pub fn solve(alloc: Global, instance: &Instance) -> Result<Matching, AllocError>
     ensures { IfOk result (λ m. IsBest instance.now m) }
 {

@@ -1,4 +1,4 @@
-//! The matching that is best for the students.
+//! Computes the student-optimal stable matching.
 #![tactic(auto)]
 
 mod cuts;

@@ -16,7 +16,7 @@ use std::alloc::{AllocError, Global};
 use std::collections::{HashMap, HashSet};
 use std::marker::Model;
 
-/// The applicants to each project of a lecturer, and their keys by their texts.
+/// The applicants to each project of a lecturer, with an index of their keys.
 #[derive(Drop)]
 pub(crate) struct Applicants<'a> {
     projects: &'a [(Key, Vec<Person>)],
@@ -52,7 +52,7 @@ fn add_persons<'a>(
     Ok(())
 }
 
-/// Whether some person is not among these.
+/// Returns whether `keys` lacks the key of some person.
 fn leaves_out(keys: &HashSet<&[u8]>, persons: &[Person]) -> bool
     ensures { result ≡ list_any
         (λ s. not (contains_by (λ k. equals s.key k.now) keys.now)) persons.now }
@@ -63,7 +63,7 @@ fn leaves_out(keys: &HashSet<&[u8]>, persons: &[Person]) -> bool
 }
 
 impl<'a> Applicants<'a> {
-    /// The applicants to these projects.
+    /// Indexes the applicants to these projects.
     pub(crate) fn of(
         alloc: Global,
         projects: &'a [(Key, Vec<Person>)],
@@ -77,7 +77,7 @@ impl<'a> Applicants<'a> {
         Ok(Applicants { projects, keys })
     }
 
-    /// The key of the applicant with this text, to whichever project.
+    /// Finds the key with this text among the applicants to all the projects.
     pub(crate) fn find(&self, text: &[u8]) -> Option<&'a Key>
         ensures some { IfSome result
             (λ key. (key.now ≡ text.now) × (is_applicant self.now text.now ≡ true)) }
@@ -87,7 +87,7 @@ impl<'a> Applicants<'a> {
     }
 }
 
-/// The texts of these keys.
+/// Collects the texts of these keys.
 fn texts_of<'a>(alloc: Global, keys: &'a [Key]) -> Result<HashSet<&'a [u8]>, AllocError>
     ensures { IfOk result (HasTexts keys.now) }
 {
@@ -98,7 +98,7 @@ fn texts_of<'a>(alloc: Global, keys: &'a [Key]) -> Result<HashSet<&'a [u8]>, All
     Ok(texts)
 }
 
-/// Whether some applicant is not among the keys.
+/// Returns whether `keys` lacks some applicant.
 pub(crate) fn lacks_one(
     alloc: Global,
     applicants: &[(Key, Vec<Person>)],

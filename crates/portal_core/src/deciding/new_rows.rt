@@ -18,7 +18,7 @@ use std::alloc::{AllocError, Global};
 use std::collections::{HashMap, HashSet};
 use std::marker::Model;
 
-/// The status and the word of a refusal, and the row where the fault has one.
+/// A refusal: the status, the error word, and the row's number if the fault has one.
 #[derive(Drop)]
 pub(crate) struct RollRefusal {
     pub(crate) status: u16,
@@ -34,7 +34,7 @@ impl Model for RollRefusal {
     ghost view = { λ f. record { status = f.status; word = f.word.now; row = f.row } };
 }
 
-/// The row stands against another one: its key is there with other fields, or its code is given.
+/// Returns the refusal of a row whose key is present with other fields, or whose code is in use.
 pub(crate) fn conflict_at(row: u64) -> RollRefusal
     ensures { result ≡ rolls.conflict_at row }
 {
@@ -45,7 +45,7 @@ pub(crate) fn conflict_at(row: u64) -> RollRefusal
     }
 }
 
-/// The row's lecturer is not on the roll.
+/// Returns the refusal of a row whose lecturer is not on the roll.
 pub(crate) fn bad_row_at(row: u64) -> RollRefusal
     ensures { result ≡ rolls.bad_row_at row }
 {
@@ -56,7 +56,7 @@ pub(crate) fn bad_row_at(row: u64) -> RollRefusal
     }
 }
 
-/// There are more rows than the roll may have.
+/// Returns the refusal of more rows than the roll may have.
 fn roll_full() -> RollRefusal
     ensures { result ≡ rolls.roll_full }
 {
@@ -67,64 +67,64 @@ fn roll_full() -> RollRefusal
     }
 }
 
-/// A kind of roll, and what is asked of its rows.
+/// A kind of roll, with its rules for new rows.
 pub(crate) trait Roll<X> {
-    /// The rules that its rows are taken by.
+    /// The rules, as a definition.
     ghost rules: { Self → rolls.Roll X };
 
     /// The change that new rows make.
     ghost changes: { Self → List X → Change };
 
-    /// The texts that a new row is judged by beside the rows that are there.
+    /// The codes or keys against which a new row is checked, given the rows already present.
     ghost texts_beside: { Self → List X → List words.Key };
 
-    /// How many rows there may be.
+    /// Returns the greatest number of rows that the roll may have.
     fn limit(&self) -> usize
         ensures { result ≡ (rules self.now).limit };
 
-    /// The row's key.
+    /// Returns the row's key.
     fn key<'a>(&self, row: &'a X) -> &'a Key
         ensures { result.now ≡ (rules self.now).key row.now };
 
-    /// Whether the two rows are equal in all fields.
+    /// Returns whether the two rows are equal in all fields.
     fn is_same(&self, old: &X, row: &X) -> bool
         ensures { result ≡ (rules self.now).same old.now row.now };
 
-    /// The texts that a new row is judged by, where no row is there.
+    /// Returns the texts against which a new row is checked if the roll is empty.
     fn texts<'a>(&'a self, alloc: Global) -> Result<HashSet<&'a [u8]>, AllocError>
         ensures { IfOk result (HasTexts (texts_beside self.now [])) };
 
-    /// Adds the text of a row that is there now, where a new row is judged by it.
+    /// Adds the text of a row that is now present, if new rows are checked against it.
     fn add_text<'a>(&self, texts: &mut HashSet<&'a [u8]>, row: &'a X) -> Result<(), AllocError>
         ensures { OnOk result ((there : List X) → HasTexts (texts_beside self.now there) texts.old
             → HasTexts (texts_beside self.now (row.now ∷ there)) texts.new) };
 
-    /// Whether a new row is bad by these texts.
+    /// Returns whether a new row is bad, given these texts.
     fn is_bad(&self, texts: &HashSet<&[u8]>, row: &X) -> bool
         ensures { (there : List X) → HasTexts (texts_beside self.now there) texts.now
             → result ≡ (rules self.now).is_bad there row.now };
 
-    /// How a bad row is refused.
+    /// Returns the refusal of a bad row.
     fn fault(&self, row: u64) -> RollRefusal
         ensures { result ≡ (rules self.now).fault row };
 
-    /// The same row again.
+    /// Copies the row.
     fn copy(&self, alloc: Global, row: &X) -> Result<X, AllocError>
         ensures { IfOk result (λ copy. copy ≡ row.now) };
 
-    /// The change that brings these new rows.
+    /// Returns the change that adds these new rows.
     fn change(&self, rows: Vec<X>) -> Change
         ensures { change_model result ≡ changes self.now rows.items };
 }
 
-/// The rows that are there, to be found by their keys, and the texts that a new row is judged by.
+/// The rows already present, by key, and the texts against which a new row is checked.
 #[derive(Drop)]
 struct Register<'a, X> {
     rows: HashMap<&'a [u8], &'a X>,
     texts: HashSet<&'a [u8]>,
 }
 
-/// The row is there now, before the others.
+/// Adds the row to the register, in front of the rows already present.
 fn enter<'a, X, R: Roll<X>>(
     register: &mut Register<'a, X>,
     roll: &R,
@@ -141,7 +141,7 @@ fn enter<'a, X, R: Roll<X>>(
     roll.add_text(&mut register.texts, row)
 }
 
-/// The register of the rows on the roll; where a key stands twice, the first counts.
+/// Indexes the rows on the roll. If several rows have the same key, the first one counts.
 fn register_of<'a, X, R: Roll<X>>(
     alloc: Global,
     roll: &'a R,
@@ -162,7 +162,7 @@ fn register_of<'a, X, R: Roll<X>>(
     Ok(register)
 }
 
-/// Whether the row is a new one, or one that is there already; or its fault.
+/// Returns true for a new row, false for an equal row already present, or else the refusal.
 fn is_new<X, R: Roll<X>>(
     roll: &R,
     register: &Register<X>,
@@ -203,14 +203,14 @@ fn is_new<X, R: Roll<X>>(
     Ok(true)
 }
 
-/// What a file adds to a roll: its new rows, in order, and how many were there.
+/// What a list of rows adds to a roll: the new rows, in order, and the number already present.
 #[derive(Drop)]
 pub(crate) struct Added<X: Drop> {
     pub(crate) new: Vec<X>,
     pub(crate) same: u64,
 }
 
-/// The rows taken one after the other, or the first fault.
+/// Checks the rows one after the other. Returns what they add, or the first refusal.
 pub(crate) fn take_rows<'a, X: Drop, R: Roll<X>>(
     alloc: Global,
     roll: &'a R,

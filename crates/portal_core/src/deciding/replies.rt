@@ -10,7 +10,7 @@ use crate::decision::{Act, Body, Change, Decision, Reply, Sheet};
 use serde_json::{Value, json};
 use std::alloc::{AllocError, Global};
 
-/// A reply with this status and this body.
+/// Makes a reply with this status and this JSON body.
 pub(crate) fn json_reply(status: u16, body: Value) -> Reply
     ensures { reply_model result ≡ answered status (json.view body) }
 {
@@ -21,7 +21,7 @@ pub(crate) fn json_reply(status: u16, body: Value) -> Reply
     }
 }
 
-/// The body is shown, and nothing changes.
+/// Makes a decision that shows the body and changes nothing.
 pub(crate) fn shows(body: Value) -> Decision
     ensures { decision_model result ≡ answer.shows (json.view body) }
 {
@@ -31,7 +31,7 @@ pub(crate) fn shows(body: Value) -> Decision
     }
 }
 
-/// The change is made, and the body is answered.
+/// Makes a decision that makes the change and replies with the body.
 pub(crate) fn applies(body: Value, change: Change) -> Decision
     ensures { decision_model result ≡ answer.applies (json.view body) (change_model change) }
 {
@@ -41,7 +41,7 @@ pub(crate) fn applies(body: Value, change: Change) -> Decision
     }
 }
 
-/// The sheet is to be written into the body.
+/// Makes a decision to write the sheet into the reply's body, which is still empty.
 pub(crate) fn renders(alloc: Global, sheet: Sheet) -> Decision
     ensures { decision_model result ≡ answer.renders (blank sheet) sheet }
 {
@@ -60,7 +60,7 @@ pub(crate) fn renders(alloc: Global, sheet: Sheet) -> Decision
     }
 }
 
-/// The reply is a refusal, and nothing changes.
+/// Makes a decision that refuses with this reply and changes nothing.
 pub(crate) fn refuses(reply: Reply) -> Decision
     ensures { decision_model result ≡ answer.refuses (reply_model reply) }
 {
@@ -70,7 +70,7 @@ pub(crate) fn refuses(reply: Reply) -> Decision
     }
 }
 
-/// A refusal that is told by a word alone.
+/// Makes a refusal whose body is only an error word.
 pub(crate) fn refused(alloc: Global, status: u16, word: &str) -> Result<Reply, AllocError>
     ensures { IfOk result (λ reply. reply_model reply ≡ by_word status word.now) }
 {
@@ -78,28 +78,28 @@ pub(crate) fn refused(alloc: Global, status: u16, word: &str) -> Result<Reply, A
     Ok(json_reply(status, body))
 }
 
-/// The code names nobody.
+/// Refuses a call whose code identifies nobody.
 pub(crate) fn no_caller(alloc: Global) -> Result<Decision, AllocError>
     ensures { IfOk result (λ decision. decision_model decision ≡ answer.no_caller) }
 {
     Ok(refuses(refused(alloc, 403, "no_caller")?))
 }
 
-/// The call belongs to another role.
+/// Refuses a call that belongs to another role.
 pub(crate) fn not_yours(alloc: Global) -> Result<Decision, AllocError>
     ensures { IfOk result (λ decision. decision_model decision ≡ answer.not_yours) }
 {
     Ok(refuses(refused(alloc, 403, "not_yours")?))
 }
 
-/// The call is not open in this phase.
+/// Refuses a call that this phase does not allow.
 pub(crate) fn wrong_phase(alloc: Global) -> Result<Decision, AllocError>
     ensures { IfOk result (λ decision. decision_model decision ≡ answer.wrong_phase) }
 {
     Ok(refuses(refused(alloc, 409, "wrong_phase")?))
 }
 
-/// The caller has a project of the first round.
+/// Refuses the list of a student who has a project of the first round.
 pub(crate) fn already_placed(alloc: Global) -> Result<Decision, AllocError>
     ensures { IfOk result (λ decision. decision_model decision ≡ answer.already_placed) }
 {

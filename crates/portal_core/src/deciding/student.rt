@@ -22,7 +22,7 @@ use serde_json::{Value, json};
 use spa_rows::Key;
 use std::alloc::{AllocError, Global};
 
-/// Who the student is.
+/// Makes the body that replies to `Call::Me`.
 fn me_body(alloc: Global, view: &StudentView) -> Result<Value, AllocError>
     ensures { IfOk result (λ body. json.view body ≡ shown.student_me view.now) }
 {
@@ -43,7 +43,7 @@ fn me_body(alloc: Global, view: &StudentView) -> Result<Value, AllocError>
     }
 }
 
-/// A student's list.
+/// Makes the body that shows a student's list.
 fn choices_body(alloc: Global, choices: &[Key]) -> Result<Value, AllocError>
     ensures { IfOk result (λ body. json.view body ≡ shown.projects_body choices.now) }
 {
@@ -51,7 +51,7 @@ fn choices_body(alloc: Global, choices: &[Key]) -> Result<Value, AllocError>
     json!(in alloc; {"projects": projects})
 }
 
-/// A project's key, or null.
+/// Makes a JSON string of the project's key, or null if there is no project.
 fn project_value(alloc: Global, project: &Option<Key>) -> Result<Value, AllocError>
     ensures { IfOk result (λ value. json.view value ≡ text_or_null project.now) }
 {
@@ -61,7 +61,7 @@ fn project_value(alloc: Global, project: &Option<Key>) -> Result<Value, AllocErr
     }
 }
 
-/// The project that the result gives to the student.
+/// Makes the body that shows the project that the result gives to the student.
 fn result_body(alloc: Global, project: &Option<Key>) -> Result<Value, AllocError>
     ensures { IfOk result (λ body. json.view body ≡ shown.project_body project.now) }
 {
@@ -69,7 +69,7 @@ fn result_body(alloc: Global, project: &Option<Key>) -> Result<Value, AllocError
     json!(in alloc; {"project": project})
 }
 
-/// The student's list becomes this one, which has no fault.
+/// Replaces the student's list by this one, which has no fault.
 fn replace_choices(
     alloc: Global,
     view: &StudentView,
@@ -84,7 +84,7 @@ fn replace_choices(
     Ok(applies(body, Change::Choices { student, projects }))
 }
 
-/// The list is taken where it has no fault.
+/// Accepts the list if it has no fault.
 fn take_choices(alloc: Global, view: &StudentView, list: &[Vec<u8>]) -> Result<Decision, AllocError>
     ensures { let texts = texts_of list.now in
         IfOk result (λ decision. decision_model decision
@@ -97,7 +97,7 @@ fn take_choices(alloc: Global, view: &StudentView, list: &[Vec<u8>]) -> Result<D
     }
 }
 
-/// A student hands in a list.
+/// Accepts a list without a fault, in choosing, unless the student has a project already.
 fn set_choices(alloc: Global, view: &StudentView, list: &[Vec<u8>]) -> Result<Decision, AllocError>
     ensures { IfOk result (λ decision. decision_model decision
         ≡ to_student view.now (AbstractCall.SetChoices (texts_of list.now))) }
@@ -111,7 +111,7 @@ fn set_choices(alloc: Global, view: &StudentView, list: &[Vec<u8>]) -> Result<De
     }
 }
 
-/// A student asks for the result.
+/// Shows the result to the student, once there is one.
 fn show_result(alloc: Global, view: &StudentView) -> Result<Decision, AllocError>
     ensures { IfOk result (λ decision. decision_model decision
         ≡ to_student view.now AbstractCall.Result) }
@@ -123,7 +123,7 @@ fn show_result(alloc: Global, view: &StudentView) -> Result<Decision, AllocError
     }
 }
 
-/// What a student is answered, and what is to be done.
+/// Decides a student's call.
 pub(crate) fn decide_student(
     alloc: Global,
     view: &StudentView,

@@ -12,7 +12,7 @@ use spa_rows::Key;
 use std::alloc::{AllocError, Global};
 use std::marker::Model;
 
-/// A ranking that a lecturer gets.
+/// A ranking that a fill adds.
 #[derive(Drop)]
 struct Ranking {
     keys: Vec<Key>,
@@ -27,7 +27,7 @@ impl Model for Ranking {
     ghost view = { λ r. r.keys.items };
 }
 
-/// The keys again.
+/// Copies the keys.
 fn copies(alloc: Global, keys: &[&Key]) -> Result<Vec<Key>, AllocError>
     ensures { IfOk result (λ v. v.items ≡ map (λ k. k.now) keys.now) }
 {
@@ -38,7 +38,7 @@ fn copies(alloc: Global, keys: &[&Key]) -> Result<Vec<Key>, AllocError>
     Ok(copies)
 }
 
-/// The lecturer's applicants, in the order of their keys.
+/// Returns the keys of the lecturer's applicants, in key order.
 pub(crate) fn applicants_by_key(
     alloc: Global,
     projects: &[ProjectRow],
@@ -51,7 +51,7 @@ pub(crate) fn applicants_by_key(
     copies(alloc, &applicants)
 }
 
-/// The ranking that a fill gives a lecturer with these applicants, where there are any.
+/// Returns a ranking of these applicants, or `None` if there are none.
 fn filled_ranking(keys: Vec<Key>) -> Option<Ranking>
     ensures { result ≡ unless_empty keys.items }
 {
@@ -61,7 +61,7 @@ fn filled_ranking(keys: Vec<Key>) -> Option<Ranking>
     Some(Ranking { keys })
 }
 
-/// The ranking that the lecturer gets, who has an applicant and no ranking.
+/// Returns the ranking that a fill adds: none if the lecturer has a ranking or no applicant.
 fn missing_ranking(
     alloc: Global,
     projects: &[ProjectRow],
@@ -77,7 +77,7 @@ fn missing_ranking(
     Ok(filled_ranking(keys))
 }
 
-/// The ranking that each lecturer gets, or none.
+/// Returns, for each lecturer, the ranking that a fill adds, or `None`.
 fn missing_rankings(
     alloc: Global,
     lecturers: &[LecturerEntry],
@@ -94,7 +94,7 @@ fn missing_rankings(
     Ok(rankings)
 }
 
-/// The lecturer gets the ranking, if there is one.
+/// Gives the lecturer the ranking, if there is one.
 fn settle(lecturer: &mut LecturerEntry, ranking: Option<Ranking>)
     ensures { lecturer.new ≡ with_missing lecturer.old ranking }
 {
@@ -103,7 +103,7 @@ fn settle(lecturer: &mut LecturerEntry, ranking: Option<Ranking>)
     }
 }
 
-/// Gives each lecturer still to rank the applicants, in the order of their keys.
+/// Gives each lecturer who is still to rank a ranking of the applicants in key order.
 pub(crate) fn fill_rankings(
     alloc: Global,
     lecturers: &mut [LecturerEntry],

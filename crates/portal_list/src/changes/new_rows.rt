@@ -9,7 +9,7 @@ use crate::entries::{LecturerEntry, StudentEntry};
 use portal_core::{Keyed, LecturerRow, StudentRow};
 use std::alloc::{AllocError, Global};
 
-/// Entries of new lecturers, who have no ranking.
+/// Makes the entries of new lecturers, without rankings.
 pub(crate) fn new_lecturers(
     alloc: Global,
     rows: &[LecturerRow],
@@ -27,7 +27,7 @@ pub(crate) fn new_lecturers(
     Ok(fresh)
 }
 
-/// Entries of new students, who have no list and no place.
+/// Makes the entries of new students, without lists or placements.
 pub(crate) fn new_students(
     alloc: Global,
     rows: &[StudentRow],
@@ -47,7 +47,7 @@ pub(crate) fn new_students(
     Ok(fresh)
 }
 
-/// Adds rows, each where its key belongs.
+/// Inserts rows in key order. If an allocation fails, nothing changes.
 pub(crate) fn add_rows<T: Keyed + Drop>(rows: &mut Vec<T>, fresh: Vec<T>) -> Result<(), AllocError>
     ensures made { OnOk result (rows.new.items ≡ put_all T.key_of fresh.items rows.old.items) }
     ensures same { OnErr result (rows.new.items ≡ rows.old.items) }

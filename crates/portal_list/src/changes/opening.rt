@@ -7,14 +7,14 @@ use crate::entries::{LecturerEntry, StudentEntry};
 use std::alloc::Global;
 use std::mem;
 
-/// The lecturer's ranking becomes the first round's.
+/// Moves the lecturer's ranking into the field of the first round.
 fn lay_by_ranking(lecturer: &mut LecturerEntry)
     ensures { lecturer.new ≡ ranked_before lecturer.old }
 {
     lecturer.earlier_ranking = lecturer.ranking.take();
 }
 
-/// The student's list and place become the first round's.
+/// Moves the student's list and placement into the fields of the first round.
 fn lay_by_list(alloc: Global, student: &mut StudentEntry)
     ensures { student.new ≡ placed_before student.old }
 {
@@ -22,7 +22,7 @@ fn lay_by_list(alloc: Global, student: &mut StudentEntry)
     student.earlier_placement = student.placed.take();
 }
 
-/// The rankings become the first round's.
+/// Moves all rankings into the fields of the first round.
 pub(crate) fn lay_by_rankings(lecturers: &mut [LecturerEntry])
     ensures { lecturers.new ≡ map ranked_before lecturers.old }
 {
@@ -31,7 +31,7 @@ pub(crate) fn lay_by_rankings(lecturers: &mut [LecturerEntry])
     }
 }
 
-/// The lists and places become the first round's. It takes no memory.
+/// Moves all lists and placements into the fields of the first round, without allocating.
 pub(crate) fn lay_by_lists(alloc: Global, students: &mut [StudentEntry])
     ensures { students.new ≡ map placed_before students.old }
 {

@@ -10,7 +10,7 @@ use portal_core::Pairs;
 use spa_rows::Key;
 use std::alloc::{AllocError, Global};
 
-/// The project of each student.
+/// Returns the project that the pairs give to each student, or `None`.
 fn places_of(
     alloc: Global,
     students: &[StudentEntry],
@@ -28,7 +28,7 @@ fn places_of(
     Ok(places)
 }
 
-/// The student gets the project, or none. Who has a project of the first round keeps it alone.
+/// Sets the student's project, unless the student has a project of the first round.
 fn place(student: &mut StudentEntry, project: Option<Key>)
     ensures { student.new ≡ placed_now student.old project }
 {
@@ -37,7 +37,7 @@ fn place(student: &mut StudentEntry, project: Option<Key>)
     }
 }
 
-/// Gives each student who takes part the project of the pairs, or none.
+/// Gives each student who takes part the project that the pairs assign, or none.
 pub(crate) fn place_all(
     alloc: Global,
     students: &mut [StudentEntry],

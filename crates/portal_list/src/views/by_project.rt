@@ -13,7 +13,7 @@ use portal_core::{Person, Phase, ProjectRow};
 use spa_rows::Key;
 use std::alloc::{AllocError, Global};
 
-/// The students whose list holds the project.
+/// Returns the students whose list contains the project.
 fn applicants_to(
     alloc: Global,
     students: &[StudentEntry],
@@ -31,7 +31,7 @@ fn applicants_to(
     Ok(applicants)
 }
 
-/// Whether this project is given.
+/// Returns whether the placement is this project.
 fn is_given(place: Option<&Key>, project: &Key) -> bool
     ensures { result ≡ is_at project.now (option_map (λ k. k.now) place.entry) }
 {
@@ -41,7 +41,7 @@ fn is_given(place: Option<&Key>, project: &Key) -> bool
     }
 }
 
-/// The students whom the results that are shown place at the project.
+/// Returns the students whose shown placement is the project.
 fn placed_at(
     alloc: Global,
     phase: Phase,
@@ -60,7 +60,7 @@ fn placed_at(
     Ok(found)
 }
 
-/// The applicants of a project, once the lists are closed.
+/// Returns the applicants of a project if the lists are closed, and otherwise nobody.
 fn shown_applicants(
     alloc: Global,
     closed: bool,
@@ -77,7 +77,7 @@ fn shown_applicants(
     }
 }
 
-/// The applicants of each project of the lecturer.
+/// Returns each project of the lecturer with its applicants, or with nobody while lists are open.
 pub(super) fn applicants_by_project(
     alloc: Global,
     closed: bool,
@@ -98,7 +98,7 @@ pub(super) fn applicants_by_project(
     Ok(found)
 }
 
-/// The students placed at each project of the lecturer.
+/// Returns each project of the lecturer with the students whose shown placement it is.
 pub(super) fn placed_by_project(
     alloc: Global,
     phase: Phase,

@@ -11,12 +11,12 @@ use portal_core::{LecturerRow, Listing, Name, ProjectRow, Round};
 use spa_rows::Key;
 use std::alloc::{AllocError, Global};
 
-/// A row of the roll of lecturers, or what has one.
+/// A type that has a row of the roll of lecturers.
 pub trait HasLecturerRow {
-    /// The row.
+    /// The row of a value, for contracts.
     ghost row_of: { Self → rows.LecturerRow };
 
-    /// The row.
+    /// Returns the row.
     fn lecturer_row(&self) -> &LecturerRow
         ensures { result.now ≡ row_of self.now };
 }
@@ -37,7 +37,7 @@ impl HasLecturerRow for LecturerEntry {
     }
 }
 
-/// The name of the lecturer with this key.
+/// Finds the name of the lecturer with this key.
 fn name_among<'a, L: HasLecturerRow>(lecturers: &'a [L], key: &Key) -> Option<&'a Name>
     ensures { option_map (λ n. n.now) result ≡ name_of (map L.row_of lecturers.now) key.now }
 {
@@ -65,11 +65,11 @@ fn listing_among<L: HasLecturerRow>(
     }
 }
 
-/// Each project with the name of its lecturer; one whose lecturer is not among these is left out.
+/// Lists each project with its lecturer's name, and omits projects of other lecturers.
 ///
 /// # Errors
 ///
-/// Memory ran out.
+/// Returns `AllocError` if memory runs out.
 pub fn listings_of<L: HasLecturerRow>(
     alloc: Global,
     lecturers: &[L],
@@ -86,7 +86,7 @@ pub fn listings_of<L: HasLecturerRow>(
     Ok(found)
 }
 
-/// The catalogue of the round.
+/// Makes the catalogue of the round.
 pub(crate) fn catalogue_of(alloc: Global, entries: &Entries) -> Result<Vec<Listing>, AllocError>
     ensures { IfOk result (λ v. v.items ≡ catalogue_in entries.now) }
 {

@@ -8,7 +8,7 @@ use portal_core::Phase;
 use spa_rows::Key;
 use std::alloc::{AllocError, Global};
 
-/// The student's project: that of the first round, or of the round once it is published.
+/// Returns the student's project of the first round, or else this round's once it is published.
 pub(super) fn placement_shown(phase: Phase, student: &StudentEntry) -> Option<&Key>
     ensures { option_map (λ k. k.now) result ≡ shown_placement phase student.now }
 {
@@ -21,7 +21,7 @@ pub(super) fn placement_shown(phase: Phase, student: &StudentEntry) -> Option<&K
     }
 }
 
-/// The student's pair, if a project is shown.
+/// Returns the student's pair, if a placement is shown.
 fn pair_of(
     alloc: Global,
     phase: Phase,
@@ -36,7 +36,7 @@ fn pair_of(
     }
 }
 
-/// The results that are shown, as pairs.
+/// Returns the shown placements as pairs of a student and a project.
 pub(super) fn pairs_of(
     alloc: Global,
     phase: Phase,

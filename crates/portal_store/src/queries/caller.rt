@@ -14,7 +14,7 @@ use portal_tables::select::{Query, read_rows};
 use sqlite::{Alter, Connection, Row};
 use std::alloc::Global;
 
-/// The row of the lecturer with the code.
+/// Finds the row of the lecturer with the code.
 pub(super) fn lecturer_by_code<S: Alter>(
     alloc: Global,
     conn: &mut Connection<S>,
@@ -29,7 +29,7 @@ pub(super) fn lecturer_by_code<S: Alter>(
     at_most_one(rows)
 }
 
-/// The row of the student with the code.
+/// Finds the row of the student with the code.
 pub(super) fn student_by_code<S: Alter>(
     alloc: Global,
     conn: &mut Connection<S>,

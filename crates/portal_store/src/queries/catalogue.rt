@@ -12,7 +12,7 @@ use sqlite::{Alter, Connection};
 use std::alloc::Global;
 use std::rc::Rc;
 
-/// The catalogue, made of the tables and remembered where it was not.
+/// Returns the cached catalogue, or reads it from the tables and caches it.
 pub(super) fn shared_catalogue<S: Alter>(
     alloc: Global,
     conn: &mut Connection<S>,

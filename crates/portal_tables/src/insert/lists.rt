@@ -9,7 +9,7 @@ use sqlite::Alter;
 use sqlite::types::{ToSql, ValueRef};
 use std::alloc::AllocError;
 
-/// One place of a list.
+/// A row of a table of lists: one item of an owner's list, at a place counted from 1.
 #[derive(Clone, Copy)]
 pub struct NewPlace<'a> {
     pub owner: &'a [u8],

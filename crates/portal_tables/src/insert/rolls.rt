@@ -10,7 +10,7 @@ use sqlite::Alter;
 use sqlite::types::{ToSql, ValueRef};
 use std::alloc::AllocError;
 
-/// The roll of lecturers. Of one who comes no ranking is there yet.
+/// The roll of lecturers. A new lecturer has no ranking yet.
 #[derive(Clone, Copy, Drop)]
 pub struct Lecturers;
 
@@ -73,7 +73,7 @@ impl Target<ProjectRow> for Projects {
     }
 }
 
-/// The roll of students. One who comes is assigned to no project.
+/// The roll of students. A new student has no assigned project.
 #[derive(Clone, Copy, Drop)]
 pub struct Students;
 

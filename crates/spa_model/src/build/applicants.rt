@@ -12,7 +12,7 @@ use crate::instance::{Lecturer, Project, Student};
 use spa_rows::{LecturerLine, Places, StudentLine, least_with};
 use std::alloc::{AllocError, Global};
 
-/// Whether one of the choices is a project of the lecturer.
+/// Returns whether one of the choices is a project of the lecturer.
 fn finds(projects: &[Project], choices: &[usize], lecturer: usize) -> bool
     requires { All (λ p. p < length projects.now) choices.now }
     ensures { IsTrue result ↔ Finds projects.now choices.now lecturer }
@@ -26,7 +26,7 @@ fn finds(projects: &[Project], choices: &[usize], lecturer: usize) -> bool
     false
 }
 
-/// Whether the text is the key of a student who lists a project of the lecturer.
+/// Returns whether the text is the key of a student who lists a project of the lecturer.
 fn is_applicant(
     lines: &Places<StudentLine>,
     students: &[Student],
@@ -48,7 +48,7 @@ fn is_applicant(
     }
 }
 
-/// Whether some text of the list is no applicant of the lecturer.
+/// Returns whether a text on the list is not the key of an applicant of the lecturer.
 fn lists_other(
     lines: &Places<StudentLine>,
     students: &[Student],
@@ -71,7 +71,7 @@ fn lists_other(
     false
 }
 
-/// The least row of a lecturer whose list names one who is no applicant.
+/// Finds the lowest-numbered row of a lecturer whose list names a non-applicant.
 pub(crate) fn not_applicant(
     alloc: Global,
     lecturers: &[LecturerLine],
@@ -95,7 +95,7 @@ pub(crate) fn not_applicant(
     Ok(best)
 }
 
-/// The least row of a lecturer of one of the choices who has no place for the student.
+/// Finds the lowest-numbered row of a lecturer who offers a choice but does not rank `student`.
 fn misses(
     lines: &[LecturerLine],
     lecturers: &[Lecturer],
@@ -119,7 +119,7 @@ fn misses(
     best
 }
 
-/// The least row of a lecturer whose list lacks an applicant.
+/// Finds the lowest-numbered row of a lecturer whose list lacks an applicant.
 pub(crate) fn applicant_missing(
     lines: &[LecturerLine],
     lecturers: &[Lecturer],

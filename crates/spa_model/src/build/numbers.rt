@@ -13,7 +13,7 @@ use crate::instance::{Lecturer, Project, Student};
 use spa_rows::{Key, KeyFault, LecturerLine, Places, ProjectLine, StudentLine};
 use std::alloc::{AllocError, Global};
 
-/// The key of these bytes, which have the form of one.
+/// Creates a key from bytes that have the form of a key.
 fn key_of(alloc: Global, bytes: &[u8]) -> Result<Key, AllocError>
     requires { is_key bytes.now ≡ true }
     ensures { IfOk result (λ key. key ≡ bytes.now) }
@@ -25,7 +25,7 @@ fn key_of(alloc: Global, bytes: &[u8]) -> Result<Key, AllocError>
     }
 }
 
-/// The number of each project on a list.
+/// Returns the index of each project on a list.
 fn project_numbers(
     alloc: Global,
     lines: &Places<ProjectLine>,
@@ -45,7 +45,7 @@ fn project_numbers(
     Ok(choices)
 }
 
-/// The number of each student on a list.
+/// Returns the index of each student on a list.
 fn student_numbers(
     alloc: Global,
     lines: &Places<StudentLine>,
@@ -65,7 +65,7 @@ fn student_numbers(
     Ok(ranking)
 }
 
-/// The place of each student on a ranking, if any.
+/// Returns the position of each student on a ranking, or none.
 fn ranks_of(alloc: Global, count: usize, ranking: &[usize]) -> Result<Vec<Option<u32>>, AllocError>
     requires count { count ≤ 2000 }
     requires below { All (λ s. s < count) ranking.now }
@@ -79,7 +79,7 @@ fn ranks_of(alloc: Global, count: usize, ranking: &[usize]) -> Result<Vec<Option
     Ok(ranks)
 }
 
-/// The line with its texts as numbers.
+/// Converts a student's line. Indices replace the keys on the list.
 fn numbered_student(
     alloc: Global,
     line: &StudentLine,
@@ -95,7 +95,7 @@ fn numbered_student(
     })
 }
 
-/// The line with its texts as numbers.
+/// Converts a project's line. An index replaces the lecturer's key.
 fn numbered_project(
     alloc: Global,
     line: &ProjectLine,
@@ -115,7 +115,7 @@ fn numbered_project(
     })
 }
 
-/// The line with its texts as numbers.
+/// Converts a lecturer's line. Indices replace the keys on the list.
 fn numbered_lecturer(
     alloc: Global,
     line: &LecturerLine,
@@ -137,7 +137,7 @@ fn numbered_lecturer(
     })
 }
 
-/// Each student by number.
+/// Converts the lines of all students, in order.
 pub(crate) fn number_students(
     alloc: Global,
     lines: &[StudentLine],
@@ -156,7 +156,7 @@ pub(crate) fn number_students(
     Ok(students)
 }
 
-/// Each project by number.
+/// Converts the lines of all projects, in order.
 pub(crate) fn number_projects(
     alloc: Global,
     lines: &[ProjectLine],
@@ -175,7 +175,7 @@ pub(crate) fn number_projects(
     Ok(projects)
 }
 
-/// Each lecturer by number, with the places of the students.
+/// Converts the lines of all lecturers, in order, with each student's position on the ranking.
 pub(crate) fn number_lecturers(
     alloc: Global,
     lines: &[LecturerLine],
