@@ -1,4 +1,4 @@
-//! Tests of the desk over a keeper in vectors, by the bytes of its requests and replies.
+//! Tests the desk over a keeper in lists, by the bytes of its requests and replies.
 #![tactic(auto)]
 
 #[cfg(test)]

@@ -1,4 +1,4 @@
-//! A desk over a keeper in vectors, by the bytes of its requests and replies.
+//! Tests framing, calls, replies and connections over a keeper in lists.
 
 mod conversation;
 mod devices;

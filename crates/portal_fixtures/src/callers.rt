@@ -1,4 +1,4 @@
-//! Who asks in the years.
+//! Defines the codes of the callers in the scripts.
 
 pub const OFFICE: &str = "office-code-0";
 
@@ -14,7 +14,7 @@ const BEA: &str = "bea-code-2";
 
 pub const CYR: &str = "cyr-code-3";
 
-/// The code of the caller with this name. A word that is no name is a code.
+/// Returns the code of the caller with this name. Any other word is itself the code.
 pub(crate) fn code_of(name: &str) -> &str {
     match name {
         "office" => OFFICE,

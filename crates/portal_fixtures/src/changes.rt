@@ -1,4 +1,4 @@
-//! Years in which each kind of change comes, for disks that fail at it.
+//! Scripted years with each kind of change, for tests of failing disks.
 
 /// The three rolls.
 pub const SETUP: &str = r#"
@@ -7,7 +7,7 @@ office  POST /rolls/projects id,lecturer,title,capacity\nP1,L1,Tides,1\nP2,L1,Ki
 office  POST /rolls/students id,name,code\nS1,Ann,ann-code-1\nS2,Bea,bea-code-2\nS3,Cyr,cyr-code-3\n  200 {"added":3,"same":0}
 "#;
 
-/// A phase, two lists, and one that is replaced.
+/// The move to choosing, two lists, and a replacement of the first.
 pub const CHOOSING: &str = r#"
 office  POST /phase {"phase":"choosing"}       200 {"phase":"choosing"}
 ann     PUT /choices {"projects":["P1","P2"]}  200 {"projects":["P1","P2"]}
@@ -15,7 +15,7 @@ bea     PUT /choices {"projects":["P1","P3"]}  200 {"projects":["P1","P3"]}
 ann     PUT /choices {"projects":["P2","P1"]}  200 {"projects":["P2","P1"]}
 "#;
 
-/// A phase, a ranking and one that is replaced, and what is missing filled.
+/// The move to ranking, a ranking, its replacement, and a fill of the missing ranking.
 pub const RANKING: &str = r#"
 office  POST /phase {"phase":"ranking"}        200 {"phase":"ranking"}
 lee     PUT /ranking {"students":["S1","S2"]}  200 {"students":["S1","S2"]}
@@ -27,10 +27,10 @@ pub const PUBLICATION: &str = r#"
 office  POST /phase {"phase":"published"}  200 {"phase":"published"}
 "#;
 
-/// A year of one round, and one of both, for `checks/years`.
+/// A year of one round, for `checks/years`. `BOTH_ROUNDS` has two.
 pub const ONE_ROUND: &[&str] = &[SETUP, CHOOSING, RANKING, PUBLICATION];
 
-/// A first round that leaves places and students.
+/// A first round that leaves projects with room, and students without a project.
 pub const FIRST: &str = r#"
 office       POST /rolls/lecturers id,name,code,capacity\nL1,Lee,lee-code-01,2\nL2,Moe,moe-code-02,3\nL3,Poe,poe-code-03,5\n  200 {"added":3,"same":0}
 office       POST /rolls/projects id,lecturer,title,capacity\nP1,L1,Tides,1\nP3,L2,Bells,2\nP4,L2,Waves,2\nP5,L3,Rings,2\n  200 {"added":4,"same":0}
@@ -42,7 +42,7 @@ lee          PUT /ranking {"students":["S1"]}   200 {"students":["S1"]}
 office       POST /phase {"phase":"published"}  200 {"phase":"published"}
 "#;
 
-/// The second round is opened, two hand in lists, and one is replaced.
+/// The opening of the second round, two lists, and a replacement of the first.
 pub const OPENED: &str = r#"
 office       POST /phase {"phase":"choosing","round":2}  200 {"phase":"choosing","round":2}
 stud-code-4  PUT /choices {"projects":["P3","P4"]}       200 {"projects":["P3","P4"]}
@@ -50,7 +50,7 @@ stud-code-5  PUT /choices {"projects":["P4","P5"]}       200 {"projects":["P4","
 stud-code-4  PUT /choices {"projects":["P4","P3"]}       200 {"projects":["P4","P3"]}
 "#;
 
-/// The lists are closed, a ranking is put and replaced, and what is missing filled.
+/// The move to ranking, a ranking, its replacement, and a fill of the missing ranking.
 pub const RANKED: &str = r#"
 office  POST /phase {"phase":"ranking"}        200 {"phase":"ranking","round":2}
 moe     PUT /ranking {"students":["S4","S5"]}  200 {"students":["S4","S5"]}

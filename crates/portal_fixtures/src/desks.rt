@@ -1,4 +1,4 @@
-//! Desks over the empty world in setup, in a database and in lists.
+//! Makes desks over the empty world in setup, in a database or in lists.
 
 use crate::callers::OFFICE;
 use crate::script::lines;
@@ -12,7 +12,7 @@ use std::alloc::{AllocError, Global};
 /// A desk over a database in memory.
 pub type MemDesk = Desk<Store<MemStore>>;
 
-/// The office's code.
+/// Returns the office's code.
 pub fn office_code(alloc: Global) -> Result<Code, AllocError> {
     let Ok(code) = Code::parse(alloc, OFFICE.as_bytes()) else {
         return Err(AllocError);
@@ -20,7 +20,7 @@ pub fn office_code(alloc: Global) -> Result<Code, AllocError> {
     Ok(code)
 }
 
-/// A desk over the empty world in setup, in a database.
+/// Makes a desk over the empty world in setup, in a database in memory.
 pub fn fresh(alloc: Global) -> Result<MemDesk, AllocError> {
     let office = office_code(alloc)?;
     let Ok(store) = Store::create_memory(alloc, office) else {
@@ -29,13 +29,13 @@ pub fn fresh(alloc: Global) -> Result<MemDesk, AllocError> {
     Ok(Desk::new(store))
 }
 
-/// A desk over the empty world in setup, in lists.
+/// Makes a desk over the empty world in setup, in lists.
 pub fn fresh_lists(alloc: Global) -> Result<Desk<ListKeeper>, AllocError> {
     let office = office_code(alloc)?;
     Ok(Desk::new(ListKeeper::new(alloc, office)))
 }
 
-/// What is written for one connection's bytes, however it ends.
+/// Serves one connection with these bytes. Returns the output, whether or not serving fails.
 pub fn written<K: Keeper>(alloc: Global, desk: &mut Desk<K>, bytes: &[u8]) -> Vec<u8> {
     let mut source = Counted::new(bytes);
     let mut sink = Counted::new(Vec::new(alloc));
@@ -43,8 +43,7 @@ pub fn written<K: Keeper>(alloc: Global, desk: &mut Desk<K>, bytes: &[u8]) -> Ve
     sink.into_inner()
 }
 
-/// What is asked to see a world: it tells the rolls, the phase, each list, each ranking and the
-/// result.
+/// Requests that show a world: its phase, rolls, lists, rankings and result.
 pub const SEEN: &str = r#"
 office       GET /status
 office       GET /catalogue
@@ -59,7 +58,7 @@ stud-code-4  GET /choices
 stud-code-5  GET /choices
 "#;
 
-/// What a desk shows of its world.
+/// Sends the requests of `SEEN` on one connection, and returns the output.
 pub fn seen<K: Keeper>(alloc: Global, desk: &mut Desk<K>) -> Result<Vec<u8>, AllocError> {
     let mut text = String::new(alloc);
     let asked = lines(alloc, SEEN)?;

@@ -1,4 +1,4 @@
-//! Rankings that are filled, replaced or not owed.
+//! Scripted years in which rankings are filled, replaced or not needed.
 
 use crate::worked::{LISTS, ROLLS, TO_RANKING};
 

@@ -1,4 +1,4 @@
-//! What the test crates share: years as texts, who asks in them, and desks to play them on.
+//! Provides the test crates with scripted years, their callers, and desks to play them on.
 #![tactic(auto)]
 
 mod callers;

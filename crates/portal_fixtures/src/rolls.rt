@@ -1,4 +1,4 @@
-//! Rolls and lists of odd forms.
+//! Scripted years with unusual rolls and lists.
 
 const ONE_KEY: &str = r#"
 office  POST /rolls/lecturers id,name,code,capacity\nA1,Lee,lee-code-01,2\n  200 {"added":1,"same":0}

@@ -22,7 +22,7 @@ moe     PUT /ranking {"students":["S2"]}       200 {"students":["S2"]}
 office  POST /phase {"phase":"published"}      200 {"phase":"published"}
 "#;
 
-/// Those in published.
+/// The results that the lecturer and two students are shown.
 const PLACED: &str = r#"
 lee  GET /result  200 {"projects":[{"id":"P1","students":[{"key":"S2","name":"Roe, Bea"}]},{"id":"P2","students":[{"key":"S1","name":"Ann"}]}]}
 ann  GET /result  200 {"project":"P2"}
@@ -50,8 +50,8 @@ moe  GET /me  200 {"capacity":1,"key":"L2","name":"Moe","phase":"published","rol
 /// The first run.
 pub const PLAIN: &[&str] = &[ROLLS, LISTS, TO_RANKING, HEARD, PLACED];
 
-/// The second run: another order of a list, and others who ask between all calls. The lecturer's
-/// calls and replies are the same to the byte.
+/// The second run: one list has another order, and others ask between the calls. The lecturer's
+/// calls and replies are equal to the byte.
 pub const TURNED: &[&str] = &[
     ROLLS,
     TO_CHOOSING,

@@ -1,20 +1,20 @@
-//! Years as texts, one request a line:
+//! Parses and plays scripts, which have one request a line:
 //!
 //! ```text
 //! # A list that names a project twice is refused.
-//! ann     PUT /choices {"projects":["P1","P1"]}  422 {"at":2,"error":"bad_list","fault":"repeated"}
-//! office  GET /status                            200
+//! ann  PUT /choices {"projects":["P1","P1"]}  422 {"at":2,"error":"bad_list","fault":"repeated"}
+//! ann  GET /me                                200
 //! ```
 //!
-//! - The fields are the caller, the request and the reply. Two or more blanks stand between them.
+//! - The fields are the caller, the request and the reply, separated by two or more spaces.
 //! - The caller is a name of `callers`, or a code.
-//! - The request is a method, a path and, after one blank, a body. No body has two blanks in a row.
-//! - The reply is a status and, after one blank, a body. Without a body, any body is right.
-//! - In a body `\n`, `\r` and `\t` are a line feed, a carriage return and a tab, and `\u{feff}` is a
-//!   byte-order mark.
+//! - The request is a method, a path and, after one space, a body. No body has two spaces in a row.
+//! - The reply is a status and, after one space, a body. A line without a body accepts any body.
+//! - In a body `\n`, `\r` and `\t` mean a line feed, a carriage return and a tab, and `\u{feff}`
+//!   means a byte-order mark.
 //! - Blank lines, and lines that begin with `#`, are comments.
-//! - Where the first line of a script is `among`, others ask the rest of it three times before each
-//!   line of the scripts behind it.
+//! - If the first line of a script is `among`, its other lines are played three times before each
+//!   line of the scripts after it.
 //!
 //! `checks/years` plays the same texts through the program.
 
@@ -36,13 +36,13 @@ pub struct Line<'a> {
     pub answer: &'a str,
 }
 
-/// The text before the first gap, and the one behind it.
+/// Returns the texts before and after the first gap. Without a gap, the second one is empty.
 pub fn cut<'a>(text: &'a str, gap: &str) -> (&'a str, &'a str) {
     text.split_once(gap).unwrap_or((text, ""))
 }
 
 impl<'a> Line<'a> {
-    /// A text as a line. What is missing is empty.
+    /// Parses a line. Missing fields are empty.
     pub fn new(text: &'a str) -> Line<'a> {
         let (caller, rest) = cut(text, "  ");
         let (request, reply) = cut(rest.trim_start(), "  ");
@@ -61,7 +61,7 @@ impl<'a> Line<'a> {
         }
     }
 
-    /// The bytes of the request.
+    /// Returns the text of the HTTP request.
     pub fn request(&self, alloc: Global) -> Result<String, AllocError> {
         let body = unescaped(alloc, self.body)?;
         let length = body.len();
@@ -75,7 +75,7 @@ impl<'a> Line<'a> {
         )
     }
 
-    /// What the bytes of the reply begin with, and all of them where the line has a body.
+    /// Returns the whole expected reply, or only its status line if the line has no reply body.
     pub fn reply(&self, alloc: Global) -> Result<String, AllocError> {
         let reason = reason_of(self.status);
         if self.answer.is_empty() {
@@ -93,7 +93,7 @@ impl<'a> Line<'a> {
         )
     }
 
-    /// The type of the body of the reply.
+    /// Returns the content type of the reply.
     fn kind(&self) -> &'static str {
         if self.answer.starts_with('{') {
             "application/json"
@@ -104,7 +104,7 @@ impl<'a> Line<'a> {
         }
     }
 
-    /// Whether these are the bytes of the reply.
+    /// Returns whether the bytes found match the wanted reply.
     fn is_answered(&self, wanted: &str, found: &[u8]) -> bool {
         if self.answer.is_empty() {
             found.starts_with(wanted.as_bytes())
@@ -114,7 +114,7 @@ impl<'a> Line<'a> {
     }
 }
 
-/// A body, with the characters that its escapes stand for.
+/// Replaces the escapes of a body by their characters.
 pub fn unescaped(alloc: Global, body: &str) -> Result<String, AllocError> {
     let text = body.replace(alloc, "\\n", "\n")?;
     let text = text.replace(alloc, "\\r", "\r")?;
@@ -122,7 +122,7 @@ pub fn unescaped(alloc: Global, body: &str) -> Result<String, AllocError> {
     text.replace(alloc, "\\u{feff}", "\u{feff}")
 }
 
-/// The words behind a status.
+/// Returns the reason phrase of a status.
 fn reason_of(status: &str) -> &'static str {
     match status {
         "200" => "OK",
@@ -135,7 +135,7 @@ fn reason_of(status: &str) -> &'static str {
     }
 }
 
-/// The lines of a script.
+/// Parses the lines of a script, without comments.
 pub fn lines<'a>(alloc: Global, script: &'a str) -> Result<Vec<Line<'a>>, AllocError> {
     let mut lines = Vec::new(alloc);
     for text in script.lines() {
@@ -146,7 +146,7 @@ pub fn lines<'a>(alloc: Global, script: &'a str) -> Result<Vec<Line<'a>>, AllocE
     Ok(lines)
 }
 
-/// What is written for the request of a line, on a connection of its own.
+/// Sends the request of a line on a new connection, and returns the output.
 pub fn ask<K: Keeper>(
     alloc: Global,
     desk: &mut Desk<K>,
@@ -156,8 +156,8 @@ pub fn ask<K: Keeper>(
     Ok(written(alloc, desk, request.as_bytes()))
 }
 
-/// Plays a line on a connection of its own. If another reply comes than it wants, or the connection
-/// is not served to its end, this is written: the line, and both replies.
+/// Plays a line on a new connection. If the reply is wrong, or the connection is not served to its
+/// end, appends the line and both replies to `wrong`.
 fn play_line<K: Keeper>(
     alloc: Global,
     desk: &mut Desk<K>,
@@ -183,7 +183,7 @@ fn play_line<K: Keeper>(
     wrong.push_str(told.as_str())
 }
 
-/// Whether a connection with one request was served to its end.
+/// Returns whether a connection with one request was served to its end.
 fn is_whole(served: Result<Served, ServeFault>) -> bool {
     match served {
         Ok(served) => served.requests == 1 && served.ending == Ending::End,
@@ -191,7 +191,7 @@ fn is_whole(served: Result<Served, ServeFault>) -> bool {
     }
 }
 
-/// Plays the lines of a script, one after the other.
+/// Plays the lines of a script in order.
 fn play_script<K: Keeper>(
     alloc: Global,
     desk: &mut Desk<K>,
@@ -205,7 +205,7 @@ fn play_script<K: Keeper>(
     Ok(())
 }
 
-/// The same, where others play another script three times before each line.
+/// Plays the lines of a script in order, and the script `others` three times before each line.
 fn play_among<K: Keeper>(
     alloc: Global,
     desk: &mut Desk<K>,
@@ -223,7 +223,7 @@ fn play_among<K: Keeper>(
     Ok(())
 }
 
-/// Plays scripts, one after the other. The text tells what is wrong with the replies.
+/// Plays scripts in order. Returns a description of the wrong replies, empty if there are none.
 pub fn play<K: Keeper>(
     alloc: Global,
     desk: &mut Desk<K>,

@@ -1,4 +1,4 @@
-//! The second round of the worked world, and who may ask what in it.
+//! The scripted second round of the worked world, with what each caller may ask.
 
 use crate::worked::{ENROLLED, LISTS, RANKED, TO_RANKING};
 

@@ -1,4 +1,4 @@
-//! Databases of version 1, made by SQL.
+//! SQL texts that create databases of version 1.
 
 use sqlite::{Alter, Connection, Error};
 
@@ -20,7 +20,7 @@ CREATE TABLE ranking (lecturer TEXT NOT NULL REFERENCES lecturer (key), place IN
     student TEXT NOT NULL REFERENCES student (key), \
     PRIMARY KEY (lecturer, place), UNIQUE (student, lecturer)) STRICT";
 
-/// The same rules, with the columns of UNIQUE in the other order.
+/// An equivalent schema: other terms of CHECK, and the columns of UNIQUE in the other order.
 const TABLES_OTHERWISE: &str = "\
 CREATE TABLE portal (id INTEGER NOT NULL PRIMARY KEY CHECK (id = 1), version INTEGER NOT NULL, \
     phase INTEGER NOT NULL, office TEXT NOT NULL) STRICT; \
@@ -38,7 +38,7 @@ CREATE TABLE ranking (lecturer TEXT NOT NULL REFERENCES lecturer (key), place IN
     student TEXT NOT NULL REFERENCES student (key), \
     PRIMARY KEY (lecturer, place), UNIQUE (lecturer, student)) STRICT";
 
-/// The row of the office, in setup, and the rolls of the worked world.
+/// The office's row, in setup, and the rolls of the worked world.
 const ROLLS: &str = "\
 INSERT INTO portal (version, phase, office) VALUES (1, 0, 'office-code-0'); \
 INSERT INTO lecturer (key, name, code, capacity, ranked) VALUES \
@@ -48,16 +48,16 @@ INSERT INTO project (key, lecturer, title, capacity) VALUES \
 INSERT INTO student (key, name, code) VALUES \
     ('S1', 'Ann', 'ann-code-1'), ('S2', 'Roe, Bea', 'bea-code-2'), ('S3', 'Cyr', 'cyr-code-3')";
 
-/// Choosing, with the lists of the worked world.
+/// The move to choosing, and the lists of the worked world.
 const LISTS: &str = "\
 UPDATE portal SET phase = 1; \
 INSERT INTO choice (student, place, project) VALUES \
     ('S1', 1, 'P1'), ('S1', 2, 'P2'), ('S2', 1, 'P1'), ('S2', 2, 'P3')";
 
-/// Ranking.
+/// The move to ranking.
 const TO_RANKING: &str = "UPDATE portal SET phase = 2";
 
-/// The rankings of the worked world, and its result, published.
+/// The rankings of the worked world, and the publication of its result.
 const PUBLICATION: &str = "\
 INSERT INTO ranking (lecturer, place, student) VALUES \
     ('L1', 1, 'S2'), ('L1', 2, 'S1'), ('L2', 1, 'S2'); \
@@ -66,7 +66,7 @@ UPDATE student SET assigned = 'P2' WHERE key = 'S1'; \
 UPDATE student SET assigned = 'P1' WHERE key = 'S2'; \
 UPDATE portal SET phase = 3";
 
-/// As far as a year goes.
+/// A database in setup. The next three are in the later phases.
 pub const IN_SETUP: &[&str] = &[TABLES, ROLLS];
 
 pub const IN_CHOOSING: &[&str] = &[TABLES, ROLLS, LISTS];
@@ -75,10 +75,10 @@ pub const IN_RANKING: &[&str] = &[TABLES, ROLLS, LISTS, TO_RANKING];
 
 pub const IN_PUBLISHED: &[&str] = &[TABLES, ROLLS, LISTS, TO_RANKING, PUBLICATION];
 
-/// In ranking, with the other tables.
+/// A database in ranking, with the equivalent schema.
 pub const OTHERWISE: &[&str] = &[TABLES_OTHERWISE, ROLLS, LISTS, TO_RANKING];
 
-/// Runs these statements, one text after the other.
+/// Runs these SQL texts in order, and stops at the first error.
 pub fn run_all<S: Alter>(conn: &mut Connection<S>, texts: &[&str]) -> Result<(), Error> {
     for text in texts {
         conn.execute_batch(text)?;

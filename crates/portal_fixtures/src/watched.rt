@@ -1,4 +1,4 @@
-//! What is seen after each change.
+//! Scripted years in which callers look at the world after changes.
 
 use crate::worked::{
     LISTS, PUBLICATION, ROLLS, SECOND_LISTS, SECOND_OPENING, SECOND_PUBLICATION, SECOND_TO_RANKING,

@@ -1,6 +1,6 @@
-//! A wider department, whose first round leaves places at P3, P4 and P5 to S4 and those after. P2
-//! has a place left too, and its lecturer has none. Of the second round's students S6 and S9 get
-//! nothing: Moe takes two more students alone, and P5 has one place left.
+//! Scripts of a wider department. The first round leaves room at P3, P4 and P5, and five students
+//! without a project. P2 has room too, but its lecturer is full. In the second round S6 and S9 get
+//! nothing: Moe can take only two more students, and P5 has one place left.
 
 /// The rolls.
 pub const ROLLS: &str = r#"
@@ -26,12 +26,12 @@ moe     PUT /ranking {"students":["S3"]}       200 {"students":["S3"]}
 poe     PUT /ranking {"students":["S7"]}       200 {"students":["S7"]}
 "#;
 
-/// Its publication: each of the four has the project of the list.
+/// Its publication. Each of the four students gets the listed project.
 pub const PUBLISHED: &str = r#"
 office  POST /phase {"phase":"published"}  200 {"phase":"published"}
 "#;
 
-/// The second round and its lists.
+/// The opening of the second round, and its lists.
 pub const SECOND_CHOOSING: &str = r#"
 office       POST /phase {"phase":"choosing","round":2}  200 {"phase":"choosing","round":2}
 stud-code-4  PUT /choices {"projects":["P3","P4"]}       200 {"projects":["P3","P4"]}
@@ -48,7 +48,7 @@ moe     PUT /ranking {"students":["S4","S5","S6"]}  200 {"students":["S4","S5","
 poe     PUT /ranking {"students":["S8","S9"]}       200 {"students":["S8","S9"]}
 "#;
 
-/// Its publication: S4 has P3, S5 has P4, S8 has P5.
+/// Its publication: S4 gets P3, S5 gets P4 and S8 gets P5.
 pub const SECOND_PUBLISHED: &str = r#"
 office  POST /phase {"phase":"published"}  200 {"phase":"published","round":2}
 "#;
@@ -68,21 +68,21 @@ const OPENING: &str = r#"
 office  POST /phase {"phase":"choosing","round":2}  200 {"phase":"choosing","round":2}
 "#;
 
-/// The students' calls in one run of the second round.
+/// The students' lists in one run of the second round.
 const PLAIN_LISTS: &str = r#"
 stud-code-4  PUT /choices {"projects":["P3","P4"]}  200 {"projects":["P3","P4"]}
 stud-code-5  PUT /choices {"projects":["P3","P4"]}  200 {"projects":["P3","P4"]}
 stud-code-6  PUT /choices {"projects":["P4"]}       200 {"projects":["P4"]}
 "#;
 
-/// The same in another: one wants a project more that stood behind. The results are the same.
+/// The same in the other run, where S5 lists P4 before P3. The results are the same.
 const TURNED_LISTS: &str = r#"
 stud-code-4  PUT /choices {"projects":["P3","P4"]}  200 {"projects":["P3","P4"]}
 stud-code-5  PUT /choices {"projects":["P4","P3"]}  200 {"projects":["P4","P3"]}
 stud-code-6  PUT /choices {"projects":["P4"]}       200 {"projects":["P4"]}
 "#;
 
-/// A lecturer's calls and replies, in both.
+/// A lecturer's calls and replies, in both runs.
 const HEARD: &str = r#"
 # The lecturer's calls and replies in choosing.
 moe     GET /me                                     200 {"capacity":3,"key":"L2","name":"Moe","phase":"choosing","role":"lecturer","round":2}
@@ -103,7 +103,7 @@ moe     GET /me                                     200 {"capacity":3,"key":"L2"
 moe     GET /result                                 200 {"projects":[{"id":"P3","students":[{"key":"S3","name":"Cyr"},{"key":"S4","name":"Dee"}]},{"id":"P4","students":[{"key":"S5","name":"Eva"}]}]}
 "#;
 
-/// What others ask in the other run.
+/// Requests of other callers, played before each later line of `TURNED`.
 const OTHERS: &str = r#"among
 stud-code-1  GET /me         200
 stud-code-4  GET /me         200

@@ -1,5 +1,5 @@
-//! The worked world: two lecturers, three projects and three students. In the first round S1 gets
-//! P2, S2 gets P1 and S3 nothing. In the second S3 gets P3.
+//! Scripts of the worked world: two lecturers, three projects and three students. In the first
+//! round S1 gets P2, S2 gets P1 and S3 nothing. In the second round S3 gets P3.
 
 /// The rolls.
 pub const ENROLLED: &str = r#"
@@ -8,7 +8,7 @@ office  POST /rolls/projects id,lecturer,title,capacity\nP1,L1,Tides,1\nP2,L1,Ki
 office  POST /rolls/students id,name,code\nS1,Ann,ann-code-1\nS2,"Roe, Bea",bea-code-2\nS3,Cyr,cyr-code-3\n  200 {"added":3,"same":0}
 "#;
 
-/// The same, where a student comes twice.
+/// The same rolls, with one student uploaded twice.
 pub const ROLLS: &str = r#"
 office  POST /rolls/lecturers id,name,code,capacity\nL1,Lee,lee-code-01,2\nL2,Moe,moe-code-02,1\n  200 {"added":2,"same":0}
 office  POST /rolls/projects id,lecturer,title,capacity\nP1,L1,Tides,1\nP2,L1,Kites,1\nP3,L2,Bells,1\n  200 {"added":3,"same":0}
@@ -16,7 +16,7 @@ office  POST /rolls/students id,name,code\nS1,Ann,ann-code-1\nS2,"Roe, Bea",bea-
 office  POST /rolls/students id,name,code\nS3,Cyr,cyr-code-3\nS1,Ann,ann-code-1\n  200 {"added":1,"same":1}
 "#;
 
-/// The lists.
+/// The move to choosing, and the lists.
 pub const LISTS: &str = r#"
 office  POST /phase {"phase":"choosing"}       200 {"phase":"choosing"}
 ann     PUT /choices {"projects":["P1","P2"]}  200 {"projects":["P1","P2"]}
@@ -27,14 +27,14 @@ pub const TO_RANKING: &str = r#"
 office  POST /phase {"phase":"ranking"}  200 {"phase":"ranking"}
 "#;
 
-/// The rankings, and the publication.
+/// The rankings and the publication.
 pub const RANKED: &str = r#"
 lee     PUT /ranking {"students":["S2","S1"]}  200 {"students":["S2","S1"]}
 moe     PUT /ranking {"students":["S2"]}       200 {"students":["S2"]}
 office  POST /phase {"phase":"published"}      200 {"phase":"published"}
 "#;
 
-/// The same, where a publication comes too early.
+/// The same, with a publication that is refused because it is too early.
 pub const PUBLICATION: &str = r#"
 lee     PUT /ranking {"students":["S2","S1"]}  200 {"students":["S2","S1"]}
 office  POST /phase {"phase":"published"}      409 {"error":"still_to_rank","lecturers":["L2"]}
@@ -42,7 +42,7 @@ moe     PUT /ranking {"students":["S2"]}       200 {"students":["S2"]}
 office  POST /phase {"phase":"published"}      200 {"phase":"published"}
 "#;
 
-/// As far as a year goes.
+/// A year in setup. The next three are in the later phases.
 pub const IN_SETUP: &[&str] = &[ROLLS];
 
 pub const IN_CHOOSING: &[&str] = &[ROLLS, LISTS];
@@ -51,10 +51,10 @@ pub const IN_RANKING: &[&str] = &[ROLLS, LISTS, TO_RANKING];
 
 pub const IN_PUBLISHED: &[&str] = &[ROLLS, LISTS, TO_RANKING, PUBLICATION];
 
-/// The first round.
+/// The whole first round.
 pub const FIRST_ROUND: &[&str] = &[ENROLLED, LISTS, TO_RANKING, RANKED];
 
-/// One of its results.
+/// The first result, as S1 is shown it.
 pub const RESULT: &str = r#"
 ann  GET /result  200 {"project":"P2"}
 "#;
@@ -63,7 +63,7 @@ pub const SECOND_OPENING: &str = r#"
 office  POST /phase {"phase":"choosing","round":2}  200 {"phase":"choosing","round":2}
 "#;
 
-/// Who has no project hands in a list.
+/// The list of S3, who has no project.
 pub const SECOND_LISTS: &str = r#"
 cyr  PUT /choices {"projects":["P3"]}  200 {"projects":["P3"]}
 "#;
@@ -72,14 +72,14 @@ pub const SECOND_TO_RANKING: &str = r#"
 office  POST /phase {"phase":"ranking"}  200 {"phase":"ranking","round":2}
 "#;
 
-/// The ranking, the publication and its result.
+/// The ranking, the publication and the result that S3 is shown.
 pub const SECOND_PUBLICATION: &str = r#"
 moe     PUT /ranking {"students":["S3"]}   200 {"students":["S3"]}
 office  POST /phase {"phase":"published"}  200 {"phase":"published","round":2}
 cyr     GET /result                        200 {"project":"P3"}
 "#;
 
-/// Both rounds, in which the first result is shown from its publication on.
+/// Both rounds. From the first publication on, each phase shows S1 the first result.
 pub const TWO_ROUNDS: &[&str] = &[
     ROLLS,
     LISTS,
@@ -103,7 +103,7 @@ const SECOND_PUBLISHED: &str = r#"
 office  POST /phase {"phase":"published"}  200 {"phase":"published","round":2}
 "#;
 
-/// As far as the second round goes.
+/// A second round in choosing. The next three go further.
 pub const REOPENED: &[&str] = &[ENROLLED, LISTS, TO_RANKING, RANKED, SECOND_OPENING];
 
 pub const RANKING_AGAIN: &[&str] = &[

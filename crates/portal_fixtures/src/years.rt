@@ -1,4 +1,4 @@
-//! The first round of the worked world, with what is refused in each phase.
+//! The scripted first round of the worked world, with requests that each phase refuses.
 
 use crate::worked::{LISTS, PUBLICATION, ROLLS, TO_RANKING};
 

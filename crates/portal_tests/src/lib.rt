@@ -1,5 +1,4 @@
-//! Tests of the portal's decisions, of its rolls and of the keeper in lists, as their users call
-//! them.
+//! Tests the portal's decisions, its rolls and the keeper in lists through their public items.
 #![tactic(auto)]
 
 #[cfg(test)]

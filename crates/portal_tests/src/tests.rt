@@ -1,5 +1,4 @@
-//! A department at every limit over the keeper in lists; and rolls, rows, instance files, texts,
-//! codes and names.
+//! Tests both rounds over the keeper in lists, and rolls, rows, instance files, texts and names.
 
 mod instances;
 mod limits;

@@ -1,4 +1,4 @@
-//! Tests of the second round over a database, and of databases whose disk fails, in either round.
+//! Tests the second round over a database, and databases whose disk fails, in either round.
 #![tactic(auto)]
 
 #[cfg(test)]

@@ -1,5 +1,4 @@
-//! A desk over a database in memory, or on a disk that fails, by the bytes of its requests and
-//! replies.
+//! Tests a desk over a database in memory, or over one on a disk that fails.
 
 mod failed_reads;
 mod second_damages;

@@ -1,4 +1,4 @@
-//! Tests of the commands and of the words that ask for them.
+//! Tests the commands and the parsing of the command line.
 #![tactic(auto)]
 
 #[cfg(test)]

@@ -1,4 +1,4 @@
-//! Worked examples of the commands, over texts in memory.
+//! Tests the commands over texts in memory, files and databases.
 
 mod checks;
 mod devices;
@@ -12,7 +12,7 @@ use portal_fixtures::{cut, unescaped};
 use portal_run::run;
 use std::alloc::AllocError;
 
-/// The status and the bytes that a command gives for a text on its input.
+/// Runs a command with a text as its input, and returns the status and the output.
 fn told(
     rt: &HostRuntime,
     command: &str,
@@ -31,8 +31,8 @@ fn told(
 /// The header line of an instance file.
 const HEADER: &[u8] = b"kind,key,value,list\n";
 
-/// The rows to which a command does not give what they say, each with what it gives: the status, the
-/// output, and the records of the row, behind these ones.
+/// Runs a command for each row of a status, an output and records. The input is `before` and these
+/// records. Returns the rows whose status or output was another, with what was found.
 fn wrong(rt: &HostRuntime, command: &str, before: &str, rows: &str) -> Result<String, AllocError> {
     let alloc = rt.alloc();
     let mut wrong = String::new(alloc);
@@ -53,7 +53,7 @@ fn wrong(rt: &HostRuntime, command: &str, before: &str, rows: &str) -> Result<St
     Ok(wrong)
 }
 
-/// Whether the text begins with this one, and a gap or nothing comes behind it.
+/// Returns whether the text begins with `found`, followed by a gap or by nothing.
 fn begins_with(text: &str, found: &str) -> bool {
     match text.strip_prefix(found) {
         Some(rest) => rest.is_empty() || rest.starts_with("  "),

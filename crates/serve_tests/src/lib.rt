@@ -1,4 +1,4 @@
-//! Tests of connections: how many are taken, how each ends, and in what time.
+//! Tests how many connections are accepted, how each ends, and their timeouts.
 #![tactic(auto)]
 
 #[cfg(test)]

@@ -1,4 +1,4 @@
-//! Connections over a keeper in vectors: by the clock, and one after another.
+//! Tests connections over a keeper in lists: their timeouts, and one after another.
 
 mod callers;
 mod halls;
@@ -10,10 +10,10 @@ use portal_core::Code;
 use portal_list::ListKeeper;
 use std::process::Abort;
 
-/// A request of nobody, whose reply has 99 bytes.
+/// A request of an unknown caller, whose reply has 99 bytes.
 const ME: &str = "GET /me HTTP/1.1\r\nHost: h\r\n\r\n";
 
-/// The empty world in setup.
+/// Makes a keeper of the empty world in setup.
 fn fresh_keeper(rt: &(impl Abort + AllocGlobal)) -> ListKeeper
     ensures { Good result }
 {

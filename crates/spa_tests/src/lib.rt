@@ -1,4 +1,4 @@
-//! Tests of the allocation: rows, instances, matchings, blocking pairs and the students' best.
+//! Tests the allocation: rows, instances, matchings, blocking pairs and the solver.
 #![tactic(auto)]
 
 #[cfg(test)]

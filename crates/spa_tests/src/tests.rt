@@ -1,4 +1,4 @@
-//! Instances are written as the records of an instance file.
+//! Tests instances, which are written as the records of an instance file.
 
 mod blocking;
 mod chance;

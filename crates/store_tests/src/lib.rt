@@ -1,4 +1,4 @@
-//! Tests of the store, through its public surface and through a desk over it.
+//! Tests the store, through its public items and through a desk over it.
 #![tactic(auto)]
 
 #[cfg(test)]

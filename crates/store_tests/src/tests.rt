@@ -1,5 +1,4 @@
-//! A desk over a database in memory, by the bytes of its requests and replies, and databases that
-//! are opened again.
+//! Tests a desk over a database in memory, and databases that are opened again.
 
 mod crowds;
 mod damages;

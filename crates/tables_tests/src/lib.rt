@@ -1,4 +1,4 @@
-//! Tests of the tables, over a database in memory.
+//! Tests the tables, over a database in memory.
 #![tactic(auto)]
 
 #[cfg(test)]

@@ -1,4 +1,4 @@
-//! The tables of the second round, and the upgrade of a file that has them not.
+//! Tests the tables of the second round, and the upgrade of databases that lack them.
 
 use crate::tests::{
     CHOICES, STUDENTS, change, code, creates, department, key, put_key, reads, reads_rows, tells,
@@ -22,11 +22,11 @@ use std::test::Fail;
 const ROLLS: &str =
     "CREATE TABLE portal (id INTEGER NOT NULL PRIMARY KEY CHECK (id = 1), version INTEGER NOT NULL, phase INTEGER NOT NULL, office TEXT NOT NULL) STRICT; CREATE TABLE lecturer (key TEXT NOT NULL PRIMARY KEY, name TEXT NOT NULL, code TEXT NOT NULL UNIQUE, capacity INTEGER NOT NULL CHECK (capacity >= 1 AND capacity <= 200), ranked INTEGER NOT NULL CHECK (ranked = 0 OR ranked = 1)) STRICT; CREATE TABLE project (key TEXT NOT NULL PRIMARY KEY, lecturer TEXT NOT NULL REFERENCES lecturer (key), title TEXT NOT NULL, capacity INTEGER NOT NULL CHECK (capacity >= 1 AND capacity <= 200)) STRICT; CREATE TABLE student (key TEXT NOT NULL PRIMARY KEY, name TEXT NOT NULL, code TEXT NOT NULL UNIQUE, assigned TEXT REFERENCES project (key)) STRICT;";
 
-/// The last table, which comes behind that of choices, and rows of a small department.
+/// The last table, which follows that of choices, and the rows of a small department.
 const ROWS: &str =
     "CREATE TABLE ranking (lecturer TEXT NOT NULL REFERENCES lecturer (key), place INTEGER NOT NULL, student TEXT NOT NULL REFERENCES student (key), PRIMARY KEY (lecturer, place), UNIQUE (student, lecturer)) STRICT; INSERT INTO portal VALUES (1, 1, 2, 'office-code-1'); INSERT INTO lecturer VALUES ('L1', 'Lee', 'lee-code-1', 2, 0); INSERT INTO project VALUES ('P1', 'L1', 'Tides', 1); INSERT INTO student VALUES ('S1', 'Ann', 'ann-code-1', NULL); INSERT INTO choice VALUES ('S1', 1, 'P1');";
 
-/// A database of version 1 whose table of choices is made by this text.
+/// Makes a database of version 1. The text creates its table of choices.
 fn of_version_1(rt: &(impl Abort + AllocGlobal), choices: &str) -> Connection<MemStore> {
     let mut conn = Connection::open_in_memory(rt.alloc()).expect(rt, "memory");
     conn.execute_batch(ROLLS).expect(rt, "tables");
@@ -35,7 +35,7 @@ fn of_version_1(rt: &(impl Abort + AllocGlobal), choices: &str) -> Connection<Me
     conn
 }
 
-/// The upgrade is made, and what the six tables hold is as it was.
+/// Upgrades the database, and checks rows of the old tables and the new ones.
 fn is_upgraded(rt: &(impl Abort + AllocGlobal), conn: &mut Connection<MemStore>) {
     assert!(rt; conn.is_autocommit());
     assert!(rt; office_in(rt.alloc(), conn, FIRST_VERSION).is_ok());
@@ -87,7 +87,7 @@ fn a_name_is_taken(rt: HostRuntime) -> Result<(), Fail> {
     Ok(())
 }
 
-/// What is written of the second round: a list, a ranking, who has one, and in which phase.
+/// Writes rows of the second round: a list, a ranking, who has one, and the phase.
 fn write_second(
     rt: &(impl Abort + AllocGlobal),
     conn: &mut Connection<MemStore>,
@@ -180,7 +180,7 @@ fn the_second_result_is_put(rt: HostRuntime) {
     reads(&rt, &mut conn, Query::SecondPlacements, "S2 P2 /");
 }
 
-/// What Lee sees in the round, published, with the catalogue of the tables.
+/// Returns Lee's view of the published round, with the catalogue of the first.
 fn seen_by_lee(
     rt: &(impl Abort + AllocGlobal),
     conn: &mut Connection<MemStore>,
@@ -201,7 +201,7 @@ fn seen_by_lee(
     view
 }
 
-/// The projects have these persons, each with a stroke behind all of its own.
+/// Checks the projects and their persons, with a slash after each project's persons.
 fn are_at(rt: &(impl Abort + AllocGlobal), projects: &[(Key, Vec<Person>)], wanted: &str) {
     let mut text = String::new(rt.alloc());
     for (project, persons) in projects {
@@ -238,7 +238,7 @@ fn the_first_round_is_seen(rt: HostRuntime) {
     are_at(&rt, &view.placed, "P1 S2 /P2 /");
 }
 
-/// Writes keys, with a stroke behind them.
+/// Appends keys, and a slash after the last.
 fn put_keys(rt: &impl Abort, text: &mut String, keys: &[Key]) {
     for key in keys {
         put_key(rt, text, key);
@@ -246,8 +246,8 @@ fn put_keys(rt: &impl Abort, text: &mut String, keys: &[Key]) {
     text.push('/').expect(rt, "memory");
 }
 
-/// The office sees the round in this phase: the students without a list, the lecturers still to
-/// rank, and the pairs.
+/// Checks the office's view of the round in this phase: the students without a list, the lecturers
+/// still to rank, and the pairs.
 fn is_seen_by_office(
     rt: &(impl Abort + AllocGlobal),
     conn: &mut Connection<MemStore>,

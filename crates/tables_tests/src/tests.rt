@@ -1,4 +1,4 @@
-//! Each statement and each query once, over a small department.
+//! Tests each statement and each query, over a small department.
 
 use portal_core::{Code, LecturerRow, Name, ProjectRow, Round, StudentRow};
 use portal_tables::insert::{Lecturers, NewPlace, Projects, Students, add_all};
@@ -16,7 +16,7 @@ use sqlite::{Connection, Error, MemStore, Row, Transaction};
 use std::process::Abort;
 use std::test::Fail;
 
-/// One value as a text, with a blank behind it.
+/// Appends a value as a text, with a space after it.
 fn put_value(rt: &(impl Abort + AllocGlobal), text: &mut String, row: &Row, at: usize) {
     let value = match row.get_ref(at).expect(rt, "a column") {
         ValueRef::Text(bytes) => {
@@ -29,8 +29,8 @@ fn put_value(rt: &(impl Abort + AllocGlobal), text: &mut String, row: &Row, at: 
     text.push_str(value.as_str()).expect(rt, "memory");
 }
 
-/// The rows are these, with a stroke behind each row. As many columns are looked at as the first row
-/// has blanks.
+/// Checks the rows, with a slash after each. It compares as many columns as the first wanted row
+/// has spaces.
 fn shows<E: Drop>(rt: &(impl Abort + AllocGlobal), rows: Result<Vec<Row>, E>, wanted: &str) {
     let first = wanted.split_once('/').unwrap_or((wanted, "")).0;
     let columns = first.bytes().filter(|byte| *byte == b' ').count();
@@ -47,7 +47,7 @@ fn shows<E: Drop>(rt: &(impl Abort + AllocGlobal), rows: Result<Vec<Row>, E>, wa
     assert_eq!(rt; text.as_str(), wanted);
 }
 
-/// The query, read as a whole, shows these rows.
+/// Checks the rows of a query that is read as a whole.
 pub(crate) fn reads(
     rt: &(impl Abort + AllocGlobal),
     conn: &mut Connection<MemStore>,
@@ -57,7 +57,7 @@ pub(crate) fn reads(
     shows(rt, read(conn, query), wanted);
 }
 
-/// The query, read row by row, shows these rows.
+/// Checks the rows of a query that is read row by row.
 pub(crate) fn reads_rows(
     rt: &(impl Abort + AllocGlobal),
     conn: &mut Connection<MemStore>,
@@ -77,7 +77,7 @@ pub(crate) const CHOICES: Query<'static> = Query::AllLists(Lists::Choices);
 
 pub(crate) const RANKINGS: Query<'static> = Query::AllLists(Lists::Rankings);
 
-/// Of the student with this key this is told: key, name and assigned project, with a stroke behind.
+/// Checks the key, name and assigned project of the student with this key.
 fn are_told(
     rt: &(impl Abort + AllocGlobal),
     conn: &mut Connection<MemStore>,
@@ -112,8 +112,7 @@ pub(crate) fn put_key(rt: &impl Abort, text: &mut String, key: &Key) {
     text.push(' ').expect(rt, "memory");
 }
 
-/// The lists of the owners are these, each told by its owner and whom or what it names, with a
-/// stroke behind it.
+/// Checks the lists of the owners: each owner and the entries, with a slash after each list.
 pub(crate) fn tells(
     rt: &(impl Abort + AllocGlobal),
     conn: &mut Connection<MemStore>,
@@ -136,7 +135,7 @@ pub(crate) fn tells(
     assert_eq!(rt; text.as_str(), wanted);
 }
 
-/// Makes the tables, or says that they are not made.
+/// Creates the tables, and returns whether that succeeded.
 pub(crate) fn creates(rt: &impl AllocGlobal, conn: &mut Connection<MemStore>) -> bool {
     if !conn.is_autocommit() {
         return false;
@@ -251,7 +250,7 @@ fn set_all(tx: &mut Transaction<'_, MemStore>) -> Result<(), Error> {
     Ok(())
 }
 
-/// The result of the first round is there.
+/// Publishes a result of the first round, and clears a list and a ranking.
 pub(crate) fn change(conn: &mut Connection<MemStore>) -> Result<(), Error> {
     if !conn.is_autocommit() {
         return Ok(());
@@ -276,13 +275,13 @@ fn are_lists_apart(conn: &mut Connection<MemStore>) -> Result<bool, Error> {
     )
 }
 
-/// The rows have numbers of their own.
+/// Checks that the rowids of the rolls, lists and rankings of the first round are distinct.
 fn have_numbers(rt: &impl Abort, conn: &mut Connection<MemStore>) {
     assert!(rt; are_rolls_apart(conn).expect(rt, "numbers"));
     assert!(rt; are_lists_apart(conn).expect(rt, "numbers"));
 }
 
-/// A database in memory with the portal's tables and the small department.
+/// Makes a database in memory with the portal's tables and the small department.
 pub(crate) fn department(rt: &(impl Abort + AllocGlobal)) -> Connection<MemStore> {
     let mut conn = Connection::open_in_memory(rt.alloc()).expect(rt, "memory");
     assert!(rt; creates(rt, &mut conn));
@@ -290,7 +289,7 @@ pub(crate) fn department(rt: &(impl Abort + AllocGlobal)) -> Connection<MemStore
     conn
 }
 
-/// The same lists, whose rows stand neither by owner nor by place; the lecturer has a ranking.
+/// Adds the same lists, with rows ordered neither by owner nor by place, and marks the ranking.
 fn add_mixed(
     rt: &(impl Abort + AllocGlobal),
     tx: &mut Transaction<'_, MemStore>,
@@ -319,21 +318,21 @@ fn fill_mixed(
     tx.commit()
 }
 
-/// Nine keys, so that a statement of eight rows and one of one row are made.
+/// Returns nine keys. Their rows take a statement of eight rows and one of one row.
 fn nine() -> [&'static [u8]; 9] {
     [
         b"K1", b"K2", b"K3", b"K4", b"K5", b"K6", b"K7", b"K8", b"K9",
     ]
 }
 
-/// Their code.
+/// Returns a code for a key.
 fn code_of(rt: &(impl Abort + AllocGlobal), key: &[u8]) -> Code {
     let word = str::from_utf8(key).expect(rt, "a text");
     let text = format!(in rt.alloc(); "code-of-{word}").expect(rt, "memory");
     code(rt, text.as_bytes())
 }
 
-/// Nine rows in each table; the first of the nine has a list of all and ranks all.
+/// Adds nine rows to each roll, a list of all nine projects and a ranking of all nine students.
 fn add_nine(
     rt: &(impl Abort + AllocGlobal),
     tx: &mut Transaction<'_, MemStore>,
@@ -400,8 +399,7 @@ fn rows_come_by_the_eight(rt: HostRuntime) -> Result<(), Fail> {
     Ok(())
 }
 
-/// Each of the nine students is assigned to the project of the same key, but for the fifth, who has
-/// none.
+/// Assigns each of the nine students, except the fifth, to the project of the same key.
 fn assign_nine(
     rt: &(impl Abort + AllocGlobal),
     conn: &mut Connection<MemStore>,

@@ -1,24 +1,24 @@
-//! A stream of requests, and what is written for it.
+//! Describes a stream of requests and its expected output.
 
 use crate::tests::portal::{BAD_HEAD, BAD_LENGTH};
 use portal_desk::Ending;
 use std::process::Abort;
 
-/// The head and the body of a request, and the reply.
+/// The head and the body of a request, and its reply.
 pub(crate) type Asked = (&'static str, &'static str, &'static str);
 
-/// A stream of requests, of which the last may be refused, and what is written for it.
+/// A stream of requests and its expected output. Framing may refuse the last request.
 #[derive(Drop)]
 pub(crate) struct Stream {
     /// The requests and the replies to them.
     pub asked: &'static [Asked],
-    /// The head behind them, if there is one, and what comes of its body.
+    /// The head of the refused request, or an empty text. `body` is what follows it.
     pub head: &'static str,
     pub body: &'static str,
-    /// The word of the refusal, and its reply.
+    /// The word of the refusal. `closing` is the reply to it.
     pub word: &'static str,
     pub closing: &'static str,
-    /// Whether it is refused only when the input has ended.
+    /// Whether the desk reads until the input ends.
     pub waits: bool,
 }
 
@@ -31,7 +31,7 @@ impl Stream {
         }
     }
 
-    /// The requests behind the first so many.
+    /// Returns the bytes of the requests after the first `many`.
     pub(crate) fn behind(&self, rt: &(impl Abort + AllocGlobal), many: usize) -> Vec<u8> {
         let mut bytes = Vec::new(rt.alloc());
         for (head, body, _) in self.asked.iter().skip(many) {
@@ -56,7 +56,7 @@ impl Stream {
         bytes
     }
 
-    /// What is written for the first requests.
+    /// Returns the replies to the first `many` requests.
     pub(crate) fn replies(&self, rt: &(impl Abort + AllocGlobal), many: usize) -> Vec<u8> {
         let mut text = Vec::new(rt.alloc());
         for (_, _, reply) in self.asked.iter().take(many) {
@@ -66,7 +66,7 @@ impl Stream {
         text
     }
 
-    /// What is written for the requests behind the first so many.
+    /// Returns the replies to the requests after the first `many`.
     pub(crate) fn replies_behind(&self, rt: &(impl Abort + AllocGlobal), many: usize) -> Vec<u8> {
         let mut text = Vec::new(rt.alloc());
         for (_, _, reply) in self.asked.iter().skip(many) {
@@ -87,7 +87,7 @@ impl Stream {
         self.asked.len()
     }
 
-    /// How many requests stand whole in so many bytes, and how many bytes come behind them.
+    /// Returns how many requests are complete in `many` bytes, and how many bytes follow them.
     pub(crate) fn whole_in(&self, many: usize) -> (usize, usize) {
         let mut left = many;
         for (at, (head, body, _)) in self.asked.iter().enumerate() {
@@ -100,7 +100,7 @@ impl Stream {
         (self.requests(), left)
     }
 
-    /// How many requests have acted where a writer fails after so many bytes.
+    /// Returns how many requests have acted when a writer fails after `many` bytes.
     pub(crate) fn acted_at(&self, many: usize) -> usize {
         let mut left = many;
         for (at, (_, _, reply)) in self.asked.iter().enumerate() {
@@ -112,7 +112,7 @@ impl Stream {
         self.requests()
     }
 
-    /// The ending and the last reply where the input ends so many bytes behind the first requests.
+    /// Returns the ending and the last reply if the input ends `left` bytes after `whole` requests.
     pub(crate) fn cut_off(&self, whole: usize, left: usize) -> (Ending, &'static str) {
         if left == 0 {
             return (Ending::End, "");

@@ -1,4 +1,4 @@
-//! Devices that give or take a few bytes at a time, or so many and no more.
+//! Simulates readers and writers that work in small pieces, or end or fail after some bytes.
 
 ghost use Rattle.std.specs.Prelude.{Some};
 
@@ -8,7 +8,7 @@ use std::alloc::Global;
 use std::io::{Read, Write};
 use std::process::Abort;
 
-/// Gives bytes in pieces, and then ends or fails.
+/// A reader that returns bytes in pieces, and then ends or fails.
 #[derive(Drop)]
 pub(crate) struct Feeder<'b> {
     rest: &'b [u8],
@@ -20,7 +20,7 @@ pub(crate) struct Feeder<'b> {
 }
 
 impl<'b> Feeder<'b> {
-    /// Gives so many bytes at a time.
+    /// Makes a reader that returns up to `step` bytes a call.
     pub(crate) fn new(bytes: &'b [u8], step: usize) -> Feeder<'b> {
         Feeder {
             rest: bytes,
@@ -32,7 +32,7 @@ impl<'b> Feeder<'b> {
         }
     }
 
-    /// Gives so many bytes first, so many second, and then all.
+    /// Makes a reader that returns up to `first` bytes, then `second`, and then 4,096 a call.
     pub(crate) fn cut(bytes: &'b [u8], first: usize, second: usize) -> Feeder<'b> {
         Feeder {
             rest: bytes,
@@ -44,7 +44,7 @@ impl<'b> Feeder<'b> {
         }
     }
 
-    /// Gives so many bytes at a time, and fails after them.
+    /// Makes a reader that returns up to `step` bytes a call, and fails after the last byte.
     pub(crate) fn failing(bytes: &'b [u8], step: usize) -> Feeder<'b> {
         Feeder {
             rest: bytes,
@@ -84,7 +84,7 @@ impl<'b> Source for Feeder<'b> {
     }
 }
 
-/// Takes bytes in pieces, so many in all, and then fails.
+/// A writer that accepts bytes in pieces up to a total, and then fails.
 #[derive(Drop)]
 pub(crate) struct Basin {
     held: Vec<u8>,
@@ -94,7 +94,7 @@ pub(crate) struct Basin {
 }
 
 impl Basin {
-    /// Takes so many bytes at a time, and so many in all.
+    /// Makes a writer that accepts up to `step` bytes a call, and `room` bytes in all.
     pub(crate) fn new(alloc: Global, step: usize, room: usize) -> Basin {
         Basin {
             held: Vec::new(alloc),
@@ -137,7 +137,7 @@ impl Sink for Basin {
     }
 }
 
-/// What is written for what this source gives.
+/// Serves a source, checks its ending and number of requests, and returns the output.
 pub(crate) fn served_by<R: Source>(
     rt: &(impl Abort + AllocGlobal),
     desk: &mut Desk<ListKeeper>,

@@ -1,9 +1,9 @@
-//! Streams that are served one after another over one desk.
+//! Tests streams that one desk serves one after another.
 
 use crate::tests::portal::{NO_CALLER, fresh, reply, request};
 use portal_desk::serve_each;
 
-/// The lecturer whom the second stream enrols is nobody in the first, and is known in the third.
+/// The second stream adds a lecturer, who is unknown in the first and known in the third.
 #[test]
 fn each_stream_finds_what_the_one_before_left(rt: HostRuntime) {
     let mut desk = fresh(&rt);

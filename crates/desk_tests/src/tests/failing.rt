@@ -1,4 +1,4 @@
-//! A store that fails.
+//! Tests a desk over a keeper that fails.
 
 ghost use Rattle.std.specs.Prelude.{length};
 ghost use Rattle.portal_core.specs.Meaning.{CountsFaults};
@@ -13,12 +13,12 @@ use spa_model::Instance;
 use std::alloc::Global;
 use std::process::Abort;
 
-/// Shows what a keeper in vectors shows, so many times, and then fails.
+/// A keeper in lists that fails after `left` views, and at each instance and each change.
 #[derive(Drop)]
 struct Failing {
     kept: ListKeeper,
     left: u32,
-    /// An entry for each fault that was told.
+    /// One entry for each fault that was returned.
     faults: Vec<u8>,
 }
 
@@ -31,7 +31,7 @@ impl Failing {
         }
     }
 
-    /// Fails, and counts it.
+    /// Returns a fault, and counts it.
     fn fail<T: Drop>(&mut self) -> Result<T, KeepFault>
         ensures { CountsFaults result (length self.old.faults.items) (length self.new.faults.items) }
     {
@@ -76,7 +76,7 @@ const TWO: &str = "GET /me HTTP/1.1\r\nHost: h\r\n\r\nGET /me HTTP/1.1\r\nHost: 
 const LOST: &str =
     "HTTP/1.1 503 Service Unavailable\r\ncontent-type: application/json\r\ncontent-length: 23\r\nconnection: close\r\n\r\n{\"error\":\"unavailable\"}";
 
-/// A call of `serve` ends by the store's fault, and this is written.
+/// Checks that `serve` ends with a fault of the store, after these requests and this output.
 fn fails(
     rt: &(impl Abort + AllocGlobal),
     desk: &mut Desk<Failing>,
@@ -110,7 +110,7 @@ fn the_desk_has_failed_from_then_on(rt: HostRuntime) {
     fails(&rt, &mut desk, TWO, 1, LOST.as_bytes());
 }
 
-/// A change is refused by the store, and from then on the desk has failed.
+/// Checks that a change fails with a fault of the store, and that the desk then stays failed.
 fn is_lost(rt: &(impl Abort + AllocGlobal), desk: Desk<ListKeeper>, line: &str) {
     let asked = request(rt, line);
     let mut failing = Desk::new(Failing::new(rt, desk.into_keeper(), u32::MAX));
@@ -129,7 +129,7 @@ fn each_change_of_the_second_round_is_lost(rt: HostRuntime) {
     is_lost(&rt, ranking_again(&rt), "office  POST /ranking/fill {}");
 }
 
-/// The publication finds no instance.
+/// The publication fails because the keeper returns no instance.
 #[test]
 fn the_second_publication_is_lost(rt: HostRuntime) {
     let publication = r#"office  POST /phase {"phase":"published"}"#;

@@ -1,10 +1,10 @@
-//! Framing, by examples.
+//! Tests framing by examples.
 
 use portal_fixtures::{cut, unescaped};
 use portal_frame::{Frame, frame};
 use std::process::Abort;
 
-/// What the bytes are, in short.
+/// Describes in short what framing finds in the bytes.
 fn told(rt: &(impl Abort + AllocGlobal), bytes: &str, ended: bool) -> String {
     let alloc = rt.alloc();
     match frame(alloc, bytes.as_bytes(), ended).expect(rt, "memory") {
@@ -33,7 +33,7 @@ pub(crate) fn is(rt: &(impl Abort + AllocGlobal), bytes: &str, ended: bool, want
     assert_eq!(rt; text.as_str(), wanted);
 }
 
-/// Whether the input has ended, what the bytes are, and the bytes.
+/// Each row says whether the input has ended, what framing finds, and the bytes.
 const REQUESTS: &str = r#"
 open   request 3 3 false 0 49  GET /me?a HTTP/1.1\r\nHost: h\r\nPortal-Code: abc\r\n\r\nGET
 open   request 3 0 true 0 53   GET /me HTTP/1.1\r\nHost: h\r\nConnection: a ,\tClose \r\n\r\n
@@ -60,7 +60,7 @@ open   need                    GET /me HTTP/1.1\na:\na:\na:\na:\na:\na:\na:\na:\
 open   400 bad_head false      GET /me HTTP/1.1\na:\na:\na:\na:\na:\na:\na:\na:\na:\na:\na:\na:\na:\na:\na:\na:\na:\na:\na:\na:\na:\na:\na:\na:\na:\na:\na:\na:\na:\na:\na:\na:\na:\n
 "#;
 
-/// The bytes of each row are what it says.
+/// Checks that framing finds what each row says.
 fn are(rt: &(impl Abort + AllocGlobal), rows: &str) {
     for row in rows.lines().skip(1) {
         let (input, rest) = cut(row, "  ");

@@ -1,11 +1,11 @@
-//! Heads at their limits.
+//! Tests request heads at their limits.
 
 use super::frames::is;
 use crate::tests::portal::{BAD_HEAD, NO_CALLER, fresh, gives};
 use portal_desk::Ending;
 use std::process::Abort;
 
-/// A head of the start line, a Host line and so many lines more.
+/// Returns a head with a request line, a Host line and `more` further lines.
 fn with_lines(rt: &(impl Abort + AllocGlobal), more: u32) -> String {
     let mut head = String::new(rt.alloc());
     head.push_str("GET /me HTTP/1.1\r\nHost: h\r\n")
@@ -17,7 +17,7 @@ fn with_lines(rt: &(impl Abort + AllocGlobal), more: u32) -> String {
     head
 }
 
-/// A head with a value of so many bytes, and what stands behind it.
+/// Returns a head with a header value of `length` bytes, followed by `end`.
 fn with_value(rt: &(impl Abort + AllocGlobal), length: u32, end: &str) -> String {
     let mut head = String::new(rt.alloc());
     head.push_str("GET /me HTTP/1.1\r\nHost: h\r\na: ")
@@ -47,7 +47,7 @@ fn at_most_16384_bytes(rt: HostRuntime) {
     is(&rt, open.as_str(), false, "400 bad_head false");
 }
 
-/// A desk serves a head that is at its limit, and refuses one that is beyond it.
+/// Checks that a desk serves a head at the limit, and refuses one beyond it.
 fn serves(rt: &(impl Abort + AllocGlobal), most: &str, more: &str) {
     let mut desk = fresh(rt);
     gives(rt, &mut desk, most, Ending::End, 1, NO_CALLER);

@@ -1,4 +1,4 @@
-//! The longest body, on devices that fail.
+//! Tests the longest body, on devices that fail.
 
 use crate::tests::devices::{Basin, Feeder};
 use crate::tests::portal::{choosing, plays, reopened, written};
@@ -11,7 +11,7 @@ const HEAD: &str =
 
 const EMPTY: &str = r#"{"projects":[]}"#;
 
-/// A student is shown no list, or the one that was there, which is put.
+/// Lines in which a student is shown an empty list or the old one, or submits the old one.
 const SHOWS_NONE: &str = r#"ann  GET /choices  200 {"projects":[]}"#;
 
 const SHOWS_OLD: &str = r#"ann  GET /choices  200 {"projects":["P1","P2"]}"#;
@@ -25,7 +25,7 @@ const REPLY: &str =
 const HAS_ONE: &str =
     "HTTP/1.1 409 Conflict\r\ncontent-type: application/json\r\ncontent-length: 26\r\n\r\n{\"error\":\"already_placed\"}";
 
-/// A request with an empty list and blanks up to the longest body.
+/// Returns a request with an empty list, padded with spaces to the longest body.
 fn longest(rt: &(impl Abort + AllocGlobal)) -> Vec<u8> {
     let mut bytes = Vec::new(rt.alloc());
     bytes
@@ -49,8 +49,7 @@ fn is_taken(rt: HostRuntime) {
     plays(&rt, &mut desk, SHOWS_NONE);
 }
 
-/// In the second round a student who has a project may send it, and it is refused as the shortest
-/// is.
+/// In the second round, the longest body of a student with a project is read, and then refused.
 #[test]
 fn is_read_before_it_is_refused(rt: HostRuntime) {
     let mut desk = reopened(&rt);
@@ -60,7 +59,7 @@ fn is_read_before_it_is_refused(rt: HostRuntime) {
     plays(&rt, &mut desk, SHOWS_NONE);
 }
 
-/// A reader fails before the last byte: nothing has acted.
+/// Checks a reader that fails before the last byte: the request has not acted.
 fn fails_reading(
     rt: &(impl Abort + AllocGlobal),
     desk: &mut Desk<ListKeeper>,
@@ -100,7 +99,7 @@ fn readers_fail_at_each_byte_of_the_head(rt: HostRuntime) {
     }
 }
 
-/// A reader fails behind the last byte: the request has acted, and its reply is whole.
+/// If a reader fails after the last byte, the request has acted and its reply is complete.
 #[test]
 fn a_reader_fails_behind_it(rt: HostRuntime) {
     let mut desk = choosing(&rt);
@@ -118,7 +117,7 @@ fn a_reader_fails_behind_it(rt: HostRuntime) {
     plays(&rt, &mut desk, SHOWS_NONE);
 }
 
-/// A writer fails after so many bytes: the request has acted.
+/// Checks a writer that fails after `many` bytes: the request has acted.
 fn fails_writing(
     rt: &(impl Abort + AllocGlobal),
     desk: &mut Desk<ListKeeper>,

@@ -1,5 +1,4 @@
-//! In which order a stream is served: a request acts and its reply is written before the next byte
-//! is asked for.
+//! Tests that a request acts, and its reply is written, before the next byte is read.
 
 ghost use Rattle.std.specs.Prelude.{None};
 
@@ -11,16 +10,16 @@ use spa_model::Instance;
 use std::alloc::Global;
 use std::cell::Cell;
 
-/// What was done so far.
+/// Counts of what was done so far.
 #[derive(Drop)]
 struct Done {
-    /// How often the keeper was asked what a caller sees.
+    /// How many views the keeper was asked for.
     views: Cell<usize>,
     /// How many bytes were written.
     bytes: Cell<usize>,
 }
 
-/// A keeper in vectors that notes when it is asked.
+/// A keeper in lists that counts the views it is asked for.
 #[derive(Drop)]
 struct Noting<'a> {
     kept: ListKeeper,
@@ -50,7 +49,7 @@ impl<'a> Keeper for Noting<'a> {
     }
 }
 
-/// Gives a request at each read, and looks at what was done for those before.
+/// A reader that returns one request a call. It checks that all earlier ones were answered.
 #[derive(Drop)]
 struct Watching<'a> {
     left: usize,
@@ -61,7 +60,7 @@ struct Watching<'a> {
 
 const REQUEST: &[u8] = b"GET /me HTTP/1.1\r\nHost: h\r\n\r\n";
 
-/// The bytes of the reply to it, 403 `no_caller`.
+/// The length of the reply to it in bytes: 403 `no_caller`.
 const REPLY: usize = 99;
 
 impl<'a> Source for Watching<'a> {
@@ -87,7 +86,7 @@ impl<'a> Source for Watching<'a> {
     }
 }
 
-/// Takes all bytes, and counts them.
+/// A writer that accepts all bytes, and counts them.
 #[derive(Drop)]
 struct Tallying<'a> {
     done: &'a Done,

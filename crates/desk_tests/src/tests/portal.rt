@@ -1,4 +1,4 @@
-//! Desks over a keeper in lists, and what is asked of them.
+//! Makes desks over a keeper in lists, and checks their output.
 
 ghost use Rattle.portal_core.specs.Good.{Good};
 
@@ -10,11 +10,11 @@ use portal_fixtures::{Line, office_code, play};
 use portal_list::ListKeeper;
 use std::process::Abort;
 
-/// The reply to a caller whom nobody knows.
+/// The reply to an unknown caller.
 pub(crate) const NO_CALLER: &str =
     "HTTP/1.1 403 Forbidden\r\ncontent-type: application/json\r\ncontent-length: 21\r\n\r\n{\"error\":\"no_caller\"}";
 
-/// The reply to bytes that are no head.
+/// The reply to bytes that are not a head.
 pub(crate) const BAD_HEAD: &str =
     "HTTP/1.1 400 Bad Request\r\ncontent-type: application/json\r\ncontent-length: 20\r\nconnection: close\r\n\r\n{\"error\":\"bad_head\"}";
 
@@ -22,7 +22,7 @@ pub(crate) const BAD_HEAD: &str =
 pub(crate) const BAD_LENGTH: &str =
     "HTTP/1.1 400 Bad Request\r\ncontent-type: application/json\r\ncontent-length: 22\r\nconnection: close\r\n\r\n{\"error\":\"bad_length\"}";
 
-/// The empty world in setup.
+/// Makes a keeper of the empty world in setup.
 pub(crate) fn fresh_keeper(rt: &(impl Abort + AllocGlobal)) -> ListKeeper
     ensures { Good result }
 {
@@ -30,12 +30,12 @@ pub(crate) fn fresh_keeper(rt: &(impl Abort + AllocGlobal)) -> ListKeeper
     ListKeeper::new(rt.alloc(), office)
 }
 
-/// A desk over the empty world in setup.
+/// Makes a desk over the empty world in setup.
 pub(crate) fn fresh(rt: &(impl Abort + AllocGlobal)) -> Desk<ListKeeper> {
     Desk::new(fresh_keeper(rt))
 }
 
-/// What is written for one connection's bytes, which are read to their end.
+/// Serves one connection, checks its ending and number of requests, and returns the output.
 pub(crate) fn written(
     rt: &(impl Abort + AllocGlobal),
     desk: &mut Desk<ListKeeper>,
@@ -52,7 +52,7 @@ pub(crate) fn written(
     sink.into_inner()
 }
 
-/// One connection's bytes get this output.
+/// Checks that a connection with these bytes has this ending, number of requests and output.
 pub(crate) fn gives(
     rt: &(impl Abort + AllocGlobal),
     desk: &mut Desk<ListKeeper>,
@@ -65,23 +65,23 @@ pub(crate) fn gives(
     assert_eq!(rt; text.as_slice(), output.as_bytes());
 }
 
-/// The request of a line.
+/// Returns the request of a line.
 pub(crate) fn request(rt: &(impl Abort + AllocGlobal), line: &str) -> String {
     Line::new(line).request(rt.alloc()).expect(rt, "memory")
 }
 
-/// The reply of a line.
+/// Returns the reply of a line.
 pub(crate) fn reply(rt: &(impl Abort + AllocGlobal), line: &str) -> String {
     Line::new(line).reply(rt.alloc()).expect(rt, "memory")
 }
 
-/// Each line of the script gets its reply, on a connection of its own.
+/// Checks that each line of the script gets its reply, each on a new connection.
 pub(crate) fn plays(rt: &(impl Abort + AllocGlobal), desk: &mut Desk<ListKeeper>, script: &str) {
     let wrong = play(rt.alloc(), desk, &[script]).expect(rt, "memory");
     assert_eq!(rt; wrong.as_str(), "");
 }
 
-/// A desk over a world in which these scripts were played.
+/// Makes a desk, and plays these scripts on it.
 fn after(rt: &(impl Abort + AllocGlobal), scripts: &[&str]) -> Desk<ListKeeper> {
     let mut desk = fresh(rt);
     let wrong = play(rt.alloc(), &mut desk, scripts).expect(rt, "memory");
@@ -89,37 +89,37 @@ fn after(rt: &(impl Abort + AllocGlobal), scripts: &[&str]) -> Desk<ListKeeper> 
     desk
 }
 
-/// The worked rolls, in setup.
+/// Returns a desk in setup, with the worked rolls.
 pub(crate) fn with_rolls(rt: &(impl Abort + AllocGlobal)) -> Desk<ListKeeper> {
     after(rt, &[ENROLLED])
 }
 
-/// The worked world in choosing, with the lists.
+/// Returns a desk in choosing, with the worked lists.
 pub(crate) fn choosing(rt: &(impl Abort + AllocGlobal)) -> Desk<ListKeeper> {
     after(rt, &[ENROLLED, LISTS])
 }
 
-/// The worked world, published: S1 has P2, S2 has P1 and S3 nothing.
+/// Returns a desk over the published worked world: S1 has P2, S2 has P1 and S3 nothing.
 pub(crate) fn published(rt: &(impl Abort + AllocGlobal)) -> Desk<ListKeeper> {
     after(rt, FIRST_ROUND)
 }
 
-/// The second round of it, in choosing.
+/// Returns a desk in the second round, in choosing.
 pub(crate) fn reopened(rt: &(impl Abort + AllocGlobal)) -> Desk<ListKeeper> {
     after(rt, REOPENED)
 }
 
-/// The second round in ranking: S3 chose P3, and L2 is still to rank.
+/// Returns a desk in the second round, in ranking: S3 chose P3, and L2 is still to rank.
 pub(crate) fn ranking_again(rt: &(impl Abort + AllocGlobal)) -> Desk<ListKeeper> {
     after(rt, RANKING_AGAIN)
 }
 
-/// The second round in ranking, where nobody is still to rank.
+/// Returns a desk in the second round, in ranking, with nobody still to rank.
 pub(crate) fn ranked_again(rt: &(impl Abort + AllocGlobal)) -> Desk<ListKeeper> {
     after(rt, RANKED_AGAIN)
 }
 
-/// The second round, published: S3 has P3.
+/// Returns a desk over the published second round: S3 has P3.
 pub(crate) fn published_again(rt: &(impl Abort + AllocGlobal)) -> Desk<ListKeeper> {
     after(rt, PUBLISHED_AGAIN)
 }

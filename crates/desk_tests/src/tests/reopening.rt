@@ -1,5 +1,4 @@
-//! The second round as a stream of requests, from its opening to its result, on devices that end or
-//! fail.
+//! Tests a stream of requests that plays the second round, on devices that end or fail.
 
 use crate::tests::conversation::{Asked, Stream};
 use crate::tests::portal::{plays, published, ranked_again};
@@ -15,14 +14,14 @@ const OPENS: Asked = (
     "HTTP/1.1 200 OK\r\ncontent-type: application/json\r\ncontent-length: 30\r\n\r\n{\"phase\":\"choosing\",\"round\":2}",
 );
 
-/// Who has a project makes no list.
+/// A student with a project submits a list, and is refused.
 const HAS_ONE: Asked = (
     "PUT /choices HTTP/1.1\r\nHost: h\r\nportal-code: ann-code-1\r\nContent-Length: 15\r\n\r\n",
     "{\"projects\":[]}",
     "HTTP/1.1 409 Conflict\r\ncontent-type: application/json\r\ncontent-length: 26\r\n\r\n{\"error\":\"already_placed\"}",
 );
 
-/// Who has none does.
+/// A student without a project submits a list.
 const CHOOSES: Asked = (
     "PUT /choices HTTP/1.1\r\nHost: h\r\nportal-code: cyr-code-3\r\nContent-Length: 19\r\n\r\n",
     "{\"projects\":[\"P3\"]}",
@@ -36,14 +35,14 @@ const CLOSES: Asked = (
     "HTTP/1.1 200 OK\r\ncontent-type: application/json\r\ncontent-length: 29\r\n\r\n{\"phase\":\"ranking\",\"round\":2}",
 );
 
-/// A lecturer is still to rank.
+/// The office publishes too early: a lecturer is still to rank.
 const WAITS: Asked = (
     "POST /phase HTTP/1.1\r\nHost: h\r\nportal-code: office-code-0\r\nContent-Length: 21\r\n\r\n",
     "{\"phase\":\"published\"}",
     "HTTP/1.1 409 Conflict\r\ncontent-type: application/json\r\ncontent-length: 44\r\n\r\n{\"error\":\"still_to_rank\",\"lecturers\":[\"L2\"]}",
 );
 
-/// The office fills the ranking.
+/// The office fills the missing ranking.
 const FILLS: Asked = (
     "POST /ranking/fill HTTP/1.1\r\nHost: h\r\nportal-code: office-code-0\r\nContent-Length: 2\r\n\r\n",
     "{}",
@@ -57,7 +56,7 @@ const PUBLISHES: Asked = (
     "HTTP/1.1 200 OK\r\ncontent-type: application/json\r\ncontent-length: 31\r\n\r\n{\"phase\":\"published\",\"round\":2}",
 );
 
-/// Who chose has a project.
+/// The student who submitted a list is shown a project.
 const SHOWS: Asked = (
     "GET /result HTTP/1.1\r\nHost: h\r\nportal-code: cyr-code-3\r\n\r\n",
     "",
@@ -96,8 +95,8 @@ const RESULT: Stream = Stream {
     waits: true,
 };
 
-/// The requests that had not acted are asked on another connection: they get their replies, and the
-/// round ends as it has to.
+/// Sends the requests that have not acted on another connection. Checks their replies and the
+/// result of the round.
 fn goes_on(rt: &(impl Abort + AllocGlobal), desk: &mut Desk<ListKeeper>, acted: usize) {
     let bytes = ROUND.behind(rt, acted);
     let mut source = Counted::new(bytes.as_slice());
@@ -131,7 +130,7 @@ fn ends_at_each_place(rt: HostRuntime) {
     }
 }
 
-/// Each call of a reader fails in turn, which gives so many bytes at a time.
+/// Lets readers fail after each number of bytes. They return up to `step` bytes a call.
 fn readers_fail(rt: &(impl Abort + AllocGlobal), step: usize) {
     let length = ROUND.bytes(rt).len();
     for many in 0..=length {
@@ -152,7 +151,7 @@ fn readers_fail_at_each_piece(rt: HostRuntime) {
     readers_fail(&rt, 4_096);
 }
 
-/// Each call of a writer fails in turn, which takes so many bytes at a time.
+/// Lets writers fail after each number of bytes. They accept up to `step` bytes a call.
 fn writers_fail(rt: &(impl Abort + AllocGlobal), step: usize) {
     let length = ROUND.output(rt).len();
     for many in 0..length {
@@ -172,7 +171,7 @@ fn writers_fail_at_each_part(rt: HostRuntime) {
     writers_fail(&rt, usize::MAX);
 }
 
-/// Cut at each place, and so many bytes behind it.
+/// The stream is served when it is cut at any place, and again 1, 50 or 150 bytes later.
 #[test]
 fn is_cut_in_two_places(rt: HostRuntime) {
     let length = ROUND.bytes(&rt).len();
@@ -184,8 +183,8 @@ fn is_cut_in_two_places(rt: HostRuntime) {
     }
 }
 
-/// Cut at one place and at each second place behind it. What changes nothing where it is asked
-/// again is asked of one desk, which it has changed at the first of them.
+/// Checks the stream with a cut at `first` and one at each later place. All runs use one desk: only
+/// the first changes it, since repeated requests change nothing.
 fn cut_at(
     rt: &(impl Abort + AllocGlobal),
     desk: &mut Desk<ListKeeper>,

@@ -1,4 +1,4 @@
-//! Requests as the wire brings them, the calls that they make, and the bytes of replies.
+//! Tests how bytes become requests and calls, and how replies become bytes.
 
 use crate::tests::portal::{BAD_HEAD, reply};
 use portal_core::{Body, Call, Reply, Round, StudentRow};
@@ -11,7 +11,7 @@ use std::test::Fail;
 /// A request of 29 bytes.
 const ME: &[u8] = b"GET /me HTTP/1.1\r\nHost: h\r\n\r\n";
 
-/// The request at the front of these bytes, and how many of them it takes.
+/// Returns the request at the beginning of these bytes, and its length.
 fn request(rt: &(impl Abort + AllocGlobal), bytes: &[u8]) -> (Request, usize) {
     match frame(rt.alloc(), bytes, false).expect(rt, "memory") {
         Frame::Request(request, used) => (request, used),
@@ -19,7 +19,7 @@ fn request(rt: &(impl Abort + AllocGlobal), bytes: &[u8]) -> (Request, usize) {
     }
 }
 
-/// The refusal of bytes after which the input has ended.
+/// Returns the refusal of these bytes. `ended` says whether the input ends after them.
 fn refusal(rt: &(impl Abort + AllocGlobal), bytes: &[u8], ended: bool) -> Refusal {
     match frame(rt.alloc(), bytes, ended).expect(rt, "memory") {
         Frame::Bad { refusal, .. } => refusal,
@@ -27,13 +27,13 @@ fn refusal(rt: &(impl Abort + AllocGlobal), bytes: &[u8], ended: bool) -> Refusa
     }
 }
 
-/// The status and the word of a refusal.
+/// Checks the status and the word of a refusal.
 fn is_refused(rt: &impl Abort, refusal: &Refusal, status: u16, word: &str) {
     assert!(rt; refusal.status == status);
     assert_eq!(rt; refusal.word, word);
 }
 
-/// The request of a line, by its parts.
+/// Builds the request of a line.
 fn asked(rt: &(impl Abort + AllocGlobal), line: &Line) -> Request {
     let alloc = rt.alloc();
     let body = unescaped(alloc, line.body).expect(rt, "memory");
@@ -46,7 +46,7 @@ fn asked(rt: &(impl Abort + AllocGlobal), line: &Line) -> Request {
     }
 }
 
-/// The call that the request of a line makes.
+/// Returns the call that the request of a line makes.
 fn call(rt: &(impl Abort + AllocGlobal), line: &Line) -> Call {
     match call_of(rt.alloc(), &asked(rt, line)) {
         Ok((_, call)) => call,
@@ -54,7 +54,7 @@ fn call(rt: &(impl Abort + AllocGlobal), line: &Line) -> Call {
     }
 }
 
-/// The refusal of a line's request, which makes no call.
+/// Returns the refusal of a line's request, which makes no call.
 fn no_call(rt: &(impl Abort + AllocGlobal), line: &str) -> Refusal {
     match call_of(rt.alloc(), &asked(rt, &Line::new(line))) {
         Ok(_) => panic!(rt; "a call"),
@@ -62,7 +62,7 @@ fn no_call(rt: &(impl Abort + AllocGlobal), line: &str) -> Refusal {
     }
 }
 
-/// A reply with a JSON body.
+/// Makes a reply with a JSON body.
 fn json_reply(status: u16, body: Value) -> Reply {
     Reply {
         status,
@@ -71,7 +71,7 @@ fn json_reply(status: u16, body: Value) -> Reply {
     }
 }
 
-/// That the bytes of a reply are these.
+/// Checks the bytes of a reply.
 fn writes(
     rt: &(impl Abort + AllocGlobal),
     reply: &Reply,
@@ -83,7 +83,7 @@ fn writes(
     assert_eq!(rt; bytes.as_slice(), text.as_bytes());
 }
 
-/// That the bytes of the reply to a refusal are these.
+/// Checks the bytes of the reply to a refusal.
 fn refuses(rt: &(impl Abort + AllocGlobal), refusal: &Refusal, close: bool, text: &str) {
     let reply = reply_of(rt.alloc(), refusal).expect(rt, "memory");
     writes(rt, &reply, false, close, text);
@@ -171,7 +171,7 @@ fn the_longest_body(rt: HostRuntime) -> Result<(), Fail> {
     Ok(())
 }
 
-/// The word for a call.
+/// Returns the word for a call.
 fn word_of(call: &Call) -> &'static str {
     match call {
         Call::Me => "me",
@@ -194,7 +194,7 @@ fn word_of(call: &Call) -> &'static str {
     }
 }
 
-/// Keys of a list, with a blank before each.
+/// Appends the keys of a list, with a space before each.
 fn put_keys(rt: &(impl Abort + AllocGlobal), text: &mut String, list: &[Vec<u8>]) {
     for key in list {
         let key = str::from_utf8(key.as_slice()).expect(rt, "a text");
@@ -203,7 +203,7 @@ fn put_keys(rt: &(impl Abort + AllocGlobal), text: &mut String, list: &[Vec<u8>]
     }
 }
 
-/// Names of students, with a blank before each.
+/// Appends the names of students, with a space before each.
 fn put_names(rt: &(impl Abort + AllocGlobal), text: &mut String, rows: &[StudentRow]) {
     for row in rows {
         text.push(' ').expect(rt, "memory");
@@ -211,7 +211,7 @@ fn put_names(rt: &(impl Abort + AllocGlobal), text: &mut String, rows: &[Student
     }
 }
 
-/// A call as a text.
+/// Returns a call as a text.
 fn told(rt: &(impl Abort + AllocGlobal), call: &Call) -> String {
     let mut text = word_of(call).to_string(rt.alloc()).expect(rt, "memory");
     match call {
@@ -228,7 +228,7 @@ fn told(rt: &(impl Abort + AllocGlobal), call: &Call) -> String {
     text
 }
 
-/// Requests, and behind `200` the calls that they make.
+/// Requests, and after `200` the calls that they make.
 const CALLS: &str = r#"
 ann  GET /me                          200 me
 ann  HEAD /catalogue not looked at    200 catalogue
@@ -251,7 +251,7 @@ ann  POST /ranking/fill {}                       200 fill rankings
 ann  POST /rolls/students id,name,code\nS1,Ann,ann-code-1\n  200 add students Ann
 "#;
 
-/// The requests of these lines make these calls.
+/// Checks that the requests of these lines make the calls that the lines name.
 fn make_calls(rt: &(impl Abort + AllocGlobal), rows: &str) {
     for row in lines(rt.alloc(), rows).expect(rt, "memory") {
         let found = told(rt, &call(rt, &row));
@@ -293,7 +293,7 @@ ann  POST /rolls/students
 ann  POST /rolls/students id,name\n
 "#;
 
-/// Moves that are.
+/// Moves that are refused with 400 `bad_body`.
 const BAD_MOVES: &str = r#"
 ann  POST /phase {"phase":"choosing","round":0}
 ann  POST /phase {"phase":"choosing","round":3}
@@ -309,7 +309,7 @@ ann  POST /phase {"round":2}
 ann  POST /phase {}
 "#;
 
-/// The bodies of these lines' requests are refused.
+/// Checks that the bodies of these lines' requests are refused.
 fn are_bad_bodies(rt: &(impl Abort + AllocGlobal), rows: &str) {
     for row in lines(rt.alloc(), rows).expect(rt, "memory") {
         is_refused(rt, &no_call(rt, row.text), 400, "bad_body");

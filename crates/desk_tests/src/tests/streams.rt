@@ -1,4 +1,4 @@
-//! One short request, over and over, on devices that end or fail after each number of bytes.
+//! Tests a repeated short request, on devices that end or fail after each number of bytes.
 
 use crate::tests::devices::{Basin, Feeder, served_by};
 use crate::tests::portal::{BAD_HEAD, NO_CALLER, fresh, plays, published, reply, request, written};
@@ -14,20 +14,19 @@ const LAST_REPLY: &str =
 const LAST_OPENING: &str =
     "HTTP/1.1 200 OK\r\ncontent-type: application/json\r\ncontent-length: 30\r\nconnection: close\r\n\r\n{\"phase\":\"choosing\",\"round\":2}";
 
-/// A text over and over.
 fn repeated(rt: &(impl Abort + AllocGlobal), text: &str, times: usize) -> Vec<u8> {
     let text = text.repeat(rt.alloc(), times).expect(rt, "memory");
     text.into_bytes()
 }
 
-/// One request more than a connection has.
+/// Returns one request more than a connection serves.
 fn requests(rt: &(impl Abort + AllocGlobal)) -> Vec<u8> {
     let bytes = repeated(rt, SHORT, 257);
     assert_eq!(rt; bytes.len(), 7_453);
     bytes
 }
 
-/// The replies to all that a connection has, the last of which closes it.
+/// Returns the replies to all requests that a connection serves. The last reply closes it.
 fn replies(rt: &(impl Abort + AllocGlobal)) -> Vec<u8> {
     let mut text = repeated(rt, NO_CALLER, 255);
     text.extend_from_slice(LAST_REPLY.as_bytes())
@@ -45,7 +44,7 @@ fn no_more_than_256_requests(rt: HostRuntime) {
     assert_eq!(rt; output.as_slice(), wanted.as_slice());
 }
 
-/// The second round is opened by the first of them, and the others change nothing.
+/// The first request opens the second round, and the others change nothing.
 #[test]
 fn no_more_than_256_openings(rt: HostRuntime) {
     let mut desk = published(&rt);
@@ -62,7 +61,7 @@ fn no_more_than_256_openings(rt: HostRuntime) {
     plays(&rt, &mut desk, me);
 }
 
-/// A reader fails after so many of the bytes: so many requests stand whole before them.
+/// Checks a reader that fails after `many` bytes: the requests that are complete are answered.
 fn fails_reading(
     rt: &(impl Abort + AllocGlobal),
     desk: &mut Desk<ListKeeper>,
@@ -94,7 +93,7 @@ fn fails_reading(
     }
 }
 
-/// Readers fail after each number of bytes from one to before another.
+/// Checks readers that fail after each number of bytes in `from..to`.
 fn fail_reading(rt: &(impl Abort + AllocGlobal), from: usize, to: usize) {
     let mut desk = fresh(rt);
     let bytes = requests(rt);
@@ -114,7 +113,7 @@ fn readers_fail_up_to_7_453(rt: HostRuntime) {
     fail_reading(&rt, 5_000, 7_454);
 }
 
-/// The output is the first bytes of the replies, and then this.
+/// Checks that the output is the first `many` bytes of the replies, and then `closing`.
 fn is_written(rt: &impl Abort, output: &[u8], wanted: &[u8], many: usize, closing: &str) {
     assert!(rt; many <= output.len());
     assert!(rt; many <= wanted.len());
@@ -122,7 +121,7 @@ fn is_written(rt: &impl Abort, output: &[u8], wanted: &[u8], many: usize, closin
     assert_eq!(rt; &output[many..], closing.as_bytes());
 }
 
-/// The input ends after so many of the bytes: a part of a request is refused.
+/// Checks an input that ends after `many` bytes: an incomplete request is refused.
 fn ends_reading(
     rt: &(impl Abort + AllocGlobal),
     desk: &mut Desk<ListKeeper>,
@@ -147,7 +146,7 @@ fn ends_reading(
     is_written(rt, output.as_slice(), wanted, whole * 99, BAD_HEAD);
 }
 
-/// The input ends after each number of bytes from one to before another.
+/// Checks inputs that end after each number of bytes in `from..to`.
 fn end_reading(rt: &(impl Abort + AllocGlobal), from: usize, to: usize) {
     let mut desk = fresh(rt);
     let bytes = requests(rt);
@@ -167,7 +166,7 @@ fn readers_end_up_to_7_453(rt: HostRuntime) {
     end_reading(&rt, 5_000, 7_454);
 }
 
-/// A writer fails after so many bytes: the request whose reply they end in has acted, and no other.
+/// Checks a writer that fails after `many` bytes: no request after the failed reply has acted.
 fn fails_writing(
     rt: &(impl Abort + AllocGlobal),
     desk: &mut Desk<ListKeeper>,
@@ -189,7 +188,7 @@ fn fails_writing(
     }
 }
 
-/// Writers fail after each number of bytes from one to before another.
+/// Checks writers that fail after each number of bytes in `from..to`.
 fn fail_writing(rt: &(impl Abort + AllocGlobal), from: usize, to: usize) {
     let mut desk = fresh(rt);
     let bytes = requests(rt);

@@ -1,4 +1,4 @@
-//! A stream on one device: cut in two places, or ended or failing after so many bytes.
+//! Checks how a stream is served that is cut twice, ends early, or meets a failing device.
 
 use crate::tests::conversation::Stream;
 use crate::tests::devices::{Basin, Feeder};
@@ -6,7 +6,7 @@ use portal_desk::{Cause, Counted, Desk, Sink, Source};
 use portal_list::ListKeeper;
 use std::process::Abort;
 
-/// Cut at one place and at a second behind it.
+/// Checks a stream that arrives in pieces: `first` bytes, then `second` bytes, then the rest.
 pub(crate) fn served_cut(
     rt: &(impl Abort + AllocGlobal),
     desk: &mut Desk<ListKeeper>,
@@ -25,7 +25,7 @@ pub(crate) fn served_cut(
     assert!(rt; sink.into_inner().as_slice() == output.as_slice());
 }
 
-/// The input ends after so many bytes: in a head, or in the body behind it.
+/// Checks a stream whose input ends after `many` bytes.
 pub(crate) fn ended_at(
     rt: &(impl Abort + AllocGlobal),
     desk: &mut Desk<ListKeeper>,
@@ -48,8 +48,8 @@ pub(crate) fn ended_at(
     assert_eq!(rt; sink.into_inner().as_slice(), wanted.as_slice());
 }
 
-/// A reader fails after so many bytes, given so many at a time: all requests that stand whole in
-/// them are answered, and no more is written.
+/// Checks a reader that returns up to `step` bytes a call and fails after `many` bytes. Requests
+/// that are complete by then are answered, and nothing else is written.
 pub(crate) fn reader_fails_at(
     rt: &(impl Abort + AllocGlobal),
     desk: &mut Desk<ListKeeper>,
@@ -82,8 +82,8 @@ pub(crate) fn reader_fails_at(
     }
 }
 
-/// A writer fails after so many bytes, taken so many at a time: the requests whose replies they
-/// reach have acted.
+/// Checks a writer that accepts up to `step` bytes a call and fails after `many` bytes. The request
+/// of the failed reply has acted, and no later one.
 pub(crate) fn writer_fails_at(
     rt: &(impl Abort + AllocGlobal),
     desk: &mut Desk<ListKeeper>,

@@ -1,4 +1,4 @@
-//! Connections, to the byte.
+//! Tests the output of connections, to the byte.
 
 use crate::tests::portal::{fresh, gives, plays};
 use portal_desk::Ending;

@@ -1,4 +1,4 @@
-//! Streams that are cut and ended anywhere, on devices that fail at each call.
+//! Tests short streams that are cut or end anywhere, and devices that fail at each call.
 
 use crate::tests::conversation::Stream;
 use crate::tests::portal::{BAD_HEAD, BAD_LENGTH, fresh, with_rolls};
@@ -7,7 +7,7 @@ use portal_desk::Desk;
 use portal_list::ListKeeper;
 use std::process::Abort;
 
-/// The office, a student, a lecturer and nobody ask who they are.
+/// The office, a student, a lecturer and an unknown caller ask who they are.
 const CALLERS: Stream = Stream {
     asked: &[
         (
@@ -103,7 +103,7 @@ const CODED_BODY: Stream = Stream {
     waits: false,
 };
 
-/// A request, and behind it one that is refused.
+/// A request, and after it one that framing refuses.
 const REFUSED_SECOND: Stream = Stream {
     asked: &[(
         "GET /nowhere HTTP/1.1\r\nHost: h\r\n\r\n",
@@ -142,8 +142,7 @@ fn ended_at_each_place(
     }
 }
 
-/// Each call of a reader fails in turn: of one that gives a byte at a time, and of one that gives
-/// all that it has.
+/// Checks readers that fail after each number of bytes, returned one by one or all at once.
 fn readers_fail(rt: &(impl Abort + AllocGlobal), desk: &mut Desk<ListKeeper>, stream: &Stream) {
     let length = stream.bytes(rt).len();
     for many in 0..=length {
@@ -152,8 +151,7 @@ fn readers_fail(rt: &(impl Abort + AllocGlobal), desk: &mut Desk<ListKeeper>, st
     }
 }
 
-/// Each call of a writer fails in turn: of one that takes a byte at a time, and of one that takes
-/// all that it is given.
+/// Checks writers that fail after each number of bytes, accepted one by one or all at once.
 fn writers_fail(rt: &(impl Abort + AllocGlobal), desk: &mut Desk<ListKeeper>, stream: &Stream) {
     let length = stream.output(rt).len();
     for many in 0..length {
@@ -162,7 +160,7 @@ fn writers_fail(rt: &(impl Abort + AllocGlobal), desk: &mut Desk<ListKeeper>, st
     }
 }
 
-/// On any device, and on each that fails.
+/// Checks the stream with all cuts and early ends, and on failing devices.
 fn is_served_on_any_device(
     rt: &(impl Abort + AllocGlobal),
     desk: &mut Desk<ListKeeper>,

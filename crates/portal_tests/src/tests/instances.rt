@@ -1,4 +1,4 @@
-//! Instance files.
+//! Tests the reading of instance files.
 
 use portal_rolls::{RollFault, read_instance};
 use std::test::Fail;

@@ -1,4 +1,4 @@
-//! A department at every limit, played from setup to published.
+//! Plays a department at every limit from setup to published.
 
 ghost use Rattle.portal_core.specs.Meaning.{call_model};
 ghost use Rattle.portal_core.specs.Run.{HasForm};
@@ -15,12 +15,12 @@ const STUDENTS: u64 = 2000;
 
 const CHOICES: u64 = 20;
 
-/// A student's project in this place of the list.
+/// Returns the student's project at this place of the list.
 fn project_of(student: u64, place: u64) -> u64 {
     student.wrapping_mul(7).wrapping_add(place.wrapping_mul(37)) % PROJECTS
 }
 
-/// Whether the student lists a project of the lecturer.
+/// Returns whether the student lists a project of the lecturer.
 fn is_applicant(student: u64, lecturer: u64) -> bool {
     for place in 0..CHOICES {
         if project_of(student, place) % LECTURERS == lecturer {
@@ -63,7 +63,7 @@ fn students(rt: &(impl Abort + AllocGlobal)) -> String {
     text
 }
 
-/// The student's list, as it comes in.
+/// Returns the student's list as a call has it.
 fn choice(rt: &(impl Abort + AllocGlobal), student: u64) -> Vec<Vec<u8>> {
     let mut list = Vec::new(rt.alloc());
     for place in 0..CHOICES {
@@ -75,7 +75,7 @@ fn choice(rt: &(impl Abort + AllocGlobal), student: u64) -> Vec<Vec<u8>> {
     list
 }
 
-/// The lecturer's ranking, as it comes in: every applicant, the last on the roll first.
+/// Returns the lecturer's ranking as a call has it: all applicants, the highest number first.
 fn ranking(rt: &(impl Abort + AllocGlobal), lecturer: u64) -> Vec<Vec<u8>> {
     let mut list = Vec::new(rt.alloc());
     for s in (0..STUDENTS).rev() {
@@ -88,14 +88,14 @@ fn ranking(rt: &(impl Abort + AllocGlobal), lecturer: u64) -> Vec<Vec<u8>> {
     list
 }
 
-/// The caller's call is taken.
+/// Checks that the caller's call is accepted.
 fn taken(rt: &(impl Abort + AllocGlobal), portal: &mut Portal, code: &str, call: &Call)
     requires { HasForm (call_model call.now) }
 {
     assert_eq!(rt; portal.status(rt, code, call), 200);
 }
 
-/// The office moves to this phase.
+/// Moves to this phase as the office.
 fn moves(rt: &(impl Abort + AllocGlobal), portal: &mut Portal, phase: Phase) {
     taken(rt, portal, OFFICE, &Call::Move { phase, round: None });
 }

@@ -1,4 +1,4 @@
-//! A good world that is asked as the portal is.
+//! Makes calls to a keeper of a good world, and checks the replies.
 
 ghost use Rattle.portal_core.specs.Meaning.{call_model};
 ghost use Rattle.portal_core.specs.Run.{HasForm};
@@ -30,7 +30,7 @@ impl Model for Portal {
 pub(crate) const OFFICE: &str = "office-code-0";
 
 impl Portal {
-    /// The empty world in setup.
+    /// Makes a keeper of the empty world in setup.
     pub(crate) fn new(rt: &(impl Abort + AllocGlobal)) -> Portal {
         let office = Code::parse(rt.alloc(), OFFICE.as_bytes()).expect(rt, "a code");
         Portal {
@@ -38,7 +38,7 @@ impl Portal {
         }
     }
 
-    /// The world of these rows, which is good.
+    /// Makes a keeper of the world of these rows, and checks that it is good.
     pub(crate) fn of(rt: &(impl Abort + AllocGlobal), rows: WorldRows) -> Portal {
         let Ok(keeper) = ListKeeper::from_rows(rt.alloc(), rows) else {
             panic!(rt; "rows of no sound world");
@@ -48,14 +48,14 @@ impl Portal {
         Portal { keeper }
     }
 
-    /// The office is answered with this status and body.
+    /// Checks that the office's call gets this status and body.
     fn asks(&mut self, rt: &(impl Abort + AllocGlobal), call: &Call, status: u16, body: &str)
         requires { HasForm (call_model call.now) }
     {
         self.answers(rt, OFFICE, call, status, body);
     }
 
-    /// The caller with this code is answered with this status and body.
+    /// Checks that a call of the caller with this code gets this status and body.
     pub(crate) fn answers(
         &mut self,
         rt: &(impl Abort + AllocGlobal),
@@ -78,7 +78,7 @@ impl Portal {
         }
     }
 
-    /// The status of the answer to the caller with this code.
+    /// Returns the status of the reply to the caller with this code.
     pub(crate) fn status(&mut self, rt: &(impl Abort + AllocGlobal), code: &str, call: &Call) -> u16
         requires { HasForm (call_model call.now) }
     {

@@ -1,11 +1,11 @@
-//! Rolls.
+//! Tests the reading of rolls.
 
 use portal_rolls::{RollFault, read_lecturers, read_projects, read_students};
 use std::alloc::Global;
 use std::process::Abort;
 use std::test::Fail;
 
-/// The fault of a roll of students.
+/// Checks that a roll of students has this fault.
 fn students(rt: &impl Abort, alloc: Global, text: &[u8], fault: RollFault) {
     assert_eq!(rt; read_students(alloc, text).err(), Some(fault));
 }

@@ -1,4 +1,4 @@
-//! The second round of a small department, which the office opens, or from the rows of a file.
+//! Tests the second round of a small department, opened by the office or made from rows.
 
 use crate::tests::portal::{OFFICE, Portal};
 use crate::tests::rows::{Sketch, after_first, fault_of, in_choosing, in_ranking, opened, rows_of};
@@ -16,7 +16,7 @@ const L1: &str = "lee-code-01";
 
 const L2: &str = "moe-code-02";
 
-/// What the first round left, who asks in the second, and its status at first.
+/// The catalogue after the opening. The next three are replies to two `Me` calls and to `Status`.
 const LEFT: &str =
     "{\"projects\":[{\"capacity\":1,\"id\":\"P3\",\"lecturer\":\"L2\",\"lecturer_name\":\"Moe\",\"title\":\"Bells\"}]}";
 
@@ -29,16 +29,16 @@ const L1_ME: &str =
 const OPENED: &str =
     "{\"assigned\":2,\"lecturers\":2,\"phase\":\"choosing\",\"projects\":3,\"round\":2,\"still_to_rank\":[],\"students\":3,\"unassigned\":[\"S3\"],\"without_list\":[\"S3\"]}";
 
-/// What the first result gives to the first lecturer.
+/// The first result, as L1 is shown it.
 const L1_RESULT: &str =
     "{\"projects\":[{\"id\":\"P1\",\"students\":[{\"key\":\"S2\",\"name\":\"Roe, Bea\"}]},{\"id\":\"P2\",\"students\":[{\"key\":\"S1\",\"name\":\"Ann\"}]}]}";
 
-/// The portal with the rows.
+/// Makes a portal from the rows of the sketch.
 fn portal(rt: &(impl Abort + AllocGlobal), sketch: Sketch) -> Result<Portal, Fail> {
     Ok(Portal::of(rt, rows_of(rt.alloc(), sketch)?))
 }
 
-/// The texts of a list.
+/// Returns the keys of a list as a call has them.
 fn list(alloc: Global, keys: &[&str]) -> Result<Vec<Vec<u8>>, Fail> {
     let mut texts = Vec::new(alloc);
     for key in keys {
@@ -47,7 +47,7 @@ fn list(alloc: Global, keys: &[&str]) -> Result<Vec<Vec<u8>>, Fail> {
     Ok(texts)
 }
 
-/// The office moves to this phase of this round, and is refused.
+/// Checks that the office may not move to this phase of this round.
 fn is_refused(
     rt: &(impl Abort + AllocGlobal),
     portal: &mut Portal,
@@ -63,7 +63,7 @@ fn is_refused(
     );
 }
 
-/// The office moves to choosing of the second round.
+/// Opens the second round as the office.
 fn opens(rt: &(impl Abort + AllocGlobal), portal: &mut Portal) {
     portal.answers(
         rt,
@@ -77,7 +77,7 @@ fn opens(rt: &(impl Abort + AllocGlobal), portal: &mut Portal) {
     );
 }
 
-/// What everybody is told where the second round begins.
+/// Checks what each role is shown when the second round begins.
 fn is_offered(rt: &(impl Abort + AllocGlobal), portal: &mut Portal) {
     for code in [OFFICE, L1, S1, S3] {
         portal.answers(rt, code, &Call::Catalogue, 200, LEFT);

@@ -1,4 +1,4 @@
-//! Rows of a file, good and bad.
+//! Tests keepers in lists that are made from good and bad rows of a database.
 
 use portal_core::{Code, LecturerRow, Name, Phase, ProjectRow, Round, StudentRow};
 use portal_list::{ListKeeper, RowsFault, WorldRows, listings_of};
@@ -66,7 +66,7 @@ fn students(alloc: Global, code: &str) -> Result<Vec<StudentRow>, Fail> {
     Ok(rows)
 }
 
-/// A key, with a list of keys.
+/// Parses a key and a list of keys.
 fn list(alloc: Global, owner: &str, texts: &[&str]) -> Result<(Key, Vec<Key>), Fail> {
     let mut keys = Vec::new(alloc);
     for text in texts {
@@ -113,7 +113,7 @@ fn the_catalogue_of_rows(rt: HostRuntime) -> Result<(), Fail> {
     Ok(())
 }
 
-/// A world of two lecturers and three students, and what may be wrong with it.
+/// The rows of a world with two lecturers and three students, which tests may spoil.
 #[derive(Clone, Copy)]
 pub(crate) struct Sketch {
     pub round: Round,
@@ -129,7 +129,7 @@ pub(crate) struct Sketch {
     pub earlier_pairs: Pairs<'static>,
 }
 
-/// The first round, published.
+/// Returns a published first round.
 pub(crate) fn after_first() -> Sketch {
     Sketch {
         round: Round::First,
@@ -146,7 +146,7 @@ pub(crate) fn after_first() -> Sketch {
     }
 }
 
-/// The second round, in choosing.
+/// Returns a second round in choosing.
 pub(crate) fn opened() -> Sketch {
     let mut sketch = after_first();
     sketch.earlier_choices = sketch.choices;
@@ -160,7 +160,7 @@ pub(crate) fn opened() -> Sketch {
     sketch
 }
 
-/// The first round, in ranking.
+/// Returns a first round in ranking.
 pub(crate) fn in_ranking() -> Sketch {
     let mut sketch = after_first();
     sketch.phase = Phase::Ranking;
@@ -168,7 +168,7 @@ pub(crate) fn in_ranking() -> Sketch {
     sketch
 }
 
-/// The first round, in choosing.
+/// Returns a first round in choosing.
 pub(crate) fn in_choosing() -> Sketch {
     let mut sketch = in_ranking();
     sketch.phase = Phase::Choosing;
@@ -183,7 +183,7 @@ fn in_setup() -> Sketch {
     sketch
 }
 
-/// The rows of the sketch.
+/// Builds the rows of the sketch.
 pub(crate) fn rows_of(alloc: Global, sketch: Sketch) -> Result<WorldRows, Fail> {
     Ok(WorldRows {
         round: sketch.round,
@@ -201,7 +201,7 @@ pub(crate) fn rows_of(alloc: Global, sketch: Sketch) -> Result<WorldRows, Fail> 
     })
 }
 
-/// Why the rows give no keeper, if they give none.
+/// Returns why the rows of the sketch make no keeper, if they make none.
 pub(crate) fn fault_of(alloc: Global, sketch: Sketch) -> Result<Option<RowsFault>, Fail> {
     Ok(ListKeeper::from_rows(alloc, rows_of(alloc, sketch)?).err())
 }

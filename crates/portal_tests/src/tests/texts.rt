@@ -1,4 +1,4 @@
-//! The state of the worked world as a text.
+//! Tests the text of the status of the worked world.
 
 use portal_core::{Code, OfficeView, Phase, Round};
 use portal_reports::status_text;
@@ -11,7 +11,7 @@ fn key(rt: &(impl Abort + AllocGlobal), text: &str) -> Key {
     Key::parse(rt.alloc(), text.as_bytes()).expect(rt, "a key")
 }
 
-/// The pairs of the result.
+/// Returns the pairs of the result.
 fn pairs(rt: &(impl Abort + AllocGlobal)) -> Vec<(Key, Key)> {
     let mut pairs = Vec::new(rt.alloc());
     pairs
@@ -23,12 +23,12 @@ fn pairs(rt: &(impl Abort + AllocGlobal)) -> Vec<(Key, Key)> {
     pairs
 }
 
-/// Rows that a view shares.
+/// Wraps rows so that a view can share them.
 fn shared<X: Drop>(rt: &(impl Abort + AllocGlobal), rows: Vec<X>) -> Rc<Vec<X>> {
     Rc::new(rt.alloc(), rows).expect(rt, "memory")
 }
 
-/// What the office sees of the worked world in published, were it of this round.
+/// Returns the office's view of the published worked world, with this round in it.
 fn worked(rt: &(impl Abort + AllocGlobal), round: Round) -> OfficeView {
     let alloc = rt.alloc();
     let lecturers = b"id,name,code,capacity\nL1,Lee,lee-code-01,2\nL2,Moe,moe-code-02,1\n";

@@ -1,4 +1,4 @@
-//! Codes, names and phases.
+//! Tests codes, names and phases.
 
 use portal_core::{Code, CodeFault, Name, NameFault, Phase};
 use std::test::Fail;

@@ -1,5 +1,5 @@
-//! A read that fails while a request is answered: it is told as a fault of the store, and never as
-//! want of memory.
+//! Tests reads that fail while a request is served. Each is reported as a fault of the store, and
+//! never as memory shortage.
 
 use crate::tests::steps::new_office_code;
 use crate::tests::stops::{
@@ -15,8 +15,8 @@ use portal_fixtures::changes::{
 use portal_store::{NotOpened, Store};
 use std::process::Abort;
 
-/// Whether a read failed, after so many, while the request was answered. If so the reply is 503,
-/// the serving stops for the store, and the desk has failed. If not, the reply is 200.
+/// Returns whether a read failed after `reads` others while the request was served. If so, the
+/// reply is 503, and the store and the desk have failed. If not, the reply is 200.
 fn fails_at(rt: &(impl Abort + AllocGlobal), image: &Image, line: &Line, reads: u64) -> bool {
     let plan = Plan::new(Fault::Read);
     let mut desk = desk_over(rt, connected(rt, image, &plan, TIGHT));
@@ -36,8 +36,8 @@ fn fails_at(rt: &(impl Abort + AllocGlobal), image: &Image, line: &Line, reads: 
     came
 }
 
-/// Reads of the line's request fail: each of the first sixteen, and later ones at growing distances. There
-/// are so many at least.
+/// Lets reads of the line's request fail: each of the first sixteen, and later ones at growing
+/// distances. Checks that there are at least `least` reads.
 fn fails(rt: &(impl Abort + AllocGlobal), image: &Image, line: &str, least: u64) {
     let line = Line::new(line.trim_start());
     let mut reads = 0u64;
@@ -50,7 +50,7 @@ fn fails(rt: &(impl Abort + AllocGlobal), image: &Image, line: &str, least: u64)
     assert!(rt; reads >= least && reads < 10_000, "{reads} reads");
 }
 
-/// In this part of a year the office, a lecturer and a student look.
+/// Lets reads fail in views of the office, a lecturer and a student, after these scripts.
 fn look(rt: &(impl Abort + AllocGlobal), played: &[&str], student: &str) {
     let image = files_after(rt, played);
     fails(rt, &image, "office  GET /status", 1);
@@ -86,8 +86,8 @@ fn a_publication_meets_a_failed_read(rt: HostRuntime) {
     fails(&rt, &second, SECOND_PUBLICATION, 2);
 }
 
-/// Whether a read failed, after so many, while the instance of a new portal was asked for. If so
-/// that is told as a fault of the store.
+/// Asks a new portal for its instance, with a read that fails after `reads` others. Returns whether
+/// it failed, and checks that it is then reported as a fault of the store.
 fn instance_fails_at(rt: &(impl Abort + AllocGlobal), reads: u64) -> bool {
     let plan = Plan::new(Fault::Read);
     let conn = connected(rt, &blank(rt), &plan, TIGHT);
@@ -111,7 +111,7 @@ fn instance_fails_at(rt: &(impl Abort + AllocGlobal), reads: u64) -> bool {
     }
 }
 
-/// Each read for an instance fails in turn, and there is one at least.
+/// Each read for an instance fails in turn, and there is at least one.
 #[test]
 fn an_instance_meets_a_failed_read(rt: HostRuntime) {
     let mut reads = 0u64;
@@ -124,7 +124,7 @@ fn an_instance_meets_a_failed_read(rt: HostRuntime) {
     assert!(rt; reads > 0 && reads < 1_000);
 }
 
-/// The read for the office's code fails.
+/// A failed read of the office's code is reported as a fault of the store.
 #[test]
 fn the_code_of_the_office_meets_a_failed_read(rt: HostRuntime) {
     let plan = Plan::new(Fault::Read);

@@ -1,4 +1,4 @@
-//! Databases of the wider department that were changed by others, and are opened again.
+//! Tests the opening of databases of the wider department that other programs have changed.
 
 use crate::tests::steps::{new_desk, plays};
 use portal_core::{Listing, StudentView, View};
@@ -10,14 +10,14 @@ use portal_store::{NotOpened, OpenFault, Store};
 use sqlite::{Connection, MemStore};
 use std::process::Abort;
 
-/// The database, with the world that is played in it.
+/// Makes a database, and plays these scripts in it.
 fn database(rt: &(impl Abort + AllocGlobal), played: &[&str]) -> Connection<MemStore> {
     let mut desk = new_desk(rt);
     plays(rt, &mut desk, played);
     desk.into_keeper().into_connection()
 }
 
-/// How the database is answered when it is opened.
+/// Opens the database, and returns the fault, if there is one.
 fn opened(rt: &(impl Abort + AllocGlobal), conn: Connection<MemStore>) -> Option<OpenFault> {
     assert!(rt; conn.is_autocommit());
     match Store::open(rt.alloc(), conn) {
@@ -34,7 +34,7 @@ fn opened(rt: &(impl Abort + AllocGlobal), conn: Connection<MemStore>) -> Option
     }
 }
 
-/// Behind each of these texts the database is answered so.
+/// Checks that opening the database has this outcome after each of these texts.
 fn are_answered(
     rt: &(impl Abort + AllocGlobal),
     played: &[&str],
@@ -49,7 +49,7 @@ fn are_answered(
     }
 }
 
-/// The year as far as the second round, and as far as its phases.
+/// The published first round. The next two go on to phases of the second.
 const IN_THE_FIRST: &[&str] = &[ROLLS, CHOOSING, RANKING, PUBLISHED];
 
 const IN_CHOOSING: &[&str] = &[ROLLS, CHOOSING, RANKING, PUBLISHED, SECOND_CHOOSING];
@@ -63,7 +63,7 @@ const IN_RANKING: &[&str] = &[
     SECOND_RANKING,
 ];
 
-/// Rows of the second round while there is none, or no row that tells of it.
+/// Rows of a second round that is not open, or no row in the table `second`.
 const NO_ROUND: &[&str] = &[
     "DELETE FROM second",
     "INSERT INTO choice2 (student, place, project) VALUES ('S4', 1, 'P4')",
@@ -79,7 +79,7 @@ const TOO_EARLY: &[&str] = &[
     "UPDATE second SET phase = 3",
 ];
 
-/// What the rows of the first round may not be in any phase of the second.
+/// Damage to the phases or to the first round, in any phase of the second.
 const OF_THE_FIRST: &[&str] = &[
     "DELETE FROM second",
     "UPDATE second SET phase = 0",
@@ -95,8 +95,8 @@ const OF_THE_FIRST: &[&str] = &[
     "UPDATE lecturer SET capacity = 1 WHERE key = 'L1'",
 ];
 
-/// What lists may not be in any phase of the second: of who has a project, of what is not offered
-/// in this round, or with a gap; and there may not be less room than they need.
+/// Damage to lists of the second round: of a student with a project, with a project that is not on
+/// offer, or with a gap. The last two statements take away room that the lists need.
 const OF_THE_LISTS: &[&str] = &[
     "INSERT INTO choice2 (student, place, project) VALUES ('S1', 1, 'P3')",
     "INSERT INTO choice2 (student, place, project) VALUES ('S6', 2, 'P1')",
@@ -108,7 +108,7 @@ const OF_THE_LISTS: &[&str] = &[
     "UPDATE lecturer SET capacity = 1 WHERE key = 'L2'",
 ];
 
-/// What is in no form, and codes that name two.
+/// Malformed keys, names and codes, and codes that identify two callers.
 const FORMS: &[&str] = &[
     "UPDATE student SET code = 'lee-code-01' WHERE key = 'S9'",
     "UPDATE student SET code = 'office-code-0' WHERE key = 'S4'",
@@ -120,7 +120,7 @@ const FORMS: &[&str] = &[
     "INSERT INTO student (key, name, code, assigned) VALUES ('S0', 'Zoe', 'short', NULL)",
 ];
 
-/// What there may not be in choosing: a ranking, or a result.
+/// Damage in choosing: a later phase, a ranking, or a result.
 const DAMAGED_CHOOSING: &[&str] = &[
     "UPDATE second SET phase = 3",
     "INSERT INTO ranked2 (lecturer) VALUES ('L1')",
@@ -130,8 +130,7 @@ const DAMAGED_CHOOSING: &[&str] = &[
     "INSERT INTO assigned2 (student, project) VALUES ('S1', 'P1')",
 ];
 
-/// What there may not be in ranking: a ranking of others than the applicants, or of nobody's; a
-/// result.
+/// Damage in ranking: wrong rankings, another phase, or a result.
 const DAMAGED_RANKING: &[&str] = &[
     "DELETE FROM ranking2 WHERE lecturer = 'L2'",
     "DELETE FROM ranking2 WHERE lecturer = 'L2' AND place = 3",
@@ -146,9 +145,8 @@ const DAMAGED_RANKING: &[&str] = &[
     "INSERT INTO assigned2 (student, project) VALUES ('S4', 'P3')",
 ];
 
-/// What the result may not be: there too early, of others than those who are left, not to be had by
-/// their lists, above a capacity of a project or a lecturer with the first one's, or blocked by a
-/// pair; and nobody may be still to rank.
+/// Damage in published: a result that is too early, has a student of the first result, or ignores a
+/// list. Or it exceeds a capacity together with the first result, or has a blocking pair.
 const DAMAGED_PUBLISHED: &[&str] = &[
     "UPDATE second SET phase = 2",
     "DELETE FROM assigned2",
@@ -160,7 +158,7 @@ const DAMAGED_PUBLISHED: &[&str] = &[
     "INSERT INTO assigned2 (student, project) VALUES ('S6', 'P4')",
 ];
 
-/// The same, further.
+/// More such damage, and a lecturer who is still to rank.
 const DAMAGED_RESULT: &[&str] = &[
     "UPDATE assigned2 SET project = 'P4' WHERE student = 'S4'",
     "UPDATE assigned2 SET project = 'P3' WHERE student = 'S5'; UPDATE assigned2 SET project = 'P4' WHERE student = 'S4'",
@@ -172,18 +170,18 @@ const DAMAGED_RESULT: &[&str] = &[
     "DELETE FROM ranked2 WHERE lecturer = 'L2'; DELETE FROM ranking2 WHERE lecturer = 'L2'",
 ];
 
-/// A list of twenty-one: eighteen projects are added.
+/// A list of 21 projects, 18 of which are added.
 const TOO_LONG: &[&str] = &[
     "INSERT INTO project (key, lecturer, title, capacity) VALUES ('Q1', 'L3', 'Q', 1), ('Q2', 'L3', 'Q', 1), ('Q3', 'L3', 'Q', 1), ('Q4', 'L3', 'Q', 1), ('Q5', 'L3', 'Q', 1), ('Q6', 'L3', 'Q', 1), ('Q7', 'L3', 'Q', 1), ('Q8', 'L3', 'Q', 1), ('Q9', 'L3', 'Q', 1), ('R1', 'L3', 'Q', 1), ('R2', 'L3', 'Q', 1), ('R3', 'L3', 'Q', 1), ('R4', 'L3', 'Q', 1), ('R5', 'L3', 'Q', 1), ('R6', 'L3', 'Q', 1), ('R7', 'L3', 'Q', 1), ('R8', 'L3', 'Q', 1), ('R9', 'L3', 'Q', 1); INSERT INTO choice2 (student, place, project) VALUES ('S6', 2, 'P3'), ('S6', 3, 'Q1'), ('S6', 4, 'Q2'), ('S6', 5, 'Q3'), ('S6', 6, 'Q4'), ('S6', 7, 'Q5'), ('S6', 8, 'Q6'), ('S6', 9, 'Q7'), ('S6', 10, 'Q8'), ('S6', 11, 'Q9'), ('S6', 12, 'R1'), ('S6', 13, 'R2'), ('S6', 14, 'R3'), ('S6', 15, 'R4'), ('S6', 16, 'R5'), ('S6', 17, 'R6'), ('S6', 18, 'R7'), ('S6', 19, 'R8'), ('S6', 20, 'R9'), ('S6', 21, 'P5')",
 ];
 
-/// The same of twenty.
+/// The same list without its last project.
 const LONGEST: &[&str] = &[
     "INSERT INTO project (key, lecturer, title, capacity) VALUES ('Q1', 'L3', 'Q', 1), ('Q2', 'L3', 'Q', 1), ('Q3', 'L3', 'Q', 1), ('Q4', 'L3', 'Q', 1), ('Q5', 'L3', 'Q', 1), ('Q6', 'L3', 'Q', 1), ('Q7', 'L3', 'Q', 1), ('Q8', 'L3', 'Q', 1), ('Q9', 'L3', 'Q', 1), ('R1', 'L3', 'Q', 1), ('R2', 'L3', 'Q', 1), ('R3', 'L3', 'Q', 1), ('R4', 'L3', 'Q', 1), ('R5', 'L3', 'Q', 1), ('R6', 'L3', 'Q', 1), ('R7', 'L3', 'Q', 1), ('R8', 'L3', 'Q', 1), ('R9', 'L3', 'Q', 1); INSERT INTO choice2 (student, place, project) VALUES ('S6', 2, 'P3'), ('S6', 3, 'Q1'), ('S6', 4, 'Q2'), ('S6', 5, 'Q3'), ('S6', 6, 'Q4'), ('S6', 7, 'Q5'), ('S6', 8, 'Q6'), ('S6', 9, 'Q7'), ('S6', 10, 'Q8'), ('S6', 11, 'Q9'), ('S6', 12, 'R1'), ('S6', 13, 'R2'), ('S6', 14, 'R3'), ('S6', 15, 'R4'), ('S6', 16, 'R5'), ('S6', 17, 'R6'), ('S6', 18, 'R7'), ('S6', 19, 'R8'), ('S6', 20, 'R9')",
 ];
 
-/// What may be: the next phase, where nothing is missing; lists that are taken back, lists in
-/// another order, more room, and one student more.
+/// Changes in choosing that leave a good world: the next phase, removed or reordered lists, more
+/// room, and another student.
 const GOOD_CHOOSING: &[&str] = &[
     "UPDATE portal SET id = 1",
     "UPDATE second SET phase = 2",
@@ -193,16 +191,16 @@ const GOOD_CHOOSING: &[&str] = &[
     "INSERT INTO student (key, name, code, assigned) VALUES ('S0', 'Zoe', 'stud-code-0', NULL)",
 ];
 
-/// A ranking of nobody, where there is no applicant; a lecturer who is still to rank.
+/// The same in ranking: an empty ranking without applicants, and a lecturer who is still to rank.
 const GOOD_RANKING: &[&str] = &[
     "INSERT INTO ranked2 (lecturer) VALUES ('L1')",
     "DELETE FROM ranking2 WHERE lecturer = 'L2'; DELETE FROM ranked2 WHERE lecturer = 'L2'",
 ];
 
-/// More room with a lecturer whose projects are full.
+/// The same in published: a smaller capacity of a lecturer whose project is full.
 const GOOD_PUBLISHED: &[&str] = &["UPDATE lecturer SET capacity = 4 WHERE key = 'L3'"];
 
-/// Tables that are not there, in any phase, and another version.
+/// A missing row of the office, and missing tables.
 const NO_PORTAL: &[&str] = &[
     "DELETE FROM portal",
     "DROP TABLE second",
@@ -282,7 +280,7 @@ fn other_tables_are_told(rt: HostRuntime) {
     );
 }
 
-/// What another person's rows may not be: of a student, of lists and of the second result.
+/// Damage to rows of other persons: students, lists, a ranking, and the second result.
 const OF_OTHERS: &[&str] = &[
     "UPDATE student SET code = 'short' WHERE key = 'S4'",
     "UPDATE student SET name = '' WHERE key = 'S5'",
@@ -294,14 +292,14 @@ const OF_OTHERS: &[&str] = &[
     "INSERT INTO assigned2 (student, project) VALUES ('S4', 'P3')",
 ];
 
-/// The project has this key and so much room.
+/// Checks that the project has this key and this much room.
 fn offers(rt: &(impl Abort + AllocGlobal), listing: &Listing, key: &[u8], room: u32) {
     assert_eq!(rt; listing.key.as_bytes(), key);
     assert_eq!(rt; listing.capacity, room);
 }
 
-/// The view is that of S6: a list of P4, and the projects that the first round left, with what is
-/// left of their room.
+/// Checks that the view is that of S6: a list of P4, and the remaining projects with their
+/// remaining room.
 fn is_of_fay(rt: &(impl Abort + AllocGlobal), student: &StudentView) {
     assert_eq!(rt; student.me.key.as_bytes(), b"S6".as_slice());
     assert!(rt; student.choices.len() == 1 && student.result.is_none());
@@ -312,7 +310,7 @@ fn is_of_fay(rt: &(impl Abort + AllocGlobal), student: &StudentView) {
     offers(rt, &student.catalogue[2], b"P5", 1);
 }
 
-/// A student of the second round is shown the same, whatever rows others have.
+/// In the second round, a student is shown the same after each damage of `OF_OTHERS`.
 #[test]
 fn a_view_reads_no_other_row(rt: HostRuntime) {
     for text in OF_OTHERS {

@@ -1,5 +1,5 @@
-//! What each role is answered in each phase of the second round, by a database in memory and by
-//! lists alike.
+//! Tests the replies to each role in each phase of the second round, with equal bytes from a
+//! database in memory and from lists.
 
 use crate::tests::steps::{new_desk, new_lists, plays};
 use portal_desk::Desk;
@@ -8,11 +8,11 @@ use portal_fixtures::{ANN, CYR, LEE, Line, MOE, MemDesk, OFFICE, ask, cut, lines
 use portal_list::ListKeeper;
 use std::process::Abort;
 
-/// Who asks: nobody whom the rolls have, a student with a project and one without, a lecturer
-/// without room and one with, and the office.
+/// The callers: an unknown one, a student with a project and one without, a lecturer without room
+/// and one with room, and the office.
 const CALLERS: [&str; 6] = ["nobody-here", ANN, CYR, LEE, MOE, OFFICE];
 
-/// What a reply begins with that has this mark.
+/// Returns the beginning of the replies that have this mark.
 fn status_of(mark: u8) -> &'static str {
     match mark {
         b'2' => "HTTP/1.1 200",
@@ -22,8 +22,8 @@ fn status_of(mark: u8) -> &'static str {
     }
 }
 
-/// Each caller asks this of both desks, and is answered as the marks say, by both to the byte
-/// alike.
+/// Sends the row's request from each caller to both desks. Checks the statuses by the marks, and
+/// that both desks return equal bytes.
 fn is_answered(
     rt: &(impl Abort + AllocGlobal),
     desk: &mut MemDesk,
@@ -43,7 +43,7 @@ fn is_answered(
     }
 }
 
-/// All of these rows, one after the other.
+/// Checks these rows in order.
 fn are_answered(
     rt: &(impl Abort + AllocGlobal),
     desk: &mut MemDesk,
@@ -55,9 +55,9 @@ fn are_answered(
     }
 }
 
-/// What is alike in each phase: who is who, what is offered, what the office asks for, and what is
-/// closed, rolls and moves to another round. A row is a request, and a mark for what each caller in
-/// turn is answered.
+/// Requests that get the same statuses in each phase. Each row has a request, and a mark for the
+/// status that each caller in turn gets. The last rows are refused: rolls, and moves to setup or to
+/// the first round.
 const ALWAYS: &str = r#"
 each  GET /me                                            322222
 each  GET /catalogue                                     322222
@@ -75,7 +75,7 @@ each  POST /phase {"phase":"published","round":1}        333339
 each  POST /phase {"phase":"choosing","round":1}         333339
 "#;
 
-/// In choosing; the office closes the lists.
+/// Requests in choosing.
 const CHOOSING: &str = r#"
 each  PUT /choices {"projects":["P1"]}            394333
 each  PUT /choices {"projects":["P3"]}            392333
@@ -92,7 +92,7 @@ const TO_RANKING: &str = r#"
 each  POST /phase {"phase":"ranking"}  333332
 "#;
 
-/// In ranking, where one lecturer has an applicant.
+/// Requests in ranking, where one lecturer has an applicant.
 const RANKING: &str = r#"
 each  PUT /choices {"projects":["P3"]}   399333
 each  GET /applicants                    333223
@@ -109,7 +109,7 @@ const TO_PUBLISHED: &str = r#"
 each  POST /phase {"phase":"published"}  333332
 "#;
 
-/// In published, from where no move leads on.
+/// Requests in published, the last phase.
 const PUBLISHED: &str = r#"
 each  PUT /choices {"projects":["P3"]}             399333
 each  GET /applicants                              333223
@@ -121,7 +121,7 @@ each  POST /phase {"phase":"ranking"}              333339
 each  POST /phase {"phase":"published","round":2}  333332
 "#;
 
-/// The phases in turn, and what is alike in each before and behind what is its own.
+/// The phases in order, with `ALWAYS` before and after the rows of each.
 const PHASES: &[&str] = &[
     ALWAYS,
     CHOOSING,

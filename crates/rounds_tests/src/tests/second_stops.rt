@@ -1,5 +1,5 @@
-//! Changes of the second round on a disk that stops at a write, or fails once at a write or a read,
-//! opened again behind each.
+//! Tests changes of the second round on a disk that stops at a write, or fails once at a write or a
+//! read. The database is opened again after each fault.
 
 use crate::tests::stops::{INIT, comes, dies};
 use crate::tests::trial::Fault;
@@ -7,17 +7,17 @@ use portal_fixtures::changes::{FIRST, OPENED, RANKED, SECOND_PUBLICATION};
 use portal_fixtures::worked::SECOND_OPENING;
 use std::process::Abort;
 
-/// As far as the second round, and as far as its lists.
+/// A published first round. `IN_CHOOSING` adds the lists of the second round.
 const IN_THE_FIRST: &[&str] = &[INIT, FIRST];
 
 const IN_CHOOSING: &[&str] = &[INIT, FIRST, OPENED];
 
-/// So often at least the fault comes from the opening on until the lists are there.
+/// Checks that the fault occurs at least `least` times from the opening to the last list.
 fn comes_in_choosing(rt: &(impl Abort + AllocGlobal), fault: Fault, least: u64) {
     comes(rt, fault, IN_THE_FIRST, &[OPENED], least);
 }
 
-/// So often at least the fault comes in ranking.
+/// Checks that the fault occurs at least `least` times in ranking and in the publication.
 fn comes_in_ranking(rt: &(impl Abort + AllocGlobal), fault: Fault, least: u64) {
     comes(rt, fault, IN_CHOOSING, &[RANKED, SECOND_PUBLICATION], least);
 }

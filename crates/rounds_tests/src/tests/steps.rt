@@ -1,4 +1,4 @@
-//! Scripts over a database in memory and over lists.
+//! Plays scripts over a database in memory and over lists.
 
 use portal_core::{Code, Keeper};
 use portal_desk::Desk;
@@ -6,22 +6,22 @@ use portal_fixtures::{MemDesk, fresh, fresh_lists, office_code, play};
 use portal_list::ListKeeper;
 use std::process::Abort;
 
-/// The office's code.
+/// Returns the office's code.
 pub(crate) fn new_office_code(rt: &(impl Abort + AllocGlobal)) -> Code {
     office_code(rt.alloc()).expect(rt, "a code")
 }
 
-/// A desk over the empty world in setup, in a database.
+/// Makes a desk over the empty world in setup, in a database in memory.
 pub(crate) fn new_desk(rt: &(impl Abort + AllocGlobal)) -> MemDesk {
     fresh(rt.alloc()).expect(rt, "a desk")
 }
 
-/// A desk over the empty world in setup, in lists.
+/// Makes a desk over the empty world in setup, in lists.
 pub(crate) fn new_lists(rt: &(impl Abort + AllocGlobal)) -> Desk<ListKeeper> {
     fresh_lists(rt.alloc()).expect(rt, "a desk")
 }
 
-/// Each line of the scripts gets its reply.
+/// Checks that each line of the scripts gets its reply.
 pub(crate) fn plays<K: Keeper>(
     rt: &(impl Abort + AllocGlobal),
     desk: &mut Desk<K>,

@@ -1,5 +1,5 @@
-//! Databases whose disk stops at a write, or fails once at a write or a read, and that are opened
-//! again.
+//! Tests databases that are opened again after their disk stopped at a write, or failed once at a
+//! write or a read.
 
 use crate::tests::steps::new_office_code;
 use crate::tests::trial::{Fault, Plan, Trial};
@@ -16,14 +16,14 @@ use std::process::Abort;
 /// A connection to two files that fail as a plan says.
 pub(crate) type TrialConnection<'a> = Connection<FileStore<Trial<'a, Memory>>>;
 
-/// What the two files of a database hold.
+/// The bytes of the two files of a database.
 #[derive(Drop)]
 pub(crate) struct Image {
     log: Vec<u8>,
     db: Vec<u8>,
 }
 
-/// A file in memory that holds these bytes, safely.
+/// Makes a file in memory with these bytes, synced.
 fn memory(rt: &(impl Abort + AllocGlobal), bytes: &[u8]) -> Memory {
     let mut file = Memory::new(rt.alloc());
     file.write_at(0, bytes).expect(rt, "a write");
@@ -31,7 +31,7 @@ fn memory(rt: &(impl Abort + AllocGlobal), bytes: &[u8]) -> Memory {
     file
 }
 
-/// Little memory for pages, so that a change writes before its end and reads again, and a short
+/// Little memory for pages, so that a change writes before its end and reads pages again. A short
 /// log, so that it is copied into the database in between.
 pub(crate) const TIGHT: Options = Options {
     cache_pages: 4,
@@ -40,7 +40,7 @@ pub(crate) const TIGHT: Options = Options {
     seed: 7,
 };
 
-/// A connection to files that hold this.
+/// Opens a connection to files with these bytes.
 pub(crate) fn connected<'a>(
     rt: &(impl Abort + AllocGlobal),
     image: &Image,
@@ -57,7 +57,7 @@ pub(crate) fn connected<'a>(
     }
 }
 
-/// What the files hold: all that was written, and what of it is safe.
+/// Closes the connection. Returns the files as written, and as last synced.
 pub(crate) fn left_of(
     rt: &(impl Abort + AllocGlobal),
     conn: TrialConnection<'_>,
@@ -77,7 +77,7 @@ pub(crate) fn left_of(
     )
 }
 
-/// All that was written to a file, and what of it is safe.
+/// Returns the bytes of a file as written, and as last synced.
 fn contents(rt: &(impl Abort + AllocGlobal), mut file: Memory) -> (Vec<u8>, Vec<u8>) {
     let written = Vec::from_slice(rt.alloc(), file.bytes()).expect(rt, "memory");
     file.crash();
@@ -85,7 +85,7 @@ fn contents(rt: &(impl Abort + AllocGlobal), mut file: Memory) -> (Vec<u8>, Vec<
     (written, safe)
 }
 
-/// A byte that a crash may leave, of one that was written and a safe one.
+/// Chooses the byte that a crash leaves, from the written byte and the synced one.
 fn left_byte(way: usize, at: usize, written: u8, safe: u8) -> u8 {
     let is_new = match way {
         5 => true,
@@ -100,8 +100,8 @@ fn left_byte(way: usize, at: usize, written: u8, safe: u8) -> u8 {
     if is_new { written } else { safe }
 }
 
-/// What a crash may leave of a file, in one of six ways: what is safe (1), sectors by turns (2 and
-/// 3), bytes by turns (4), a part of the growth (5), or rubbish where bytes were written (6).
+/// Returns what a crash may leave of a file: the synced bytes (1), the writes to every other sector
+/// (2 and 3) or byte (4), or a part of the growth (5). Way 6 leaves garbage where bytes differ.
 fn left_file(rt: &(impl Abort + AllocGlobal), way: usize, written: &[u8], safe: &[u8]) -> Vec<u8> {
     let length = match way {
         1 | 3 => safe.len(),
@@ -124,15 +124,15 @@ fn left_image(rt: &(impl Abort + AllocGlobal), way: usize, written: &Image, safe
     }
 }
 
-/// What files show: whether the tables are those of version 2, and what the portal in them shows,
-/// nothing where there is none.
+/// What files show: whether their tables are of version 2, and the output of the portal in them, if
+/// there is one.
 #[derive(PartialEq, Drop)]
 struct Sight {
     is_current: bool,
     text: Option<Vec<u8>>,
 }
 
-/// What the portal shows that is made of tables of version 1.
+/// Upgrades tables of version 1, and returns what the portal then shows.
 fn shown_upgraded(rt: &(impl Abort + AllocGlobal), conn: TrialConnection<'_>) -> Vec<u8> {
     assert!(rt; conn.is_autocommit());
     match Store::upgrade(rt.alloc(), conn) {
@@ -151,7 +151,7 @@ fn shown_upgraded(rt: &(impl Abort + AllocGlobal), conn: TrialConnection<'_>) ->
     }
 }
 
-/// What these files show. Tables of version 1 are upgraded first.
+/// Returns what these files show. Tables of version 1 are upgraded first.
 fn shown(rt: &(impl Abort + AllocGlobal), image: &Image) -> Sight {
     let plan = Plan::new(Fault::Stop);
     let conn = connected(rt, image, &plan, Options::new(7));
@@ -182,7 +182,7 @@ fn shown(rt: &(impl Abort + AllocGlobal), image: &Image) -> Sight {
     }
 }
 
-/// The portal is made in the files, or refused by their fault.
+/// Creates a portal in the files. Returns whether that succeeded, and the connection.
 fn makes<'a>(
     rt: &(impl Abort + AllocGlobal),
     conn: TrialConnection<'a>,
@@ -199,7 +199,7 @@ fn makes<'a>(
     }
 }
 
-/// The tables of version 1 in the files are upgraded, or that is refused by their fault.
+/// Upgrades tables of version 1. Returns whether that succeeded, and the connection.
 fn upgrades<'a>(
     rt: &(impl Abort + AllocGlobal),
     conn: TrialConnection<'a>,
@@ -214,7 +214,7 @@ fn upgrades<'a>(
     }
 }
 
-/// The portal in the files, which is there.
+/// Opens the portal in the files, and returns a desk over it.
 pub(crate) fn desk_over<'a>(
     rt: &(impl Abort + AllocGlobal),
     conn: TrialConnection<'a>,
@@ -231,13 +231,13 @@ pub(crate) fn desk_over<'a>(
     }
 }
 
-/// The portal is made.
+/// The line that creates the portal.
 pub(crate) const INIT: &str = "office  init";
 
-/// Tables of version 1 are upgraded.
+/// The line that upgrades tables of version 1.
 const UPGRADE: &str = "office  upgrade";
 
-/// A change of what the files hold, and what is shown before and after it.
+/// A change of files, and what they show before and after it.
 #[derive(Drop)]
 struct Case {
     before: Image,
@@ -247,8 +247,8 @@ struct Case {
     shown_after: Sight,
 }
 
-/// The change is tried, and the fault comes after so many calls: whether the change was answered as
-/// done, and what is left.
+/// Tries the change, with a fault after `calls` calls. Returns whether the change was reported as
+/// done, and the connection.
 fn tried<'a>(
     rt: &(impl Abort + AllocGlobal),
     before: &Image,
@@ -277,7 +277,7 @@ fn tried<'a>(
     }
 }
 
-/// What the files may hold after the change is done without a fault, with all of it in the log.
+/// Makes the change without a fault. Returns the files as they are before closing writes to them.
 fn done(rt: &(impl Abort + AllocGlobal), before: &Image, line: &Line) -> Image {
     let plan = Plan::new(Fault::Stop);
     let (is_done, conn) = tried(rt, before, line, &plan, u64::MAX);
@@ -286,15 +286,15 @@ fn done(rt: &(impl Abort + AllocGlobal), before: &Image, line: &Line) -> Image {
     left_of(rt, conn).0
 }
 
-/// The portal in the files is the one before or the one after, and after a change that is done the
-/// one after.
+/// Checks that the files show the portal before or after the change. If the change was reported as
+/// done, they show the one after.
 fn is_one_of_two(rt: &(impl Abort + AllocGlobal), case: &Case, image: &Image, is_done: bool) {
     let found = shown(rt, image);
     let is_after = found == case.shown_after;
     assert!(rt; is_after || (!is_done && found == case.shown_before));
 }
 
-/// The files are opened again in each of the ways that a crash may leave them.
+/// Opens the files again in each of the ways that a crash may leave them.
 fn survives_crashes(
     rt: &(impl Abort + AllocGlobal),
     case: &Case,
@@ -308,8 +308,8 @@ fn survives_crashes(
     }
 }
 
-/// Whether the fault came, after so many calls; the files are opened again as they are, and as a
-/// crash may leave them.
+/// Tries the change, with a fault after `calls` calls. Opens the files again as they are, and as a
+/// crash may leave them. Returns whether the fault occurred.
 fn survives(rt: &(impl Abort + AllocGlobal), case: &Case, fault: Fault, calls: u64) -> bool {
     let plan = Plan::new(fault);
     let line = Line::new(case.text.as_str());
@@ -326,7 +326,7 @@ fn survives(rt: &(impl Abort + AllocGlobal), case: &Case, fault: Fault, calls: u
     came
 }
 
-/// How often the fault came, at each call in turn.
+/// Lets the fault occur at each call in turn, and returns how often it occurred.
 fn faults_of(rt: &(impl Abort + AllocGlobal), case: &Case, fault: Fault) -> u64 {
     for calls in 0..10_000 {
         if !survives(rt, case, fault, calls) {
@@ -336,7 +336,7 @@ fn faults_of(rt: &(impl Abort + AllocGlobal), case: &Case, fault: Fault) -> u64 
     10_000
 }
 
-/// Files of an empty database.
+/// Returns the files of an empty database.
 pub(crate) fn blank(rt: &(impl Abort + AllocGlobal)) -> Image {
     let empty = Image {
         log: Vec::new(rt.alloc()),
@@ -346,7 +346,7 @@ pub(crate) fn blank(rt: &(impl Abort + AllocGlobal)) -> Image {
     left_of(rt, connected(rt, &empty, &plan, TIGHT)).0
 }
 
-/// The files after these changes.
+/// Returns the files after these changes.
 fn after(rt: &(impl Abort + AllocGlobal), before: Image, script: &str) -> Image {
     let mut image = before;
     for line in lines(rt.alloc(), script).expect(rt, "memory") {
@@ -355,7 +355,7 @@ fn after(rt: &(impl Abort + AllocGlobal), before: Image, script: &str) -> Image 
     image
 }
 
-/// The files after these parts of a year.
+/// Returns the files after these scripts, which begin with an empty database.
 pub(crate) fn files_after(rt: &(impl Abort + AllocGlobal), played: &[&str]) -> Image {
     let mut image = blank(rt);
     for script in played {
@@ -364,7 +364,7 @@ pub(crate) fn files_after(rt: &(impl Abort + AllocGlobal), played: &[&str]) -> I
     image
 }
 
-/// A change of files that show this, and the files after it.
+/// Returns the case of a change of these files, and the files after it.
 fn case_of(
     rt: &(impl Abort + AllocGlobal),
     before: Image,
@@ -383,7 +383,7 @@ fn case_of(
     (case, after)
 }
 
-/// Each of these changes meets the fault at each of its calls; how often in all.
+/// Lets the fault occur at each call of each change, and returns how often it occurred in all.
 fn meets(rt: &(impl Abort + AllocGlobal), fault: Fault, before: Image, scripts: &[&str]) -> u64 {
     let mut shown_before = shown(rt, &before);
     let mut image = before;
@@ -398,7 +398,7 @@ fn meets(rt: &(impl Abort + AllocGlobal), fault: Fault, before: Image, scripts: 
     count
 }
 
-/// So often at least the fault comes in these changes, behind those that are played.
+/// Checks that the fault occurs at least `least` times in these changes, after the played ones.
 pub(crate) fn comes(
     rt: &(impl Abort + AllocGlobal),
     fault: Fault,
@@ -410,17 +410,17 @@ pub(crate) fn comes(
     assert!(rt; count >= least, "{count} times");
 }
 
-/// So often at least the fault comes in setup.
+/// Checks that the fault occurs at least `least` times in setup.
 fn comes_in_setup(rt: &(impl Abort + AllocGlobal), fault: Fault, least: u64) {
     comes(rt, fault, &[], &[INIT, "\n", SETUP], least);
 }
 
-/// So often at least the fault comes in choosing.
+/// Checks that the fault occurs at least `least` times in choosing.
 fn comes_in_choosing(rt: &(impl Abort + AllocGlobal), fault: Fault, least: u64) {
     comes(rt, fault, &[INIT, SETUP], &[CHOOSING], least);
 }
 
-/// So often at least the fault comes in ranking.
+/// Checks that the fault occurs at least `least` times in ranking and in the publication.
 fn comes_in_ranking(rt: &(impl Abort + AllocGlobal), fault: Fault, least: u64) {
     let played = [INIT, SETUP, CHOOSING];
     comes(rt, fault, &played, &[RANKING, PUBLICATION], least);
@@ -486,7 +486,7 @@ fn a_read_fails_in_ranking(rt: HostRuntime) {
     comes_in_ranking(&rt, Fault::Read, 60);
 }
 
-/// Files of version 1, in which the result is published.
+/// Returns files of version 1 with a published result.
 fn earlier(rt: &(impl Abort + AllocGlobal)) -> Image {
     let plan = Plan::new(Fault::Stop);
     let mut conn = connected(rt, &blank(rt), &plan, TIGHT);
@@ -494,7 +494,7 @@ fn earlier(rt: &(impl Abort + AllocGlobal)) -> Image {
     left_of(rt, conn).0
 }
 
-/// So often at least the fault comes in an upgrade, which leaves the world as it is.
+/// Checks that the fault occurs at least `least` times in an upgrade, which keeps the world.
 fn comes_in_an_upgrade(rt: &(impl Abort + AllocGlobal), fault: Fault, least: u64) {
     let before = earlier(rt);
     let found = shown(rt, &before);
@@ -524,7 +524,7 @@ fn a_read_fails_in_an_upgrade(rt: HostRuntime) {
     comes_in_an_upgrade(&rt, Fault::Read, 15);
 }
 
-/// Why the serving of a line's request stopped early, and what was written.
+/// Serves a line's request. Returns why serving stopped early, if it did, and the output.
 pub(crate) fn stopped<K: Keeper>(
     rt: &(impl Abort + AllocGlobal),
     desk: &mut Desk<K>,
@@ -540,8 +540,8 @@ pub(crate) fn stopped<K: Keeper>(
     (cause, sink.into_inner())
 }
 
-/// The reply to each line is 503, the serving stops for the store, and the desk says that it has
-/// failed.
+/// Checks that the reply to each line is 503, that serving stops with a fault of the store, and
+/// that the desk has failed.
 fn is_dead<K: Keeper>(rt: &(impl Abort + AllocGlobal), desk: &mut Desk<K>, script: &str) {
     for line in lines(rt.alloc(), script).expect(rt, "memory") {
         let (cause, reply) = stopped(rt, desk, &line);
@@ -551,8 +551,7 @@ fn is_dead<K: Keeper>(rt: &(impl Abort + AllocGlobal), desk: &mut Desk<K>, scrip
     }
 }
 
-/// A disk that fails at a change, behind these parts of a year: from then on the desk serves
-/// nobody.
+/// Lets the disk fail at a change after these scripts, and checks that the desk then serves nobody.
 pub(crate) fn dies(rt: &(impl Abort + AllocGlobal), fault: Fault, played: &[&str], change: &str) {
     let image = files_after(rt, played);
     let plan = Plan::new(fault);

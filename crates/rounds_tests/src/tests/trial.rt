@@ -1,4 +1,4 @@
-//! Disks that stop at a write, or fail once.
+//! Simulates disks that stop at a write, or fail once.
 
 ghost use Rattle.std.specs.Prelude.{◌≡◌, ◌+◌, ◌&&◌, not, false};
 ghost use Rattle.sqlite_disk.specs.Disk.{CountsFault};
@@ -8,31 +8,30 @@ use sqlite_disk::{Disk, Tally};
 use std::cell::Cell;
 use std::io;
 
-/// What goes wrong.
+/// A kind of fault.
 #[derive(Clone, Copy, Debug, PartialEq, Eq)]
 pub(crate) enum Fault {
-    /// The machine stops at a write, and stands still.
+    /// The machine stops at a write, so all later calls fail.
     Stop,
-    /// One write is not done.
+    /// One write fails, and has no effect.
     Refusal,
-    /// One write is done, and answers an error all the same.
+    /// One write reports an error although its bytes are written. `set_len` and `sync` just fail.
     Doubt,
     /// One read fails.
     Read,
 }
 
-/// When the two files of a database fail: their calls are counted together.
+/// A plan of when the two files of a database fail. Their calls are counted together.
 #[derive(Drop)]
 pub(crate) struct Plan {
     fault: Fault,
-    /// How many calls of the kind pass before the one that fails. At the greatest number none
-    /// fails.
+    /// How many calls of the kind succeed before the one that fails. For `u64::MAX` none fails.
     left: Cell<u64>,
     came: Cell<bool>,
 }
 
 impl Plan {
-    /// No fault comes until the plan is armed.
+    /// Makes a plan that causes no fault until it is armed.
     pub(crate) fn new(fault: Fault) -> Plan {
         Plan {
             fault,
@@ -41,18 +40,18 @@ impl Plan {
         }
     }
 
-    /// The fault comes after so many calls of its kind.
+    /// Plans the fault after this many calls of its kind.
     pub(crate) fn arm(&self, calls: u64) {
         self.left.set(calls);
         self.came.set(false);
     }
 
-    /// Whether the fault came.
+    /// Returns whether the fault occurred.
     pub(crate) fn came(&self) -> bool {
         self.came.get()
     }
 
-    /// Whether this call fails.
+    /// Counts a call, and returns whether it fails.
     fn meets(&self, is_read: bool) -> bool {
         let stands = self.fault == Fault::Stop && self.came.get();
         let left = self.left.get();
@@ -84,7 +83,7 @@ impl<'a, D: Disk> Trial<'a, D> {
         }
     }
 
-    /// The disk, which fails no more.
+    /// Returns the disk inside, which does not fail by the plan.
     pub(crate) fn into_inner(self) -> D {
         let Trial {
             inner,
@@ -96,7 +95,7 @@ impl<'a, D: Disk> Trial<'a, D> {
     }
 }
 
-/// Whether a call passes, which is counted where it does not.
+/// Returns an error, and counts it, if the plan makes this call fail.
 fn pass(plan: &Plan, is_read: bool, failures: &mut u64) -> io::Result<()>
     ensures faults { CountsFault result failures.old failures.new }
     ensures kind { finds_no_room result ≡ false }

@@ -1,9 +1,9 @@
-//! The command `check`.
+//! Tests the command `check`.
 
 use super::wrong;
 use std::test::Fail;
 
-/// Pairs behind two lecturers, two projects and two students.
+/// Rows with pairs, for an instance of two lecturers, two projects and two students.
 const TWO_LECTURERS: &str = r#"
 0  blocking 0\n                                M,S1,P1,\nM,S2,P2,\n
 0  blocking 0\n                                M,S1,P2,\nM,S2,P1,\n

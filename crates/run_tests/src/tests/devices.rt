@@ -1,4 +1,4 @@
-//! Words, readers and writers that fail.
+//! Tests commands over readers and writers that fail, and bad command lines.
 
 use portal_run::run;
 use std::alloc::AllocError;
@@ -6,7 +6,7 @@ use std::io::{Read, Write};
 use std::test::Fail;
 use std::{fs, io};
 
-/// Gives the header line, then fails.
+/// A reader that returns the header line, and then fails.
 #[derive(Drop)]
 struct Broken {
     at: usize,
@@ -25,7 +25,7 @@ impl Read for Broken {
     }
 }
 
-/// Gives one byte a read, and a signal interrupts every other read.
+/// A reader that returns one byte a call. A signal interrupts every other call.
 #[derive(Drop)]
 struct Interrupted {
     bytes: &'static [u8],
@@ -50,7 +50,7 @@ impl Read for Interrupted {
     }
 }
 
-/// Takes nothing.
+/// A writer that accepts no bytes.
 #[derive(Drop)]
 struct Full;
 
@@ -64,7 +64,7 @@ impl Write for Full {
     }
 }
 
-/// Takes bytes, and cannot pass them on.
+/// A writer that accepts bytes, but fails to flush them.
 #[derive(Drop)]
 struct Stuck {
     taken: Vec<u8>,
@@ -80,7 +80,7 @@ impl Write for Stuck {
     }
 }
 
-/// Holds the bytes that it takes, and hands them on where it is flushed.
+/// A writer that holds bytes until it is flushed.
 #[derive(Drop)]
 struct Buffered {
     held: Vec<u8>,
@@ -99,7 +99,7 @@ impl Write for Buffered {
     }
 }
 
-/// Whether the words print this first, and flush it.
+/// Returns whether the command has this status, and flushes output that begins with `said`.
 fn flushes(rt: &HostRuntime, words: &str, input: &[u8], status: u8, said: &str) -> bool {
     let words: Result<Vec<&str>, AllocError> = words.split_whitespace().collect(rt.alloc());
     let Ok(words) = words else {
@@ -132,7 +132,7 @@ fn what_is_printed_is_flushed(rt: HostRuntime) -> Result<(), Fail> {
     Ok(())
 }
 
-/// Whether the command prints this although every other read is interrupted.
+/// Returns whether the command prints this although every other read is interrupted.
 fn asks_again(rt: &HostRuntime, words: &[&str], bytes: &'static [u8], said: &str) -> bool {
     let mut input = Interrupted {
         bytes,
@@ -180,7 +180,7 @@ fn flush_fails(rt: HostRuntime) {
     assert!(rt; out.taken.as_slice() == b"blocking 0\nfault write\n".as_slice());
 }
 
-/// Whether it is a fault that the file cannot be read.
+/// Returns whether `check` reports that it cannot read the file.
 fn is_unread(rt: &HostRuntime, file: &str) -> bool {
     let mut out = Vec::new(rt.alloc());
     let mut input = b"".as_slice();

@@ -1,10 +1,10 @@
-//! Instance files and databases that are named on the command line.
+//! Tests commands on instance files and databases that the command line names.
 
 use portal_run::run;
 use std::fs;
 use std::test::Fail;
 
-/// What a command tells of the file with these bytes, and its status.
+/// Runs a command on a file with these bytes, and returns the status and the output.
 fn told_of(
     rt: &HostRuntime,
     command: &str,
@@ -44,7 +44,7 @@ fn a_named_file_is_refused_as_the_input_is(rt: HostRuntime) -> Result<(), Fail> 
     Ok(())
 }
 
-/// What a command tells of the database of this name for an input, and its status.
+/// Runs a command on the database at this path, and returns the status and the output.
 fn told_of_database(rt: &HostRuntime, command: &str, path: &str, input: &[u8]) -> (u8, Vec<u8>) {
     let mut out = Vec::new(rt.alloc());
     let mut input = input;

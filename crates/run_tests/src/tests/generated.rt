@@ -1,10 +1,10 @@
-//! What `solve` gives for generated files, judged by `check`.
+//! Tests by `check` what `solve` prints for generated files.
 
 use super::{HEADER, told};
 use std::alloc::{AllocError, Global};
 use std::test::Fail;
 
-/// Numbers that look like chance, the same each time.
+/// A generator of pseudorandom numbers, the same in each run.
 #[derive(Drop)]
 struct Chance {
     state: u64,
@@ -19,7 +19,7 @@ impl Chance {
         (self.state >> 33) % n.max(1)
     }
 
-    /// Some different numbers below n, in an order of chance.
+    /// Returns up to `turns` different numbers below `n`, in a pseudorandom order.
     fn some(&mut self, alloc: Global, n: u64, turns: u64) -> Result<Vec<u64>, AllocError> {
         let mut list = Vec::new(alloc);
         for _ in 0..turns {
@@ -32,7 +32,7 @@ impl Chance {
     }
 }
 
-/// Adds keys of these numbers, between blanks.
+/// Appends a key for each number, with spaces between the keys, and ends the line.
 fn put_keys(
     alloc: Global,
     text: &mut Vec<u8>,
@@ -49,8 +49,8 @@ fn put_keys(
     Ok(())
 }
 
-/// Up to three lecturers, six projects (each of the lecturer whose number it has by three) and six
-/// students, in any capacities to 3.
+/// Generates a file with six students, six projects and three lecturers, and capacities from 1 to
+/// 3. The lecturer of project `p` is `p % 3`.
 fn file(alloc: Global, chance: &mut Chance) -> Result<Vec<u8>, AllocError> {
     let mut text = Vec::new(alloc);
     let mut choices = Vec::new(alloc);
@@ -78,7 +78,7 @@ fn file(alloc: Global, chance: &mut Chance) -> Result<Vec<u8>, AllocError> {
     Ok(text)
 }
 
-/// Those of the students, in this order, who list a project of the lecturer.
+/// Returns the students of `order` who list a project of the lecturer.
 fn applicants(
     alloc: Global,
     choices: &[Vec<u64>],
@@ -96,7 +96,7 @@ fn applicants(
     Ok(list)
 }
 
-/// The lines `assign STUDENT PROJECT` as pairs of a file.
+/// Converts the lines `assign STUDENT PROJECT` to pairs of an instance file.
 fn pairs(alloc: Global, solution: &str) -> Result<Vec<u8>, AllocError> {
     let mut text = Vec::new(alloc);
     for line in solution.lines() {

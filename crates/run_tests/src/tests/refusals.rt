@@ -1,4 +1,4 @@
-//! Files that are refused, each word once.
+//! Tests instance files that are refused.
 
 use super::{HEADER, told, wrong};
 use std::test::Fail;
@@ -45,7 +45,7 @@ fn no_instance(rt: HostRuntime) -> Result<(), Fail> {
     Ok(())
 }
 
-/// Pairs that are refused behind a lecturer, a project and three students.
+/// Pairs that are refused for an instance of a lecturer, a project and three students.
 const NO_MATCHING: &str = r#"
 2  refused pair_no_student row 6\n  M,S9,P1,\n
 2  refused pair_no_project row 6\n  M,S1,P9,\n
@@ -66,7 +66,7 @@ fn no_matching(rt: HostRuntime) -> Result<(), Fail> {
     Ok(())
 }
 
-/// The records of n students, with no list and the keys that `number` writes.
+/// Returns the records of `n` students with numbered keys and empty lists.
 fn students(rt: &HostRuntime, n: u32) -> Result<Vec<u8>, std::alloc::AllocError> {
     let mut records = Vec::new(rt.alloc());
     for number in 0..n {

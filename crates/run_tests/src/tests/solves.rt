@@ -1,4 +1,4 @@
-//! The command `solve`.
+//! Tests the command `solve`.
 
 use super::wrong;
 use std::test::Fail;

@@ -1,11 +1,11 @@
-//! What the words ask for.
+//! Tests the parsing of the command line.
 
 use portal_fixtures::cut;
 use portal_words::{Asked, Command, command_of};
 use std::process::Abort;
 use std::test::Fail;
 
-/// The command that words ask for: its name with its file, or the port and the number of connections.
+/// Describes the parsed command: its name and file, or its port and number of connections.
 fn asked(rt: &(impl Abort + AllocGlobal), words: &[&str]) -> String {
     let alloc = rt.alloc();
     let Ok(Asked::Do(command)) = command_of(alloc, words) else {
@@ -27,7 +27,7 @@ fn asked(rt: &(impl Abort + AllocGlobal), words: &[&str]) -> String {
     told.expect(rt, "memory")
 }
 
-/// The words of each row ask for what it says.
+/// Checks that the words of each row are parsed as the row says.
 fn are_asked(rt: &(impl Abort + AllocGlobal), rows: &str) {
     for row in rows.lines().skip(1) {
         let (words, wanted) = cut(row, "  ");

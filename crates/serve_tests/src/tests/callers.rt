@@ -1,4 +1,4 @@
-//! A clock that a test moves, and a caller who acts by it.
+//! Simulates a clock, and a caller who acts by it.
 
 use portal_serve::TimedStream;
 use std::cell::Cell;
@@ -6,7 +6,7 @@ use std::io;
 use std::io::{ErrorKind, Read};
 use std::time::{Clock, Duration};
 
-/// A clock that goes on only while somebody waits.
+/// A clock that moves only during waits.
 #[derive(Drop)]
 pub(crate) struct TestClock {
     seconds: Cell<u64>,
@@ -19,12 +19,12 @@ impl TestClock {
         }
     }
 
-    /// How many seconds have gone.
+    /// Returns how many seconds have passed.
     pub(crate) fn seconds(&self) -> u64 {
         self.seconds.get()
     }
 
-    /// Waits so many seconds, or until the timeout, which is an error.
+    /// Waits this many seconds. If the timeout is shorter, waits for it and returns an error.
     fn wait(&self, seconds: u64, timeout: Duration) -> io::Result<()> {
         let most = timeout.as_secs();
         let waited = seconds.min(most);
@@ -46,7 +46,7 @@ impl Clock for TestClock {
     }
 }
 
-/// What the server meets when it reads.
+/// An event that the server meets when it reads.
 #[derive(Clone, Copy, Debug)]
 pub(crate) enum Act {
     /// The caller sends this.
@@ -57,35 +57,35 @@ pub(crate) enum Act {
     Ends,
 }
 
-/// How a caller takes replies.
+/// How a caller reads replies.
 #[derive(Clone, Copy, Debug)]
 pub(crate) struct Pace {
     /// How many bytes at a time.
     pub(crate) bytes: usize,
-    /// How many seconds each time takes.
+    /// How many seconds each read takes.
     pub(crate) seconds: u64,
-    /// How many signals interrupt the first write, each after that time.
+    /// How many signals interrupt the first write, each after this time.
     pub(crate) signals: u64,
 }
 
-/// Takes all at once.
+/// The pace of a caller who reads everything at once.
 pub(crate) const PROMPT: Pace = Pace {
     bytes: 4_096,
     seconds: 0,
     signals: 0,
 };
 
-/// A caller: what is met, each after so many seconds of waiting, and then silence.
+/// A caller whose acts come each after some seconds of waiting, followed by silence.
 #[derive(Drop)]
 pub(crate) struct Caller<'a> {
     clock: &'a TestClock,
     acts: &'a [(u64, Act)],
     pace: Pace,
-    /// How many of them were met.
+    /// How many acts the server has met. `Ends` is not counted.
     met: Cell<usize>,
     /// How many signals are still to come.
     signals: Cell<u64>,
-    /// How many bytes of replies were taken.
+    /// How many bytes of replies the caller has read.
     taken: Cell<usize>,
 }
 
@@ -101,7 +101,7 @@ impl<'a> Caller<'a> {
         }
     }
 
-    /// How many bytes of replies were taken.
+    /// How many bytes of replies the caller has read.
     pub(crate) fn taken(&self) -> usize {
         self.taken.get()
     }

@@ -1,4 +1,4 @@
-//! How many connections are taken, and what came of each.
+//! Tests how many connections are accepted, and the outcome of each.
 
 ghost use Rattle.std.specs.Prelude.{◌≡◌, ◌<◌, ◌∷◌, ◌++◌, [], Some, vec_len, vec_capacity};
 ghost use Rattle.portal_core.specs.Meaning.{CountsFaults};
@@ -14,18 +14,18 @@ use spa_model::Instance;
 use std::alloc::Global;
 use std::process::Abort;
 
-/// Callers, one after another, and what came of those who were served.
+/// Callers who are served one after another, and the outcomes of their connections.
 #[derive(Drop)]
 struct Queue<'a> {
     alloc: Global,
     clock: &'a TestClock,
     callers: &'a [&'a [(u64, Act)]],
-    /// How many of them were served.
+    /// How many callers were served.
     served: usize,
     outcomes: Vec<Outcome>,
 }
 
-/// Adds what came of a connection, in the room that there is.
+/// Appends an outcome to a vector with reserved memory.
 fn note(outcomes: &mut Vec<Outcome>, outcome: Outcome)
     requires { vec_len outcomes.old < vec_capacity outcomes.old }
     ensures { outcomes.new.items ≡ outcomes.old.items ++ outcome ∷ [] }
@@ -55,7 +55,7 @@ impl<'a> Connections for Queue<'a> {
     }
 }
 
-/// Shows what a keeper in vectors shows, so many times, and then fails.
+/// A keeper in lists that fails after `left` views, and at each instance and each change.
 #[derive(Drop)]
 struct Failing {
     kept: ListKeeper,
@@ -64,7 +64,7 @@ struct Failing {
 }
 
 impl Failing {
-    /// Fails, and counts it.
+    /// Returns a fault, and counts it.
     fn fail<T: Drop>(&mut self) -> Result<T, KeepFault>
         ensures { CountsFaults result self.old.faults self.new.faults }
     {
@@ -113,7 +113,7 @@ const ASKS: &[(u64, Act)] = &[(0, Sends(ME)), (0, Ends)];
 /// A caller who asks once, and then falls silent in the middle of a request.
 const BREAKS: &[(u64, Act)] = &[(0, Sends(ME)), (0, Sends("GET"))];
 
-/// A connection that was served to its end, on a desk that has not failed.
+/// Returns the outcome of a connection that is served to its end, on a desk that has not failed.
 fn served(requests: u32) -> Outcome {
     Outcome {
         ended: Ok(Served {
@@ -124,7 +124,7 @@ fn served(requests: u32) -> Outcome {
     }
 }
 
-/// A connection that ended by a fault after so many requests.
+/// Returns the outcome of a connection that ends with a fault after this many requests.
 fn broken(cause: Cause, requests: u32, failed: bool) -> Outcome {
     Outcome {
         ended: Err(ServeFault { cause, requests }),
@@ -132,7 +132,7 @@ fn broken(cause: Cause, requests: u32, failed: bool) -> Outcome {
     }
 }
 
-/// Of these callers so many are asked for, and this comes of them.
+/// Serves at most `most` of these callers, and checks the counts and the outcomes.
 fn come<K: Keeper>(
     rt: &(impl Abort + AllocGlobal),
     desk: &mut Desk<K>,
@@ -155,7 +155,7 @@ fn come<K: Keeper>(
     assert_eq!(rt; queue.served, outcomes.len());
 }
 
-/// Shows what a keeper in vectors shows, so many times.
+/// Makes a desk over a keeper that fails after `left` views.
 fn desk_failing_after(rt: &(impl Abort + AllocGlobal), left: u32) -> Desk<Failing> {
     Desk::new(Failing {
         kept: fresh_keeper(rt),

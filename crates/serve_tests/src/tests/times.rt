@@ -1,4 +1,4 @@
-//! How long a connection may take, by a clock that goes on only while somebody waits.
+//! Tests the timeouts of a connection, by a clock that moves only during waits.
 
 use crate::tests::callers::Act::{Ends, Sends, Signal};
 use crate::tests::callers::{Act, Caller, PROMPT, Pace, TestClock};
@@ -7,11 +7,11 @@ use portal_desk::{Cause, Desk, Ending, ServeFault, Served};
 use portal_serve::serve_stream;
 use std::process::Abort;
 
-/// The same request, the last of its connection. Its reply has 118 bytes.
+/// The request of `ME` that also asks to close the connection. Its reply has 118 bytes.
 const LAST: &str = "GET /me HTTP/1.1\r\nHost: h\r\nConnection: close\r\n\r\n";
 
-/// A caller who takes replies at this pace is served, ends so, and takes so many bytes; the clock
-/// then shows so many seconds.
+/// Serves a caller who reads replies at this pace. Checks how the connection ends, how many bytes
+/// the caller reads, and how many seconds pass.
 fn comes(
     rt: &(impl Abort + AllocGlobal),
     acts: &[(u64, Act)],
@@ -29,12 +29,12 @@ fn comes(
     assert_eq!(rt; clock.seconds(), seconds);
 }
 
-/// A connection that ended by a fault after so many requests.
+/// Returns the result of a connection that ends with a fault after this many requests.
 fn fault(cause: Cause, requests: u32) -> Result<Served, ServeFault> {
     Err(ServeFault { cause, requests })
 }
 
-/// A connection whose caller sent no more after so many requests.
+/// Returns the result of a connection whose input ends after this many requests.
 fn end(requests: u32) -> Result<Served, ServeFault> {
     Ok(Served {
         requests,
@@ -42,7 +42,7 @@ fn end(requests: u32) -> Result<Served, ServeFault> {
     })
 }
 
-/// A connection whose caller asked for its end by the last of so many requests.
+/// Returns the result of a connection that the last of this many requests closes.
 fn closed(requests: u32) -> Result<Served, ServeFault> {
     Ok(Served {
         requests,
@@ -182,7 +182,7 @@ fn a_signal_gives_no_time(rt: HostRuntime) {
     comes(&rt, &one, thrice, fault(Cause::Write, 1), 0, 60);
 }
 
-/// A caller who sends a byte every 4 seconds after the reply that closes.
+/// A byte that a caller sends after 4 seconds, although the connection is closing.
 const TALKS: (u64, Act) = (4, Sends("x"));
 
 #[test]

@@ -1,4 +1,4 @@
-//! Matchings of which the blocking pairs are known.
+//! Tests matchings whose blocking pairs are known.
 
 use super::made::{instance_of, matching_of};
 use spa_check::{Block, blocking_pairs, is_stable};
@@ -15,7 +15,7 @@ fn block(student: usize, project: usize, letter: Letter) -> Block {
     }
 }
 
-/// Whether the pairs of this matching that block are these.
+/// Returns whether exactly these pairs block the matching.
 fn are_blocks(
     rt: &impl Abort,
     alloc: Global,

@@ -1,4 +1,4 @@
-//! Instances that look like chance, the same each time.
+//! Generates pseudorandom instances, the same in each run.
 
 use std::alloc::{AllocError, Global};
 
@@ -20,7 +20,7 @@ impl Chance {
         self.below(3).wrapping_add(1)
     }
 
-    /// Some different numbers below n.
+    /// Returns up to `turns` different numbers below `n`.
     fn some(&mut self, alloc: Global, n: u64, turns: u64) -> Result<Vec<u64>, AllocError> {
         let mut list = Vec::new(alloc);
         for _ in 0..turns {
@@ -33,7 +33,7 @@ impl Chance {
     }
 }
 
-/// The words of the numbers, after the letter, parted by blanks.
+/// Returns a key for each number, separated by spaces: the letter, then the number plus 10.
 pub(crate) fn words(alloc: Global, letter: &str, numbers: &[u64]) -> Result<String, AllocError> {
     let mut words = String::new(alloc);
     for number in numbers {
@@ -46,13 +46,13 @@ pub(crate) fn words(alloc: Global, letter: &str, numbers: &[u64]) -> Result<Stri
     Ok(words)
 }
 
-/// Whether one of these projects is offered by the lecturer.
+/// Returns whether the lecturer offers one of these projects.
 fn finds(owners: &[u64], list: &[u64], lecturer: u64) -> bool {
     list.iter()
         .any(|p| owners.get(*p as usize) == Some(&lecturer))
 }
 
-/// The students, in an order of chance, who find a project of the lecturer on their list.
+/// Returns the students who list a project of the lecturer, in a pseudorandom order.
 fn ranking(
     alloc: Global,
     chance: &mut Chance,
@@ -77,7 +77,7 @@ fn ranking(
     Ok(list)
 }
 
-/// The lists of up to seven students, over so many projects.
+/// Generates lists for up to seven students, appends their records, and returns the lists.
 fn lists(
     alloc: Global,
     chance: &mut Chance,
@@ -98,8 +98,8 @@ fn lists(
     Ok(choices)
 }
 
-/// The records of an instance of up to seven students, six projects and three lecturers, of any
-/// capacities to 3.
+/// Generates the records of an instance with up to seven students, six projects and three
+/// lecturers. All capacities are from 1 to 3.
 pub(crate) fn generated(alloc: Global, chance: &mut Chance) -> Result<String, AllocError> {
     let mut records = String::new(alloc);
     let lecturers = chance.below(3).wrapping_add(1);

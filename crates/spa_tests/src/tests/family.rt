@@ -1,4 +1,4 @@
-//! A family of small instances, and for each all matchings: both ways list the same pairs.
+//! Compares two ways of listing blocking pairs, for all matchings of 64 small instances.
 
 ghost use Rattle.std.specs.Prelude.{◌<◌};
 
@@ -10,7 +10,7 @@ use std::alloc::Global;
 use std::process::Abort;
 use std::test::Fail;
 
-/// One of two, by a bit of the number.
+/// Returns the first or the second text, by a bit of the number.
 fn either<'a>(number: u32, bit: u32, first: &'a str, second: &'a str) -> &'a str
     requires { bit < 32 }
 {
@@ -21,7 +21,7 @@ fn either<'a>(number: u32, bit: u32, first: &'a str, second: &'a str) -> &'a str
     }
 }
 
-/// Three students, two lecturers and three projects; lists and capacities by the number's bits.
+/// Builds a small instance whose lists and capacities depend on the bits of the number.
 fn member(rt: &impl Abort, alloc: Global, number: u32) -> Instance {
     let room = either(number, 5, "1", "2");
     let first = either(number, 0, "S1 S2 S3", "S3 S1 S2");
@@ -40,7 +40,7 @@ fn member(rt: &impl Abort, alloc: Global, number: u32) -> Instance {
     instance_of(rt, alloc, records.as_str())
 }
 
-/// The pair that the digit stands for: a project of three, or none.
+/// Returns the pair with this number from 1 to 3, or an empty text for another number.
 fn pair_of(digit: u32, pairs: [&'static str; 3]) -> &'static str {
     match digit {
         1 => pairs[0],
@@ -50,7 +50,7 @@ fn pair_of(digit: u32, pairs: [&'static str; 3]) -> &'static str {
     }
 }
 
-/// The pairs of the code's digits.
+/// Returns the records of the pairs. Each digit of the code to base 4 gives a student's project.
 fn pairs_by(rt: &impl Abort, alloc: Global, code: u32) -> String {
     let ann = pair_of(code % 4, ["M,S1,P1,\n", "M,S1,P2,\n", "M,S1,P3,\n"]);
     let bea = pair_of(code / 4 % 4, ["M,S2,P1,\n", "M,S2,P2,\n", "M,S2,P3,\n"]);
@@ -58,7 +58,7 @@ fn pairs_by(rt: &impl Abort, alloc: Global, code: u32) -> String {
     format!(in alloc; "{ann}{bea}{cyr}").expect(rt, "memory")
 }
 
-/// Whether both ways list the same pairs.
+/// Returns whether both ways list the same blocking pairs.
 fn do_agree(rt: &impl Abort, alloc: Global, instance: &Instance, matching: &Matching) -> bool {
     if !instance.fits(matching) {
         return false;
@@ -75,7 +75,7 @@ fn do_agree(rt: &impl Abort, alloc: Global, instance: &Instance, matching: &Matc
     listed.as_slice() == judged.as_slice() && is_stable(instance, matching) == judged.is_empty()
 }
 
-/// How many matchings of the member there are.
+/// Checks that both ways agree on all matchings of the instance, and returns their number.
 fn agreeing(rt: &impl Abort, alloc: Global, instance: &Instance) -> u32 {
     let mut count = 0u32;
     for code in 0..64u32 {

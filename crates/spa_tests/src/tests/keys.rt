@@ -1,4 +1,4 @@
-//! Keys at their limits.
+//! Tests keys at their limits.
 
 use spa_model::{Key, KeyFault};
 use std::test::Fail;

@@ -1,14 +1,14 @@
-//! A department at every limit.
+//! Tests a department at every limit.
 
 use super::made::lines_of;
 use spa_model::{BadInstance, Instance, InstanceFault};
 use std::alloc::{AllocError, Global};
 use std::test::Fail;
 
-/// The list of each lecturer, and who stands last on it.
+/// The list of each lecturer, and the last student on it.
 type Rankings = Vec<(String, u32)>;
 
-/// Puts the student at the end of the list of the project's lecturer, once.
+/// Appends the student to the list of the project's lecturer, unless the student is its last entry.
 fn rank(rankings: &mut Rankings, word: &str, student: u32, project: u32) -> Result<(), AllocError> {
     if let Some(ranking) = rankings.get_mut((project % 300) as usize) {
         if ranking.1 != student {
@@ -19,7 +19,7 @@ fn rank(rankings: &mut Rankings, word: &str, student: u32, project: u32) -> Resu
     Ok(())
 }
 
-/// A student's record, with so many choices.
+/// Returns a student's record with this many choices, and adds the student to the rankings.
 fn student(
     alloc: Global,
     rankings: &mut Rankings,
@@ -37,7 +37,7 @@ fn student(
     Ok(record)
 }
 
-/// So many students with so many choices each, with 1,000 projects and 300 lecturers.
+/// Returns the records of these students, 1,000 projects and 300 lecturers.
 fn department(alloc: Global, students: u32, choices: u32) -> Result<String, AllocError> {
     let mut records = String::new(alloc);
     let mut rankings = Vec::new(alloc);

@@ -1,18 +1,18 @@
-//! Instances and matchings of records.
+//! Builds instances and matchings from records.
 
 use portal_rolls::read_instance;
 use spa_model::{Instance, InstanceRows, Matching, PairLine};
 use std::alloc::Global;
 use std::process::Abort;
 
-/// Two students who both list both projects, of a lecturer each.
+/// Two students who both list both projects. Each project has its own lecturer.
 pub(crate) const TWO_LECTURERS: &str =
     "L,L1,2,S2 S1\nL,L2,1,S1 S2\nP,P1,1,L1\nP,P2,1,L2\nS,S1,,P1 P2\nS,S2,,P2 P1\n";
 
-/// Two students with a project each, of one lecturer, who takes one student.
+/// Two students who list one project each. One lecturer offers both, and takes one student.
 pub(crate) const ONE_LECTURER: &str = "L,L1,1,S2 S1\nP,P1,1,L1\nP,P2,1,L1\nS,S1,,P1\nS,S2,,P2\n";
 
-/// The rows of the records, numbered from 1, and their pairs.
+/// Reads the rows of the records, numbered from 1, and the pairs.
 pub(crate) fn lines_of(
     rt: &impl Abort,
     alloc: Global,
@@ -22,19 +22,19 @@ pub(crate) fn lines_of(
     read_instance(alloc, text.as_bytes()).expect(rt, "records")
 }
 
-/// The instance of the records.
+/// Builds the instance of the records.
 pub(crate) fn instance_of(rt: &impl Abort, alloc: Global, records: &str) -> Instance {
     let (rows, _) = lines_of(rt, alloc, records);
     Instance::build(alloc, rows).expect(rt, "an instance")
 }
 
-/// The pairs of the records.
+/// Reads the pairs of the records.
 pub(crate) fn pairs_of(rt: &impl Abort, alloc: Global, records: &str) -> Vec<PairLine> {
     let (_, pairs) = lines_of(rt, alloc, records);
     pairs
 }
 
-/// The matching of the records' pairs.
+/// Builds the matching of the pairs in the records.
 pub(crate) fn matching_of(
     rt: &impl Abort,
     alloc: Global,

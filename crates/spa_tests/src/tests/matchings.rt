@@ -1,4 +1,4 @@
-//! Each fault of pairs by the smallest records, and matchings that fit or do not.
+//! Tests each fault of pairs, and which matchings fit an instance.
 
 use super::made::{ONE_LECTURER, TWO_LECTURERS, instance_of, matching_of, pairs_of};
 use spa_model::{BadMatching, Instance, Matching, MatchingFault};
@@ -6,7 +6,7 @@ use std::alloc::Global;
 use std::process::Abort;
 use std::test::Fail;
 
-/// What the pairs are refused for, if they are.
+/// Returns why the pairs are refused, if they are.
 fn refusal(
     rt: &impl Abort,
     alloc: Global,

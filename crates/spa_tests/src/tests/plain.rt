@@ -1,5 +1,5 @@
-//! An instance as plain lists, and two judges over it: the blocking pairs found pair by pair, and
-//! the method over lists that get shorter.
+//! Models an instance as plain lists. It tests each pair for blocking, and solves the instance by
+//! shortening lists.
 
 use spa_check::Block;
 use spa_model::{Instance, Letter};
@@ -10,10 +10,10 @@ use std::alloc::{AllocError, Global};
 pub(crate) struct Board {
     choices: Vec<Vec<usize>>,
     rankings: Vec<Vec<usize>>,
-    /// By project: its lecturer, and its capacity.
+    /// The lecturer of each project. `places` has the capacities.
     owners: Vec<usize>,
     places: Vec<usize>,
-    /// By lecturer: the capacity.
+    /// The capacity of each lecturer.
     rooms: Vec<usize>,
 }
 
@@ -39,7 +39,7 @@ fn place(list: &[usize], wanted: usize) -> usize {
     list.iter().position(|x| *x == wanted).unwrap_or(list.len())
 }
 
-/// The projects that the students have.
+/// The project of each student.
 pub(crate) type Places = Vec<Option<usize>>;
 
 impl Board {
@@ -84,7 +84,7 @@ impl Board {
         projects.iter().filter(|own| self.is_with(**own, l)).count()
     }
 
-    /// The last on the ranking of the students at the project.
+    /// Returns the lowest-ranked student at the project.
     fn worst_at(&self, projects: &[Option<usize>], p: usize) -> Option<usize> {
         let ranking = row(&self.rankings, number(&self.owners, p));
         ranking
@@ -94,7 +94,7 @@ impl Board {
             .find(|t| project(projects, *t) == Some(p))
     }
 
-    /// The last on the ranking of the lecturer's students.
+    /// Returns the lowest-ranked student at any project of the lecturer.
     fn worst_with(&self, projects: &[Option<usize>], l: usize) -> Option<usize> {
         let ranking = row(&self.rankings, l);
         ranking
@@ -104,7 +104,7 @@ impl Board {
             .find(|t| self.is_with(project(projects, *t), l))
     }
 
-    /// Whether w is somebody who stands after s on the lecturer's ranking.
+    /// Returns whether `w` is a student who comes after `s` on the lecturer's ranking.
     fn is_worse(&self, l: usize, w: Option<usize>, s: usize) -> bool {
         let ranking = row(&self.rankings, l);
         match w {
@@ -139,7 +139,7 @@ impl Board {
         None
     }
 
-    /// All pairs that block, by student, then by project.
+    /// Returns all blocking pairs, ordered by student, then by project.
     pub(crate) fn blocks(
         &self,
         alloc: Global,
@@ -160,7 +160,7 @@ impl Board {
         Ok(blocks)
     }
 
-    /// Strikes the projects of `struck` from the lists of those behind w on the lecturer's ranking.
+    /// Removes the projects of `struck` from the lists of the students ranked after `w`.
     fn strike(&mut self, l: usize, w: usize, struck: &[usize]) {
         let ranking = row(&self.rankings, l);
         for t in ranking.iter().skip(place(ranking, w).saturating_add(1)) {
@@ -170,8 +170,8 @@ impl Board {
         }
     }
 
-    /// One student is put at the first project of the list, somebody is let go where there is no
-    /// room, and who stands behind the worst of a full project or lecturer is struck.
+    /// Assigns the student to the project, and lets a student go if there is no room. Then shortens
+    /// the lists of students ranked after the last one at a full project or lecturer.
     fn round(
         &mut self,
         alloc: Global,
@@ -207,7 +207,7 @@ impl Board {
         Ok(())
     }
 
-    /// The student leaves the own project, which goes from the list.
+    /// Takes the student's project away, and removes it from the student's list.
     fn let_go(&mut self, projects: &mut Places, w: Option<usize>, p: usize) {
         let Some(w) = w else {
             return;
@@ -219,7 +219,7 @@ impl Board {
         }
     }
 
-    /// A free student with a project left, and the first such project.
+    /// Returns a free student with a project left on the list, and the first such project.
     fn next(&self, projects: &[Option<usize>]) -> Option<(usize, usize)> {
         for s in 0..self.choices.len() {
             if project(projects, s).is_none() {
@@ -231,7 +231,7 @@ impl Board {
         None
     }
 
-    /// The students' best matching, by the method over lists that get shorter.
+    /// Computes the student-optimal matching by the method that shortens lists.
     pub(crate) fn solve(mut self, alloc: Global) -> Result<Places, AllocError> {
         let mut projects = Vec::new(alloc);
         for _ in 0..self.choices.len() {

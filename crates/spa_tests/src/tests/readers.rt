@@ -1,4 +1,4 @@
-//! The readers of an instance answer by its rows.
+//! Tests the methods that read an instance.
 
 use super::made::{TWO_LECTURERS, instance_of};
 use spa_model::Letter;

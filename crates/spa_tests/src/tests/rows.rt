@@ -1,4 +1,4 @@
-//! Each fault of an instance by the smallest records.
+//! Tests each fault of an instance, with few records.
 
 use super::made::lines_of;
 use spa_model::{BadInstance, Instance, InstanceFault};
@@ -6,10 +6,10 @@ use std::alloc::Global;
 use std::process::Abort;
 use std::test::Fail;
 
-/// One lecturer, one project and one student, who list one another.
+/// The records of an instance with one lecturer, one project and one student.
 const THREE_LINES: &str = "L,L1,1,S1\nP,P1,1,L1\nS,S1,,P1\n";
 
-/// What the records are refused for, if they are.
+/// Returns why the records are refused, if they are.
 fn refusal(rt: &impl Abort, alloc: Global, records: &str) -> Option<BadInstance> {
     let (rows, _) = lines_of(rt, alloc, records);
     Instance::build(alloc, rows).err()

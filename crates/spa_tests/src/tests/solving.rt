@@ -1,5 +1,4 @@
-//! The solver and the method over lists that get shorter: on worked examples, on a family, and on
-//! generated instances.
+//! Compares the solver with the method that shortens lists, on worked and generated instances.
 
 use super::chance::{Chance, generated, words};
 use super::made::{instance_of, matching_of};
@@ -10,7 +9,7 @@ use std::alloc::Global;
 use std::process::Abort;
 use std::test::Fail;
 
-/// The projects that both give to the students, in which nothing blocks.
+/// Checks that both methods give the same stable matching, and returns the students' projects.
 fn solved(rt: &impl Abort, alloc: Global, records: &str) -> Vec<Option<usize>> {
     let instance = instance_of(rt, alloc, records);
     let matching = solve(alloc, &instance).expect(rt, "memory");
@@ -51,8 +50,8 @@ fn two_stable_matchings_and_a_full_lecturer(rt: HostRuntime) -> Result<(), Fail>
     Ok(())
 }
 
-/// The solved matching leaves nobody better off in the other stable one; of that one the first
-/// student is better off.
+/// Nobody is better off in the other stable matching. The first student is better off in the solved
+/// one.
 #[test]
 fn better_off_in_the_solved_matching(rt: HostRuntime) -> Result<(), Fail> {
     let alloc = rt.alloc();
@@ -66,7 +65,7 @@ fn better_off_in_the_solved_matching(rt: HostRuntime) -> Result<(), Fail> {
     Ok(())
 }
 
-/// Everybody lists everything in one order: each student is put where those before are full.
+/// If all lists have the same order, each student gets the first project that is still free.
 #[test]
 fn one_order_for_all(rt: HostRuntime) -> Result<(), Fail> {
     let alloc = rt.alloc();

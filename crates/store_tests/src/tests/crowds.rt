@@ -1,4 +1,4 @@
-//! A lecturer whom many students chose, in either round.
+//! Tests the view of a lecturer with many applicants, in either round.
 
 use crate::tests::steps::{new_desk, plays};
 use portal_core::{LecturerView, View};
@@ -9,17 +9,17 @@ use sqlite::types::ValueRef;
 use sqlite::{Connection, MemStore};
 use std::process::Abort;
 
-/// How many choose the one project.
+/// How many students choose one project.
 const CROWD: usize = 600;
 
-/// The key of one of them, which is the code too. All have four digits, so that they rise as the
-/// numbers do.
+/// Returns the key of one of these students, which is also the code. All keys have four digits, so
+/// that their order is that of the numbers.
 fn key_of(rt: &(impl Abort + AllocGlobal), at: usize) -> String {
     let number = at.saturating_add(1000);
     format!(in rt.alloc(); "key-{number}").expect(rt, "memory")
 }
 
-/// They come to the tables, the last key first, each with the choice that this statement gives.
+/// Inserts the students, the last key first. The statement inserts the choice of each.
 fn add_crowd(rt: &(impl Abort + AllocGlobal), conn: &mut Connection<MemStore>, statement: &str) {
     for back in 0..CROWD {
         let key = key_of(rt, CROWD.saturating_sub(back));
@@ -33,7 +33,7 @@ fn add_crowd(rt: &(impl Abort + AllocGlobal), conn: &mut Connection<MemStore>, s
     }
 }
 
-/// So many projects are seen, and all of the crowd at the first, by key.
+/// Checks that the lecturer sees this many projects, and all these students at the first, by key.
 fn sees_all(rt: &(impl Abort + AllocGlobal), lecturer: &LecturerView, projects: usize) {
     assert!(rt; lecturer.applicants.len() == projects && projects > 0);
     let (_, seen) = &lecturer.applicants[0];
@@ -44,20 +44,20 @@ fn sees_all(rt: &(impl Abort + AllocGlobal), lecturer: &LecturerView, projects: 
     }
 }
 
-/// Nobody is seen at the projects behind the first.
+/// Checks that the lecturer sees nobody at the other projects.
 fn sees_no_other(rt: &(impl Abort + AllocGlobal), lecturer: &LecturerView) {
     for (_, seen) in lecturer.applicants.iter().skip(1) {
         assert!(rt; seen.is_empty());
     }
 }
 
-/// What the caller with this code sees.
+/// Returns the view of the caller with this code.
 fn seen_by(rt: &(impl Abort + AllocGlobal), conn: &mut Connection<MemStore>, code: &str) -> View {
     assert!(rt; conn.is_autocommit());
     view(rt.alloc(), conn, code.as_bytes()).expect(rt, "a view")
 }
 
-/// The crowd comes by this statement, in ranking, and this lecturer sees it.
+/// Inserts the students and their choices, runs the second statement, and checks the view.
 fn is_seen(
     rt: &(impl Abort + AllocGlobal),
     desk: MemDesk,

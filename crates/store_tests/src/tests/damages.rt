@@ -1,4 +1,4 @@
-//! Databases that were changed by others, and are opened again.
+//! Tests the opening of databases that other programs have changed.
 
 use crate::tests::steps::{database, new_desk, plays};
 use portal_core::{Phase, StudentView, View};
@@ -10,7 +10,7 @@ use portal_store::{NotOpened, OpenFault, Store, UpgradeFault};
 use sqlite::{Connection, MemStore};
 use std::process::Abort;
 
-/// The word for how the database is answered when it is opened.
+/// Opens the database, and returns the word for the outcome.
 fn opened(rt: &(impl Abort + AllocGlobal), conn: Connection<MemStore>) -> &'static str {
     assert!(rt; conn.is_autocommit());
     match Store::open(rt.alloc(), conn) {
@@ -33,7 +33,7 @@ fn opened(rt: &(impl Abort + AllocGlobal), conn: Connection<MemStore>) -> &'stat
     }
 }
 
-/// The word for how an upgrade of it is answered.
+/// Upgrades the database, and returns the word for the outcome.
 fn upgraded(rt: &(impl Abort + AllocGlobal), conn: Connection<MemStore>) -> &'static str {
     assert!(rt; conn.is_autocommit());
     match Store::upgrade(rt.alloc(), conn) {
@@ -57,8 +57,8 @@ fn upgraded(rt: &(impl Abort + AllocGlobal), conn: Connection<MemStore>) -> &'st
     }
 }
 
-/// How far the year has gone, how the tables are answered, and the statements that change them:
-/// those that are told of tables of either version.
+/// Each row has a phase, the expected outcome, and statements that change the tables. These rows
+/// hold for both versions.
 const DAMAGES: &str = r#"
 setup      good           UPDATE portal SET id = 1
 published  good           UPDATE portal SET id = 1
@@ -81,7 +81,7 @@ setup      not_portal     DROP TABLE ranking
 setup      not_portal     DROP TABLE ranking; UPDATE portal SET version = 7
 "#;
 
-/// Those that are told of tables of version 2.
+/// The rows for version 2 alone.
 const LATER_DAMAGES: &str = r#"
 published  other_version  UPDATE portal SET version = 1 WHERE id = 1
 published  other_version  DROP TABLE choice2; UPDATE portal SET version = 1
@@ -102,7 +102,7 @@ published  damaged        INSERT INTO ranking2 (lecturer, place, student) VALUES
 published  damaged        INSERT INTO assigned2 (student, project) VALUES ('S3', 'P3')
 "#;
 
-/// The tables of version 2 in this part of a year.
+/// Makes tables of version 2 in this phase.
 fn played(rt: &(impl Abort + AllocGlobal), year: &str) -> Connection<MemStore> {
     let mut desk = new_desk(rt);
     let scripts = match year {
@@ -115,7 +115,7 @@ fn played(rt: &(impl Abort + AllocGlobal), year: &str) -> Connection<MemStore> {
     desk.into_keeper().into_connection()
 }
 
-/// The tables of version 1.
+/// Makes tables of version 1 in this phase.
 fn made(rt: &(impl Abort + AllocGlobal), year: &str) -> Connection<MemStore> {
     let texts = match year {
         "setup" => version1::IN_SETUP,
@@ -126,7 +126,7 @@ fn made(rt: &(impl Abort + AllocGlobal), year: &str) -> Connection<MemStore> {
     database(rt, texts)
 }
 
-/// The tables, changed as the row says, are answered as it says.
+/// Changes tables as the row says, and checks the outcome of opening or upgrading them.
 fn is_answered(rt: &(impl Abort + AllocGlobal), row: &str, is_first: bool) {
     let (year, rest) = cut(row, "  ");
     let (wanted, statements) = cut(rest.trim_start(), "  ");
@@ -144,7 +144,7 @@ fn is_answered(rt: &(impl Abort + AllocGlobal), row: &str, is_first: bool) {
     assert_eq!(rt; found, wanted, "{row}");
 }
 
-/// All rows are, of either version.
+/// Checks all rows, with tables of version 1 if `is_first`, and else of version 2.
 fn are_answered(rt: &(impl Abort + AllocGlobal), rows: &str, is_first: bool) {
     for row in rows.lines().skip(1) {
         is_answered(rt, row, is_first);
@@ -166,7 +166,7 @@ fn each_damage_is_told_by_an_upgrade(rt: HostRuntime) {
     are_answered(&rt, DAMAGES, true);
 }
 
-/// The view is that of the first student in choosing, with a list of two.
+/// Checks that the view is that of the first student in choosing, with a list of two projects.
 fn is_of_ann(rt: &impl Abort, student: &StudentView) {
     assert_eq!(rt; student.phase, Phase::Choosing);
     assert_eq!(rt; student.me.key.as_bytes(), b"S1".as_slice());
@@ -177,7 +177,7 @@ fn is_of_ann(rt: &impl Abort, student: &StudentView) {
     assert!(rt; student.result.is_none());
 }
 
-/// What another person's rows may not be.
+/// Statements that damage rows of other persons.
 const OF_OTHERS: &[&str] = &[
     "UPDATE student SET assigned = 'P3' WHERE key = 'S2'",
     "UPDATE student SET code = 'short' WHERE key = 'S2'",
@@ -187,8 +187,7 @@ const OF_OTHERS: &[&str] = &[
     "INSERT INTO ranking (lecturer, place, student) VALUES ('L1', 2, 'S1')",
 ];
 
-/// A student's view is made of that student's rows, and is the same where another person's rows are
-/// of no good world.
+/// A student is shown the same after each damage of `OF_OTHERS`.
 #[test]
 fn a_view_reads_no_other_row(rt: HostRuntime) {
     for statements in OF_OTHERS {

@@ -1,4 +1,4 @@
-//! A connection of a socket on this machine, served over a database in memory.
+//! Tests a socket connection on this machine, served over a database in memory.
 
 use crate::tests::steps::{new_desk, plays};
 use portal_fixtures::MemDesk;
@@ -15,7 +15,7 @@ const FOUR: &str =
 const FOUR_REPLIES: &str =
     "HTTP/1.1 200 OK\r\ncontent-type: application/json\r\ncontent-length: 33\r\n\r\n{\"phase\":\"setup\",\"role\":\"office\"}HTTP/1.1 200 OK\r\ncontent-type: application/json\r\ncontent-length: 58\r\n\r\n{\"key\":\"S1\",\"name\":\"Ann\",\"phase\":\"setup\",\"role\":\"student\"}HTTP/1.1 200 OK\r\ncontent-type: application/json\r\ncontent-length: 72\r\n\r\n{\"capacity\":2,\"key\":\"L1\",\"name\":\"Lee\",\"phase\":\"setup\",\"role\":\"lecturer\"}HTTP/1.1 403 Forbidden\r\ncontent-type: application/json\r\ncontent-length: 21\r\n\r\n{\"error\":\"no_caller\"}";
 
-/// A caller who has sent these bytes and will send no more.
+/// Connects, sends four requests, and shuts down the writing side.
 fn caller(rt: &HostRuntime, listener: &TcpListener) -> io::Result<TcpStream> {
     let address = listener.local_addr()?;
     let mut stream = TcpStream::connect(rt, address)?;
@@ -24,7 +24,7 @@ fn caller(rt: &HostRuntime, listener: &TcpListener) -> io::Result<TcpStream> {
     Ok(stream)
 }
 
-/// One connection is served.
+/// Serves one connection. Returns the server's counts and the replies.
 fn serve_one(rt: &HostRuntime, desk: &mut MemDesk) -> io::Result<(Hall, Vec<u8>)> {
     let listener = TcpListener::bind(rt, "127.0.0.1:0")?;
     let mut stream = caller(rt, &listener)?;

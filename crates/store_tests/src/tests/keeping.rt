@@ -1,4 +1,4 @@
-//! A database that is closed and opened again, and one that is there already.
+//! Tests a database that is closed and opened again, and one that already has tables.
 
 use crate::tests::steps::{new_desk, new_office_code, plays};
 use portal_desk::Desk;
@@ -8,7 +8,7 @@ use portal_store::{CreateFault, NotOpened, Store};
 use sqlite::Connection;
 use std::process::Abort;
 
-/// A desk over the same database, opened again.
+/// Opens the same database again, and returns a desk over it.
 fn again(rt: &(impl Abort + AllocGlobal), desk: MemDesk) -> MemDesk {
     let conn = desk.into_keeper().into_connection();
     match Store::open(rt.alloc(), conn) {
@@ -31,7 +31,7 @@ fn a_year_over_connections_of_their_own(rt: HostRuntime) {
     }
 }
 
-/// Why no store is made over a database that has this table.
+/// Returns why no store is created in a database that has this table, if none is.
 fn refused(rt: &(impl Abort + AllocGlobal), statement: &str) -> Option<CreateFault> {
     let mut conn = Connection::open_in_memory(rt.alloc()).expect(rt, "a connection");
     conn.execute(statement, &[]).expect(rt, "a table");

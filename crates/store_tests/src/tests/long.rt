@@ -1,4 +1,4 @@
-//! Twenty of each, in one round or two, and a student who asks a thousand times.
+//! Plays long years with twenty rows in each roll, and a student who asks 1,000 times.
 
 use crate::tests::steps::{new_desk, new_lists, plays};
 use portal_core::Keeper;
@@ -12,12 +12,12 @@ const NUMBERS: [&str; 20] = [
     "17", "18", "19", "20",
 ];
 
-/// The first ten, and the others.
+/// The first ten numbers. `OTHER_TEN` has the others.
 const FIRST_TEN: [&str; 10] = ["01", "02", "03", "04", "05", "06", "07", "08", "09", "10"];
 
 const OTHER_TEN: [&str; 10] = ["11", "12", "13", "14", "15", "16", "17", "18", "19", "20"];
 
-/// The template once for each of the numbers, which stands where it has a `#`.
+/// Repeats the template for each number, which replaces each `#`.
 fn each(rt: &(impl Abort + AllocGlobal), template: &str, numbers: &[&str]) -> String {
     let mut text = String::new(rt.alloc());
     for number in numbers {
@@ -29,7 +29,7 @@ fn each(rt: &(impl Abort + AllocGlobal), template: &str, numbers: &[&str]) -> St
     text
 }
 
-/// A line that loads a roll of twenty.
+/// Returns a line that uploads a roll of twenty rows.
 fn loads(rt: &(impl Abort + AllocGlobal), request: &str, row: &str) -> String {
     let rows = each(rt, row, &NUMBERS);
     let line = format!(in rt.alloc(); "office  POST /rolls/{request}\\n{rows}  200 {ADDED}\n");
@@ -38,7 +38,7 @@ fn loads(rt: &(impl Abort + AllocGlobal), request: &str, row: &str) -> String {
 
 const ADDED: &str = r#"{"added":20,"same":0}"#;
 
-/// The three rolls: each lecturer offers one project alone.
+/// Uploads the three rolls. Each lecturer offers one project.
 fn loads_all<K: Keeper>(rt: &(impl Abort + AllocGlobal), desk: &mut Desk<K>) {
     let lecturers = loads(
         rt,
@@ -51,13 +51,13 @@ fn loads_all<K: Keeper>(rt: &(impl Abort + AllocGlobal), desk: &mut Desk<K>) {
     plays(rt, desk, &scripts);
 }
 
-/// The office moves to this phase.
+/// Moves to this phase as the office.
 fn moves<K: Keeper>(rt: &(impl Abort + AllocGlobal), desk: &mut Desk<K>, phase: &str) {
     let line = format!(in rt.alloc(); "office  POST /phase {phase}  200 {phase}");
     plays(rt, desk, &[line.expect(rt, "memory").as_str()]);
 }
 
-/// Each of these puts the same list.
+/// Submits the same list for each of these numbers.
 fn puts_all<K: Keeper>(
     rt: &(impl Abort + AllocGlobal),
     desk: &mut Desk<K>,
@@ -69,7 +69,7 @@ fn puts_all<K: Keeper>(
     plays(rt, desk, &[each(rt, line.as_str(), numbers).as_str()]);
 }
 
-/// A student puts a list, and a lecturer a ranking.
+/// The request that submits a student's list. `RANKS` submits a lecturer's ranking.
 const CHOOSES: &str = "stud-code-#  PUT /choices";
 
 const RANKS: &str = "lect-code-#  PUT /ranking";
@@ -82,7 +82,7 @@ const LIST: &str =
 const RANKING: &str =
     r#"{"students":["S01","S02","S03","S04","S05","S06","S07","S08","S09","S10","S11","S12","S13","S14","S15","S16","S17","S18","S19","S20"]}"#;
 
-/// The first student asks for the result 250 times on each of four connections.
+/// Asks for the first student's result 250 times on each of four connections.
 fn asks_on<K: Keeper>(rt: &(impl Abort + AllocGlobal), desk: &mut Desk<K>) {
     let alloc = rt.alloc();
     let line = Line::new(r#"stud-code-01  GET /result  200 {"project":"P01"}"#);
@@ -96,13 +96,13 @@ fn asks_on<K: Keeper>(rt: &(impl Abort + AllocGlobal), desk: &mut Desk<K>) {
     }
 }
 
-/// Each student has the project of the same number.
+/// Checks that each student has the project of the same number.
 fn have_all<K: Keeper>(rt: &(impl Abort + AllocGlobal), desk: &mut Desk<K>) {
     let line = "stud-code-#  GET /result  200 {\"project\":\"P#\"}\n";
     plays(rt, desk, &[each(rt, line, &NUMBERS).as_str()]);
 }
 
-/// The whole run.
+/// Plays a year of one round.
 fn runs<K: Keeper>(rt: &(impl Abort + AllocGlobal), desk: &mut Desk<K>) {
     loads_all(rt, desk);
     moves(rt, desk, r#"{"phase":"choosing"}"#);
@@ -114,11 +114,11 @@ fn runs<K: Keeper>(rt: &(impl Abort + AllocGlobal), desk: &mut Desk<K>) {
     have_all(rt, desk);
 }
 
-/// Each ranking of the first round, where ten alone choose.
+/// Each ranking of a first round in which only ten students choose.
 const FIRST_RANKING: &str =
     r#"{"students":["S01","S02","S03","S04","S05","S06","S07","S08","S09","S10"]}"#;
 
-/// Each list of the second round, of what the first has left.
+/// Each list of the second round: the projects that the first has left.
 const SECOND_LIST: &str =
     r#"{"projects":["P11","P12","P13","P14","P15","P16","P17","P18","P19","P20"]}"#;
 
@@ -126,7 +126,7 @@ const SECOND_LIST: &str =
 const SECOND_RANKING: &str =
     r#"{"students":["S11","S12","S13","S14","S15","S16","S17","S18","S19","S20"]}"#;
 
-/// The whole run, in which ten have a project by the first round and ten by the second.
+/// Plays a year in which ten students get a project in the first round and ten in the second.
 fn runs_twice<K: Keeper>(rt: &(impl Abort + AllocGlobal), desk: &mut Desk<K>) {
     loads_all(rt, desk);
     moves(rt, desk, r#"{"phase":"choosing"}"#);

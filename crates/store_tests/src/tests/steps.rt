@@ -1,4 +1,4 @@
-//! Scripts over a database in memory and over lists, and databases of version 1.
+//! Plays scripts over a database in memory and over lists, and makes databases by SQL.
 
 use portal_core::{Code, Keeper};
 use portal_desk::Desk;
@@ -8,22 +8,22 @@ use portal_list::ListKeeper;
 use sqlite::{Connection, MemStore};
 use std::process::Abort;
 
-/// The office's code.
+/// Returns the office's code.
 pub(crate) fn new_office_code(rt: &(impl Abort + AllocGlobal)) -> Code {
     office_code(rt.alloc()).expect(rt, "a code")
 }
 
-/// A desk over the empty world in setup, in a database.
+/// Makes a desk over the empty world in setup, in a database in memory.
 pub(crate) fn new_desk(rt: &(impl Abort + AllocGlobal)) -> MemDesk {
     fresh(rt.alloc()).expect(rt, "a desk")
 }
 
-/// A desk over the empty world in setup, in lists.
+/// Makes a desk over the empty world in setup, in lists.
 pub(crate) fn new_lists(rt: &(impl Abort + AllocGlobal)) -> Desk<ListKeeper> {
     fresh_lists(rt.alloc()).expect(rt, "a desk")
 }
 
-/// Each line of the scripts gets its reply.
+/// Checks that each line of the scripts gets its reply.
 pub(crate) fn plays<K: Keeper>(
     rt: &(impl Abort + AllocGlobal),
     desk: &mut Desk<K>,
@@ -33,7 +33,7 @@ pub(crate) fn plays<K: Keeper>(
     assert_eq!(rt; wrong.as_str(), "");
 }
 
-/// A database in memory in which these statements were run.
+/// Makes a database in memory, and runs these statements in it.
 pub(crate) fn database(rt: &(impl Abort + AllocGlobal), texts: &[&str]) -> Connection<MemStore> {
     let mut conn = Connection::open_in_memory(rt.alloc()).expect(rt, "a connection");
     run_all(&mut conn, texts).expect(rt, "statements");

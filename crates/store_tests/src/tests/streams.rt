@@ -1,4 +1,4 @@
-//! Streams of requests to a desk, over a database in memory and over lists.
+//! Tests streams of requests, over a database in memory and over lists.
 
 use crate::tests::steps::{new_desk, new_lists, plays};
 use portal_core::Keeper;
@@ -29,7 +29,7 @@ const SHEETS: &str =
 const SHEET_REPLIES: &str =
     "HTTP/1.1 200 OK\r\ncontent-type: text/csv; charset=utf-8\r\ncontent-length: 91\r\n\r\nstudent,name,project,title,lecturer\nS1,Ann,P2,Kites,L1\nS2,\"Roe, Bea\",P1,Tides,L1\nS3,Cyr,,,\nHTTP/1.1 200 OK\r\ncontent-type: text/plain; charset=utf-8\r\ncontent-length: 208\r\n\r\nS1                P2                L1\nS2                P1                L1\nS3                (none)\n\nP1                 1 of    1\nP2                 1 of    1\nP3                 0 of    1\n\nassigned 2 of 3\n";
 
-/// What is played, what a connection then brings, and what is written.
+/// The scripts to play, the input of a connection after them, and its output.
 type Served = (&'static [&'static str], &'static str, &'static str);
 
 const SERVED: &[Served] = &[
@@ -63,7 +63,7 @@ const SERVED: &[Served] = &[
     ),
 ];
 
-/// Gives one byte at a time.
+/// A reader that returns one byte a call.
 #[derive(Drop)]
 struct Drip<'b> {
     rest: &'b [u8],
@@ -76,7 +76,7 @@ impl<'b> Read for Drip<'b> {
     }
 }
 
-/// What is written for bytes that come one at a time.
+/// Serves bytes that arrive one at a time, and returns the output.
 fn dripped<K: Keeper>(
     rt: &(impl Abort + AllocGlobal),
     desk: &mut Desk<K>,
@@ -88,7 +88,7 @@ fn dripped<K: Keeper>(
     sink.into_inner()
 }
 
-/// A stream gets its output, in one piece and byte by byte.
+/// Checks the output of a stream that arrives in one piece, and byte by byte.
 fn gives<K: Keeper>(rt: &(impl Abort + AllocGlobal), desk: &mut Desk<K>, served: &Served) {
     let (parts, bytes, output) = *served;
     plays(rt, desk, parts);
@@ -112,28 +112,28 @@ fn streams_are_served(rt: HostRuntime) {
 const BOTH_SHEETS: &str =
     "HTTP/1.1 200 OK\r\ncontent-type: text/csv; charset=utf-8\r\ncontent-length: 100\r\n\r\nstudent,name,project,title,lecturer\nS1,Ann,P2,Kites,L1\nS2,\"Roe, Bea\",P1,Tides,L1\nS3,Cyr,P3,Bells,L2\nHTTP/1.1 200 OK\r\ncontent-type: text/plain; charset=utf-8\r\ncontent-length: 222\r\n\r\nS1                P2                L1\nS2                P1                L1\nS3                P3                L2\n\nP1                 1 of    1\nP2                 1 of    1\nP3                 1 of    1\n\nassigned 3 of 3\n";
 
-/// The second round is opened, and who has a project makes no list.
+/// The requests that open a second round and submit lists, one of which is refused.
 const LISTS_ASKED: &str =
     "POST /phase HTTP/1.1\r\nHost: h\r\nPortal-Code: office-code-0\r\nContent-Length: 30\r\n\r\n{\"phase\":\"choosing\",\"round\":2}PUT /choices HTTP/1.1\r\nHost: h\r\nPortal-Code: ann-code-1\r\nContent-Length: 15\r\n\r\n{\"projects\":[]}PUT /choices HTTP/1.1\r\nHost: h\r\nPortal-Code: cyr-code-3\r\nContent-Length: 19\r\n\r\n{\"projects\":[\"P3\"]}GET /result HTTP/1.1\r\nHost: h\r\nPortal-Code: ann-code-1\r\n\r\n";
 
 const LISTS_REPLIES: &str =
     "HTTP/1.1 200 OK\r\ncontent-type: application/json\r\ncontent-length: 30\r\n\r\n{\"phase\":\"choosing\",\"round\":2}HTTP/1.1 409 Conflict\r\ncontent-type: application/json\r\ncontent-length: 26\r\n\r\n{\"error\":\"already_placed\"}HTTP/1.1 200 OK\r\ncontent-type: application/json\r\ncontent-length: 19\r\n\r\n{\"projects\":[\"P3\"]}HTTP/1.1 200 OK\r\ncontent-type: application/json\r\ncontent-length: 16\r\n\r\n{\"project\":\"P2\"}";
 
-/// Its rankings.
+/// Its requests in ranking.
 const RANKING_ASKED: &str =
     "GET /applicants HTTP/1.1\r\nHost: h\r\nPortal-Code: moe-code-02\r\n\r\nPOST /phase HTTP/1.1\r\nHost: h\r\nPortal-Code: office-code-0\r\nContent-Length: 19\r\n\r\n{\"phase\":\"ranking\"}PUT /ranking HTTP/1.1\r\nHost: h\r\nPortal-Code: moe-code-02\r\nContent-Length: 19\r\n\r\n{\"students\":[\"S1\"]}";
 
 const RANKING_REPLIES: &str =
     "HTTP/1.1 200 OK\r\ncontent-type: application/json\r\ncontent-length: 67\r\n\r\n{\"projects\":[{\"applicants\":[{\"key\":\"S3\",\"name\":\"Cyr\"}],\"id\":\"P3\"}]}HTTP/1.1 200 OK\r\ncontent-type: application/json\r\ncontent-length: 29\r\n\r\n{\"phase\":\"ranking\",\"round\":2}HTTP/1.1 422 Unprocessable Content\r\ncontent-type: application/json\r\ncontent-length: 54\r\n\r\n{\"at\":1,\"error\":\"bad_list\",\"fault\":\"not_an_applicant\"}";
 
-/// Its result.
+/// Its requests in published.
 const RESULT_ASKED: &str =
     "POST /phase HTTP/1.1\r\nHost: h\r\nPortal-Code: office-code-0\r\nContent-Length: 21\r\n\r\n{\"phase\":\"published\"}GET /result HTTP/1.1\r\nHost: h\r\nPortal-Code: cyr-code-3\r\n\r\nHEAD /me HTTP/1.1\r\nHost: h\r\nPortal-Code: cyr-code-3\r\n\r\n";
 
 const RESULT_REPLIES: &str =
     "HTTP/1.1 200 OK\r\ncontent-type: application/json\r\ncontent-length: 31\r\n\r\n{\"phase\":\"published\",\"round\":2}HTTP/1.1 200 OK\r\ncontent-type: application/json\r\ncontent-length: 16\r\n\r\n{\"project\":\"P3\"}HTTP/1.1 200 OK\r\ncontent-type: application/json\r\ncontent-length: 72\r\n\r\n";
 
-/// The connections of a second round, one after the other. What they ask may be asked twice.
+/// The connections of a second round in order. Each of their streams may be sent twice.
 const SECOND_SERVED: &[Served] = &[
     (IN_PUBLISHED, LISTS_ASKED, LISTS_REPLIES),
     (&[], SHEETS, SHEET_REPLIES),
@@ -153,7 +153,7 @@ fn the_second_round_is_served(rt: HostRuntime) {
     }
 }
 
-/// A list of no project and so many blanks is taken.
+/// Checks that an empty list, padded with spaces to the longest body, is accepted.
 fn takes_the_longest<K: Keeper>(rt: &(impl Abort + AllocGlobal), desk: &mut Desk<K>) {
     plays(rt, desk, IN_CHOOSING);
     let mut bytes = Vec::new(rt.alloc());

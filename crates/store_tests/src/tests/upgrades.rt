@@ -1,4 +1,4 @@
-//! Databases of version 1 that become those of version 2, with the world that they had.
+//! Tests the upgrade of databases from version 1 to version 2, which keeps their world.
 
 use crate::tests::steps::{database, new_desk, plays};
 use portal_desk::Desk;
@@ -11,7 +11,7 @@ use portal_store::{NotOpened, OpenFault, Store, UpgradeFault};
 use sqlite::{Connection, MemStore};
 use std::process::Abort;
 
-/// A desk over the upgraded tables, or the fault and the connection.
+/// Upgrades the tables. Returns a desk over them, or the fault and the connection.
 fn upgrade(
     rt: &(impl Abort + AllocGlobal),
     conn: Connection<MemStore>,
@@ -25,7 +25,7 @@ fn upgrade(
     }
 }
 
-/// A desk over tables that are there, or the fault and the connection.
+/// Opens the tables. Returns a desk over them, or the fault and the connection.
 fn open(
     rt: &(impl Abort + AllocGlobal),
     conn: Connection<MemStore>,
@@ -39,7 +39,7 @@ fn open(
     }
 }
 
-/// The connection, whose tables are upgraded for this reason no more.
+/// Checks that an upgrade is refused for this reason, and returns the connection.
 fn not_upgraded(
     rt: &(impl Abort + AllocGlobal),
     conn: Connection<MemStore>,
@@ -54,7 +54,7 @@ fn not_upgraded(
     }
 }
 
-/// The connection, whose tables are of another version.
+/// Checks that `open` refuses the version of the tables, and returns the connection.
 fn not_opened(rt: &(impl Abort + AllocGlobal), conn: Connection<MemStore>) -> Connection<MemStore> {
     match open(rt, conn) {
         Ok(_) => panic!(rt; "opened"),
@@ -65,7 +65,7 @@ fn not_opened(rt: &(impl Abort + AllocGlobal), conn: Connection<MemStore>) -> Co
     }
 }
 
-/// A desk over the upgraded tables, which `open` refuses before.
+/// Upgrades tables that `open` refuses, and returns a desk over them.
 fn upgraded(rt: &(impl Abort + AllocGlobal), conn: Connection<MemStore>) -> MemDesk {
     match upgrade(rt, not_opened(rt, conn)) {
         Ok(desk) => desk,
@@ -73,7 +73,7 @@ fn upgraded(rt: &(impl Abort + AllocGlobal), conn: Connection<MemStore>) -> MemD
     }
 }
 
-/// A desk over the same tables, opened again; they are upgraded no more.
+/// Checks that the tables are not upgraded again. Opens them, and returns a desk over them.
 fn again(rt: &(impl Abort + AllocGlobal), desk: MemDesk) -> MemDesk {
     let conn = desk.into_keeper().into_connection();
     match open(rt, not_upgraded(rt, conn, UpgradeFault::OtherVersion)) {
@@ -82,7 +82,7 @@ fn again(rt: &(impl Abort + AllocGlobal), desk: MemDesk) -> MemDesk {
     }
 }
 
-/// What is shown of the world is what one that was played shows.
+/// Checks that the desk shows the same as a new desk on which these scripts were played.
 fn shows(rt: &(impl Abort + AllocGlobal), desk: &mut MemDesk, played: &[&str]) {
     let mut other = new_desk(rt);
     plays(rt, &mut other, played);
@@ -91,8 +91,8 @@ fn shows(rt: &(impl Abort + AllocGlobal), desk: &mut MemDesk, played: &[&str]) {
     assert_eq!(rt; found.as_slice(), wanted.as_slice());
 }
 
-/// Tables of version 1 with these texts, upgraded, have the world that was played, and go on by
-/// these parts; so do they opened again.
+/// Upgrades tables of version 1 that these texts create. Checks that they show the played world,
+/// and plays further parts on them. Does the same after they are opened again.
 fn goes_on(rt: &(impl Abort + AllocGlobal), texts: &[&str], played: &[&str], parts: &[&str]) {
     let mut desk = upgraded(rt, database(rt, texts));
     shows(rt, &mut desk, played);
@@ -102,7 +102,7 @@ fn goes_on(rt: &(impl Abort + AllocGlobal), texts: &[&str], played: &[&str], par
     plays(rt, &mut desk, parts);
 }
 
-/// What comes after setup, and after a publication.
+/// The rest of a year after setup. `AFTER_PUBLISHED` is the rest after a publication.
 const AFTER_SETUP: &[&str] = &[
     LISTS,
     TO_RANKING,
@@ -151,7 +151,7 @@ fn rules_in_another_order_are_upgraded(rt: HostRuntime) {
     goes_on(&rt, version1::OTHERWISE, IN_RANKING, &rest);
 }
 
-/// Tables and views of one of the five names.
+/// Tables and views with one of the five names that an upgrade adds.
 const NAMES: &[&str] = &[
     "CREATE TABLE second (a INTEGER)",
     "CREATE TABLE choice2 (a INTEGER)",
@@ -167,7 +167,7 @@ const NAMES: &[&str] = &[
     "CREATE VIEW assigned2 AS SELECT key FROM student",
 ];
 
-/// A world in ranking, and what else is done to the tables.
+/// Makes a database of version 1 in ranking, and runs these texts on it.
 fn with(rt: &(impl Abort + AllocGlobal), texts: &[&str]) -> Connection<MemStore> {
     let mut conn = database(rt, version1::IN_RANKING);
     version1::run_all(&mut conn, texts).expect(rt, "statements");
@@ -182,7 +182,7 @@ fn a_table_of_a_name_is_there(rt: HostRuntime) {
     }
 }
 
-/// What is no table of one of the names.
+/// Tables and a view with other names.
 const OTHERS: &[&str] = &[
     "CREATE TABLE notes (a INTEGER)",
     "CREATE TABLE second2 (a INTEGER)",
@@ -196,7 +196,7 @@ fn what_else_is_there_stays(rt: HostRuntime) {
     }
 }
 
-/// Where these texts are run too, no upgrade is made for this reason.
+/// Checks that an upgrade is refused for this reason after these texts are run.
 fn are_told(rt: &(impl Abort + AllocGlobal), texts: &[&str], wanted: UpgradeFault) {
     let _conn = not_upgraded(rt, with(rt, texts), wanted);
 }

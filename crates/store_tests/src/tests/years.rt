@@ -1,10 +1,10 @@
-//! Whole years, over a database in memory and over lists.
+//! Plays whole years, over a database in memory and over lists.
 
 use crate::tests::steps::{new_desk, new_lists, plays};
 use portal_fixtures::{fills, rolls, runs, watched, years};
 use std::process::Abort;
 
-/// Each line of the year gets its reply, from both keepers.
+/// Checks that each line of the year gets its reply from both keepers.
 fn is_played(rt: &(impl Abort + AllocGlobal), year: &[&str]) {
     plays(rt, &mut new_desk(rt), year);
     plays(rt, &mut new_lists(rt), year);
