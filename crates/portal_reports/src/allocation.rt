@@ -31,6 +31,20 @@ fn student_line(
     }
 }
 
+/// Appends the line of a student.
+fn put_student(
+    text: &mut Vec<u8>,
+    alloc: Global,
+    placings: &Placings,
+    student: &StudentRow,
+) -> Result<(), AllocError>
+    ensures { OnOk result (text.new.items ≡ text.old.items
+        ++ sheet.student_line placings.now student.now) }
+{
+    let line = student_line(alloc, placings, student)?;
+    text.extend_from_slice(line.as_bytes())
+}
+
 /// Appends the lines of the students.
 fn put_students(text: &mut Vec<u8>, alloc: Global, view: &OfficeView) -> Result<(), AllocError>
     ensures { OnOk result (text.new.items ≡ text.old.items
@@ -38,8 +52,7 @@ fn put_students(text: &mut Vec<u8>, alloc: Global, view: &OfficeView) -> Result<
 {
     let placings = Placings::of(alloc, view)?;
     for student in view.students.iter() {
-        let line = student_line(alloc, &placings, student)?;
-        text.extend_from_slice(line.as_bytes())?;
+        put_student(text, alloc, &placings, student)?;
     }
     Ok(())
 }
