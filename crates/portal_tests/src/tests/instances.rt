@@ -1,45 +1,49 @@
 //! Tests the reading of instance files.
 
 use portal_rolls::{RollFault, read_instance};
-use std::test::Fail;
+use spa_rows::{InstanceRows, PairLine};
+use std::process::Abort;
 
-#[test]
-fn rows_of_a_file(rt: HostRuntime) -> Result<(), Fail> {
-    let (rows, pairs) = read_instance(
-        rt.alloc(),
-        b"kind,key,value,list\nL,L1,1,S1\nP,P1,1,L1\nP,P2,1,L1\nS,S1,,P1 P2\nM,S1,P2,\n",
-    )?;
+/// Checks that there are one lecturer, two projects and one student, who lists both.
+fn has_lines(rt: &impl Abort, rows: &InstanceRows) {
     assert!(rt; rows.lecturers.len() == 1);
     assert!(rt; rows.projects.len() == 2);
     assert!(rt; rows.students.len() == 1);
     assert!(rt; rows.students[0].list.len() == 2);
-    assert!(rt; pairs.len() == 1);
-    assert!(rt; pairs[0].row == 5);
-    Ok(())
 }
 
-fn fault_of(rt: &HostRuntime, text: &[u8]) -> Option<RollFault> {
-    read_instance(rt.alloc(), text).err()
+fn has_pair(rt: &impl Abort, pairs: &[PairLine]) {
+    assert!(rt; pairs.len() == 1);
+    let pair = &pairs[0];
+    assert!(rt; pair.row == 5);
+}
+
+#[test]
+fn rows_of_a_file(rt: HostRuntime) {
+    let text = b"kind,key,value,list\nL,L1,1,S1\nP,P1,1,L1\nP,P2,1,L1\nS,S1,,P1 P2\nM,S1,P2,\n";
+    let file = read_instance(rt.alloc(), text).expect(&rt, "an instance");
+    has_lines(&rt, &file.0);
+    has_pair(&rt, &file.1);
+}
+
+/// Checks the fault of the file, if it has one.
+fn has(rt: &(impl Abort + AllocGlobal), text: &[u8], fault: Option<RollFault>) {
+    assert_eq!(rt; read_instance(rt.alloc(), text).err(), fault);
 }
 
 #[test]
 fn faults(rt: HostRuntime) {
-    let head = b"kind,key,value,list\nL,L1,1,\n";
-    assert!(rt; fault_of(&rt, b"") == Some(RollFault::NoHeader));
-    assert!(rt; fault_of(&rt, b"kind,key\n") == Some(RollFault::BadHeader));
-    assert!(rt; fault_of(&rt, head) == None);
-    assert!(rt; fault_of(&rt, b"kind,key,value,list\nL,L1,1\n") == Some(RollFault::FieldCount(1)));
-    assert!(rt;
-        fault_of(&rt, b"kind,key,value,list\nL,L1,1,\nX,\xff,1,\n") == Some(RollFault::NotText(2))
-    );
-    assert!(rt;
-        fault_of(&rt, b"kind,key,value,list\nX,L1,1,\n") == Some(RollFault::BadField(1, 1))
-    );
-    assert!(rt;
-        fault_of(&rt, b"kind,key,value,list\nL,L1,x,\n") == Some(RollFault::BadField(1, 3))
-    );
-    assert!(rt;
-        fault_of(&rt, b"\xef\xbb\xbfkind,key,value,list\r\nM,S1,P1,x\r\n")
-            == Some(RollFault::BadField(1, 4))
-    );
+    has(&rt, b"", Some(RollFault::NoHeader));
+    has(&rt, b"kind,key\n", Some(RollFault::BadHeader));
+    has(&rt, b"kind,key,value,list\nL,L1,1,\n", None);
+    let text = b"kind,key,value,list\nL,L1,1\n";
+    has(&rt, text, Some(RollFault::FieldCount(1)));
+    let text = b"kind,key,value,list\nL,L1,1,\nX,\xff,1,\n";
+    has(&rt, text, Some(RollFault::NotText(2)));
+    let text = b"kind,key,value,list\nX,L1,1,\n";
+    has(&rt, text, Some(RollFault::BadField(1, 1)));
+    let text = b"kind,key,value,list\nL,L1,x,\n";
+    has(&rt, text, Some(RollFault::BadField(1, 3)));
+    let text = b"\xef\xbb\xbfkind,key,value,list\r\nM,S1,P1,x\r\n";
+    has(&rt, text, Some(RollFault::BadField(1, 4)));
 }

@@ -1,10 +1,9 @@
 //! Plays a department at every limit from setup to published.
 
-ghost use Rattle.portal_core.specs.Meaning.{call_model};
-ghost use Rattle.portal_core.specs.Run.{HasForm};
-
 use crate::tests::portal::{OFFICE, Portal};
+use crate::tests::rows::add;
 use portal_core::{Call, Phase};
+use portal_rolls::{read_lecturers, read_projects, read_students};
 use std::process::Abort;
 
 const LECTURERS: u64 = 300;
@@ -63,14 +62,17 @@ fn students(rt: &(impl Abort + AllocGlobal)) -> String {
     text
 }
 
+/// Returns the key of this letter and number, as a call has it.
+fn key(rt: &(impl Abort + AllocGlobal), letter: char, number: u64) -> Vec<u8> {
+    let text = format!(in rt.alloc(); "{letter}{number}").expect(rt, "memory");
+    Vec::from_slice(rt.alloc(), text.as_bytes()).expect(rt, "memory")
+}
+
 /// Returns the student's list as a call has it.
 fn choice(rt: &(impl Abort + AllocGlobal), student: u64) -> Vec<Vec<u8>> {
     let mut list = Vec::new(rt.alloc());
     for place in 0..CHOICES {
-        let p = project_of(student, place);
-        let text = format!(in rt.alloc(); "P{p}").expect(rt, "memory");
-        list.push(Vec::from_slice(rt.alloc(), text.as_bytes()).expect(rt, "memory"))
-            .expect(rt, "memory");
+        add(rt, &mut list, key(rt, 'P', project_of(student, place)));
     }
     list
 }
@@ -80,53 +82,59 @@ fn ranking(rt: &(impl Abort + AllocGlobal), lecturer: u64) -> Vec<Vec<u8>> {
     let mut list = Vec::new(rt.alloc());
     for s in (0..STUDENTS).rev() {
         if is_applicant(s, lecturer) {
-            let text = format!(in rt.alloc(); "S{s}").expect(rt, "memory");
-            list.push(Vec::from_slice(rt.alloc(), text.as_bytes()).expect(rt, "memory"))
-                .expect(rt, "memory");
+            add(rt, &mut list, key(rt, 'S', s));
         }
     }
     list
 }
 
-/// Checks that the caller's call is accepted.
-fn taken(rt: &(impl Abort + AllocGlobal), portal: &mut Portal, code: &str, call: &Call)
-    requires { HasForm (call_model call.now) }
-{
-    assert_eq!(rt; portal.status(rt, code, call), 200);
-}
-
 /// Moves to this phase as the office.
 fn moves(rt: &(impl Abort + AllocGlobal), portal: &mut Portal, phase: Phase) {
-    taken(rt, portal, OFFICE, &Call::Move { phase, round: None });
+    portal.accepts(rt, OFFICE, Call::Move { phase, round: None });
 }
 
 fn choose(rt: &(impl Abort + AllocGlobal), portal: &mut Portal) {
     for s in 0..STUDENTS {
         let code = format!(in rt.alloc(); "stud-code-{s}").expect(rt, "memory");
-        taken(rt, portal, &code, &Call::SetChoices(choice(rt, s)));
+        portal.accepts(rt, &code, Call::SetChoices(choice(rt, s)));
     }
 }
 
 fn rank(rt: &(impl Abort + AllocGlobal), portal: &mut Portal) {
     for l in 0..LECTURERS {
         let code = format!(in rt.alloc(); "lect-code-{l}").expect(rt, "memory");
-        taken(rt, portal, &code, &Call::SetRanking(ranking(rt, l)));
+        portal.accepts(rt, &code, Call::SetRanking(ranking(rt, l)));
     }
+}
+
+fn add_lecturers(rt: &(impl Abort + AllocGlobal), portal: &mut Portal) {
+    let rows = read_lecturers(rt.alloc(), lecturers(rt).as_bytes()).expect(rt, "a roll");
+    let reply = r#"{"added":300,"same":0}"#;
+    portal.answers(rt, OFFICE, Call::AddLecturers(rows), 200, reply);
+}
+
+fn add_projects(rt: &(impl Abort + AllocGlobal), portal: &mut Portal) {
+    let rows = read_projects(rt.alloc(), projects(rt).as_bytes()).expect(rt, "a roll");
+    let reply = r#"{"added":1000,"same":0}"#;
+    portal.answers(rt, OFFICE, Call::AddProjects(rows), 200, reply);
+}
+
+fn add_students(rt: &(impl Abort + AllocGlobal), portal: &mut Portal) {
+    let rows = read_students(rt.alloc(), students(rt).as_bytes()).expect(rt, "a roll");
+    let reply = r#"{"added":2000,"same":0}"#;
+    portal.answers(rt, OFFICE, Call::AddStudents(rows), 200, reply);
 }
 
 #[test]
 fn a_department_at_every_limit(rt: HostRuntime) {
     let mut portal = Portal::new(&rt);
-    let text = lecturers(&rt);
-    portal.adds_lecturers(&rt, text.as_bytes(), 200, r#"{"added":300,"same":0}"#);
-    let text = projects(&rt);
-    portal.adds_projects(&rt, text.as_bytes(), 200, r#"{"added":1000,"same":0}"#);
-    let text = students(&rt);
-    portal.adds_students(&rt, text.as_bytes(), 200, r#"{"added":2000,"same":0}"#);
+    add_lecturers(&rt, &mut portal);
+    add_projects(&rt, &mut portal);
+    add_students(&rt, &mut portal);
     moves(&rt, &mut portal, Phase::Choosing);
     choose(&rt, &mut portal);
     moves(&rt, &mut portal, Phase::Ranking);
     rank(&rt, &mut portal);
     moves(&rt, &mut portal, Phase::Published);
-    taken(&rt, &mut portal, OFFICE, &Call::Status);
+    portal.accepts(&rt, OFFICE, Call::Status);
 }

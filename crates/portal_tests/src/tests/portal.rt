@@ -3,10 +3,9 @@
 ghost use Rattle.portal_core.specs.Meaning.{call_model};
 ghost use Rattle.portal_core.specs.Run.{HasForm};
 
-use portal_core::{Body, Call, Code};
+use portal_core::{Body, Call, Code, Reply};
 use portal_desk::play;
 use portal_list::{ListKeeper, WorldRows};
-use portal_rolls::{read_lecturers, read_projects, read_students};
 use std::marker::Model;
 use std::process::Abort;
 
@@ -29,6 +28,17 @@ impl Model for Portal {
 
 pub(crate) const OFFICE: &str = "office-code-0";
 
+/// Checks that the body is this JSON.
+fn is_json(rt: &(impl Abort + AllocGlobal), body: &Body, wanted: &str) {
+    match body {
+        Body::Json(value) => {
+            let text = value.to_string(rt.alloc()).expect(rt, "memory");
+            assert_eq!(rt; text.as_str(), wanted);
+        }
+        _ => assert!(rt; false, "no JSON"),
+    }
+}
+
 impl Portal {
     /// Makes a keeper of the empty world in setup.
     pub(crate) fn new(rt: &(impl Abort + AllocGlobal)) -> Portal {
@@ -40,19 +50,16 @@ impl Portal {
 
     /// Makes a keeper of the world of these rows, and checks that it is good.
     pub(crate) fn of(rt: &(impl Abort + AllocGlobal), rows: WorldRows) -> Portal {
-        let Ok(keeper) = ListKeeper::from_rows(rt.alloc(), rows) else {
-            panic!(rt; "rows of no sound world");
-        };
-        let good = keeper.is_good(rt.alloc()).expect(rt, "memory");
-        assert!(rt; good);
+        let keeper = ListKeeper::from_rows(rt.alloc(), rows).expect(rt, "rows of a sound world");
+        assert!(rt; keeper.is_good(rt.alloc()).expect(rt, "memory"));
         Portal { keeper }
     }
 
-    /// Checks that the office's call gets this status and body.
-    fn asks(&mut self, rt: &(impl Abort + AllocGlobal), call: &Call, status: u16, body: &str)
+    /// Returns the reply to a call of the caller with this code.
+    fn reply(&mut self, rt: &(impl Abort + AllocGlobal), code: &str, call: &Call) -> Reply
         requires { HasForm (call_model call.now) }
     {
-        self.answers(rt, OFFICE, call, status, body);
+        play(rt.alloc(), &mut self.keeper, code.as_bytes(), call).expect(rt, "memory")
     }
 
     /// Checks that a call of the caller with this code gets this status and body.
@@ -60,62 +67,21 @@ impl Portal {
         &mut self,
         rt: &(impl Abort + AllocGlobal),
         code: &str,
-        call: &Call,
+        call: Call,
         status: u16,
         body: &str,
     )
-        requires { HasForm (call_model call.now) }
+        requires { HasForm (call_model call) }
     {
-        let alloc = rt.alloc();
-        let reply = play(alloc, &mut self.keeper, code.as_bytes(), call).expect(rt, "memory");
+        let reply = self.reply(rt, code, &call);
         assert_eq!(rt; reply.status, status);
-        match &reply.body {
-            Body::Json(value) => {
-                let text = value.to_string(alloc).expect(rt, "memory");
-                assert_eq!(rt; text.as_str(), body);
-            }
-            _ => assert!(rt; false, "no JSON"),
-        }
+        is_json(rt, &reply.body, body);
     }
 
-    /// Returns the status of the reply to the caller with this code.
-    pub(crate) fn status(&mut self, rt: &(impl Abort + AllocGlobal), code: &str, call: &Call) -> u16
-        requires { HasForm (call_model call.now) }
+    /// Checks that a call of the caller with this code is accepted.
+    pub(crate) fn accepts(&mut self, rt: &(impl Abort + AllocGlobal), code: &str, call: Call)
+        requires { HasForm (call_model call) }
     {
-        let reply = play(rt.alloc(), &mut self.keeper, code.as_bytes(), call);
-        reply.expect(rt, "memory").status
-    }
-
-    pub(crate) fn adds_lecturers(
-        &mut self,
-        rt: &(impl Abort + AllocGlobal),
-        text: &[u8],
-        status: u16,
-        body: &str,
-    ) {
-        let rows = read_lecturers(rt.alloc(), text).expect(rt, "a roll");
-        self.asks(rt, &Call::AddLecturers(rows), status, body);
-    }
-
-    pub(crate) fn adds_projects(
-        &mut self,
-        rt: &(impl Abort + AllocGlobal),
-        text: &[u8],
-        status: u16,
-        body: &str,
-    ) {
-        let rows = read_projects(rt.alloc(), text).expect(rt, "a roll");
-        self.asks(rt, &Call::AddProjects(rows), status, body);
-    }
-
-    pub(crate) fn adds_students(
-        &mut self,
-        rt: &(impl Abort + AllocGlobal),
-        text: &[u8],
-        status: u16,
-        body: &str,
-    ) {
-        let rows = read_students(rt.alloc(), text).expect(rt, "a roll");
-        self.asks(rt, &Call::AddStudents(rows), status, body);
+        assert_eq!(rt; self.reply(rt, code, &call).status, 200);
     }
 }

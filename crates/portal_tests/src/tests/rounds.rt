@@ -1,12 +1,12 @@
 //! Tests the second round of a small department, opened by the office or made from rows.
 
 use crate::tests::portal::{OFFICE, Portal};
-use crate::tests::rows::{Sketch, after_first, fault_of, in_choosing, in_ranking, opened, rows_of};
+use crate::tests::rows::{
+    Sketch, after_first, are_refused, in_choosing, in_ranking, opened, rows_of,
+};
 use portal_core::{Call, Phase, Round};
-use portal_list::{ListKeeper, RowsFault};
-use std::alloc::Global;
+use portal_list::ListKeeper;
 use std::process::Abort;
-use std::test::Fail;
 
 const S1: &str = "ann-code-1";
 
@@ -33,18 +33,56 @@ const OPENED: &str =
 const L1_RESULT: &str =
     "{\"projects\":[{\"id\":\"P1\",\"students\":[{\"key\":\"S2\",\"name\":\"Roe, Bea\"}]},{\"id\":\"P2\",\"students\":[{\"key\":\"S1\",\"name\":\"Ann\"}]}]}";
 
+/// The replies to `Applicants` of L1 and L2 in the second round's ranking.
+const L1_APPLICANTS: &str =
+    "{\"projects\":[{\"applicants\":[],\"id\":\"P1\"},{\"applicants\":[],\"id\":\"P2\"}]}";
+
+const L2_APPLICANTS: &str =
+    "{\"projects\":[{\"applicants\":[{\"key\":\"S3\",\"name\":\"Cyr\"}],\"id\":\"P3\"}]}";
+
+/// The status when the second round is published.
+const PLAYED: &str =
+    "{\"assigned\":3,\"lecturers\":2,\"phase\":\"published\",\"projects\":3,\"round\":2,\"still_to_rank\":[],\"students\":3,\"unassigned\":[],\"without_list\":[]}";
+
+const WRONG_PHASE: &str = "{\"error\":\"wrong_phase\"}";
+
 /// Makes a portal from the rows of the sketch.
-fn portal(rt: &(impl Abort + AllocGlobal), sketch: Sketch) -> Result<Portal, Fail> {
-    Ok(Portal::of(rt, rows_of(rt.alloc(), sketch)?))
+fn portal(rt: &(impl Abort + AllocGlobal), sketch: &Sketch) -> Portal {
+    Portal::of(rt, rows_of(rt, sketch))
 }
 
 /// Returns the keys of a list as a call has them.
-fn list(alloc: Global, keys: &[&str]) -> Result<Vec<Vec<u8>>, Fail> {
-    let mut texts = Vec::new(alloc);
+fn list(rt: &(impl Abort + AllocGlobal), keys: &[&str]) -> Vec<Vec<u8>> {
+    let mut texts = Vec::new(rt.alloc());
     for key in keys {
-        texts.push(key.as_bytes().to_vec(alloc)?)?;
+        let text = key.as_bytes().to_vec(rt.alloc()).expect(rt, "memory");
+        texts.push(text).expect(rt, "memory");
     }
-    Ok(texts)
+    texts
+}
+
+/// Checks the reply when the student with this code chooses these projects.
+fn chooses(
+    rt: &(impl Abort + AllocGlobal),
+    portal: &mut Portal,
+    code: &str,
+    keys: &[&str],
+    status: u16,
+    reply: &str,
+) {
+    portal.answers(rt, code, Call::SetChoices(list(rt, keys)), status, reply);
+}
+
+/// Checks the reply when the office moves to this phase of this round.
+fn moves(
+    rt: &(impl Abort + AllocGlobal),
+    portal: &mut Portal,
+    phase: Phase,
+    round: Option<Round>,
+    status: u16,
+    reply: &str,
+) {
+    portal.answers(rt, OFFICE, Call::Move { phase, round }, status, reply);
 }
 
 /// Checks that the office may not move to this phase of this round.
@@ -54,53 +92,43 @@ fn is_refused(
     phase: Phase,
     round: Option<Round>,
 ) {
-    portal.answers(
-        rt,
-        OFFICE,
-        &Call::Move { phase, round },
-        409,
-        "{\"error\":\"wrong_phase\"}",
-    );
+    moves(rt, portal, phase, round, 409, WRONG_PHASE);
 }
 
 /// Opens the second round as the office.
 fn opens(rt: &(impl Abort + AllocGlobal), portal: &mut Portal) {
-    portal.answers(
-        rt,
-        OFFICE,
-        &Call::Move {
-            phase: Phase::Choosing,
-            round: Some(Round::Second),
-        },
-        200,
-        "{\"phase\":\"choosing\",\"round\":2}",
-    );
+    let reply = "{\"phase\":\"choosing\",\"round\":2}";
+    moves(rt, portal, Phase::Choosing, Some(Round::Second), 200, reply);
 }
 
 /// Checks what each role is shown when the second round begins.
 fn is_offered(rt: &(impl Abort + AllocGlobal), portal: &mut Portal) {
     for code in [OFFICE, L1, S1, S3] {
-        portal.answers(rt, code, &Call::Catalogue, 200, LEFT);
+        portal.answers(rt, code, Call::Catalogue, 200, LEFT);
     }
-    portal.answers(rt, S3, &Call::Me, 200, S3_ME);
-    portal.answers(rt, S1, &Call::Result, 200, "{\"project\":\"P2\"}");
-    portal.answers(rt, S1, &Call::ShowChoices, 200, "{\"projects\":[]}");
-    portal.answers(rt, S3, &Call::Result, 200, "{\"project\":null}");
-    portal.answers(rt, L1, &Call::Me, 200, L1_ME);
-    portal.answers(rt, L1, &Call::Result, 200, L1_RESULT);
-    portal.answers(rt, OFFICE, &Call::Status, 200, OPENED);
+    is_begun(rt, portal);
+    portal.answers(rt, OFFICE, Call::Status, 200, OPENED);
+}
+
+/// Checks what lecturers and students are shown when the second round begins.
+fn is_begun(rt: &(impl Abort + AllocGlobal), portal: &mut Portal) {
+    portal.answers(rt, S3, Call::Me, 200, S3_ME);
+    portal.answers(rt, S1, Call::Result, 200, "{\"project\":\"P2\"}");
+    portal.answers(rt, S1, Call::ShowChoices, 200, "{\"projects\":[]}");
+    portal.answers(rt, S3, Call::Result, 200, "{\"project\":null}");
+    portal.answers(rt, L1, Call::Me, 200, L1_ME);
+    portal.answers(rt, L1, Call::Result, 200, L1_RESULT);
 }
 
 #[test]
-fn what_is_left_is_offered(rt: HostRuntime) -> Result<(), Fail> {
-    let mut portal = portal(&rt, opened())?;
+fn what_is_left_is_offered(rt: HostRuntime) {
+    let mut portal = portal(&rt, &opened());
     is_offered(&rt, &mut portal);
-    Ok(())
 }
 
 #[test]
-fn the_office_opens_the_second_round(rt: HostRuntime) -> Result<(), Fail> {
-    let mut portal = portal(&rt, after_first())?;
+fn the_office_opens_the_second_round(rt: HostRuntime) {
+    let mut portal = portal(&rt, &after_first());
     is_refused(&rt, &mut portal, Phase::Choosing, None);
     is_refused(&rt, &mut portal, Phase::Choosing, Some(Round::First));
     is_refused(&rt, &mut portal, Phase::Ranking, Some(Round::Second));
@@ -110,163 +138,111 @@ fn the_office_opens_the_second_round(rt: HostRuntime) -> Result<(), Fail> {
     is_refused(&rt, &mut portal, Phase::Published, None);
     is_refused(&rt, &mut portal, Phase::Published, Some(Round::First));
     opens(&rt, &mut portal);
-    Ok(())
+}
+
+/// Checks that no second round follows the unpublished round of these rows.
+fn has_no_second(rt: &(impl Abort + AllocGlobal), sketch: &Sketch, phase: Phase) {
+    is_refused(rt, &mut portal(rt, sketch), phase, Some(Round::Second));
 }
 
 #[test]
-fn an_unpublished_round_is_followed_by_none(rt: HostRuntime) -> Result<(), Fail> {
-    let mut choosing = portal(&rt, in_choosing())?;
-    is_refused(&rt, &mut choosing, Phase::Ranking, Some(Round::Second));
-    let mut ranking = portal(&rt, in_ranking())?;
-    is_refused(&rt, &mut ranking, Phase::Choosing, Some(Round::Second));
-    Ok(())
+fn an_unpublished_round_is_followed_by_none(rt: HostRuntime) {
+    has_no_second(&rt, &in_choosing(), Phase::Ranking);
+    has_no_second(&rt, &in_ranking(), Phase::Choosing);
+}
+
+/// Checks that only a student without a project may choose, and only what is left.
+fn is_chosen(rt: &(impl Abort + AllocGlobal), portal: &mut Portal) {
+    chooses(rt, portal, S1, &[], 409, "{\"error\":\"already_placed\"}");
+    let unknown = "{\"at\":1,\"error\":\"bad_list\",\"fault\":\"unknown_project\"}";
+    chooses(rt, portal, S3, &["P1"], 422, unknown);
+    chooses(rt, portal, S3, &["P3"], 200, "{\"projects\":[\"P3\"]}");
+    let ranking = "{\"phase\":\"ranking\",\"round\":2}";
+    moves(rt, portal, Phase::Ranking, None, 200, ranking);
+    chooses(rt, portal, S1, &[], 409, WRONG_PHASE);
+}
+
+/// Checks what lecturers and students are shown in the second round's ranking.
+fn is_to_rank(rt: &(impl Abort + AllocGlobal), portal: &mut Portal) {
+    portal.answers(rt, S3, Call::Result, 200, "{\"project\":null}");
+    portal.answers(rt, L1, Call::Result, 200, L1_RESULT);
+    portal.answers(rt, L2, Call::Applicants, 200, L2_APPLICANTS);
+    portal.answers(rt, L1, Call::Applicants, 200, L1_APPLICANTS);
+}
+
+/// Publishes the second round once its rankings are filled in.
+fn is_ranked(rt: &(impl Abort + AllocGlobal), portal: &mut Portal) {
+    let missing = "{\"error\":\"still_to_rank\",\"lecturers\":[\"L2\"]}";
+    moves(rt, portal, Phase::Published, None, 409, missing);
+    portal.answers(rt, OFFICE, Call::FillRankings, 200, "{\"filled\":[\"L2\"]}");
+    portal.answers(rt, L2, Call::ShowRanking, 200, "{\"students\":[\"S3\"]}");
+    let published = "{\"phase\":\"published\",\"round\":2}";
+    moves(rt, portal, Phase::Published, None, 200, published);
 }
 
 #[test]
-fn the_second_round_is_played(rt: HostRuntime) -> Result<(), Fail> {
-    let alloc = rt.alloc();
-    let mut portal = portal(&rt, after_first())?;
+fn the_second_round_is_played(rt: HostRuntime) {
+    let mut portal = portal(&rt, &after_first());
     opens(&rt, &mut portal);
-    let none = Call::SetChoices(list(alloc, &[])?);
-    portal.answers(&rt, S1, &none, 409, "{\"error\":\"already_placed\"}");
-    let taken = Call::SetChoices(list(alloc, &["P1"])?);
-    portal.answers(
-        &rt,
-        S3,
-        &taken,
-        422,
-        "{\"at\":1,\"error\":\"bad_list\",\"fault\":\"unknown_project\"}",
-    );
-    let bells = Call::SetChoices(list(alloc, &["P3"])?);
-    portal.answers(&rt, S3, &bells, 200, "{\"projects\":[\"P3\"]}");
-    portal.answers(
-        &rt,
-        OFFICE,
-        &Call::Move {
-            phase: Phase::Ranking,
-            round: None,
-        },
-        200,
-        "{\"phase\":\"ranking\",\"round\":2}",
-    );
-    portal.answers(&rt, S1, &none, 409, "{\"error\":\"wrong_phase\"}");
-    portal.answers(&rt, S3, &Call::Result, 200, "{\"project\":null}");
-    portal.answers(&rt, L1, &Call::Result, 200, L1_RESULT);
-    portal.answers(
-        &rt,
-        L2,
-        &Call::Applicants,
-        200,
-        "{\"projects\":[{\"applicants\":[{\"key\":\"S3\",\"name\":\"Cyr\"}],\"id\":\"P3\"}]}",
-    );
-    portal.answers(
-        &rt,
-        L1,
-        &Call::Applicants,
-        200,
-        "{\"projects\":[{\"applicants\":[],\"id\":\"P1\"},{\"applicants\":[],\"id\":\"P2\"}]}",
-    );
-    portal.answers(
-        &rt,
-        OFFICE,
-        &Call::Move {
-            phase: Phase::Published,
-            round: None,
-        },
-        409,
-        "{\"error\":\"still_to_rank\",\"lecturers\":[\"L2\"]}",
-    );
-    portal.answers(
-        &rt,
-        OFFICE,
-        &Call::FillRankings,
-        200,
-        "{\"filled\":[\"L2\"]}",
-    );
-    portal.answers(&rt, L2, &Call::ShowRanking, 200, "{\"students\":[\"S3\"]}");
-    portal.answers(
-        &rt,
-        OFFICE,
-        &Call::Move {
-            phase: Phase::Published,
-            round: None,
-        },
-        200,
-        "{\"phase\":\"published\",\"round\":2}",
-    );
-    portal.answers(&rt, S3, &Call::Result, 200, "{\"project\":\"P3\"}");
-    portal.answers(&rt, S1, &Call::Result, 200, "{\"project\":\"P2\"}");
-    portal.answers(
-        &rt,
-        OFFICE,
-        &Call::Status,
-        200,
-        "{\"assigned\":3,\"lecturers\":2,\"phase\":\"published\",\"projects\":3,\"round\":2,\"still_to_rank\":[],\"students\":3,\"unassigned\":[],\"without_list\":[]}",
-    );
-    Ok(())
+    is_chosen(&rt, &mut portal);
+    is_to_rank(&rt, &mut portal);
+    is_ranked(&rt, &mut portal);
+    portal.answers(&rt, S3, Call::Result, 200, "{\"project\":\"P3\"}");
+    portal.answers(&rt, S1, Call::Result, 200, "{\"project\":\"P2\"}");
+    portal.answers(&rt, OFFICE, Call::Status, 200, PLAYED);
 }
 
 #[test]
-fn rows_of_no_second_round_are_refused(rt: HostRuntime) -> Result<(), Fail> {
-    let alloc = rt.alloc();
+fn rows_of_no_second_round_are_refused(rt: HostRuntime) {
     let mut in_setup = opened();
     in_setup.phase = Phase::Setup;
+    are_refused(&rt, &in_setup);
     let mut full = opened();
     full.choices = &[("S1", &[]), ("S2", &[]), ("S3", &["P1"])];
+    are_refused(&rt, &full);
     let mut placed = opened();
     placed.choices = &[("S1", &["P3"]), ("S2", &[]), ("S3", &[])];
+    are_refused(&rt, &placed);
     let mut left_out = opened();
     left_out.earlier_choices = &[("S1", &["P1", "P2"]), ("S2", &["P1", "P3"])];
+    are_refused(&rt, &left_out);
     let mut too_early = after_first();
     too_early.earlier_pairs = &[("S1", "P2")];
-    for sketch in [in_setup, full, placed, left_out, too_early] {
-        assert_eq!(rt; fault_of(alloc, sketch)?, Some(RowsFault::NotGood));
-    }
-    Ok(())
+    are_refused(&rt, &too_early);
+}
+
+/// Checks that a keeper of the sketch's rows tells whether its world is good.
+fn is_told(rt: &(impl Abort + AllocGlobal), sketch: &Sketch, good: bool) {
+    let keeper = ListKeeper::from_rows(rt.alloc(), rows_of(rt, sketch)).expect(rt, "a keeper");
+    assert_eq!(rt; keeper.is_good(rt.alloc()).expect(rt, "memory"), good);
 }
 
 #[test]
-fn a_first_round_that_is_not_good_is_told(rt: HostRuntime) -> Result<(), Fail> {
-    let alloc = rt.alloc();
+fn a_first_round_that_is_not_good_is_told(rt: HostRuntime) {
+    is_told(&rt, &opened(), true);
     let mut blocked = opened();
     blocked.earlier_pairs = &[("S1", "P1"), ("S2", "P3")];
+    is_told(&rt, &blocked, false);
     let mut unlisted = opened();
     unlisted.earlier_pairs = &[("S1", "P3"), ("S2", "P1")];
+    is_told(&rt, &unlisted, false);
     let mut unranked = opened();
     unranked.earlier_rankings = &[("L1", &["S2", "S1"])];
-    for (sketch, good) in [
-        (opened(), true),
-        (blocked, false),
-        (unlisted, false),
-        (unranked, false),
-    ] {
-        let Ok(keeper) = ListKeeper::from_rows(alloc, rows_of(alloc, sketch)?) else {
-            assert!(rt; false, "rows of no sound world");
-            continue;
-        };
-        assert_eq!(rt; keeper.is_good(alloc)?, good);
-    }
-    Ok(())
+    is_told(&rt, &unranked, false);
 }
 
 #[test]
-fn a_published_second_round_is_taken(rt: HostRuntime) -> Result<(), Fail> {
-    let alloc = rt.alloc();
+fn a_published_second_round_is_taken(rt: HostRuntime) {
     let mut published = opened();
     published.phase = Phase::Published;
     published.choices = &[("S1", &[]), ("S2", &[]), ("S3", &["P3"])];
     published.rankings = &[("L2", &["S3"])];
     published.pairs = &[("S3", "P3")];
+    portal(&rt, &published).answers(&rt, S3, Call::Result, 200, "{\"project\":\"P3\"}");
     let mut nobody = published;
     nobody.pairs = &[];
+    is_told(&rt, &nobody, false);
     let mut twice = published;
     twice.pairs = &[("S1", "P3"), ("S3", "P3")];
-    portal(&rt, published)?.answers(&rt, S3, &Call::Result, 200, "{\"project\":\"P3\"}");
-    assert_eq!(rt; fault_of(alloc, twice)?, Some(RowsFault::NotGood));
-    let Ok(keeper) = ListKeeper::from_rows(alloc, rows_of(alloc, nobody)?) else {
-        assert!(rt; false, "rows of no sound world");
-        return Ok(());
-    };
-    assert_eq!(rt; keeper.is_good(alloc)?, false);
-    Ok(())
+    are_refused(&rt, &twice);
 }

@@ -1,116 +1,141 @@
 //! Tests keepers in lists that are made from good and bad rows of a database.
 
-use portal_core::{Code, LecturerRow, Name, Phase, ProjectRow, Round, StudentRow};
+use portal_core::{Code, LecturerRow, Listing, Name, Phase, ProjectRow, Round, StudentRow};
 use portal_list::{ListKeeper, RowsFault, WorldRows, listings_of};
 use spa_rows::Key;
-use std::alloc::Global;
-use std::test::Fail;
+use std::process::Abort;
 
-fn key(alloc: Global, text: &str) -> Result<Key, Fail> {
-    Ok(Key::parse(alloc, text.as_bytes())?)
+/// Appends the item to the list.
+pub(crate) fn add<X: Drop>(rt: &impl Abort, list: &mut Vec<X>, item: X) {
+    list.push(item).expect(rt, "memory");
+}
+
+/// Parses a key.
+pub(crate) fn key(rt: &(impl Abort + AllocGlobal), text: &str) -> Key {
+    Key::parse(rt.alloc(), text.as_bytes()).expect(rt, "a key")
+}
+
+fn name(rt: &(impl Abort + AllocGlobal), text: &str) -> Name {
+    Name::parse(rt.alloc(), text.as_bytes()).expect(rt, "a name")
+}
+
+fn code(rt: &(impl Abort + AllocGlobal), text: &str) -> Code {
+    Code::parse(rt.alloc(), text.as_bytes()).expect(rt, "a code")
 }
 
 fn lecturer(
-    alloc: Global,
+    rt: &(impl Abort + AllocGlobal),
     text: &str,
-    name: &str,
-    code: &str,
+    called: &str,
+    word: &str,
     capacity: u32,
-) -> Result<LecturerRow, Fail> {
-    Ok(LecturerRow {
-        key: key(alloc, text)?,
-        name: Name::parse(alloc, name.as_bytes())?,
-        code: Code::parse(alloc, code.as_bytes())?,
+) -> LecturerRow {
+    LecturerRow {
+        key: key(rt, text),
+        name: name(rt, called),
+        code: code(rt, word),
         capacity,
-    })
+    }
 }
 
-fn project(alloc: Global, text: &str, lecturer: &str, title: &str) -> Result<ProjectRow, Fail> {
-    Ok(ProjectRow {
-        key: key(alloc, text)?,
-        lecturer: key(alloc, lecturer)?,
-        title: Name::parse(alloc, title.as_bytes())?,
+fn project(rt: &(impl Abort + AllocGlobal), text: &str, lecturer: &str, title: &str) -> ProjectRow {
+    ProjectRow {
+        key: key(rt, text),
+        lecturer: key(rt, lecturer),
+        title: name(rt, title),
         capacity: 1,
-    })
+    }
 }
 
-fn student(alloc: Global, text: &str, name: &str, code: &str) -> Result<StudentRow, Fail> {
-    Ok(StudentRow {
-        key: key(alloc, text)?,
-        name: Name::parse(alloc, name.as_bytes())?,
-        code: Code::parse(alloc, code.as_bytes())?,
-    })
+fn student(rt: &(impl Abort + AllocGlobal), text: &str, called: &str, word: &str) -> StudentRow {
+    StudentRow {
+        key: key(rt, text),
+        name: name(rt, called),
+        code: code(rt, word),
+    }
 }
 
-fn lecturers(alloc: Global, capacity: u32) -> Result<Vec<LecturerRow>, Fail> {
-    let mut rows = Vec::new(alloc);
-    rows.push(lecturer(alloc, "L1", "Lee", "lee-code-01", 2)?)?;
-    rows.push(lecturer(alloc, "L2", "Moe", "moe-code-02", capacity)?)?;
-    Ok(rows)
+fn lecturers(rt: &(impl Abort + AllocGlobal), capacity: u32) -> Vec<LecturerRow> {
+    let mut rows = Vec::new(rt.alloc());
+    add(rt, &mut rows, lecturer(rt, "L1", "Lee", "lee-code-01", 2));
+    add(
+        rt,
+        &mut rows,
+        lecturer(rt, "L2", "Moe", "moe-code-02", capacity),
+    );
+    rows
 }
 
-fn projects(alloc: Global, keys: &[&str]) -> Result<Vec<ProjectRow>, Fail> {
-    let mut rows = Vec::new(alloc);
+fn projects(rt: &(impl Abort + AllocGlobal), keys: &[&str]) -> Vec<ProjectRow> {
+    let mut rows = Vec::new(rt.alloc());
     for text in keys {
-        rows.push(project(alloc, *text, "L1", "Tides")?)?;
+        add(rt, &mut rows, project(rt, *text, "L1", "Tides"));
     }
-    rows.push(project(alloc, "P3", "L2", "Bells")?)?;
-    Ok(rows)
+    add(rt, &mut rows, project(rt, "P3", "L2", "Bells"));
+    rows
 }
 
-fn students(alloc: Global, code: &str) -> Result<Vec<StudentRow>, Fail> {
-    let mut rows = Vec::new(alloc);
-    rows.push(student(alloc, "S1", "Ann", code)?)?;
-    rows.push(student(alloc, "S2", "Roe, Bea", "bea-code-2")?)?;
-    rows.push(student(alloc, "S3", "Cyr", "cyr-code-3")?)?;
-    Ok(rows)
+fn students(rt: &(impl Abort + AllocGlobal), word: &str) -> Vec<StudentRow> {
+    let mut rows = Vec::new(rt.alloc());
+    add(rt, &mut rows, student(rt, "S1", "Ann", word));
+    add(rt, &mut rows, student(rt, "S2", "Roe, Bea", "bea-code-2"));
+    add(rt, &mut rows, student(rt, "S3", "Cyr", "cyr-code-3"));
+    rows
 }
 
-/// Parses a key and a list of keys.
-fn list(alloc: Global, owner: &str, texts: &[&str]) -> Result<(Key, Vec<Key>), Fail> {
-    let mut keys = Vec::new(alloc);
+fn keys(rt: &(impl Abort + AllocGlobal), texts: &[&str]) -> Vec<Key> {
+    let mut keys = Vec::new(rt.alloc());
     for text in texts {
-        keys.push(key(alloc, *text)?)?;
+        add(rt, &mut keys, key(rt, *text));
     }
-    Ok((key(alloc, owner)?, keys))
+    keys
 }
 
 type Lists<'a> = &'a [(&'a str, &'a [&'a str])];
 
-fn lists(alloc: Global, owners: Lists) -> Result<Vec<(Key, Vec<Key>)>, Fail> {
-    let mut lists = Vec::new(alloc);
+fn lists(rt: &(impl Abort + AllocGlobal), owners: Lists) -> Vec<(Key, Vec<Key>)> {
+    let mut lists = Vec::new(rt.alloc());
     for (owner, texts) in owners {
-        lists.push(list(alloc, *owner, *texts)?)?;
+        add(rt, &mut lists, (key(rt, *owner), keys(rt, *texts)));
     }
-    Ok(lists)
+    lists
 }
 
-fn pairs(alloc: Global, places: Pairs) -> Result<Vec<(Key, Key)>, Fail> {
-    let mut pairs = Vec::new(alloc);
+/// Parses pairs of keys.
+pub(crate) fn pairs(rt: &(impl Abort + AllocGlobal), places: Pairs) -> Vec<(Key, Key)> {
+    let mut pairs = Vec::new(rt.alloc());
     for (student, project) in places {
-        pairs.push((key(alloc, *student)?, key(alloc, *project)?))?;
+        add(rt, &mut pairs, (key(rt, *student), key(rt, *project)));
     }
-    Ok(pairs)
+    pairs
 }
 
 type Pairs<'a> = &'a [(&'a str, &'a str)];
 
-#[test]
-fn the_catalogue_of_rows(rt: HostRuntime) -> Result<(), Fail> {
-    let alloc = rt.alloc();
-    let mut offered = projects(alloc, &["P1"])?;
-    offered.push(project(alloc, "P4", "L9", "Gales")?)?;
-    let mut text = String::new(alloc);
-    for listing in &listings_of(alloc, &lecturers(alloc, 1)?, &offered)? {
-        text.push_str(listing.key.as_str())?;
-        text.push(' ')?;
-        text.push_str(listing.title.as_str())?;
-        text.push(' ')?;
-        text.push_str(listing.lecturer_name.as_str())?;
-        text.push('/')?;
+/// Returns the listing's key, its title and its lecturer's name.
+fn line_of(rt: &(impl Abort + AllocGlobal), listing: &Listing) -> String {
+    let key = listing.key.as_str();
+    let title = listing.title.as_str();
+    let lecturer = listing.lecturer_name.as_str();
+    format!(in rt.alloc(); "{key} {title} {lecturer}/").expect(rt, "memory")
+}
+
+/// Returns the catalogue of the two lecturers and these projects as a text.
+fn catalogue(rt: &(impl Abort + AllocGlobal), projects: &[ProjectRow]) -> String {
+    let mut text = String::new(rt.alloc());
+    let listings = listings_of(rt.alloc(), &lecturers(rt, 1), projects).expect(rt, "memory");
+    for listing in &listings {
+        text.push_str(&line_of(rt, listing)).expect(rt, "memory");
     }
+    text
+}
+
+#[test]
+fn the_catalogue_of_rows(rt: HostRuntime) {
+    let mut offered = projects(&rt, &["P1"]);
+    add(&rt, &mut offered, project(&rt, "P4", "L9", "Gales"));
+    let text = catalogue(&rt, &offered);
     assert_eq!(&rt; text.as_str(), "P1 Tides Lee/P3 Bells Moe/");
-    Ok(())
 }
 
 /// The rows of a world with two lecturers and three students, which tests may spoil.
@@ -184,55 +209,61 @@ fn in_setup() -> Sketch {
 }
 
 /// Builds the rows of the sketch.
-pub(crate) fn rows_of(alloc: Global, sketch: Sketch) -> Result<WorldRows, Fail> {
-    Ok(WorldRows {
+pub(crate) fn rows_of(rt: &(impl Abort + AllocGlobal), sketch: &Sketch) -> WorldRows {
+    WorldRows {
         round: sketch.round,
         phase: sketch.phase,
-        office: Code::parse(alloc, b"office-code-0")?,
-        lecturers: lecturers(alloc, sketch.capacity)?,
-        projects: projects(alloc, sketch.projects)?,
-        students: students(alloc, sketch.code)?,
-        choices: lists(alloc, sketch.choices)?,
-        rankings: lists(alloc, sketch.rankings)?,
-        pairs: pairs(alloc, sketch.pairs)?,
-        earlier_choices: lists(alloc, sketch.earlier_choices)?,
-        earlier_rankings: lists(alloc, sketch.earlier_rankings)?,
-        earlier_pairs: pairs(alloc, sketch.earlier_pairs)?,
-    })
+        office: code(rt, "office-code-0"),
+        lecturers: lecturers(rt, sketch.capacity),
+        projects: projects(rt, sketch.projects),
+        students: students(rt, sketch.code),
+        choices: lists(rt, sketch.choices),
+        rankings: lists(rt, sketch.rankings),
+        pairs: pairs(rt, sketch.pairs),
+        earlier_choices: lists(rt, sketch.earlier_choices),
+        earlier_rankings: lists(rt, sketch.earlier_rankings),
+        earlier_pairs: pairs(rt, sketch.earlier_pairs),
+    }
 }
 
 /// Returns why the rows of the sketch make no keeper, if they make none.
-pub(crate) fn fault_of(alloc: Global, sketch: Sketch) -> Result<Option<RowsFault>, Fail> {
-    Ok(ListKeeper::from_rows(alloc, rows_of(alloc, sketch)?).err())
+fn fault_of(rt: &(impl Abort + AllocGlobal), sketch: &Sketch) -> Option<RowsFault> {
+    ListKeeper::from_rows(rt.alloc(), rows_of(rt, sketch)).err()
+}
+
+/// Checks that the rows of the sketch make a keeper.
+fn are_taken(rt: &(impl Abort + AllocGlobal), sketch: &Sketch) {
+    assert_eq!(rt; fault_of(rt, sketch), None);
+}
+
+/// Checks that the rows of the sketch are refused as `NotGood`.
+pub(crate) fn are_refused(rt: &(impl Abort + AllocGlobal), sketch: &Sketch) {
+    assert_eq!(rt; fault_of(rt, sketch), Some(RowsFault::NotGood));
 }
 
 #[test]
-fn each_phase_is_taken(rt: HostRuntime) -> Result<(), Fail> {
-    let alloc = rt.alloc();
-    for sketch in [in_setup(), in_choosing(), in_ranking(), after_first()] {
-        assert_eq!(rt; fault_of(alloc, sketch)?, None);
-    }
-    Ok(())
+fn each_phase_is_taken(rt: HostRuntime) {
+    are_taken(&rt, &in_setup());
+    are_taken(&rt, &in_choosing());
+    are_taken(&rt, &in_ranking());
+    are_taken(&rt, &after_first());
 }
 
 #[test]
-fn too_early_is_refused(rt: HostRuntime) -> Result<(), Fail> {
-    let alloc = rt.alloc();
+fn too_early_is_refused(rt: HostRuntime) {
     let mut listed = in_choosing();
     listed.phase = Phase::Setup;
     let mut ranked = in_ranking();
     ranked.phase = Phase::Choosing;
     let mut placed = after_first();
     placed.phase = Phase::Ranking;
-    for sketch in [listed, ranked, placed] {
-        assert_eq!(rt; fault_of(alloc, sketch)?, Some(RowsFault::NotGood));
-    }
-    Ok(())
+    are_refused(&rt, &listed);
+    are_refused(&rt, &ranked);
+    are_refused(&rt, &placed);
 }
 
 #[test]
-fn bad_lists_are_refused(rt: HostRuntime) -> Result<(), Fail> {
-    let alloc = rt.alloc();
+fn bad_lists_are_refused(rt: HostRuntime) {
     let mut unknown = in_choosing();
     unknown.choices = &[("S1", &["P1", "P9x"]), ("S2", &[]), ("S3", &[])];
     let mut repeated = in_choosing();
@@ -241,38 +272,34 @@ fn bad_lists_are_refused(rt: HostRuntime) -> Result<(), Fail> {
     left_out.choices = &[("S1", &["P1"]), ("S2", &[])];
     let mut nobody = in_choosing();
     nobody.choices = &[("S1", &[]), ("S2", &[]), ("S3", &[]), ("S9", &[])];
-    for sketch in [unknown, repeated, left_out, nobody] {
-        assert_eq!(rt; fault_of(alloc, sketch)?, Some(RowsFault::NotGood));
-    }
-    Ok(())
+    are_refused(&rt, &unknown);
+    are_refused(&rt, &repeated);
+    are_refused(&rt, &left_out);
+    are_refused(&rt, &nobody);
 }
 
 #[test]
-fn bad_rankings_are_refused(rt: HostRuntime) -> Result<(), Fail> {
-    let alloc = rt.alloc();
+fn bad_rankings_are_refused(rt: HostRuntime) {
     let mut missing = in_ranking();
     missing.rankings = &[("L1", &["S2"])];
     let mut stranger = in_ranking();
     stranger.rankings = &[("L2", &["S1"])];
     let mut still_to_rank = after_first();
     still_to_rank.rankings = &[("L1", &["S2", "S1"])];
-    for sketch in [missing, stranger, still_to_rank] {
-        assert_eq!(rt; fault_of(alloc, sketch)?, Some(RowsFault::NotGood));
-    }
-    Ok(())
+    are_refused(&rt, &missing);
+    are_refused(&rt, &stranger);
+    are_refused(&rt, &still_to_rank);
 }
 
 #[test]
-fn bad_rolls_are_refused(rt: HostRuntime) -> Result<(), Fail> {
-    let alloc = rt.alloc();
+fn bad_rolls_are_refused(rt: HostRuntime) {
     let mut falling = in_setup();
     falling.projects = &["P2", "P1"];
     let mut one_code = in_setup();
     one_code.code = "office-code-0";
     let mut too_large = in_setup();
     too_large.capacity = 201;
-    for sketch in [falling, one_code, too_large] {
-        assert_eq!(rt; fault_of(alloc, sketch)?, Some(RowsFault::NotGood));
-    }
-    Ok(())
+    are_refused(&rt, &falling);
+    are_refused(&rt, &one_code);
+    are_refused(&rt, &too_large);
 }

@@ -1,58 +1,63 @@
 //! Tests codes, names and phases.
 
 use portal_core::{Code, CodeFault, Name, NameFault, Phase};
-use std::test::Fail;
+use std::process::Abort;
 
-#[test]
-fn codes_have_their_form(rt: HostRuntime) -> Result<(), Fail> {
-    let alloc = rt.alloc();
-    for good in ["ann-code", "0123456789-abcdefghijklmnopqrstuvwxyz-AZ"] {
-        let code = Code::parse(alloc, good.as_bytes())?;
-        assert_eq!(rt; code.as_str(), good);
-        assert_eq!(rt; code.copy(alloc)?, code);
-    }
-    for bad in [
-        "",
-        "ann-cod",
-        "ann_code",
-        "0123456789-abcdefghijklmnopqrstuvwxyz-ABZ",
-    ] {
-        assert_eq!(rt;
-            Code::parse(alloc, bad.as_bytes()).err(),
-            Some(CodeFault::BadCode)
-        );
-    }
-    Ok(())
+/// Checks that the text is a code, and that its copy is the same code.
+fn is_code(rt: &(impl Abort + AllocGlobal), text: &str) {
+    let code = Code::parse(rt.alloc(), text.as_bytes()).expect(rt, "a code");
+    assert_eq!(rt; code.as_str(), text);
+    assert_eq!(rt; code.copy(rt.alloc()).expect(rt, "memory"), code);
+}
+
+fn is_no_code(rt: &(impl Abort + AllocGlobal), text: &str) {
+    let fault = Code::parse(rt.alloc(), text.as_bytes()).err();
+    assert_eq!(rt; fault, Some(CodeFault::BadCode));
 }
 
 #[test]
-fn names_have_their_form(rt: HostRuntime) -> Result<(), Fail> {
-    let alloc = rt.alloc();
-    for good in ["A", "Roe, Bea", "Łukasz Żak"] {
-        let name = Name::parse(alloc, good.as_bytes())?;
-        assert_eq!(rt; name.as_str(), good);
-        assert_eq!(rt; name.copy(alloc)?, name);
-    }
-    for bad in ["", "a\nb", "a\u{7F}"] {
-        assert_eq!(rt;
-            Name::parse(alloc, bad.as_bytes()).err(),
-            Some(NameFault::BadName)
-        );
-    }
-    Ok(())
+fn codes_have_their_form(rt: HostRuntime) {
+    is_code(&rt, "ann-code");
+    is_code(&rt, "0123456789-abcdefghijklmnopqrstuvwxyz-AZ");
+    is_no_code(&rt, "");
+    is_no_code(&rt, "ann-cod");
+    is_no_code(&rt, "ann_code");
+    is_no_code(&rt, "0123456789-abcdefghijklmnopqrstuvwxyz-ABZ");
+}
+
+/// Checks that the text is a name, and that its copy is the same name.
+fn is_name(rt: &(impl Abort + AllocGlobal), text: &str) {
+    let name = Name::parse(rt.alloc(), text.as_bytes()).expect(rt, "a name");
+    assert_eq!(rt; name.as_str(), text);
+    assert_eq!(rt; name.copy(rt.alloc()).expect(rt, "memory"), name);
+}
+
+fn is_no_name(rt: &(impl Abort + AllocGlobal), text: &str) {
+    let fault = Name::parse(rt.alloc(), text.as_bytes()).err();
+    assert_eq!(rt; fault, Some(NameFault::BadName));
 }
 
 #[test]
-fn phases_have_their_words(rt: HostRuntime) -> Result<(), Fail> {
-    for phase in [
-        Phase::Setup,
-        Phase::Choosing,
-        Phase::Ranking,
-        Phase::Published,
-    ] {
-        assert_eq!(rt; Phase::parse(phase.word().as_bytes()), Some(phase));
-    }
-    assert_eq!(rt; Phase::parse(b"setup"), Some(Phase::Setup));
-    assert_eq!(rt; Phase::parse(b"Setup"), None);
-    Ok(())
+fn names_have_their_form(rt: HostRuntime) {
+    is_name(&rt, "A");
+    is_name(&rt, "Roe, Bea");
+    is_name(&rt, "Łukasz Żak");
+    is_no_name(&rt, "");
+    is_no_name(&rt, "a\nb");
+    is_no_name(&rt, "a\u{7F}");
+}
+
+/// Checks that the word is parsed as this phase.
+fn is_parsed(rt: &impl Abort, word: &str, phase: Option<Phase>) {
+    assert_eq!(rt; Phase::parse(word.as_bytes()), phase);
+}
+
+#[test]
+fn phases_have_their_words(rt: HostRuntime) {
+    is_parsed(&rt, Phase::Setup.word(), Some(Phase::Setup));
+    is_parsed(&rt, Phase::Choosing.word(), Some(Phase::Choosing));
+    is_parsed(&rt, Phase::Ranking.word(), Some(Phase::Ranking));
+    is_parsed(&rt, Phase::Published.word(), Some(Phase::Published));
+    is_parsed(&rt, "setup", Some(Phase::Setup));
+    is_parsed(&rt, "Setup", None);
 }

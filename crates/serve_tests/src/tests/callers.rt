@@ -47,7 +47,7 @@ impl Clock for TestClock {
 }
 
 /// An event that the server meets when it reads.
-#[derive(Clone, Copy, Debug)]
+#[derive(Clone, Copy)]
 pub(crate) enum Act {
     /// The caller sends this.
     Sends(&'static str),
@@ -58,7 +58,7 @@ pub(crate) enum Act {
 }
 
 /// How a caller reads replies.
-#[derive(Clone, Copy, Debug)]
+#[derive(Clone, Copy)]
 pub(crate) struct Pace {
     /// How many bytes at a time.
     pub(crate) bytes: usize,
@@ -74,6 +74,15 @@ pub(crate) const PROMPT: Pace = Pace {
     seconds: 0,
     signals: 0,
 };
+
+/// Returns the pace of these numbers.
+pub(crate) fn pace_of(bytes: usize, seconds: u64, signals: u64) -> Pace {
+    Pace {
+        bytes,
+        seconds,
+        signals,
+    }
+}
 
 /// A caller whose acts come each after some seconds of waiting, followed by silence.
 #[derive(Drop)]
@@ -105,24 +114,33 @@ impl<'a> Caller<'a> {
     pub(crate) fn taken(&self) -> usize {
         self.taken.get()
     }
+
+    /// Returns the next act, and the seconds until it. Silence is an end that never comes.
+    fn next_act(&self) -> (u64, Act) {
+        match self.acts.get(self.met.get()) {
+            Some(act) => *act,
+            None => (u64::MAX, Act::Ends),
+        }
+    }
+
+    /// Counts an act as met.
+    fn meet(&self) {
+        self.met.set(self.met.get().saturating_add(1));
+    }
 }
 
 impl<'a> TimedStream for Caller<'a> {
     fn read_within(&self, buf: &mut [u8], timeout: Duration) -> io::Result<usize> {
-        let Some((seconds, act)) = self.acts.get(self.met.get()) else {
-            self.clock.wait(u64::MAX, timeout)?;
-            return Ok(0);
-        };
-        self.clock.wait(*seconds, timeout)?;
-        let met = self.met.get().saturating_add(1);
+        let (seconds, act) = self.next_act();
+        self.clock.wait(seconds, timeout)?;
         match act {
             Act::Sends(text) => {
-                self.met.set(met);
+                self.meet();
                 let mut bytes = text.as_bytes();
                 bytes.read(buf)
             }
             Act::Signal => {
-                self.met.set(met);
+                self.meet();
                 Err(io::Error::from(ErrorKind::Interrupted))
             }
             Act::Ends => Ok(0),

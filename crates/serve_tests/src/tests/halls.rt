@@ -1,13 +1,14 @@
 //! Tests how many connections are accepted, and the outcome of each.
 
-ghost use Rattle.std.specs.Prelude.{◌≡◌, ◌<◌, ◌∷◌, ◌++◌, [], Some, vec_len, vec_capacity};
+ghost use Rattle.std.specs.Prelude.{◌≡◌, ◌<◌, ◌∷◌, ◌++◌, [], Some, Err, vec_len, vec_capacity};
 ghost use Rattle.portal_core.specs.Meaning.{CountsFaults};
 
 use crate::tests::callers::Act::{Ends, Sends};
 use crate::tests::callers::{Act, Caller, PROMPT, TestClock};
+use crate::tests::times::{end, fault};
 use crate::tests::{ME, fresh_keeper};
 use portal_core::{Change, KeepFault, Keeper, View};
-use portal_desk::{Cause, Desk, Ending, ServeFault, Served};
+use portal_desk::{Cause, Desk};
 use portal_list::ListKeeper;
 use portal_serve::{Connections, Ended, Hall, Outcome, serve_each, serve_stream};
 use spa_model::Instance;
@@ -65,15 +66,15 @@ struct Failing {
 
 impl Failing {
     /// Returns a fault, and counts it.
-    fn fail<T: Drop>(&mut self) -> Result<T, KeepFault>
-        ensures { CountsFaults result self.old.faults self.new.faults }
+    fn fault(&mut self) -> KeepFault
+        ensures { CountsFaults {A = Unit {0}} (Err result) self.old.faults self.new.faults }
     {
         match self.faults.checked_add(1) {
             Some(faults) => {
                 self.faults = faults;
-                Err(KeepFault::Store)
+                KeepFault::Store
             }
-            None => Err(KeepFault::Memory),
+            None => KeepFault::Memory,
         }
     }
 }
@@ -89,7 +90,7 @@ impl Keeper for Failing {
 
     fn view(&mut self, alloc: Global, code: &[u8]) -> Result<View, KeepFault> {
         if self.left == 0 {
-            return self.fail();
+            return Err(self.fault());
         }
         self.left -= 1;
         self.kept.view(alloc, code)
@@ -97,13 +98,13 @@ impl Keeper for Failing {
 
     fn instance(&mut self, alloc: Global) -> Result<Instance, KeepFault> {
         let _alloc = alloc;
-        self.fail()
+        Err(self.fault())
     }
 
     fn apply(&mut self, alloc: Global, change: &Change) -> Result<(), KeepFault> {
         let _alloc = alloc;
         let _change = change;
-        self.fail()
+        Err(self.fault())
     }
 }
 
@@ -116,10 +117,7 @@ const BREAKS: &[(u64, Act)] = &[(0, Sends(ME)), (0, Sends("GET"))];
 /// Returns the outcome of a connection that is served to its end, on a desk that has not failed.
 fn served(requests: u32) -> Outcome {
     Outcome {
-        ended: Ok(Served {
-            requests,
-            ending: Ending::End,
-        }),
+        ended: end(requests),
         failed: false,
     }
 }
@@ -127,9 +125,29 @@ fn served(requests: u32) -> Outcome {
 /// Returns the outcome of a connection that ends with a fault after this many requests.
 fn broken(cause: Cause, requests: u32, failed: bool) -> Outcome {
     Outcome {
-        ended: Err(ServeFault { cause, requests }),
+        ended: fault(cause, requests),
         failed,
     }
+}
+
+/// Returns the counts of a hall that ended like this.
+fn counts(accepted: u32, faults: u32, ended: Ended) -> Hall {
+    Hall {
+        accepted,
+        faults,
+        ended,
+    }
+}
+
+/// Checks how many callers were served, and the outcome of each.
+fn has_served(rt: &impl Abort, queue: &Queue, outcomes: &[Outcome]) {
+    assert_eq!(rt; queue.outcomes.as_slice(), outcomes);
+    assert_eq!(rt; queue.served, outcomes.len());
+}
+
+/// Checks the counts of a hall.
+fn has_counted(rt: &impl Abort, found: Hall, wanted: Hall) {
+    assert_eq!(rt; found, wanted);
 }
 
 /// Serves at most `most` of these callers, and checks the counts and the outcomes.
@@ -149,10 +167,8 @@ fn come<K: Keeper>(
         served: 0,
         outcomes: Vec::new(rt.alloc()),
     };
-    let found = serve_each(&mut queue, most, desk);
-    assert_eq!(rt; found, hall);
-    assert_eq!(rt; queue.outcomes.as_slice(), outcomes);
-    assert_eq!(rt; queue.served, outcomes.len());
+    has_counted(rt, serve_each(&mut queue, most, desk), hall);
+    has_served(rt, &queue, outcomes);
 }
 
 /// Makes a desk over a keeper that fails after `left` views.
@@ -168,30 +184,17 @@ fn desk_failing_after(rt: &(impl Abort + AllocGlobal), left: u32) -> Desk<Failin
 fn as_many_as_are_asked_for(rt: HostRuntime) {
     let mut desk = Desk::new(fresh_keeper(&rt));
     let callers = [ASKS, BREAKS, ASKS, BREAKS, BREAKS, ASKS];
-    let hall = Hall {
-        accepted: 5,
-        faults: 3,
-        ended: Ended::Full,
-    };
+    let hall = counts(5, 3, Ended::Full);
     let fault = broken(Cause::Read, 1, false);
     let outcomes = [served(1), fault, served(1), fault, fault];
     come(&rt, &mut desk, &callers, 5, hall, &outcomes);
-    let none = Hall {
-        accepted: 0,
-        faults: 0,
-        ended: Ended::Full,
-    };
-    come(&rt, &mut desk, &callers, 0, none, &[]);
+    come(&rt, &mut desk, &callers, 0, counts(0, 0, Ended::Full), &[]);
 }
 
 #[test]
 fn as_many_as_come(rt: HostRuntime) {
     let mut desk = Desk::new(fresh_keeper(&rt));
-    let hall = Hall {
-        accepted: 2,
-        faults: 1,
-        ended: Ended::ListenFault,
-    };
+    let hall = counts(2, 1, Ended::ListenFault);
     let outcomes = [broken(Cause::Read, 1, false), served(1)];
     come(&rt, &mut desk, &[BREAKS, ASKS], 9, hall, &outcomes);
 }
@@ -199,11 +202,7 @@ fn as_many_as_come(rt: HostRuntime) {
 #[test]
 fn nobody_after_a_fault_of_the_store(rt: HostRuntime) {
     let mut desk = desk_failing_after(&rt, 2);
-    let hall = Hall {
-        accepted: 3,
-        faults: 1,
-        ended: Ended::StoreFault,
-    };
+    let hall = counts(3, 1, Ended::StoreFault);
     let outcomes = [
         broken(Cause::Read, 1, false),
         served(1),
@@ -216,18 +215,9 @@ fn nobody_after_a_fault_of_the_store(rt: HostRuntime) {
 #[test]
 fn one_on_a_desk_that_had_failed(rt: HostRuntime) {
     let mut desk = desk_failing_after(&rt, 0);
-    let hall = Hall {
-        accepted: 1,
-        faults: 0,
-        ended: Ended::StoreFault,
-    };
+    let hall = counts(1, 0, Ended::StoreFault);
     let outcomes = [broken(Cause::Store, 1, true)];
     come(&rt, &mut desk, &[ASKS, ASKS], 9, hall, &outcomes);
     come(&rt, &mut desk, &[ASKS, ASKS], 9, hall, &outcomes);
-    let none = Hall {
-        accepted: 0,
-        faults: 0,
-        ended: Ended::Full,
-    };
-    come(&rt, &mut desk, &[ASKS], 0, none, &[]);
+    come(&rt, &mut desk, &[ASKS], 0, counts(0, 0, Ended::Full), &[]);
 }

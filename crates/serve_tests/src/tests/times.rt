@@ -1,7 +1,7 @@
 //! Tests the timeouts of a connection, by a clock that moves only during waits.
 
 use crate::tests::callers::Act::{Ends, Sends, Signal};
-use crate::tests::callers::{Act, Caller, PROMPT, Pace, TestClock};
+use crate::tests::callers::{Act, Caller, PROMPT, Pace, TestClock, pace_of};
 use crate::tests::{ME, fresh_keeper};
 use portal_desk::{Cause, Desk, Ending, ServeFault, Served};
 use portal_serve::serve_stream;
@@ -10,13 +10,27 @@ use std::process::Abort;
 /// The request of `ME` that also asks to close the connection. Its reply has 118 bytes.
 const LAST: &str = "GET /me HTTP/1.1\r\nHost: h\r\nConnection: close\r\n\r\n";
 
+/// The result of a connection.
+type End = Result<Served, ServeFault>;
+
+/// Checks the result of a connection.
+fn has_ended(rt: &impl Abort, found: End, wanted: End) {
+    assert_eq!(rt; found, wanted);
+}
+
+/// Checks how many bytes the caller read, and how many seconds passed.
+fn has_taken(rt: &impl Abort, found: (usize, u64), bytes: usize, seconds: u64) {
+    assert_eq!(rt; found.0, bytes);
+    assert_eq!(rt; found.1, seconds);
+}
+
 /// Serves a caller who reads replies at this pace. Checks how the connection ends, how many bytes
 /// the caller reads, and how many seconds pass.
 fn comes(
     rt: &(impl Abort + AllocGlobal),
     acts: &[(u64, Act)],
     pace: Pace,
-    ended: Result<Served, ServeFault>,
+    ended: End,
     bytes: usize,
     seconds: u64,
 ) {
@@ -24,18 +38,17 @@ fn comes(
     let caller = Caller::new(&clock, acts, pace);
     let mut desk = Desk::new(fresh_keeper(rt));
     let found = serve_stream(&(&clock, rt.alloc()), &caller, &mut desk);
-    assert_eq!(rt; found, ended);
-    assert_eq!(rt; caller.taken(), bytes);
-    assert_eq!(rt; clock.seconds(), seconds);
+    has_ended(rt, found, ended);
+    has_taken(rt, (caller.taken(), clock.seconds()), bytes, seconds);
 }
 
 /// Returns the result of a connection that ends with a fault after this many requests.
-fn fault(cause: Cause, requests: u32) -> Result<Served, ServeFault> {
+pub(crate) fn fault(cause: Cause, requests: u32) -> End {
     Err(ServeFault { cause, requests })
 }
 
 /// Returns the result of a connection whose input ends after this many requests.
-fn end(requests: u32) -> Result<Served, ServeFault> {
+pub(crate) fn end(requests: u32) -> End {
     Ok(Served {
         requests,
         ending: Ending::End,
@@ -43,7 +56,7 @@ fn end(requests: u32) -> Result<Served, ServeFault> {
 }
 
 /// Returns the result of a connection that the last of this many requests closes.
-fn closed(requests: u32) -> Result<Served, ServeFault> {
+fn closed(requests: u32) -> End {
     Ok(Served {
         requests,
         ending: Ending::Closed,
@@ -107,11 +120,7 @@ fn each_request_has_60_seconds_of_its_own(rt: HostRuntime) {
 #[test]
 fn a_first_byte_may_come_with_the_request_before(rt: HostRuntime) {
     let both = (0, Sends("GET /me HTTP/1.1\r\nHost: h\r\n\r\nGET /me"));
-    let slow = Pace {
-        bytes: 4_096,
-        seconds: 5,
-        signals: 0,
-    };
+    let slow = pace_of(4_096, 5, 0);
     let late = [
         both,
         (29, Sends(" HTTP/1.1\r\n")),
@@ -129,18 +138,10 @@ fn a_first_byte_may_come_with_the_request_before(rt: HostRuntime) {
 
 #[test]
 fn each_reply_has_60_seconds_of_its_own(rt: HostRuntime) {
-    let two_pieces = Pace {
-        bytes: 50,
-        seconds: 25,
-        signals: 0,
-    };
+    let two_pieces = pace_of(50, 25, 0);
     let three = [(0, Sends(ME)), (10, Sends(ME)), (10, Sends(ME)), (0, Ends)];
     comes(&rt, &three, two_pieces, end(3), 297, 170);
-    let three_pieces = Pace {
-        bytes: 40,
-        seconds: 25,
-        signals: 0,
-    };
+    let three_pieces = pace_of(40, 25, 0);
     let one = [(0, Sends(ME))];
     comes(&rt, &one, three_pieces, fault(Cause::Write, 1), 80, 60);
 }
@@ -168,17 +169,9 @@ fn a_signal_gives_no_time(rt: HostRuntime) {
     ];
     comes(&rt, &begun, PROMPT, fault(Cause::Read, 0), 0, 80);
     let one = [(0, Sends(ME)), (0, Ends)];
-    let twice = Pace {
-        bytes: 4_096,
-        seconds: 19,
-        signals: 2,
-    };
+    let twice = pace_of(4_096, 19, 2);
     comes(&rt, &one, twice, end(1), 99, 57);
-    let thrice = Pace {
-        bytes: 4_096,
-        seconds: 19,
-        signals: 3,
-    };
+    let thrice = pace_of(4_096, 19, 3);
     comes(&rt, &one, thrice, fault(Cause::Write, 1), 0, 60);
 }
 

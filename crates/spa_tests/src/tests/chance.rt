@@ -1,6 +1,8 @@
 //! Generates pseudorandom instances, the same in each run.
 
-use std::alloc::{AllocError, Global};
+use std::alloc::Global;
+use std::fmt::Debug;
+use std::process::Abort;
 
 #[derive(Drop)]
 pub(crate) struct Chance {
@@ -21,29 +23,33 @@ impl Chance {
     }
 
     /// Returns up to `turns` different numbers below `n`.
-    fn some(&mut self, alloc: Global, n: u64, turns: u64) -> Result<Vec<u64>, AllocError> {
+    fn some(&mut self, rt: &impl Abort, alloc: Global, n: u64, turns: u64) -> Vec<u64> {
         let mut list = Vec::new(alloc);
         for _ in 0..turns {
             let number = self.below(n);
             if !list.contains(&number) {
-                list.push(number)?;
+                list.push(number).expect(rt, "memory");
             }
         }
-        Ok(list)
+        list
     }
 }
 
 /// Returns a key for each number, separated by spaces: the letter, then the number plus 10.
-pub(crate) fn words(alloc: Global, letter: &str, numbers: &[u64]) -> Result<String, AllocError> {
+pub(crate) fn words(rt: &impl Abort, alloc: Global, letter: &str, numbers: &[u64]) -> String {
     let mut words = String::new(alloc);
     for number in numbers {
-        if !words.is_empty() {
-            words.push(' ')?;
-        }
-        let word = format!(in alloc; "{letter}{}", number.wrapping_add(10))?;
-        words.push_str(word.as_str())?;
+        let space = if words.is_empty() { "" } else { " " };
+        let word = format!(in alloc; "{space}{letter}{}", number.wrapping_add(10));
+        put(rt, &mut words, word);
     }
-    Ok(words)
+    words
+}
+
+/// Appends a text that was made.
+pub(crate) fn put<E: Debug>(rt: &impl Abort, text: &mut String, more: Result<String, E>) {
+    let more = more.expect(rt, "memory");
+    text.push_str(more.as_str()).expect(rt, "memory");
 }
 
 /// Returns whether the lecturer offers one of these projects.
@@ -52,80 +58,90 @@ fn finds(owners: &[u64], list: &[u64], lecturer: u64) -> bool {
         .any(|p| owners.get(*p as usize) == Some(&lecturer))
 }
 
-/// Returns the students who list a project of the lecturer, in a pseudorandom order.
+/// Returns the numbers below `n` in a pseudorandom order.
+fn shuffled(rt: &impl Abort, alloc: Global, chance: &mut Chance, n: u64) -> Vec<u64> {
+    let mut order = chance.some(rt, alloc, n, 4 * n.min(100));
+    for s in 0..n {
+        if !order.contains(&s) {
+            order.push(s).expect(rt, "memory");
+        }
+    }
+    order
+}
+
+/// Returns the students, in this order, who list a project of the lecturer.
 fn ranking(
+    rt: &impl Abort,
     alloc: Global,
-    chance: &mut Chance,
+    order: &[u64],
     owners: &[u64],
     choices: &[Vec<u64>],
     lecturer: u64,
-) -> Result<Vec<u64>, AllocError> {
-    let n = choices.len() as u64;
-    let mut order = chance.some(alloc, n, 4 * n.min(100))?;
-    for s in 0..n {
-        if !order.contains(&s) {
-            order.push(s)?;
-        }
-    }
+) -> Vec<u64> {
     let mut list = Vec::new(alloc);
     for s in order {
-        match choices.get(s as usize) {
-            Some(own) if finds(owners, own, lecturer) => list.push(s)?,
+        match choices.get(*s as usize) {
+            Some(own) if finds(owners, own, lecturer) => list.push(*s).expect(rt, "memory"),
             _ => {}
         }
     }
-    Ok(list)
+    list
 }
 
 /// Generates lists for up to seven students, appends their records, and returns the lists.
 fn lists(
+    rt: &impl Abort,
     alloc: Global,
     chance: &mut Chance,
     projects: u64,
     records: &mut String,
-) -> Result<Vec<Vec<u64>>, AllocError> {
+) -> Vec<Vec<u64>> {
     let mut choices = Vec::new(alloc);
     for s in 0..chance.below(7).wrapping_add(1) {
-        let list = chance.some(alloc, projects, 5)?;
-        let line = format!(in alloc;
-            "S,{},,{}\n",
-            words(alloc, "S", &[s])?,
-            words(alloc, "P", &list)?
-        )?;
-        records.push_str(line.as_str())?;
-        choices.push(list)?;
+        let list = chance.some(rt, alloc, projects, 5);
+        let keys = words(rt, alloc, "P", &list);
+        let line = format!(in alloc; "S,S{},,{keys}\n", s.wrapping_add(10));
+        put(rt, records, line);
+        choices.push(list).expect(rt, "memory");
     }
-    Ok(choices)
+    choices
+}
+
+/// Generates lecturers and capacities of these projects, appends the records, and returns the
+/// lecturers.
+fn owners(
+    rt: &impl Abort,
+    alloc: Global,
+    chance: &mut Chance,
+    lecturers: u64,
+    projects: u64,
+    records: &mut String,
+) -> Vec<u64> {
+    let mut owners = Vec::new(alloc);
+    for p in 10..projects.wrapping_add(10) {
+        let owner = chance.below(lecturers);
+        let (capacity, key) = (chance.capacity(), owner.wrapping_add(10));
+        put(rt, records, format!(in alloc; "P,P{p},{capacity},L{key}\n"));
+        owners.push(owner).expect(rt, "memory");
+    }
+    owners
 }
 
 /// Generates the records of an instance with up to seven students, six projects and three
 /// lecturers. All capacities are from 1 to 3.
-pub(crate) fn generated(alloc: Global, chance: &mut Chance) -> Result<String, AllocError> {
+pub(crate) fn generated(rt: &impl Abort, alloc: Global, chance: &mut Chance) -> String {
     let mut records = String::new(alloc);
     let lecturers = chance.below(3).wrapping_add(1);
     let projects = chance.below(6).wrapping_add(1);
-    let mut owners = Vec::new(alloc);
-    for p in 0..projects {
-        let owner = chance.below(lecturers);
-        owners.push(owner)?;
-        let capacity = chance.capacity();
-        let line = format!(in alloc;
-            "P,{},{capacity},{}\n",
-            words(alloc, "P", &[p])?,
-            words(alloc, "L", &[owner])?
-        )?;
-        records.push_str(line.as_str())?;
-    }
-    let choices = lists(alloc, chance, projects, &mut records)?;
+    let owners = owners(rt, alloc, chance, lecturers, projects, &mut records);
+    let choices = lists(rt, alloc, chance, projects, &mut records);
     for lecturer in 0..lecturers {
-        let list = ranking(alloc, chance, &owners, &choices, lecturer)?;
-        let capacity = chance.capacity();
-        let line = format!(in alloc;
-            "L,{},{capacity},{}\n",
-            words(alloc, "L", &[lecturer])?,
-            words(alloc, "S", &list)?
-        )?;
-        records.push_str(line.as_str())?;
+        let order = shuffled(rt, alloc, chance, choices.len() as u64);
+        let list = ranking(rt, alloc, &order, &owners, &choices, lecturer);
+        let keys = words(rt, alloc, "S", &list);
+        let (l, capacity) = (lecturer.wrapping_add(10), chance.capacity());
+        let line = format!(in alloc; "L,L{l},{capacity},{keys}\n");
+        put(rt, &mut records, line);
     }
-    Ok(records)
+    records
 }

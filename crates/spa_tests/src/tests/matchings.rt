@@ -4,77 +4,47 @@ use super::made::{ONE_LECTURER, TWO_LECTURERS, instance_of, matching_of, pairs_o
 use spa_model::{BadMatching, Instance, Matching, MatchingFault};
 use std::alloc::Global;
 use std::process::Abort;
-use std::test::Fail;
 
-/// Returns why the pairs are refused, if they are.
-fn refusal(
-    rt: &impl Abort,
-    alloc: Global,
-    instance: &Instance,
-    pairs: &str,
-) -> Option<BadMatching> {
+/// Returns why the pairs are refused for the instance of the records, if they are.
+fn refusal(rt: &impl Abort, alloc: Global, records: &str, pairs: &str) -> Option<BadMatching> {
+    let instance = instance_of(rt, alloc, records);
     let lines = pairs_of(rt, alloc, pairs);
-    Matching::build(alloc, instance, lines).err()
+    Matching::build(alloc, &instance, lines).err()
 }
 
 #[test]
-fn each_fault_is_told_at_its_least_row(rt: HostRuntime) -> Result<(), Fail> {
-    let alloc = rt.alloc();
+fn each_fault_is_told_at_its_least_row(rt: HostRuntime) {
+    let (one, two) = (ONE_LECTURER, TWO_LECTURERS);
     for (records, pairs, fault, row) in [
-        (TWO_LECTURERS, "M,S3,P1,\n", MatchingFault::NoSuchStudent, 1),
-        (TWO_LECTURERS, "M,S1,L1,\n", MatchingFault::NoSuchProject, 1),
-        (
-            TWO_LECTURERS,
-            "M,S1,P3,\nM,S3,P1,\n",
-            MatchingFault::NoSuchStudent,
-            2,
-        ),
-        (
-            TWO_LECTURERS,
-            "M,S3,P1,\nM,S4,P1,\n",
-            MatchingFault::NoSuchStudent,
-            1,
-        ),
-        (ONE_LECTURER, "M,S1,P2,\n", MatchingFault::NotAcceptable, 1),
-        (
-            TWO_LECTURERS,
-            "M,S1,P1,\nM,S1,P2,\n",
-            MatchingFault::StudentTwice,
-            2,
-        ),
-        (
-            TWO_LECTURERS,
-            "M,S1,P1,\nM,S2,P1,\n",
-            MatchingFault::ProjectOver,
-            2,
-        ),
-        (
-            ONE_LECTURER,
-            "M,S1,P1,\nM,S2,P2,\n",
-            MatchingFault::LecturerOver,
-            2,
-        ),
+        (two, "M,S3,P1,\n", MatchingFault::NoSuchStudent, 1),
+        (two, "M,S1,L1,\n", MatchingFault::NoSuchProject, 1),
+        (two, "M,S1,P3,\nM,S3,P1,\n", MatchingFault::NoSuchStudent, 2),
+        (two, "M,S3,P1,\nM,S4,P1,\n", MatchingFault::NoSuchStudent, 1),
+        (one, "M,S1,P2,\n", MatchingFault::NotAcceptable, 1),
+        (two, "M,S1,P1,\nM,S1,P2,\n", MatchingFault::StudentTwice, 2),
+        (two, "M,S1,P1,\nM,S2,P1,\n", MatchingFault::ProjectOver, 2),
+        (one, "M,S1,P1,\nM,S2,P2,\n", MatchingFault::LecturerOver, 2),
     ] {
-        let instance = instance_of(&rt, alloc, records);
         let wanted = Some(BadMatching { fault, row });
-        assert_eq!(rt; refusal(&rt, alloc, &instance, pairs), wanted, "{pairs}");
+        assert_eq!(rt; refusal(&rt, rt.alloc(), records, pairs), wanted, "{pairs}");
     }
-    Ok(())
 }
 
 #[test]
-fn pairs_are_a_matching(rt: HostRuntime) -> Result<(), Fail> {
+fn pairs_are_a_matching(rt: HostRuntime) {
     let alloc = rt.alloc();
     let instance = instance_of(&rt, alloc, TWO_LECTURERS);
     let matching = matching_of(&rt, alloc, &instance, "M,S2,P1,\n");
     assert!(rt; instance.students() == 2 && instance.fits(&matching));
-    assert_eq!(rt; instance.project_of(&matching, 0), None);
-    assert_eq!(rt; instance.project_of(&matching, 1), Some(0));
-    Ok(())
+    let projects = [
+        instance.project_of(&matching, 0),
+        instance.project_of(&matching, 1),
+    ];
+    assert_eq!(rt; projects, [None, Some(0)]);
 }
 
 #[test]
-fn a_matching_may_fit_another_instance(rt: HostRuntime) -> Result<(), Fail> {
+fn a_matching_may_fit_another_instance(rt: HostRuntime) {
     let alloc = rt.alloc();
     let two = instance_of(&rt, alloc, TWO_LECTURERS);
     let one = instance_of(&rt, alloc, ONE_LECTURER);
@@ -83,9 +53,13 @@ fn a_matching_may_fit_another_instance(rt: HostRuntime) -> Result<(), Fail> {
         ("M,S2,P1,\n", false),
         ("M,S1,P1,\nM,S2,P2,\n", false),
     ] {
-        let matching = matching_of(&rt, alloc, &two, pairs);
-        assert!(rt; two.fits(&matching), "{pairs}");
-        assert!(rt; one.fits(&matching) == fits, "{pairs}");
+        assert!(rt; fits_too(&rt, alloc, &two, &one, pairs) == fits, "{pairs}");
     }
-    Ok(())
+}
+
+/// Checks that the pairs fit the first instance, and returns whether they fit the other one.
+fn fits_too(rt: &impl Abort, alloc: Global, two: &Instance, one: &Instance, pairs: &str) -> bool {
+    let matching = matching_of(rt, alloc, two, pairs);
+    assert!(rt; two.fits(&matching), "{pairs}");
+    one.fits(&matching)
 }

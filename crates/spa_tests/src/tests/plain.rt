@@ -1,9 +1,11 @@
 //! Models an instance as plain lists. It tests each pair for blocking, and solves the instance by
 //! shortening lists.
 
+use super::blocking::block;
 use spa_check::Block;
 use spa_model::{Instance, Letter};
-use std::alloc::{AllocError, Global};
+use std::alloc::Global;
+use std::process::Abort;
 
 /// The lists and capacities of an instance, by number.
 #[derive(Drop)]
@@ -39,11 +41,20 @@ fn place(list: &[usize], wanted: usize) -> usize {
     list.iter().position(|x| *x == wanted).unwrap_or(list.len())
 }
 
+fn put(rt: &impl Abort, list: &mut Vec<usize>, number: usize) {
+    list.push(number).expect(rt, "memory");
+}
+
+fn put_list(rt: &impl Abort, alloc: Global, lists: &mut Vec<Vec<usize>>, list: &[usize]) {
+    let list = Vec::from_slice(alloc, list).expect(rt, "memory");
+    lists.push(list).expect(rt, "memory");
+}
+
 /// The project of each student.
 pub(crate) type Places = Vec<Option<usize>>;
 
 impl Board {
-    pub(crate) fn of(alloc: Global, instance: &Instance) -> Result<Board, AllocError> {
+    pub(crate) fn of(rt: &impl Abort, alloc: Global, instance: &Instance) -> Board {
         let mut board = Board {
             choices: Vec::new(alloc),
             rankings: Vec::new(alloc),
@@ -52,21 +63,17 @@ impl Board {
             rooms: Vec::new(alloc),
         };
         for s in 0..instance.students() {
-            board
-                .choices
-                .push(Vec::from_slice(alloc, instance.choices(s))?)?;
+            put_list(rt, alloc, &mut board.choices, instance.choices(s));
         }
         for p in 0..instance.projects() {
-            board.owners.push(instance.lecturer_of(p))?;
-            board.places.push(instance.project_capacity(p) as usize)?;
+            put(rt, &mut board.owners, instance.lecturer_of(p));
+            put(rt, &mut board.places, instance.project_capacity(p) as usize);
         }
         for l in 0..instance.lecturers() {
-            board
-                .rankings
-                .push(Vec::from_slice(alloc, instance.ranking(l))?)?;
-            board.rooms.push(instance.lecturer_capacity(l) as usize)?;
+            put_list(rt, alloc, &mut board.rankings, instance.ranking(l));
+            put(rt, &mut board.rooms, instance.lecturer_capacity(l) as usize);
         }
-        Ok(board)
+        board
     }
 
     fn is_with(&self, own: Option<usize>, l: usize) -> bool {
@@ -140,24 +147,17 @@ impl Board {
     }
 
     /// Returns all blocking pairs, ordered by student, then by project.
-    pub(crate) fn blocks(
-        &self,
-        alloc: Global,
-        projects: &[Option<usize>],
-    ) -> Result<Vec<Block>, AllocError> {
+    pub(crate) fn blocks(&self, rt: &impl Abort, alloc: Global, projects: &Places) -> Vec<Block> {
         let mut blocks = Vec::new(alloc);
         for student in 0..self.choices.len() {
             for project in 0..self.owners.len() {
                 if let Some(letter) = self.letter(projects, student, project) {
-                    blocks.push(Block {
-                        student,
-                        project,
-                        letter,
-                    })?;
+                    let block = block(student, project, letter);
+                    blocks.push(block).expect(rt, "memory");
                 }
             }
         }
-        Ok(blocks)
+        blocks
     }
 
     /// Removes the projects of `struck` from the lists of the students ranked after `w`.
@@ -172,13 +172,7 @@ impl Board {
 
     /// Assigns the student to the project, and lets a student go if there is no room. Then shortens
     /// the lists of students ranked after the last one at a full project or lecturer.
-    fn round(
-        &mut self,
-        alloc: Global,
-        projects: &mut Places,
-        s: usize,
-        p: usize,
-    ) -> Result<(), AllocError> {
+    fn round(&mut self, rt: &impl Abort, alloc: Global, projects: &mut Places, s: usize, p: usize) {
         let l = number(&self.owners, p);
         set(projects, s, Some(p));
         if self.count_at(projects, p) > number(&self.places, p) {
@@ -195,16 +189,21 @@ impl Board {
         }
         if self.count_with(projects, l) == number(&self.rooms, l) {
             if let Some(w) = self.worst_with(projects, l) {
-                let mut offered = Vec::new(alloc);
-                for q in 0..self.owners.len() {
-                    if number(&self.owners, q) == l {
-                        offered.push(q)?;
-                    }
-                }
+                let offered = self.offered(rt, alloc, l);
                 self.strike(l, w, &offered);
             }
         }
-        Ok(())
+    }
+
+    /// Returns the projects of the lecturer.
+    fn offered(&self, rt: &impl Abort, alloc: Global, l: usize) -> Vec<usize> {
+        let mut offered = Vec::new(alloc);
+        for q in 0..self.owners.len() {
+            if number(&self.owners, q) == l {
+                put(rt, &mut offered, q);
+            }
+        }
+        offered
     }
 
     /// Takes the student's project away, and removes it from the student's list.
@@ -232,18 +231,18 @@ impl Board {
     }
 
     /// Computes the student-optimal matching by the method that shortens lists.
-    pub(crate) fn solve(mut self, alloc: Global) -> Result<Places, AllocError> {
+    pub(crate) fn solve(mut self, rt: &impl Abort, alloc: Global) -> Places {
         let mut projects = Vec::new(alloc);
         for _ in 0..self.choices.len() {
-            projects.push(None)?;
+            projects.push(None).expect(rt, "memory");
         }
         for _ in 0..10_000 {
             let Some((s, p)) = self.next(&projects) else {
-                return Ok(projects);
+                return projects;
             };
-            self.round(alloc, &mut projects, s, p)?;
+            self.round(rt, alloc, &mut projects, s, p);
         }
-        Ok(projects)
+        projects
     }
 }
 

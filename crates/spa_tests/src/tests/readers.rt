@@ -2,29 +2,26 @@
 
 use super::made::{TWO_LECTURERS, instance_of};
 use spa_model::Letter;
-use std::test::Fail;
 
 #[test]
-fn counts_and_keys(rt: HostRuntime) -> Result<(), Fail> {
+fn counts_and_keys(rt: HostRuntime) {
     let instance = instance_of(&rt, rt.alloc(), TWO_LECTURERS);
     assert!(rt; instance.students() == 2 && instance.projects() == 2 && instance.lecturers() == 2);
     assert!(rt; instance.student_key(1).as_str() == "S2");
     assert!(rt; instance.project_key(0).as_str() == "P1");
     assert!(rt; instance.lecturer_key(1).as_str() == "L2");
-    Ok(())
 }
 
 #[test]
-fn capacities_and_owners(rt: HostRuntime) -> Result<(), Fail> {
+fn capacities_and_owners(rt: HostRuntime) {
     let instance = instance_of(&rt, rt.alloc(), TWO_LECTURERS);
     assert!(rt; instance.students() == 2 && instance.projects() == 2 && instance.lecturers() == 2);
     assert!(rt; instance.lecturer_of(1) == 1 && instance.project_capacity(1) == 1);
     assert!(rt; instance.lecturer_capacity(0) == 2);
-    Ok(())
 }
 
 #[test]
-fn lists_and_ranks(rt: HostRuntime) -> Result<(), Fail> {
+fn lists_and_ranks(rt: HostRuntime) {
     let instance = instance_of(&rt, rt.alloc(), TWO_LECTURERS);
     assert!(rt; instance.students() == 2 && instance.projects() == 2 && instance.lecturers() == 2);
     assert!(rt; instance.choices(1) == [1, 0].as_slice());
@@ -33,12 +30,10 @@ fn lists_and_ranks(rt: HostRuntime) -> Result<(), Fail> {
     assert!(rt; instance.prefers(0, 1, 0));
     assert!(rt; !instance.prefers(0, 0, 1));
     assert!(rt; !instance.prefers(0, 1, 1));
-    Ok(())
 }
 
 #[test]
-fn letters_are_shown(rt: HostRuntime) -> Result<(), Fail> {
-    let shown = format!(in rt.alloc(); "{}{}{}", Letter::A, Letter::B, Letter::C)?;
-    assert_eq!(rt; shown.as_str(), "abc");
-    Ok(())
+fn letters_are_shown(rt: HostRuntime) {
+    let shown = format!(in rt.alloc(); "{}{}{}", Letter::A, Letter::B, Letter::C);
+    assert_eq!(rt; shown.expect(&rt, "memory").as_str(), "abc");
 }

@@ -1,26 +1,26 @@
 //! Tests each fault of an instance, with few records.
 
+use super::chance::put;
 use super::made::lines_of;
 use spa_model::{BadInstance, Instance, InstanceFault};
 use std::alloc::Global;
 use std::process::Abort;
-use std::test::Fail;
 
 /// The records of an instance with one lecturer, one project and one student.
 const THREE_LINES: &str = "L,L1,1,S1\nP,P1,1,L1\nS,S1,,P1\n";
 
 /// Returns why the records are refused, if they are.
-fn refusal(rt: &impl Abort, alloc: Global, records: &str) -> Option<BadInstance> {
+pub(crate) fn refusal(rt: &impl Abort, alloc: Global, records: &str) -> Option<BadInstance> {
     let (rows, _) = lines_of(rt, alloc, records);
     Instance::build(alloc, rows).err()
 }
 
-fn bad(fault: InstanceFault, row: u32) -> Option<BadInstance> {
+pub(crate) fn bad(fault: InstanceFault, row: u32) -> Option<BadInstance> {
     Some(BadInstance { fault, row })
 }
 
 #[test]
-fn each_fault_is_told_at_its_least_row(rt: HostRuntime) -> Result<(), Fail> {
+fn each_fault_is_told_at_its_least_row(rt: HostRuntime) {
     let alloc = rt.alloc();
     for (more, fault, row) in [
         ("P,P1,1,L1\n", InstanceFault::KeyTwice, 4),
@@ -37,61 +37,53 @@ fn each_fault_is_told_at_its_least_row(rt: HostRuntime) -> Result<(), Fail> {
         ("S,S2,,P1\n", InstanceFault::ApplicantMissing, 1),
     ] {
         let records = format!(in alloc; "{THREE_LINES}{more}").expect(&rt, "memory");
-        assert_eq!(rt;
-            refusal(&rt, alloc, records.as_str()),
-            bad(fault, row),
-            "{more}"
-        );
+        let found = refusal(&rt, alloc, records.as_str());
+        assert_eq!(rt; found, bad(fault, row), "{more}");
     }
-    Ok(())
 }
 
 #[test]
-fn no_lines_and_three_lines_pass(rt: HostRuntime) -> Result<(), Fail> {
+fn no_lines_and_three_lines_pass(rt: HostRuntime) {
     let alloc = rt.alloc();
     assert_eq!(rt; refusal(&rt, alloc, ""), None);
     assert_eq!(rt; refusal(&rt, alloc, THREE_LINES), None);
     let more = format!(in alloc; "{THREE_LINES}P,P2,1,L1\nP,P3,200,L1\n").expect(&rt, "memory");
     assert_eq!(rt; refusal(&rt, alloc, more.as_str()), None);
-    Ok(())
 }
 
 #[test]
-fn there_are_at_most_300_lecturers(rt: HostRuntime) -> Result<(), Fail> {
+fn there_are_at_most_300_lecturers(rt: HostRuntime) {
     let alloc = rt.alloc();
     let mut records = format!(in alloc; "{THREE_LINES}").expect(&rt, "memory");
     for number in 2..301 {
-        let line = format!(in alloc; "L,L{number},1,\n").expect(&rt, "memory");
-        records.push_str(line.as_str()).expect(&rt, "memory");
+        put(&rt, &mut records, format!(in alloc; "L,L{number},1,\n"));
     }
     assert_eq!(rt; refusal(&rt, alloc, records.as_str()), None);
     records.push_str("L,L301,1,\n").expect(&rt, "memory");
-    assert_eq!(rt;
-        refusal(&rt, alloc, records.as_str()),
-        bad(InstanceFault::TooMany, 0)
-    );
-    Ok(())
+    let found = refusal(&rt, alloc, records.as_str());
+    assert_eq!(rt; found, bad(InstanceFault::TooMany, 0));
+}
+
+/// Returns the records of a lecturer, 21 projects, and a student who lists the first 20 and these.
+fn listing(rt: &impl Abort, alloc: Global, more: &str) -> String {
+    let mut records = format!(in alloc; "L,L1,1,S2\n").expect(rt, "memory");
+    for number in 10..31 {
+        put(rt, &mut records, format!(in alloc; "P,P{number},1,L1\n"));
+    }
+    put(rt, &mut records, format!(in alloc; "S,S2,,P10"));
+    for number in 11..30 {
+        put(rt, &mut records, format!(in alloc; " P{number}"));
+    }
+    put(rt, &mut records, format!(in alloc; "{more}\n"));
+    records
 }
 
 #[test]
-fn lists_have_at_most_20_projects(rt: HostRuntime) -> Result<(), Fail> {
+fn lists_have_at_most_20_projects(rt: HostRuntime) {
     let alloc = rt.alloc();
-    let mut records = format!(in alloc; "L,L1,1,S2\n").expect(&rt, "memory");
-    let mut list = format!(in alloc; "P10").expect(&rt, "memory");
-    for number in 10..31 {
-        let line = format!(in alloc; "P,P{number},1,L1\n").expect(&rt, "memory");
-        records.push_str(line.as_str()).expect(&rt, "memory");
-    }
-    for number in 11..30 {
-        let word = format!(in alloc; " P{number}").expect(&rt, "memory");
-        list.push_str(word.as_str()).expect(&rt, "memory");
-    }
-    let twenty = format!(in alloc; "{records}S,S2,,{list}\n").expect(&rt, "memory");
+    let twenty = listing(&rt, alloc, "");
     assert_eq!(rt; refusal(&rt, alloc, twenty.as_str()), None);
-    let more = format!(in alloc; "{records}S,S2,,{list} P30\n").expect(&rt, "memory");
-    assert_eq!(rt;
-        refusal(&rt, alloc, more.as_str()),
-        bad(InstanceFault::ListTooLong, 23)
-    );
-    Ok(())
+    let more = listing(&rt, alloc, " P30");
+    let found = refusal(&rt, alloc, more.as_str());
+    assert_eq!(rt; found, bad(InstanceFault::ListTooLong, 23));
 }

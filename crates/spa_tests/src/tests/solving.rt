@@ -1,20 +1,18 @@
 //! Compares the solver with the method that shortens lists, on worked and generated instances.
 
-use super::chance::{Chance, generated, words};
+use super::chance::{Chance, generated, put, words};
 use super::made::{instance_of, matching_of};
 use super::plain::Board;
 use spa_check::{better_off, is_stable};
 use spa_student::solve;
 use std::alloc::Global;
 use std::process::Abort;
-use std::test::Fail;
 
 /// Checks that both methods give the same stable matching, and returns the students' projects.
 fn solved(rt: &impl Abort, alloc: Global, records: &str) -> Vec<Option<usize>> {
     let instance = instance_of(rt, alloc, records);
     let matching = solve(alloc, &instance).expect(rt, "memory");
-    let board = Board::of(alloc, &instance).expect(rt, "memory");
-    let judged = board.solve(alloc).expect(rt, "memory");
+    let judged = Board::of(rt, alloc, &instance).solve(rt, alloc);
     assert!(rt; is_stable(&instance, &matching), "{records}");
     assert!(rt; judged.len() == instance.students());
     for (s, project) in judged.iter().enumerate() {
@@ -26,7 +24,7 @@ fn solved(rt: &impl Abort, alloc: Global, records: &str) -> Vec<Option<usize>> {
 }
 
 #[test]
-fn seven_students(rt: HostRuntime) -> Result<(), Fail> {
+fn seven_students(rt: HostRuntime) {
     let lecturers = "L,L1,3,S7 S4 S1 S3 S2 S5 S6\nL,L2,2,S3 S2 S6 S7 S5\nL,L3,2,S1 S7\n";
     let projects =
         "P,P1,2,L1\nP,P2,1,L1\nP,P3,1,L1\nP,P4,1,L2\nP,P5,1,L2\nP,P6,1,L2\nP,P7,1,L3\nP,P8,1,L3\n";
@@ -37,23 +35,21 @@ fn seven_students(rt: HostRuntime) -> Result<(), Fail> {
     let projects = solved(&rt, alloc, records.as_str());
     let wanted = [Some(0), Some(4), Some(3), Some(1), None, None, Some(2)];
     assert!(rt; projects.as_slice() == wanted.as_slice());
-    Ok(())
 }
 
 #[test]
-fn two_stable_matchings_and_a_full_lecturer(rt: HostRuntime) -> Result<(), Fail> {
+fn two_stable_matchings_and_a_full_lecturer(rt: HostRuntime) {
     let alloc = rt.alloc();
     let two = "L,L1,1,S2 S1\nL,L2,1,S1 S2\nP,P1,1,L1\nP,P2,1,L2\nS,S1,,P1 P2\nS,S2,,P2 P1\n";
     assert!(rt; solved(&rt, alloc, two).as_slice() == [Some(0), Some(1)].as_slice());
     let full = "L,L1,2,S3 S1 S2\nP,P1,5,L1\nS,S1,,P1\nS,S2,,P1\nS,S3,,P1\n";
     assert!(rt; solved(&rt, alloc, full).as_slice() == [Some(0), None, Some(0)].as_slice());
-    Ok(())
 }
 
 /// Nobody is better off in the other stable matching. The first student is better off in the solved
 /// one.
 #[test]
-fn better_off_in_the_solved_matching(rt: HostRuntime) -> Result<(), Fail> {
+fn better_off_in_the_solved_matching(rt: HostRuntime) {
     let alloc = rt.alloc();
     let records = "L,L1,1,S2 S1\nL,L2,1,S1 S2\nP,P1,1,L1\nP,P2,1,L2\nS,S1,,P1 P2\nS,S2,,P2 P1\n";
     let instance = instance_of(&rt, alloc, records);
@@ -62,39 +58,41 @@ fn better_off_in_the_solved_matching(rt: HostRuntime) -> Result<(), Fail> {
     assert!(rt; instance.fits(&other));
     assert!(rt; better_off(&instance, &matching, &other) == None);
     assert!(rt; better_off(&instance, &other, &matching) == Some(0));
-    Ok(())
 }
 
 /// If all lists have the same order, each student gets the first project that is still free.
 #[test]
-fn one_order_for_all(rt: HostRuntime) -> Result<(), Fail> {
+fn one_order_for_all(rt: HostRuntime) {
     let alloc = rt.alloc();
     let mut all = Vec::new(alloc);
     let mut wanted = Vec::new(alloc);
     for n in 0..20u64 {
         all.push(n).expect(&rt, "memory");
         wanted.push(Some(n as usize)).expect(&rt, "memory");
-        let students = words(alloc, "S", &all).expect(&rt, "memory");
-        let projects = words(alloc, "P", &all).expect(&rt, "memory");
-        let mut records = String::new(alloc);
-        for m in 10..n.wrapping_add(11) {
-            let lines = format!(in alloc;
-                "L,L{m},1,{students}\nP,P{m},1,L{m}\nS,S{m},,{projects}\n"
-            ).expect(&rt, "memory");
-            records.push_str(lines.as_str()).expect(&rt, "memory");
-        }
+        let records = records_of(&rt, alloc, &all);
         assert!(rt; solved(&rt, alloc, records.as_str()).as_slice() == wanted.as_slice());
     }
-    Ok(())
+}
+
+/// Returns the records of students, projects and lecturers of these numbers, which list them all.
+fn records_of(rt: &impl Abort, alloc: Global, all: &[u64]) -> String {
+    let students = words(rt, alloc, "S", all);
+    let projects = words(rt, alloc, "P", all);
+    let mut records = String::new(alloc);
+    for n in all {
+        let m = n.wrapping_add(10);
+        let lines = format!(in alloc; "L,L{m},1,{students}\nP,P{m},1,L{m}\nS,S{m},,{projects}\n");
+        put(rt, &mut records, lines);
+    }
+    records
 }
 
 #[test]
-fn both_agree_on_generated_instances(rt: HostRuntime) -> Result<(), Fail> {
+fn both_agree_on_generated_instances(rt: HostRuntime) {
     let alloc = rt.alloc();
     let mut chance = Chance { state: 20 };
     for _ in 0..400 {
-        let records = generated(alloc, &mut chance).expect(&rt, "memory");
+        let records = generated(&rt, alloc, &mut chance);
         let _projects = solved(&rt, alloc, records.as_str());
     }
-    Ok(())
 }
