@@ -1,5 +1,8 @@
 -- The meaning of each query's text, whatever the checks are, and so what a query shows and leaves.
-use Rattle.portal_tables.proofs.Base.{◌≡◌, ℕ, List, [], false, map, Option, Some, None, refl, sym, ap, subst, subst₂, ◌∙◌, Ok, Result, OnOk, OnErr, Row, Term, col, Schema, Database, Answers, Command, Program, Compiled, State, Shown, HasCleanDisk, IsUnchanged, Survives, Select, everything, understood, reads_listing, lets_of, Ends, IsPlain, EndsIn, command_of, reads_as, survives_weaker, Choices, Whole, LecturerByCode, StudentByCode, LecturerByKey, StudentTold, AllLists, ListOf, Choosers, Listed, ProjectsOf, First, SecondRankedBy, SecondPlaceOf, Numbers, Lecturers, OfRoll, OfLists, ListsBy, HasRound, selection, round_asked, query_text, given, on_ok_weaker, Reading, Anyhow, IsUnchangedOrUndone, Reads, Always}
+use Rattle.portal_tables.proofs.Base.{◌≡◌, if◌then◌else◌, ℕ, List, [], false, map, Err, Option, Some, None, refl, sym, ap, subst, subst₂, ◌∙◌, Ok, Result, OnOk, OnErr, Row, Term, col, Schema, Database, Answers, Command, Program, Compiled, State, Shown, HasCleanDisk, IsUnchanged, Survives, Select, everything, understood, reads_listing, lets_of, Ends, IsPlain, EndsIn, command_of, reads_as, survives_weaker, Choices, Whole, LecturerByCode, StudentByCode, LecturerByKey, StudentTold, AllLists, ListOf, Choosers, Listed, ProjectsOf, First, SecondRankedBy, SecondPlaceOf, Numbers, Lecturers, OfRoll, OfLists, ListsBy, HasRound, selection, round_asked, query_text, given, on_ok_weaker, Reading, Anyhow, IsUnchangedOrUndone, Reads, Always}
+use Rattle.sqlite.specs.Listing.{misses_table, if_select, listing_schema}
+use Rattle.sqlite_resolve.specs.Compile.{compiled}
+use Rattle.sqlite_resolve.specs.declared.error.CompileError.{CompileError}
 use Rattle.portal_tables.specs.declared.select.Query.{Query}
 use Rattle.portal_tables.specs.inner.Queries.{Shows}
 use Rattle.portal_tables.proofs.Weak.{Open, schema_with, own_is}
@@ -45,20 +48,42 @@ asked q = record { lets = []; body = by_columns (selection q).tree (tests q) (ma
 abbrev IsUnderstood : Query → Schema → Type 0
 IsUnderstood q s = (program_of (command_of (understood s (query_text q))) ≡ Some (asked q)) × IsPlain (understood s (query_text q)) × (reads_listing s (query_text q) ≡ false)
 
+-- the program of a text that is a plain query
+abbrev plain_query : {R F : Type 0} → Command → Option R → List F → Option Program
+plain_query (Select p names) None [] = Some p
+plain_query _ _ _ = None
+
+abbrev plain_of : Result Compiled CompileError → Option Program
+plain_of (Ok c) = plain_query c.command c.returning c.formats
+plain_of (Err e) = None
+
+plain_parts : {R F : Type 0} (c : Command) (returning : Option R) (formats : List F) (p : Program) → plain_query c returning formats ≡ Some p → (program_of c ≡ Some p) × (returning ≡ None) × (formats ≡ [])
+plain_parts (Select p names) None [] q h = (h, refl, refl)
+plain_parts _ _ _ q h = absurd (cc)
+
+-- what a text was understood as follows from one computation of its program
+parts : (r other : Result Compiled CompileError) (p : Program) → plain_of r ≡ Some p → let u = if misses_table r then if_select other else r in (program_of (command_of u) ≡ Some p) × IsPlain u × (misses_table r ≡ false)
+parts (Ok c) other p h = let is = plain_parts c.command c.returning c.formats p h in (is.0, (is.1, is.2), refl)
+parts (Err e) other p h = absurd (cc)
+
+understands : (q : Query) (s : Schema) → plain_of (compiled s (query_text q)) ≡ Some (asked q) → IsUnderstood q s
+unfolding understood
+understands q s h = parts (compiled s (query_text q)) (compiled listing_schema (query_text q)) (asked q) h
+
 -- each case computes; the last clause is checked for every query that has none of its own
-is : (q : Query) (o : Open) → IsUnderstood q (schema_with (round_asked q) o)
-unfolding understood everything
-is (Whole Lecturers) o = (refl, (refl, refl), refl)
-is (AllLists Choices) o = (refl, (refl, refl), refl)
-is (ListOf Choices owner) o = (refl, (refl, refl), refl)
-is (Choosers First project) o = (refl, (refl, refl), refl)
-is (Listed First) o = (refl, (refl, refl), refl)
-is (Numbers (OfRoll Lecturers)) o = (refl, (refl, refl), refl)
-is (Numbers (OfLists Choices)) o = (refl, (refl, refl), refl)
-is _ o = (refl, (refl, refl), refl)
+is : (q : Query) (o : Open) → plain_of (compiled (schema_with (round_asked q) o) (query_text q)) ≡ Some (asked q)
+unfolding everything
+is (Whole Lecturers) o = refl
+is (AllLists Choices) o = refl
+is (ListOf Choices owner) o = refl
+is (Choosers First project) o = refl
+is (Listed First) o = refl
+is (Numbers (OfRoll Lecturers)) o = refl
+is (Numbers (OfLists Choices)) o = refl
+is _ o = refl
 
 own_is_understood : (q : Query) (s : Schema) → HasRound (round_asked q) s → IsUnderstood q s
-own_is_understood q s own = let w = own_is (round_asked q) s own in subst (IsUnderstood q) (sym w.is) (is q w.o)
+own_is_understood q s own = let w = own_is (round_asked q) s own in subst (IsUnderstood q) (sym w.is) (understands q _ (is q w.o))
 
 -- a command that is a query is that one
 program_is : (c : Command) (p : Program) (db : Database) (params : Row) (rows : List Row) → program_of c ≡ Some p → Reads c db params rows → Answers db p params rows

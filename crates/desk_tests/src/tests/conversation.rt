@@ -34,52 +34,33 @@ impl Stream {
     /// Returns the bytes of the requests after the first `many`.
     pub(crate) fn behind(&self, rt: &(impl Abort + AllocGlobal), many: usize) -> Vec<u8> {
         let mut bytes = Vec::new(rt.alloc());
-        for (head, body, _) in self.asked.iter().skip(many) {
-            bytes
-                .extend_from_slice(head.as_bytes())
-                .expect(rt, "memory");
-            bytes
-                .extend_from_slice(body.as_bytes())
-                .expect(rt, "memory");
+        for asked in &self.asked[many.min(self.asked.len())..] {
+            put(rt, &mut bytes, asked.0);
+            put(rt, &mut bytes, asked.1);
         }
         bytes
     }
 
     pub(crate) fn bytes(&self, rt: &(impl Abort + AllocGlobal)) -> Vec<u8> {
         let mut bytes = self.behind(rt, 0);
-        bytes
-            .extend_from_slice(self.head.as_bytes())
-            .expect(rt, "memory");
-        bytes
-            .extend_from_slice(self.body.as_bytes())
-            .expect(rt, "memory");
+        put(rt, &mut bytes, self.head);
+        put(rt, &mut bytes, self.body);
         bytes
     }
 
     /// Returns the replies to the first `many` requests.
     pub(crate) fn replies(&self, rt: &(impl Abort + AllocGlobal), many: usize) -> Vec<u8> {
-        let mut text = Vec::new(rt.alloc());
-        for (_, _, reply) in self.asked.iter().take(many) {
-            text.extend_from_slice(reply.as_bytes())
-                .expect(rt, "memory");
-        }
-        text
+        replies_to(rt, &self.asked[..many.min(self.asked.len())])
     }
 
     /// Returns the replies to the requests after the first `many`.
     pub(crate) fn replies_behind(&self, rt: &(impl Abort + AllocGlobal), many: usize) -> Vec<u8> {
-        let mut text = Vec::new(rt.alloc());
-        for (_, _, reply) in self.asked.iter().skip(many) {
-            text.extend_from_slice(reply.as_bytes())
-                .expect(rt, "memory");
-        }
-        text
+        replies_to(rt, &self.asked[many.min(self.asked.len())..])
     }
 
     pub(crate) fn output(&self, rt: &(impl Abort + AllocGlobal)) -> Vec<u8> {
-        let mut text = self.replies_behind(rt, 0);
-        text.extend_from_slice(self.closing.as_bytes())
-            .expect(rt, "memory");
+        let mut text = replies_to(rt, self.asked);
+        put(rt, &mut text, self.closing);
         text
     }
 
@@ -117,16 +98,38 @@ impl Stream {
         if left == 0 {
             return (Ending::End, "");
         }
-        let (head, is_whole) = match self.asked.get(whole) {
-            Some((head, _, _)) => (*head, false),
-            None => (self.head, true),
-        };
-        if left < head.len() {
-            (Ending::Refused("bad_head"), BAD_HEAD)
-        } else if is_whole {
-            (self.ending(), self.closing)
-        } else {
-            (Ending::Refused("bad_length"), BAD_LENGTH)
+        match self.asked.get(whole) {
+            Some(asked) => ending_in(asked.0, left, (Ending::Refused("bad_length"), BAD_LENGTH)),
+            None => ending_in(self.head, left, (self.ending(), self.closing)),
         }
     }
+}
+
+/// Returns the ending and the last reply if the input ends after `left` bytes: in this head, or
+/// behind it.
+fn ending_in(
+    head: &str,
+    left: usize,
+    behind: (Ending, &'static str),
+) -> (Ending, &'static str) {
+    if left < head.len() {
+        (Ending::Refused("bad_head"), BAD_HEAD)
+    } else {
+        behind
+    }
+}
+
+fn replies_to(rt: &(impl Abort + AllocGlobal), all: &[Asked]) -> Vec<u8> {
+    let mut text = Vec::new(rt.alloc());
+    for asked in all {
+        put(rt, &mut text, asked.2);
+    }
+    text
+}
+
+/// Appends a text.
+pub(crate) fn put(rt: &impl Abort, bytes: &mut Vec<u8>, text: &str) {
+    bytes
+        .extend_from_slice(text.as_bytes())
+        .expect(rt, "memory");
 }

@@ -2,7 +2,10 @@
 
 ghost use Rattle.std.specs.Prelude.{Some};
 
-use portal_desk::{Counted, Desk, Ending, Failed, Sink, Source};
+use portal_core::Keeper;
+use portal_desk::{
+    Cause, Counted, Desk, Ending, Failed, ServeFault, Served, Sink, Source,
+};
 use portal_list::ListKeeper;
 use std::alloc::Global;
 use std::io::{Read, Write};
@@ -104,8 +107,10 @@ impl Basin {
         }
     }
 
-    pub(crate) fn held(&self) -> &[u8] {
-        self.held.as_slice()
+    /// Returns the bytes that were accepted.
+    fn into_held(self) -> Vec<u8> {
+        let Basin { held, .. } = self;
+        held
     }
 }
 
@@ -137,18 +142,76 @@ impl Sink for Basin {
     }
 }
 
-/// Serves a source, checks its ending and number of requests, and returns the output.
-pub(crate) fn served_by<R: Source>(
+/// What `serve` returns.
+pub(crate) type Outcome = Result<Served, ServeFault>;
+
+pub(crate) fn ended(ending: Ending, requests: usize) -> Outcome {
+    let requests = requests as u32;
+    Ok(Served { requests, ending })
+}
+
+pub(crate) fn stopped(cause: Cause, requests: usize) -> Outcome {
+    let requests = requests as u32;
+    Err(ServeFault { cause, requests })
+}
+
+pub(crate) fn is_outcome(rt: &impl Abort, found: Outcome, wanted: Outcome, at: usize) {
+    assert_eq!(rt; found, wanted, "at {at}");
+}
+
+pub(crate) fn is_text(rt: &impl Abort, found: &[u8], wanted: &[u8]) {
+    assert_eq!(rt; found, wanted);
+}
+
+/// Checks that bytes are the first `many` of the wanted ones.
+pub(crate) fn is_first(rt: &impl Abort, found: &[u8], wanted: &[u8], many: usize) {
+    is_text(rt, found, &wanted[..many.min(wanted.len())]);
+    assert_eq!(rt; found.len(), many);
+}
+
+/// Serves a source, checks the outcome, and returns the output. `at` is told if the check fails.
+pub(crate) fn served_by<K: Keeper, R: Source>(
     rt: &(impl Abort + AllocGlobal),
-    desk: &mut Desk<ListKeeper>,
+    desk: &mut Desk<K>,
     source: &mut R,
-    ending: Ending,
-    requests: u32,
+    wanted: Outcome,
+    at: usize,
 ) -> Vec<u8> {
     let mut sink = Counted::new(Vec::new(rt.alloc()));
-    let served = desk.serve(rt.alloc(), source, &mut sink);
-    let served = served.expect(rt, "served");
-    assert_eq!(rt; served.ending, ending);
-    assert_eq!(rt; served.requests, requests);
+    let outcome = desk.serve(rt.alloc(), source, &mut sink);
+    is_outcome(rt, outcome, wanted, at);
     sink.into_inner()
+}
+
+/// Serves a reader that returns up to `step` of these bytes a call, and then fails. Checks the
+/// outcome and whether the failure was met, and returns the output.
+pub(crate) fn served_failing(
+    rt: &(impl Abort + AllocGlobal),
+    desk: &mut Desk<ListKeeper>,
+    bytes: &[u8],
+    step: usize,
+    wanted: Outcome,
+) -> Vec<u8> {
+    let mut source = Feeder::failing(bytes, step);
+    let output = served_by(rt, desk, &mut source, wanted, bytes.len());
+    assert_eq!(rt; Source::failures(&source), wanted.is_err() as u64);
+    output
+}
+
+/// Serves to a writer that accepts up to `step` bytes a call, and fails after `many` bytes. Checks
+/// that it fails once, after this many requests, and returns the bytes that it accepted.
+pub(crate) fn taken(
+    rt: &(impl Abort + AllocGlobal),
+    desk: &mut Desk<ListKeeper>,
+    bytes: &[u8],
+    step: usize,
+    many: usize,
+    requests: usize,
+) -> Vec<u8> {
+    let mut source = Feeder::new(bytes, 4_096);
+    let mut sink = Basin::new(rt.alloc(), step, many);
+    let outcome = desk.serve(rt.alloc(), &mut source, &mut sink);
+    is_outcome(rt, outcome, stopped(Cause::Write, requests), many);
+    assert_eq!(rt; Sink::failures(&sink), 1);
+    sink.into_held()
 }

@@ -3,6 +3,8 @@
 ghost use Rattle.std.specs.Prelude.{length};
 ghost use Rattle.portal_core.specs.Meaning.{CountsFaults};
 
+use crate::tests::conversation::put;
+use crate::tests::devices::{is_text, served_by, stopped};
 use crate::tests::portal::{
     NO_CALLER, fresh_keeper, published, ranked_again, ranking_again, reopened, request,
 };
@@ -32,7 +34,7 @@ impl Failing {
     }
 
     /// Returns a fault, and counts it.
-    fn fail<T: Drop>(&mut self) -> Result<T, KeepFault>
+    fn fail<T>(&mut self) -> Result<T, KeepFault>
         ensures { CountsFaults result (length self.old.faults.items) (length self.new.faults.items) }
     {
         match self.faults.push(0) {
@@ -81,20 +83,13 @@ fn fails(
     rt: &(impl Abort + AllocGlobal),
     desk: &mut Desk<Failing>,
     asked: &str,
-    requests: u32,
+    requests: usize,
     output: &[u8],
 ) {
     let mut source = Counted::new(asked.as_bytes());
-    let mut sink = Counted::new(Vec::new(rt.alloc()));
-    match desk.serve(rt.alloc(), &mut source, &mut sink) {
-        Ok(_) => assert!(rt; false, "served"),
-        Err(fault) => {
-            assert_eq!(rt; fault.cause, Cause::Store);
-            assert_eq!(rt; fault.requests, requests);
-        }
-    }
-    let text = sink.into_inner();
-    assert_eq!(rt; text.as_slice(), output);
+    let wanted = stopped(Cause::Store, requests);
+    let text = served_by(rt, desk, &mut source, wanted, asked.len());
+    is_text(rt, text.as_slice(), output);
     assert!(rt; desk.failed());
 }
 
@@ -102,10 +97,8 @@ fn fails(
 fn the_desk_has_failed_from_then_on(rt: HostRuntime) {
     let mut desk = Desk::new(Failing::new(&rt, fresh_keeper(&rt), 1));
     let mut both = Vec::new(rt.alloc());
-    both.extend_from_slice(NO_CALLER.as_bytes())
-        .expect(&rt, "memory");
-    both.extend_from_slice(LOST.as_bytes())
-        .expect(&rt, "memory");
+    put(&rt, &mut both, NO_CALLER);
+    put(&rt, &mut both, LOST);
     fails(&rt, &mut desk, TWO, 2, both.as_slice());
     fails(&rt, &mut desk, TWO, 1, LOST.as_bytes());
 }

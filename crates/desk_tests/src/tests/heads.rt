@@ -6,27 +6,17 @@ use portal_desk::Ending;
 use std::process::Abort;
 
 /// Returns a head with a request line, a Host line and `more` further lines.
-fn with_lines(rt: &(impl Abort + AllocGlobal), more: u32) -> String {
-    let mut head = String::new(rt.alloc());
-    head.push_str("GET /me HTTP/1.1\r\nHost: h\r\n")
-        .expect(rt, "memory");
-    for _ in 0..more {
-        head.push_str("a: b\r\n").expect(rt, "memory");
-    }
-    head.push_str("\r\n").expect(rt, "memory");
-    head
+fn with_lines(rt: &(impl Abort + AllocGlobal), more: usize) -> String {
+    let lines = "a: b\r\n".repeat(rt.alloc(), more).expect(rt, "memory");
+    let head = format!(in rt.alloc(); "GET /me HTTP/1.1\r\nHost: h\r\n{lines}\r\n");
+    head.expect(rt, "memory")
 }
 
 /// Returns a head with a header value of `length` bytes, followed by `end`.
-fn with_value(rt: &(impl Abort + AllocGlobal), length: u32, end: &str) -> String {
-    let mut head = String::new(rt.alloc());
-    head.push_str("GET /me HTTP/1.1\r\nHost: h\r\na: ")
-        .expect(rt, "memory");
-    for _ in 0..length {
-        head.push('b').expect(rt, "memory");
-    }
-    head.push_str(end).expect(rt, "memory");
-    head
+fn with_value(rt: &(impl Abort + AllocGlobal), length: usize, end: &str) -> String {
+    let value = "b".repeat(rt.alloc(), length).expect(rt, "memory");
+    let head = format!(in rt.alloc(); "GET /me HTTP/1.1\r\nHost: h\r\na: {value}{end}");
+    head.expect(rt, "memory")
 }
 
 #[test]

@@ -1,8 +1,9 @@
 //! Tests the longest body, on devices that fail.
 
-use crate::tests::devices::{Basin, Feeder};
+use crate::tests::conversation::put;
+use crate::tests::devices::{is_first, is_text, served_failing, stopped, taken};
 use crate::tests::portal::{choosing, plays, reopened, written};
-use portal_desk::{Cause, Counted, Desk, Ending, Sink, Source};
+use portal_desk::{Cause, Desk, Ending};
 use portal_list::ListKeeper;
 use std::process::Abort;
 
@@ -28,35 +29,33 @@ const HAS_ONE: &str =
 /// Returns a request with an empty list, padded with spaces to the longest body.
 fn longest(rt: &(impl Abort + AllocGlobal)) -> Vec<u8> {
     let mut bytes = Vec::new(rt.alloc());
-    bytes
-        .extend_from_slice(HEAD.as_bytes())
-        .expect(rt, "memory");
-    bytes
-        .extend_from_slice(EMPTY.as_bytes())
-        .expect(rt, "memory");
+    put(rt, &mut bytes, HEAD);
+    put(rt, &mut bytes, EMPTY);
     bytes
         .resize(HEAD.len() + 1_048_576, b' ')
         .expect(rt, "memory");
     bytes
 }
 
+/// Checks the reply to the longest body, and that the student is then shown an empty list.
+fn is_answered(rt: &(impl Abort + AllocGlobal), desk: &mut Desk<ListKeeper>, reply: &str) {
+    let bytes = longest(rt);
+    let output = written(rt, desk, bytes.as_slice(), Ending::End, 1);
+    is_text(rt, output.as_slice(), reply.as_bytes());
+    plays(rt, desk, SHOWS_NONE);
+}
+
 #[test]
 fn is_taken(rt: HostRuntime) {
     let mut desk = choosing(&rt);
-    let bytes = longest(&rt);
-    let output = written(&rt, &mut desk, bytes.as_slice(), Ending::End, 1);
-    assert_eq!(rt; output.as_slice(), REPLY.as_bytes());
-    plays(&rt, &mut desk, SHOWS_NONE);
+    is_answered(&rt, &mut desk, REPLY);
 }
 
 /// In the second round, the longest body of a student with a project is read, and then refused.
 #[test]
 fn is_read_before_it_is_refused(rt: HostRuntime) {
     let mut desk = reopened(&rt);
-    let bytes = longest(&rt);
-    let output = written(&rt, &mut desk, bytes.as_slice(), Ending::End, 1);
-    assert_eq!(rt; output.as_slice(), HAS_ONE.as_bytes());
-    plays(&rt, &mut desk, SHOWS_NONE);
+    is_answered(&rt, &mut desk, HAS_ONE);
 }
 
 /// Checks a reader that fails before the last byte: the request has not acted.
@@ -67,17 +66,9 @@ fn fails_reading(
     step: usize,
     many: usize,
 ) {
-    let mut source = Feeder::failing(&bytes[..many.min(bytes.len())], step);
-    let mut sink = Counted::new(Vec::new(rt.alloc()));
-    match desk.serve(rt.alloc(), &mut source, &mut sink) {
-        Ok(_) => assert!(rt; false, "at {many}"),
-        Err(fault) => {
-            assert_eq!(rt; fault.cause, Cause::Read);
-            assert_eq!(rt; fault.requests, 0);
-            assert_eq!(rt; Source::failures(&source), 1);
-        }
-    }
-    assert!(rt; sink.into_inner().is_empty());
+    let bytes = &bytes[..many.min(bytes.len())];
+    let output = served_failing(rt, desk, bytes, step, stopped(Cause::Read, 0));
+    assert!(rt; output.is_empty());
     plays(rt, desk, SHOWS_OLD);
 }
 
@@ -104,16 +95,9 @@ fn readers_fail_at_each_byte_of_the_head(rt: HostRuntime) {
 fn a_reader_fails_behind_it(rt: HostRuntime) {
     let mut desk = choosing(&rt);
     let bytes = longest(&rt);
-    let mut source = Feeder::failing(bytes.as_slice(), 4_096);
-    let mut sink = Counted::new(Vec::new(rt.alloc()));
-    match desk.serve(rt.alloc(), &mut source, &mut sink) {
-        Ok(_) => assert!(rt; false, "served"),
-        Err(fault) => {
-            assert_eq!(rt; fault.cause, Cause::Read);
-            assert_eq!(rt; fault.requests, 1);
-        }
-    }
-    assert_eq!(rt; sink.into_inner().as_slice(), REPLY.as_bytes());
+    let wanted = stopped(Cause::Read, 1);
+    let output = served_failing(&rt, &mut desk, bytes.as_slice(), 4_096, wanted);
+    is_text(&rt, output.as_slice(), REPLY.as_bytes());
     plays(&rt, &mut desk, SHOWS_NONE);
 }
 
@@ -126,17 +110,8 @@ fn fails_writing(
     many: usize,
 ) {
     plays(rt, desk, PUTS_OLD);
-    let mut source = Feeder::new(bytes, 4_096);
-    let mut sink = Basin::new(rt.alloc(), step, many);
-    match desk.serve(rt.alloc(), &mut source, &mut sink) {
-        Ok(_) => assert!(rt; false, "at {many}"),
-        Err(fault) => {
-            assert_eq!(rt; fault.cause, Cause::Write);
-            assert_eq!(rt; fault.requests, 1);
-            assert_eq!(rt; Sink::failures(&sink), 1);
-        }
-    }
-    assert_eq!(rt; sink.held(), &REPLY.as_bytes()[..many.min(REPLY.len())]);
+    let held = taken(rt, desk, bytes, step, many, 1);
+    is_first(rt, held.as_slice(), REPLY.as_bytes(), many);
     plays(rt, desk, SHOWS_NONE);
 }
 

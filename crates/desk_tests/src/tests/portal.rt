@@ -2,6 +2,7 @@
 
 ghost use Rattle.portal_core.specs.Good.{Good};
 
+use crate::tests::devices::{ended, is_text, served_by};
 use portal_desk::{Counted, Desk, Ending};
 use portal_fixtures::worked::{
     ENROLLED, FIRST_ROUND, LISTS, PUBLISHED_AGAIN, RANKED_AGAIN, RANKING_AGAIN, REOPENED,
@@ -41,15 +42,10 @@ pub(crate) fn written(
     desk: &mut Desk<ListKeeper>,
     bytes: &[u8],
     ending: Ending,
-    requests: u32,
+    requests: usize,
 ) -> Vec<u8> {
     let mut source = Counted::new(bytes);
-    let mut sink = Counted::new(Vec::new(rt.alloc()));
-    let served = desk.serve(rt.alloc(), &mut source, &mut sink);
-    let served = served.expect(rt, "served");
-    assert_eq!(rt; served.ending, ending);
-    assert_eq!(rt; served.requests, requests);
-    sink.into_inner()
+    served_by(rt, desk, &mut source, ended(ending, requests), bytes.len())
 }
 
 /// Checks that a connection with these bytes has this ending, number of requests and output.
@@ -58,11 +54,11 @@ pub(crate) fn gives(
     desk: &mut Desk<ListKeeper>,
     bytes: &str,
     ending: Ending,
-    requests: u32,
+    requests: usize,
     output: &str,
 ) {
     let text = written(rt, desk, bytes.as_bytes(), ending, requests);
-    assert_eq!(rt; text.as_slice(), output.as_bytes());
+    is_text(rt, text.as_slice(), output.as_bytes());
 }
 
 /// Returns the request of a line.
@@ -77,15 +73,18 @@ pub(crate) fn reply(rt: &(impl Abort + AllocGlobal), line: &str) -> String {
 
 /// Checks that each line of the script gets its reply, each on a new connection.
 pub(crate) fn plays(rt: &(impl Abort + AllocGlobal), desk: &mut Desk<ListKeeper>, script: &str) {
-    let wrong = play(rt.alloc(), desk, &[script]).expect(rt, "memory");
+    play_all(rt, desk, &[script]);
+}
+
+fn play_all(rt: &(impl Abort + AllocGlobal), desk: &mut Desk<ListKeeper>, scripts: &[&str]) {
+    let wrong = play(rt.alloc(), desk, scripts).expect(rt, "memory");
     assert_eq!(rt; wrong.as_str(), "");
 }
 
 /// Makes a desk, and plays these scripts on it.
 fn after(rt: &(impl Abort + AllocGlobal), scripts: &[&str]) -> Desk<ListKeeper> {
     let mut desk = fresh(rt);
-    let wrong = play(rt.alloc(), &mut desk, scripts).expect(rt, "memory");
-    assert_eq!(rt; wrong.as_str(), "");
+    play_all(rt, &mut desk, scripts);
     desk
 }
 

@@ -1,9 +1,10 @@
 //! Tests a stream of requests that plays the second round, on devices that end or fail.
 
 use crate::tests::conversation::{Asked, Stream};
-use crate::tests::portal::{plays, published, ranked_again};
+use crate::tests::devices::is_text;
+use crate::tests::portal::{plays, published, ranked_again, written};
 use crate::tests::trials::{ended_at, reader_fails_at, served_cut, writer_fails_at};
-use portal_desk::{Counted, Desk, Ending};
+use portal_desk::{Desk, Ending};
 use portal_list::ListKeeper;
 use std::process::Abort;
 
@@ -99,17 +100,9 @@ const RESULT: Stream = Stream {
 /// result of the round.
 fn goes_on(rt: &(impl Abort + AllocGlobal), desk: &mut Desk<ListKeeper>, acted: usize) {
     let bytes = ROUND.behind(rt, acted);
-    let mut source = Counted::new(bytes.as_slice());
-    let mut sink = Counted::new(Vec::new(rt.alloc()));
-    let served = desk.serve(rt.alloc(), &mut source, &mut sink);
-    let served = served.expect(rt, "served");
-    assert_eq!(rt; served.ending, Ending::End);
-    let requests = acted.saturating_add(served.requests as usize);
-    assert_eq!(rt; requests, ROUND.requests(), "after {acted}");
-    assert_eq!(rt;
-        sink.into_inner().as_slice(),
-        ROUND.replies_behind(rt, acted).as_slice()
-    );
+    let left = ROUND.requests().saturating_sub(acted);
+    let output = written(rt, desk, bytes.as_slice(), Ending::End, left);
+    is_text(rt, output.as_slice(), ROUND.replies_behind(rt, acted).as_slice());
     plays(rt, desk, r#"cyr  GET /result  200 {"project":"P3"}"#);
 }
 

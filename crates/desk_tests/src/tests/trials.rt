@@ -1,8 +1,10 @@
 //! Checks how a stream is served that is cut twice, ends early, or meets a failing device.
 
-use crate::tests::conversation::Stream;
-use crate::tests::devices::{Basin, Feeder};
-use portal_desk::{Cause, Counted, Desk, Sink, Source};
+use crate::tests::conversation::{Stream, put};
+use crate::tests::devices::{
+    Feeder, ended, is_first, is_text, served_by, served_failing, stopped, taken,
+};
+use portal_desk::{Cause, Desk};
 use portal_list::ListKeeper;
 use std::process::Abort;
 
@@ -15,14 +17,10 @@ pub(crate) fn served_cut(
     second: usize,
 ) {
     let bytes = stream.bytes(rt);
-    let output = stream.output(rt);
     let mut source = Feeder::cut(bytes.as_slice(), first, second);
-    let mut sink = Counted::new(Vec::new(rt.alloc()));
-    let served = desk.serve(rt.alloc(), &mut source, &mut sink);
-    let served = served.expect(rt, "served");
-    assert_eq!(rt; served.ending, stream.ending());
-    assert_eq!(rt; served.requests as usize, stream.requests());
-    assert!(rt; sink.into_inner().as_slice() == output.as_slice());
+    let wanted = ended(stream.ending(), stream.requests());
+    let output = served_by(rt, desk, &mut source, wanted, bytes.len());
+    is_text(rt, output.as_slice(), stream.output(rt).as_slice());
 }
 
 /// Checks a stream whose input ends after `many` bytes.
@@ -34,18 +32,23 @@ pub(crate) fn ended_at(
 ) {
     let bytes = stream.bytes(rt);
     let (whole, left) = stream.whole_in(many);
-    let mut wanted = stream.replies(rt, whole);
     let (ending, closing) = stream.cut_off(whole, left);
-    wanted
-        .extend_from_slice(closing.as_bytes())
-        .expect(rt, "memory");
     let mut source = Feeder::new(&bytes.as_slice()[..many.min(bytes.len())], 4_096);
-    let mut sink = Counted::new(Vec::new(rt.alloc()));
-    let served = desk.serve(rt.alloc(), &mut source, &mut sink);
-    let served = served.expect(rt, "served");
-    assert_eq!(rt; served.ending, ending, "at {many}");
-    assert_eq!(rt; served.requests as usize, whole, "at {many}");
-    assert_eq!(rt; sink.into_inner().as_slice(), wanted.as_slice());
+    let output = served_by(rt, desk, &mut source, ended(ending, whole), many);
+    are_replies(rt, output.as_slice(), stream, whole, closing);
+}
+
+/// Checks that the output is the replies to the first `whole` requests, and then `closing`.
+fn are_replies(
+    rt: &(impl Abort + AllocGlobal),
+    output: &[u8],
+    stream: &Stream,
+    whole: usize,
+    closing: &str,
+) {
+    let mut wanted = stream.replies(rt, whole);
+    put(rt, &mut wanted, closing);
+    is_text(rt, output, wanted.as_slice());
 }
 
 /// Checks a reader that returns up to `step` bytes a call and fails after `many` bytes. Requests
@@ -58,27 +61,16 @@ pub(crate) fn reader_fails_at(
     many: usize,
 ) {
     let bytes = stream.bytes(rt);
-    let mut source = Feeder::failing(&bytes.as_slice()[..many.min(bytes.len())], step);
-    let mut sink = Counted::new(Vec::new(rt.alloc()));
-    match desk.serve(rt.alloc(), &mut source, &mut sink) {
-        Ok(served) => {
-            assert!(rt; many == bytes.len() && !stream.waits, "at {many}");
-            assert_eq!(rt; served.ending, stream.ending());
-            assert_eq!(rt; served.requests as usize, stream.requests());
-            assert_eq!(rt; Source::failures(&source), 0);
-            assert_eq!(rt; sink.into_inner().as_slice(), stream.output(rt).as_slice());
-        }
-        Err(fault) => {
-            assert!(rt; many < bytes.len() || stream.waits, "at {many}");
-            let (whole, _) = stream.whole_in(many);
-            assert_eq!(rt; fault.cause, Cause::Read);
-            assert_eq!(rt; fault.requests as usize, whole);
-            assert_eq!(rt; Source::failures(&source), 1);
-            assert_eq!(rt;
-                sink.into_inner().as_slice(),
-                stream.replies(rt, whole).as_slice()
-            );
-        }
+    assert!(rt; many <= bytes.len(), "at {many}");
+    let bytes = &bytes.as_slice()[..many];
+    if many == bytes.len() && !stream.waits {
+        let wanted = ended(stream.ending(), stream.requests());
+        let output = served_failing(rt, desk, bytes, step, wanted);
+        is_text(rt, output.as_slice(), stream.output(rt).as_slice());
+    } else {
+        let (whole, _) = stream.whole_in(many);
+        let output = served_failing(rt, desk, bytes, step, stopped(Cause::Read, whole));
+        are_replies(rt, output.as_slice(), stream, whole, "");
     }
 }
 
@@ -92,17 +84,7 @@ pub(crate) fn writer_fails_at(
     many: usize,
 ) {
     let bytes = stream.bytes(rt);
-    let output = stream.output(rt);
-    let mut source = Feeder::new(bytes.as_slice(), 4_096);
-    let mut sink = Basin::new(rt.alloc(), step, many);
-    match desk.serve(rt.alloc(), &mut source, &mut sink) {
-        Ok(_) => assert!(rt; false, "at {many}"),
-        Err(fault) => {
-            assert_eq!(rt; fault.cause, Cause::Write);
-            assert_eq!(rt; fault.requests as usize, stream.acted_at(many), "at {many}");
-            assert_eq!(rt; sink.held(), &output.as_slice()[..many.min(output.len())]);
-            assert_eq!(rt; sink.held().len(), many);
-            assert_eq!(rt; Sink::failures(&sink), 1);
-        }
-    }
+    let requests = stream.acted_at(many);
+    let held = taken(rt, desk, bytes.as_slice(), step, many, requests);
+    is_first(rt, held.as_slice(), stream.output(rt).as_slice(), many);
 }
