@@ -3,8 +3,7 @@
 
 use crate::tests::steps::new_office_code;
 use crate::tests::stops::{
-    INIT, Image, TIGHT, TrialDesk, TrialStore, blank, close, connected, desk_over, files_after,
-    stopped, store_of,
+    INIT, Image, TIGHT, blank, connected, desk_over, files_after, left_of, stopped,
 };
 use crate::tests::trial::{Fault, Plan};
 use portal_core::{KeepFault, Keeper};
@@ -13,30 +12,28 @@ use portal_fixtures::Line;
 use portal_fixtures::changes::{
     CHOOSING, FIRST, OPENED, PUBLICATION, RANKED, RANKING, SECOND_PUBLICATION, SETUP,
 };
-use portal_store::Store;
+use portal_store::{NotOpened, Store};
 use std::process::Abort;
 
-/// Returns whether a read failed after `reads` others while the request was served.
+/// Returns whether a read failed after `reads` others while the request was served. If so, the
+/// reply is 503, and the store and the desk have failed. If not, the reply is 200.
 fn fails_at(rt: &(impl Abort + AllocGlobal), image: &Image, line: &Line, reads: u64) -> bool {
     let plan = Plan::new(Fault::Read);
-    let mut desk = desk_over(rt, image, &plan);
+    let mut desk = desk_over(rt, connected(rt, image, &plan, TIGHT));
     plan.arm(reads);
-    is_told(rt, &mut desk, line, &plan);
+    let (cause, reply) = stopped(rt, &mut desk, line);
     let came = plan.came();
-    plan.arm(u64::MAX);
-    close(desk.into_keeper());
-    came
-}
-
-/// Serves the line's request. If a read fails, the reply is 503, and the store and the desk have
-/// failed. If not, the reply is 200.
-fn is_told(rt: &(impl Abort + AllocGlobal), desk: &mut TrialDesk<'_>, line: &Line, plan: &Plan) {
-    let (cause, reply) = stopped(rt, desk, line);
-    let came = plan.came();
-    let wanted = if came { "HTTP/1.1 503" } else { "HTTP/1.1 200" };
-    assert!(rt; reply.starts_with(wanted.as_bytes()));
+    let wanted: &[u8] = if came {
+        b"HTTP/1.1 503"
+    } else {
+        b"HTTP/1.1 200"
+    };
+    assert!(rt; reply.starts_with(wanted));
     assert!(rt; desk.failed() == came);
-    assert!(rt; cause == came.then_some(Cause::Store));
+    assert!(rt; cause == if came { Some(Cause::Store) } else { None });
+    plan.arm(u64::MAX);
+    let _left = left_of(rt, desk.into_keeper().into_connection());
+    came
 }
 
 /// Lets reads of the line's request fail: each of the first sixteen, and later ones at growing
@@ -89,30 +86,29 @@ fn a_publication_meets_a_failed_read(rt: HostRuntime) {
     fails(&rt, &second, SECOND_PUBLICATION, 2);
 }
 
-/// Creates a portal.
-fn new_store<'a>(rt: &(impl Abort + AllocGlobal), plan: &'a Plan) -> TrialStore<'a> {
-    let conn = connected(rt, &blank(rt), plan, TIGHT);
-    assert!(rt; conn.is_autocommit());
-    store_of(rt, Store::create(rt.alloc(), conn, new_office_code(rt)))
-}
-
 /// Asks a new portal for its instance, with a read that fails after `reads` others. Returns whether
 /// it failed, and checks that it is then reported as a fault of the store.
 fn instance_fails_at(rt: &(impl Abort + AllocGlobal), reads: u64) -> bool {
     let plan = Plan::new(Fault::Read);
-    let mut store = new_store(rt, &plan);
-    plan.arm(reads);
-    is_faulty(rt, &mut store, &plan);
-    let came = plan.came();
-    plan.arm(u64::MAX);
-    close(store);
-    came
-}
-
-/// Checks that a failed read for an instance is reported as a fault of the store.
-fn is_faulty(rt: &(impl Abort + AllocGlobal), store: &mut TrialStore<'_>, plan: &Plan) {
-    let told = store.instance(rt.alloc());
-    assert!(rt; matches!(told, Err(KeepFault::Store)) == plan.came());
+    let conn = connected(rt, &blank(rt), &plan, TIGHT);
+    assert!(rt; conn.is_autocommit());
+    match Store::create(rt.alloc(), conn, new_office_code(rt)) {
+        Ok(mut store) => {
+            plan.arm(reads);
+            let told = store.instance(rt.alloc());
+            let came = plan.came();
+            assert!(rt; matches!(told, Err(KeepFault::Store)) == came);
+            plan.arm(u64::MAX);
+            let _left = left_of(rt, store.into_connection());
+            came
+        }
+        Err(
+            NotOpened {
+                fault: _,
+                connection: _,
+            },
+        ) => panic!(rt; "a portal"),
+    }
 }
 
 /// Each read for an instance fails in turn, and there is at least one.
@@ -133,10 +129,10 @@ fn an_instance_meets_a_failed_read(rt: HostRuntime) {
 fn the_code_of_the_office_meets_a_failed_read(rt: HostRuntime) {
     let plan = Plan::new(Fault::Read);
     let image = files_after(&rt, &[INIT, SETUP]);
-    let mut store = desk_over(&rt, &image, &plan).into_keeper();
+    let mut store = desk_over(&rt, connected(&rt, &image, &plan, TIGHT)).into_keeper();
     plan.arm(0);
     let told = store.office_code(rt.alloc());
     assert!(rt; plan.came() && matches!(told, Err(KeepFault::Store)));
     plan.arm(u64::MAX);
-    close(store);
+    let _left = left_of(&rt, store.into_connection());
 }

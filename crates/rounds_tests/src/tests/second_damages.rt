@@ -34,13 +34,6 @@ fn opened(rt: &(impl Abort + AllocGlobal), conn: Connection<MemStore>) -> Option
     }
 }
 
-/// Makes a database, plays these scripts and runs the text in it.
-fn damaged(rt: &(impl Abort + AllocGlobal), played: &[&str], text: &str) -> Connection<MemStore> {
-    let mut conn = database(rt, played);
-    conn.execute_batch(text).expect(rt, "statements");
-    conn
-}
-
 /// Checks that opening the database has this outcome after each of these texts.
 fn are_answered(
     rt: &(impl Abort + AllocGlobal),
@@ -49,7 +42,9 @@ fn are_answered(
     wanted: Option<OpenFault>,
 ) {
     for text in texts {
-        let found = opened(rt, damaged(rt, played, text));
+        let mut conn = database(rt, played);
+        conn.execute_batch(text).expect(rt, "statements");
+        let found = opened(rt, conn);
         assert!(rt; found == wanted, "{text}");
     }
 }
@@ -315,19 +310,16 @@ fn is_of_fay(rt: &(impl Abort + AllocGlobal), student: &StudentView) {
     offers(rt, &student.catalogue[2], b"P5", 1);
 }
 
-/// Checks the view of S6 in this database.
-fn sees(rt: &(impl Abort + AllocGlobal), conn: &mut Connection<MemStore>) {
-    assert!(rt; conn.is_autocommit());
-    match view(rt.alloc(), conn, b"stud-code-6").expect(rt, "a view") {
-        View::Student(student) => is_of_fay(rt, &student),
-        _ => assert!(rt; false, "no student"),
-    }
-}
-
 /// In the second round, a student is shown the same after each damage of `OF_OTHERS`.
 #[test]
 fn a_view_reads_no_other_row(rt: HostRuntime) {
     for text in OF_OTHERS {
-        sees(&rt, &mut damaged(&rt, IN_CHOOSING, text));
+        let mut conn = database(&rt, IN_CHOOSING);
+        conn.execute_batch(text).expect(&rt, "statements");
+        assert!(rt; conn.is_autocommit());
+        match view(rt.alloc(), &mut conn, b"stud-code-6").expect(&rt, "a view") {
+            View::Student(student) => is_of_fay(&rt, &student),
+            _ => assert!(rt; false, "no student"),
+        }
     }
 }

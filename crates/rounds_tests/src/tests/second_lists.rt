@@ -34,22 +34,13 @@ fn is_answered(
     let (_, request) = cut(row.text, "  ");
     for (code, mark) in CALLERS.iter().zip(row.status.as_bytes()) {
         let text = format!(in rt.alloc(); "{code}  {request}").expect(rt, "memory");
-        is_equal(rt, desk, lists, &Line::new(text.as_str()), status_of(*mark));
+        let line = Line::new(text.as_str());
+        let reply = ask(rt.alloc(), desk, &line).expect(rt, "memory");
+        let other = ask(rt.alloc(), lists, &line).expect(rt, "memory");
+        let wanted = status_of(*mark);
+        assert!(rt; reply.starts_with(wanted.as_bytes()), "{text}");
+        assert_eq!(rt; reply.as_slice(), other.as_slice());
     }
-}
-
-/// Checks that both desks reply to the line with equal bytes, which begin with this text.
-fn is_equal(
-    rt: &(impl Abort + AllocGlobal),
-    desk: &mut MemDesk,
-    lists: &mut Desk<ListKeeper>,
-    line: &Line,
-    wanted: &str,
-) {
-    let reply = ask(rt.alloc(), desk, line).expect(rt, "memory");
-    let other = ask(rt.alloc(), lists, line).expect(rt, "memory");
-    assert!(rt; reply.starts_with(wanted.as_bytes()), "{}", line.text);
-    assert_eq!(rt; reply.as_slice(), other.as_slice());
 }
 
 /// Checks these rows in order.
@@ -59,8 +50,8 @@ fn are_answered(
     lists: &mut Desk<ListKeeper>,
     rows: &str,
 ) {
-    for row in &lines(rt.alloc(), rows).expect(rt, "memory") {
-        is_answered(rt, desk, lists, row);
+    for row in lines(rt.alloc(), rows).expect(rt, "memory") {
+        is_answered(rt, desk, lists, &row);
     }
 }
 

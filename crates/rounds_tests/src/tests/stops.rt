@@ -13,14 +13,8 @@ use sqlite::{Connection, FileStore, Files, Options};
 use sqlite_disk::{Crash, Disk, Memory};
 use std::process::Abort;
 
-/// Two files that fail as a plan says.
-type TrialFiles<'a> = FileStore<Trial<'a, Memory>>;
-
-pub(crate) type TrialConnection<'a> = Connection<TrialFiles<'a>>;
-
-pub(crate) type TrialStore<'a> = Store<TrialFiles<'a>>;
-
-pub(crate) type TrialDesk<'a> = Desk<TrialStore<'a>>;
+/// A connection to two files that fail as a plan says.
+pub(crate) type TrialConnection<'a> = Connection<FileStore<Trial<'a, Memory>>>;
 
 /// The bytes of the two files of a database.
 #[derive(Drop)]
@@ -55,60 +49,40 @@ pub(crate) fn connected<'a>(
 ) -> TrialConnection<'a> {
     let log = Trial::new(memory(rt, &image.log), plan);
     let db = Trial::new(memory(rt, &image.db), plan);
-    connected_to(rt, Files { log, db }, options)
-}
-
-fn connected_to<'a>(
-    rt: &(impl Abort + AllocGlobal),
-    files: Files<Trial<'a, Memory>>,
-    options: Options,
-) -> TrialConnection<'a> {
-    assert!(rt; files.log.may_be_used());
-    assert!(rt; files.db.may_be_used());
-    match Connection::open_files(rt.alloc(), files, options) {
+    assert!(rt; log.may_be_used());
+    assert!(rt; db.may_be_used());
+    match Connection::open_files(rt.alloc(), Files { log, db }, options) {
         Ok(conn) => conn,
         Err(_) => panic!(rt; "a connection"),
     }
 }
 
-/// Closes the connection, and returns its files.
-fn closed<'a>(conn: TrialConnection<'a>) -> Files<Trial<'a, Memory>> {
-    match conn.close_files() {
+/// Closes the connection. Returns the files as written, and as last synced.
+pub(crate) fn left_of(
+    rt: &(impl Abort + AllocGlobal),
+    conn: TrialConnection<'_>,
+) -> (Image, Image) {
+    let files = match conn.close_files() {
         Ok(files) => files,
         Err((_, store)) => store.close(),
-    }
+    };
+    let (log, safe_log) = contents(rt, files.log.into_inner());
+    let (db, safe_db) = contents(rt, files.db.into_inner());
+    (
+        Image { log, db },
+        Image {
+            log: safe_log,
+            db: safe_db,
+        },
+    )
 }
 
-/// Closes the desk's connection.
-pub(crate) fn close(store: TrialStore<'_>) {
-    let _files = closed(store.into_connection());
-}
-
-/// Closes the connection. Returns the files as written, and as last synced.
-fn left_of(rt: &(impl Abort + AllocGlobal), conn: TrialConnection<'_>) -> (Image, Image) {
-    let files = closed(conn);
-    images(rt, files.log.into_inner(), files.db.into_inner())
-}
-
-/// Closes the connection, and returns the files as written.
-fn written_of(rt: &(impl Abort + AllocGlobal), conn: TrialConnection<'_>) -> Image {
-    let files = closed(conn);
-    image_of(rt, &files.log.into_inner(), &files.db.into_inner())
-}
-
-/// Returns the bytes of the files as written, and as last synced.
-fn images(rt: &(impl Abort + AllocGlobal), mut log: Memory, mut db: Memory) -> (Image, Image) {
-    let written = image_of(rt, &log, &db);
-    log.crash();
-    db.crash();
-    (written, image_of(rt, &log, &db))
-}
-
-fn image_of(rt: &(impl Abort + AllocGlobal), log: &Memory, db: &Memory) -> Image {
-    Image {
-        log: Vec::from_slice(rt.alloc(), log.bytes()).expect(rt, "memory"),
-        db: Vec::from_slice(rt.alloc(), db.bytes()).expect(rt, "memory"),
-    }
+/// Returns the bytes of a file as written, and as last synced.
+fn contents(rt: &(impl Abort + AllocGlobal), mut file: Memory) -> (Vec<u8>, Vec<u8>) {
+    let written = Vec::from_slice(rt.alloc(), file.bytes()).expect(rt, "memory");
+    file.crash();
+    let safe = Vec::from_slice(rt.alloc(), file.bytes()).expect(rt, "memory");
+    (written, safe)
 }
 
 /// Chooses the byte that a crash leaves, from the written byte and the synced one.
@@ -158,71 +132,53 @@ struct Sight {
     text: Option<Vec<u8>>,
 }
 
+/// Upgrades tables of version 1, and returns what the portal then shows.
+fn shown_upgraded(rt: &(impl Abort + AllocGlobal), conn: TrialConnection<'_>) -> Vec<u8> {
+    assert!(rt; conn.is_autocommit());
+    match Store::upgrade(rt.alloc(), conn) {
+        Ok(store) => {
+            let mut desk = Desk::new(store);
+            let text = seen(rt.alloc(), &mut desk).expect(rt, "memory");
+            let _left = left_of(rt, desk.into_keeper().into_connection());
+            text
+        }
+        Err(
+            NotOpened {
+                fault: _,
+                connection: _,
+            },
+        ) => panic!(rt; "an upgrade"),
+    }
+}
+
 /// Returns what these files show. Tables of version 1 are upgraded first.
 fn shown(rt: &(impl Abort + AllocGlobal), image: &Image) -> Sight {
     let plan = Plan::new(Fault::Stop);
     let conn = connected(rt, image, &plan, Options::new(7));
     assert!(rt; conn.is_autocommit());
     match Store::open(rt.alloc(), conn) {
-        Ok(store) => Sight {
-            is_current: true,
-            text: Some(text_of(rt, store)),
-        },
-        Err(NotOpened { fault, connection }) => Sight {
-            is_current: false,
-            text: other_text(rt, fault, connection),
-        },
-    }
-}
-
-/// Returns what the portal shows, and closes its files.
-fn text_of(rt: &(impl Abort + AllocGlobal), store: TrialStore<'_>) -> Vec<u8> {
-    let mut desk = Desk::new(store);
-    let text = seen(rt.alloc(), &mut desk).expect(rt, "memory");
-    close(desk.into_keeper());
-    text
-}
-
-/// Returns what tables that are not opened show: those of version 1 after an upgrade, and others
-/// nothing.
-fn other_text(
-    rt: &(impl Abort + AllocGlobal),
-    fault: OpenFault,
-    conn: TrialConnection<'_>,
-) -> Option<Vec<u8>> {
-    if fault == OpenFault::OtherVersion {
-        assert!(rt; conn.is_autocommit());
-        let store = store_of(rt, Store::upgrade(rt.alloc(), conn));
-        return Some(text_of(rt, store));
-    }
-    assert_eq!(rt; fault, OpenFault::NotPortal);
-    let _files = closed(conn);
-    None
-}
-
-/// Returns the store.
-pub(crate) fn store_of<'a, F: Drop>(
-    rt: &impl Abort,
-    made: Result<TrialStore<'a>, NotOpened<F, TrialFiles<'a>>>,
-) -> TrialStore<'a> {
-    match made {
-        Ok(store) => store,
-        Err(
-            NotOpened {
-                fault: _,
-                connection: _,
-            },
-        ) => panic!(rt; "no store"),
-    }
-}
-
-/// Returns why there is no store, if there is none, and the connection.
-fn given_back<'a, F: Drop>(
-    made: Result<TrialStore<'a>, NotOpened<F, TrialFiles<'a>>>,
-) -> (Option<F>, TrialConnection<'a>) {
-    match made {
-        Ok(store) => (None, store.into_connection()),
-        Err(NotOpened { fault, connection }) => (Some(fault), connection),
+        Ok(store) => {
+            let mut desk = Desk::new(store);
+            let text = Some(seen(rt.alloc(), &mut desk).expect(rt, "memory"));
+            let _left = left_of(rt, desk.into_keeper().into_connection());
+            Sight {
+                is_current: true,
+                text,
+            }
+        }
+        Err(NotOpened { fault, connection }) => {
+            let text = if fault == OpenFault::OtherVersion {
+                Some(shown_upgraded(rt, connection))
+            } else {
+                let _left = left_of(rt, connection);
+                assert_eq!(rt; fault, OpenFault::NotPortal);
+                None
+            };
+            Sight {
+                is_current: false,
+                text,
+            }
+        }
     }
 }
 
@@ -232,9 +188,15 @@ fn makes<'a>(
     conn: TrialConnection<'a>,
 ) -> (bool, TrialConnection<'a>) {
     assert!(rt; conn.is_autocommit());
-    let made = Store::create(rt.alloc(), conn, new_office_code(rt));
-    let (fault, conn) = given_back(made);
-    (fault.is_none(), conn)
+    match Store::create(rt.alloc(), conn, new_office_code(rt)) {
+        Ok(store) => (true, store.into_connection()),
+        Err(
+            NotOpened {
+                fault: _,
+                connection,
+            },
+        ) => (false, connection),
+    }
 }
 
 /// Upgrades tables of version 1. Returns whether that succeeded, and the connection.
@@ -243,20 +205,30 @@ fn upgrades<'a>(
     conn: TrialConnection<'a>,
 ) -> (bool, TrialConnection<'a>) {
     assert!(rt; conn.is_autocommit());
-    let (fault, conn) = given_back(Store::upgrade(rt.alloc(), conn));
-    assert!(rt; fault.is_none() || fault == Some(UpgradeFault::Store));
-    (fault.is_none(), conn)
+    match Store::upgrade(rt.alloc(), conn) {
+        Ok(store) => (true, store.into_connection()),
+        Err(NotOpened { fault, connection }) => {
+            assert!(rt; fault == UpgradeFault::Store);
+            (false, connection)
+        }
+    }
 }
 
 /// Opens the portal in the files, and returns a desk over it.
 pub(crate) fn desk_over<'a>(
     rt: &(impl Abort + AllocGlobal),
-    image: &Image,
-    plan: &'a Plan,
-) -> TrialDesk<'a> {
-    let conn = connected(rt, image, plan, TIGHT);
+    conn: TrialConnection<'a>,
+) -> Desk<Store<FileStore<Trial<'a, Memory>>>> {
     assert!(rt; conn.is_autocommit());
-    Desk::new(store_of(rt, Store::open(rt.alloc(), conn)))
+    match Store::open(rt.alloc(), conn) {
+        Ok(store) => Desk::new(store),
+        Err(
+            NotOpened {
+                fault: _,
+                connection: _,
+            },
+        ) => panic!(rt; "a portal"),
+    }
 }
 
 /// The line that creates the portal.
@@ -265,19 +237,14 @@ pub(crate) const INIT: &str = "office  init";
 /// The line that upgrades tables of version 1.
 const UPGRADE: &str = "office  upgrade";
 
-/// Files, and what they show.
+/// A change of files, and what they show before and after it.
 #[derive(Drop)]
-struct Stage {
-    image: Image,
-    sight: Sight,
-}
-
-/// A change of files, with the files before and after it.
-#[derive(Clone, Copy)]
-struct Case<'a> {
-    before: &'a Stage,
-    after: &'a Stage,
-    line: &'a Line<'a>,
+struct Case {
+    before: Image,
+    /// The line of the change.
+    text: String,
+    shown_before: Sight,
+    shown_after: Sight,
 }
 
 /// Tries the change, with a fault after `calls` calls. Returns whether the change was reported as
@@ -289,27 +256,25 @@ fn tried<'a>(
     plan: &'a Plan,
     calls: u64,
 ) -> (bool, TrialConnection<'a>) {
-    if line.method != "init" && line.method != "upgrade" {
-        let mut desk = desk_over(rt, before, plan);
-        plan.arm(calls);
-        let is_done = is_done(rt, &mut desk, line);
-        return (is_done, desk.into_keeper().into_connection());
-    }
     let conn = connected(rt, before, plan, TIGHT);
-    plan.arm(calls);
-    if line.method == "init" {
-        makes(rt, conn)
-    } else {
-        upgrades(rt, conn)
+    match line.method {
+        "init" => {
+            plan.arm(calls);
+            makes(rt, conn)
+        }
+        "upgrade" => {
+            plan.arm(calls);
+            upgrades(rt, conn)
+        }
+        _ => {
+            let mut desk = desk_over(rt, conn);
+            plan.arm(calls);
+            let reply = ask(rt.alloc(), &mut desk, line).expect(rt, "memory");
+            let is_done = reply.starts_with(b"HTTP/1.1 200");
+            assert!(rt; is_done || reply.starts_with(b"HTTP/1.1 503"));
+            (is_done, desk.into_keeper().into_connection())
+        }
     }
-}
-
-/// Sends the line's request. Returns whether the change was reported as done.
-fn is_done(rt: &(impl Abort + AllocGlobal), desk: &mut TrialDesk<'_>, line: &Line) -> bool {
-    let reply = ask(rt.alloc(), desk, line).expect(rt, "memory");
-    let is_done = reply.starts_with(b"HTTP/1.1 200");
-    assert!(rt; is_done || reply.starts_with(b"HTTP/1.1 503"));
-    is_done
 }
 
 /// Makes the change without a fault. Returns the files as they are before closing writes to them.
@@ -318,49 +283,51 @@ fn done(rt: &(impl Abort + AllocGlobal), before: &Image, line: &Line) -> Image {
     let (is_done, conn) = tried(rt, before, line, &plan, u64::MAX);
     assert!(rt; is_done);
     plan.arm(0);
-    written_of(rt, conn)
+    left_of(rt, conn).0
 }
 
 /// Checks that the files show the portal before or after the change. If the change was reported as
 /// done, they show the one after.
-fn is_one_of_two(rt: &(impl Abort + AllocGlobal), case: Case<'_>, image: &Image, is_done: bool) {
+fn is_one_of_two(rt: &(impl Abort + AllocGlobal), case: &Case, image: &Image, is_done: bool) {
     let found = shown(rt, image);
-    let is_after = found == case.after.sight;
-    assert!(rt; is_after || (!is_done && found == case.before.sight));
+    let is_after = found == case.shown_after;
+    assert!(rt; is_after || (!is_done && found == case.shown_before));
 }
 
-/// Opens the files again as they are, and in each of the ways that a crash may leave them.
+/// Opens the files again in each of the ways that a crash may leave them.
 fn survives_crashes(
     rt: &(impl Abort + AllocGlobal),
-    case: Case<'_>,
-    conn: TrialConnection<'_>,
+    case: &Case,
+    written: &Image,
+    safe: &Image,
     is_done: bool,
 ) {
-    let (written, safe) = left_of(rt, conn);
-    is_one_of_two(rt, case, &written, is_done);
-    if written.log != safe.log || written.db != safe.db {
-        for way in 1..7 {
-            let image = left_image(rt, way, &written, &safe);
-            is_one_of_two(rt, case, &image, is_done);
-        }
+    for way in 1..7 {
+        let image = left_image(rt, way, written, safe);
+        is_one_of_two(rt, case, &image, is_done);
     }
 }
 
 /// Tries the change, with a fault after `calls` calls. Opens the files again as they are, and as a
 /// crash may leave them. Returns whether the fault occurred.
-fn survives(rt: &(impl Abort + AllocGlobal), case: Case<'_>, fault: Fault, calls: u64) -> bool {
+fn survives(rt: &(impl Abort + AllocGlobal), case: &Case, fault: Fault, calls: u64) -> bool {
     let plan = Plan::new(fault);
-    let (is_done, conn) = tried(rt, &case.before.image, case.line, &plan, calls);
+    let line = Line::new(case.text.as_str());
+    let (is_done, conn) = tried(rt, &case.before, &line, &plan, calls);
     let came = plan.came();
     if !came {
         plan.arm(if fault == Fault::Stop { 0 } else { u64::MAX });
     }
-    survives_crashes(rt, case, conn, is_done);
+    let (written, safe) = left_of(rt, conn);
+    is_one_of_two(rt, case, &written, is_done);
+    if written.log != safe.log || written.db != safe.db {
+        survives_crashes(rt, case, &written, &safe, is_done);
+    }
     came
 }
 
 /// Lets the fault occur at each call in turn, and returns how often it occurred.
-fn faults_of(rt: &(impl Abort + AllocGlobal), case: Case<'_>, fault: Fault) -> u64 {
+fn faults_of(rt: &(impl Abort + AllocGlobal), case: &Case, fault: Fault) -> u64 {
     for calls in 0..10_000 {
         if !survives(rt, case, fault, calls) {
             return calls;
@@ -371,16 +338,19 @@ fn faults_of(rt: &(impl Abort + AllocGlobal), case: Case<'_>, fault: Fault) -> u
 
 /// Returns the files of an empty database.
 pub(crate) fn blank(rt: &(impl Abort + AllocGlobal)) -> Image {
-    let (log, db) = (Vec::new(rt.alloc()), Vec::new(rt.alloc()));
+    let empty = Image {
+        log: Vec::new(rt.alloc()),
+        db: Vec::new(rt.alloc()),
+    };
     let plan = Plan::new(Fault::Stop);
-    written_of(rt, connected(rt, &Image { log, db }, &plan, TIGHT))
+    left_of(rt, connected(rt, &empty, &plan, TIGHT)).0
 }
 
 /// Returns the files after these changes.
 fn after(rt: &(impl Abort + AllocGlobal), before: Image, script: &str) -> Image {
     let mut image = before;
-    for line in &lines(rt.alloc(), script).expect(rt, "memory") {
-        image = done(rt, &image, line);
+    for line in lines(rt.alloc(), script).expect(rt, "memory") {
+        image = done(rt, &image, &line);
     }
     image
 }
@@ -394,39 +364,36 @@ pub(crate) fn files_after(rt: &(impl Abort + AllocGlobal), played: &[&str]) -> I
     image
 }
 
-fn stage_of(rt: &(impl Abort + AllocGlobal), image: Image) -> Stage {
-    let sight = shown(rt, &image);
-    Stage { image, sight }
-}
-
-/// Lets the fault occur at each call of the change, and adds how often it occurred to the count.
-/// Returns the files after the change.
-fn stage_after(
+/// Returns the case of a change of these files, and the files after it.
+fn case_of(
     rt: &(impl Abort + AllocGlobal),
-    fault: Fault,
-    before: &Stage,
+    before: Image,
+    shown_before: Sight,
     line: &Line,
-    count: &mut u64,
-) -> Stage {
-    let stage = stage_of(rt, done(rt, &before.image, line));
-    let after = &stage;
-    assert!(rt; after.sight != before.sight);
+) -> (Case, Image) {
+    let after = done(rt, &before, line);
+    let shown_after = shown(rt, &after);
+    assert!(rt; shown_after != shown_before);
     let case = Case {
         before,
-        after,
-        line,
+        text: line.text.to_string(rt.alloc()).expect(rt, "memory"),
+        shown_before,
+        shown_after,
     };
-    *count = count.saturating_add(faults_of(rt, case, fault));
-    stage
+    (case, after)
 }
 
 /// Lets the fault occur at each call of each change, and returns how often it occurred in all.
 fn meets(rt: &(impl Abort + AllocGlobal), fault: Fault, before: Image, scripts: &[&str]) -> u64 {
-    let mut stage = stage_of(rt, before);
+    let mut shown_before = shown(rt, &before);
+    let mut image = before;
     let mut count = 0u64;
     let script = scripts.concat(rt.alloc()).expect(rt, "memory");
-    for line in &lines(rt.alloc(), script.as_str()).expect(rt, "memory") {
-        stage = stage_after(rt, fault, &stage, line, &mut count);
+    for line in lines(rt.alloc(), script.as_str()).expect(rt, "memory") {
+        let (case, after) = case_of(rt, image, shown_before, &line);
+        count = count.saturating_add(faults_of(rt, &case, fault));
+        shown_before = case.shown_after;
+        image = after;
     }
     count
 }
@@ -524,20 +491,15 @@ fn earlier(rt: &(impl Abort + AllocGlobal)) -> Image {
     let plan = Plan::new(Fault::Stop);
     let mut conn = connected(rt, &blank(rt), &plan, TIGHT);
     run_all(&mut conn, IN_PUBLISHED).expect(rt, "statements");
-    written_of(rt, conn)
-}
-
-/// Checks that an upgrade keeps the world.
-fn is_kept(rt: &(impl Abort + AllocGlobal), before: &Image) {
-    let found = shown(rt, before);
-    let after = shown(rt, &done(rt, before, &Line::new(UPGRADE)));
-    assert!(rt; !found.is_current && after.is_current && found.text == after.text);
+    left_of(rt, conn).0
 }
 
 /// Checks that the fault occurs at least `least` times in an upgrade, which keeps the world.
 fn comes_in_an_upgrade(rt: &(impl Abort + AllocGlobal), fault: Fault, least: u64) {
     let before = earlier(rt);
-    is_kept(rt, &before);
+    let found = shown(rt, &before);
+    let after = shown(rt, &done(rt, &before, &Line::new(UPGRADE)));
+    assert!(rt; !found.is_current && after.is_current && found.text == after.text);
     let count = meets(rt, fault, before, &[UPGRADE]);
     assert!(rt; count >= least, "{count} times");
 }
@@ -578,39 +540,30 @@ pub(crate) fn stopped<K: Keeper>(
     (cause, sink.into_inner())
 }
 
-/// Checks that the reply to the line is 503, that serving stops with a fault of the store, and that
-/// the desk has failed.
-fn is_dead<K: Keeper>(rt: &(impl Abort + AllocGlobal), desk: &mut Desk<K>, line: &Line) {
-    let (cause, reply) = stopped(rt, desk, line);
-    assert_eq!(rt; cause, Some(Cause::Store));
-    assert!(rt; reply.starts_with(b"HTTP/1.1 503"));
-    assert!(rt; desk.failed());
-}
-
-/// Checks this for each line of the scripts.
-fn are_dead<K: Keeper>(rt: &(impl Abort + AllocGlobal), desk: &mut Desk<K>, scripts: &[&str]) {
-    for script in scripts {
-        for line in &lines(rt.alloc(), script).expect(rt, "memory") {
-            is_dead(rt, desk, line);
-        }
+/// Checks that the reply to each line is 503, that serving stops with a fault of the store, and
+/// that the desk has failed.
+fn is_dead<K: Keeper>(rt: &(impl Abort + AllocGlobal), desk: &mut Desk<K>, script: &str) {
+    for line in lines(rt.alloc(), script).expect(rt, "memory") {
+        let (cause, reply) = stopped(rt, desk, &line);
+        assert_eq!(rt; cause, Some(Cause::Store));
+        assert!(rt; reply.starts_with(b"HTTP/1.1 503"));
+        assert!(rt; desk.failed());
     }
-}
-
-/// Checks that the desk answers without a fault.
-fn is_live<K: Keeper>(rt: &(impl Abort + AllocGlobal), desk: &mut Desk<K>) {
-    let (cause, _) = stopped(rt, desk, &Line::new("office  GET /status"));
-    assert_eq!(rt; cause, None);
-    assert!(rt; !desk.failed());
 }
 
 /// Lets the disk fail at a change after these scripts, and checks that the desk then serves nobody.
 pub(crate) fn dies(rt: &(impl Abort + AllocGlobal), fault: Fault, played: &[&str], change: &str) {
+    let image = files_after(rt, played);
     let plan = Plan::new(fault);
-    let mut desk = desk_over(rt, &files_after(rt, played), &plan);
-    is_live(rt, &mut desk);
+    let mut desk = desk_over(rt, connected(rt, &image, &plan, TIGHT));
+    let (cause, _) = stopped(rt, &mut desk, &Line::new("office  GET /status"));
+    assert_eq!(rt; cause, None);
+    assert!(rt; !desk.failed());
     plan.arm(0);
-    are_dead(rt, &mut desk, &[change, SEEN, change]);
-    close(desk.into_keeper());
+    is_dead(rt, &mut desk, change);
+    is_dead(rt, &mut desk, SEEN);
+    is_dead(rt, &mut desk, change);
+    let _left = left_of(rt, desk.into_keeper().into_connection());
 }
 
 #[test]
