@@ -11,6 +11,7 @@ mod fills;
 mod fit;
 mod from_rows;
 mod good;
+mod grow;
 mod instance;
 mod keeper;
 mod keyed;

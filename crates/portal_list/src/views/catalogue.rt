@@ -6,6 +6,7 @@ ghost use Rattle.portal_core.specs.declared.rows.LecturerRow as rows;
 ghost use Rattle.portal_list.specs.inner.Shown.{name_of, offered, catalogue_in};
 
 use crate::entries::{Entries, LecturerEntry};
+use crate::grow::push_some;
 use crate::played::played;
 use portal_core::{LecturerRow, Listing, Name, ProjectRow, Round};
 use spa_rows::Key;
@@ -79,9 +80,7 @@ pub fn listings_of<L: HasLecturerRow>(
 {
     let mut found = Vec::with_capacity(alloc, projects.len())?;
     for project in projects {
-        if let Some(listing) = listing_among(alloc, lecturers, project)? {
-            found.push(listing)?;
-        }
+        push_some(&mut found, listing_among(alloc, lecturers, project)?)?;
     }
     Ok(found)
 }

@@ -4,6 +4,7 @@ ghost use Rattle.std.specs.Prelude.{◌≡◌, IfOk, option_map};
 ghost use Rattle.portal_core.specs.World.{shown_placement, pairs_with};
 
 use crate::entries::StudentEntry;
+use crate::grow::push_some;
 use portal_core::Phase;
 use spa_rows::Key;
 use std::alloc::{AllocError, Global};
@@ -46,9 +47,7 @@ pub(super) fn pairs_of(
 {
     let mut pairs = Vec::new(alloc);
     for student in students {
-        if let Some(pair) = pair_of(alloc, phase, student)? {
-            pairs.push(pair)?;
-        }
+        push_some(&mut pairs, pair_of(alloc, phase, student)?)?;
     }
     Ok(pairs)
 }
