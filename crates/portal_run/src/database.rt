@@ -11,14 +11,12 @@ use std::alloc::Global;
 use std::fs;
 use std::io::ErrorKind;
 
-/// A store over a database in a file.
-pub(crate) type InFile = Store<FileStore<File>>;
-
-/// A desk over a database in a file.
-pub(crate) type FileDesk = Desk<InFile>;
+/// A connection to a database in a file. Only functions that connect or close have one: all others
+/// are generic over the store of tables, because proofs over `FileStore` are slow.
+pub(crate) type FileConnection = Connection<FileStore<File>>;
 
 /// Connects to a database file, which is created if it does not exist.
-pub(crate) fn connect(rt: &HostRuntime, path: &str) -> Result<Connection<FileStore<File>>, Refusal>
+pub(crate) fn connect(rt: &HostRuntime, path: &str) -> Result<FileConnection, Refusal>
     ensures idle { IfOk result (λ conn. conn.in_transaction ≡ false) }
     ensures fault { IfErr result (λ why. status_of why ≡ 3) }
 {
@@ -38,10 +36,7 @@ fn is_missing(rt: &HostRuntime, path: &str) -> bool {
 }
 
 /// Connects to an existing database file. A missing file is refused as `NotPortal`, not created.
-pub(crate) fn connect_there(
-    rt: &HostRuntime,
-    path: &str,
-) -> Result<Connection<FileStore<File>>, Refusal>
+pub(crate) fn connect_there(rt: &HostRuntime, path: &str) -> Result<FileConnection, Refusal>
     ensures idle { IfOk result (λ conn. conn.in_transaction ≡ false) }
     ensures refused { IfErr result (λ why. (why ≡ Refusal.NotPortal) ⊎ (status_of why ≡ 3)) }
 {
@@ -52,7 +47,10 @@ pub(crate) fn connect_there(
 }
 
 /// Opens the store of a connection, and makes a desk over it.
-fn desk_over<S: Alter + Drop>(alloc: Global, conn: Connection<S>) -> Result<Desk<Store<S>>, Refusal>
+pub(crate) fn desk_over<S: Alter + Drop>(
+    alloc: Global,
+    conn: Connection<S>,
+) -> Result<Desk<Store<S>>, Refusal>
     requires { conn.in_transaction ≡ false }
 {
     match Store::open(alloc, conn) {
@@ -66,13 +64,7 @@ fn desk_over<S: Alter + Drop>(alloc: Global, conn: Connection<S>) -> Result<Desk
     }
 }
 
-/// Opens the database in an existing file, and makes a desk over it.
-pub(crate) fn open(rt: &HostRuntime, path: &str) -> Result<FileDesk, Refusal> {
-    let conn = connect_there(rt, path)?;
-    desk_over(rt.alloc(), conn)
-}
-
-/// Closes the database of a store. Committed changes last even if closing fails.
-pub(crate) fn close(store: InFile) {
-    let _ = store.into_connection().close();
+/// Closes a database. Committed changes last even if closing fails.
+pub(crate) fn close(conn: FileConnection) {
+    let _ = conn.close();
 }

@@ -2,15 +2,15 @@
 
 ghost use Rattle.std.specs.Prelude.{◌<◌, ◌≡◌, ◌≤◌, false};
 ghost use Rattle.sqlite.specs.Files.{over_files};
-ghost use Rattle.portal_run.specs.Run.{ConsumesAtMost, SaysAnswer, SaysUpgrade};
+ghost use Rattle.portal_run.specs.Run.{Answers, ConsumesAtMost, SaysUpgrade};
 
-use crate::database::{close, connect, connect_there};
+use crate::database::{FileConnection, close, connect, connect_there};
 use crate::input::{InputFault, first_bytes};
 use crate::output::{say, say_memory, say_read};
 use crate::refusal::{Refusal, not_made, refuse, say_done, say_upgrade};
 use portal_core::{Code, CodeFault};
-use portal_store::{NotOpened, Store};
-use sqlite::{Connection, File, FileStore};
+use portal_store::{NotOpened, Store, UpgradeFault};
+use sqlite::{Alter, Connection, File, FileStore};
 use sqlite_trees::store::Store as Tables;
 use std::alloc::Global;
 use std::io::{Read, Write};
@@ -61,14 +61,16 @@ fn code_of<R: Read>(alloc: Global, reader: &mut R) -> Result<Code, NoCode>
     }
 }
 
-/// Creates the portal's tables in a database file.
-fn create(rt: &HostRuntime, path: &str, office: Code) -> Result<(), Refusal> {
-    let conn = connect(rt, path)?;
-    match Store::create(rt.alloc(), conn, office) {
-        Ok(store) => {
-            close(store);
-            Ok(())
-        }
+/// Creates the portal's tables in the database of a connection, and returns the connection.
+fn create_over<S: Alter + Drop>(
+    alloc: Global,
+    conn: Connection<S>,
+    office: Code,
+) -> Result<Connection<S>, Refusal>
+    requires { conn.in_transaction ≡ false }
+{
+    match Store::create(alloc, conn, office) {
+        Ok(store) => Ok(store.into_connection()),
         Err(
             NotOpened {
                 fault,
@@ -76,6 +78,13 @@ fn create(rt: &HostRuntime, path: &str, office: Code) -> Result<(), Refusal> {
             },
         ) => Err(not_made(fault)),
     }
+}
+
+/// Creates the portal's tables in a database file.
+fn create(rt: &HostRuntime, path: &str, office: Code) -> Result<(), Refusal> {
+    let conn = connect(rt, path)?;
+    close(create_over(rt.alloc(), conn, office)?);
+    Ok(())
 }
 
 /// Creates the database in a file; the office's code is the first line of the input. A bad code is
@@ -97,35 +106,42 @@ pub(crate) fn init<R: Read, W: Write>(
     }
 }
 
-/// Upgrades the database of a connection, and reports success or the fault.
-fn upgrade_opened<W: Write>(alloc: Global, conn: Connection<FileStore<File>>, writer: &mut W) -> u8
+/// Upgrades the database of a connection. Returns the fault, if there is one, and the connection.
+fn upgrade_over<S: Alter + Drop>(
+    alloc: Global,
+    conn: Connection<S>,
+) -> (Option<UpgradeFault>, Connection<S>)
     requires { conn.in_transaction ≡ false }
-    ensures bound { result ≤ 3 }
-    ensures says { result < 3 → SaysAnswer over_files conn result (W.contents writer.old)
-        (W.contents writer.new) }
+    ensures { Answers S.Store result.0 conn result.1 }
 {
     match Store::upgrade(alloc, conn) {
-        Ok(store) => {
-            close(store);
-            say_upgrade(writer, None)
-        }
-        Err(
-            NotOpened {
-                fault,
-                connection: _,
-            },
-        ) => say_upgrade(writer, Some(fault)),
+        Ok(store) => (None, store.into_connection()),
+        Err(NotOpened { fault, connection }) => (Some(fault), connection),
     }
 }
 
-/// Upgrades the database in an existing file from version 1 to version 2.
+/// Upgrades the database of a connection to a file, and closes it. Returns the fault, if there is
+/// one.
+fn upgrade_closing(alloc: Global, conn: FileConnection) -> Option<UpgradeFault>
+    requires { conn.in_transaction ≡ false }
+    ensures { (left : _) × Answers over_files result conn left }
+{
+    let (refused, conn) = upgrade_over(alloc, conn);
+    close(conn);
+    refused
+}
+
+/// Upgrades the database in an existing file from version 1 to version 2, and reports the outcome.
 pub(crate) fn upgrade_database<W: Write>(rt: &HostRuntime, path: &str, writer: &mut W) -> u8
     ensures bound { result ≤ 3 }
     ensures says { result < 3 → SaysUpgrade ⟦<FileStore<File> as Tables>⟧ result
         (W.contents writer.old) (W.contents writer.new) }
 {
     match connect_there(rt, path) {
-        Ok(conn) => upgrade_opened(rt.alloc(), conn, writer),
+        Ok(conn) => {
+            let refused = upgrade_closing(rt.alloc(), conn);
+            say_upgrade(writer, refused)
+        }
         Err(why) => refuse(writer, why),
     }
 }
