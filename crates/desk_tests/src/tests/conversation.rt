@@ -98,24 +98,17 @@ impl Stream {
         if left == 0 {
             return (Ending::End, "");
         }
-        match self.asked.get(whole) {
-            Some(asked) => ending_in(asked.0, left, (Ending::Refused("bad_length"), BAD_LENGTH)),
-            None => ending_in(self.head, left, (self.ending(), self.closing)),
+        let (head, is_whole) = match self.asked.get(whole) {
+            Some((head, _, _)) => (*head, false),
+            None => (self.head, true),
+        };
+        if left < head.len() {
+            (Ending::Refused("bad_head"), BAD_HEAD)
+        } else if is_whole {
+            (self.ending(), self.closing)
+        } else {
+            (Ending::Refused("bad_length"), BAD_LENGTH)
         }
-    }
-}
-
-/// Returns the ending and the last reply if the input ends after `left` bytes: in this head, or
-/// behind it.
-fn ending_in(
-    head: &str,
-    left: usize,
-    behind: (Ending, &'static str),
-) -> (Ending, &'static str) {
-    if left < head.len() {
-        (Ending::Refused("bad_head"), BAD_HEAD)
-    } else {
-        behind
     }
 }
 
@@ -129,7 +122,6 @@ fn replies_to(rt: &(impl Abort + AllocGlobal), all: &[Asked]) -> Vec<u8> {
 
 /// Appends a text.
 pub(crate) fn put(rt: &impl Abort, bytes: &mut Vec<u8>, text: &str) {
-    bytes
-        .extend_from_slice(text.as_bytes())
-        .expect(rt, "memory");
+    let text = text.as_bytes();
+    bytes.extend_from_slice(text).expect(rt, "memory");
 }

@@ -3,9 +3,7 @@
 ghost use Rattle.std.specs.Prelude.{Some};
 
 use portal_core::Keeper;
-use portal_desk::{
-    Cause, Counted, Desk, Ending, Failed, ServeFault, Served, Sink, Source,
-};
+use portal_desk::{Cause, Counted, Desk, Ending, Failed, ServeFault, Served, Sink, Source};
 use portal_list::ListKeeper;
 use std::alloc::Global;
 use std::io::{Read, Write};
@@ -107,7 +105,6 @@ impl Basin {
         }
     }
 
-    /// Returns the bytes that were accepted.
     fn into_held(self) -> Vec<u8> {
         let Basin { held, .. } = self;
         held
@@ -146,12 +143,12 @@ impl Sink for Basin {
 pub(crate) type Outcome = Result<Served, ServeFault>;
 
 pub(crate) fn ended(ending: Ending, requests: usize) -> Outcome {
-    let requests = requests as u32;
+    let requests = requests.min(1_000) as u32;
     Ok(Served { requests, ending })
 }
 
 pub(crate) fn stopped(cause: Cause, requests: usize) -> Outcome {
-    let requests = requests as u32;
+    let requests = requests.min(1_000) as u32;
     Err(ServeFault { cause, requests })
 }
 

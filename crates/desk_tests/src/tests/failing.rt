@@ -5,11 +5,10 @@ ghost use Rattle.portal_core.specs.Meaning.{CountsFaults};
 
 use crate::tests::conversation::put;
 use crate::tests::devices::{is_text, served_by, stopped};
-use crate::tests::portal::{
-    NO_CALLER, fresh_keeper, published, ranked_again, ranking_again, reopened, request,
-};
+use crate::tests::portal::{NO_CALLER, after, fresh_keeper, request};
 use portal_core::{Change, KeepFault, Keeper, View};
 use portal_desk::{Cause, Counted, Desk};
+use portal_fixtures::worked::{FIRST_ROUND, RANKED_AGAIN, RANKING_AGAIN, REOPENED};
 use portal_list::ListKeeper;
 use spa_model::Instance;
 use std::alloc::Global;
@@ -95,36 +94,45 @@ fn fails(
 
 #[test]
 fn the_desk_has_failed_from_then_on(rt: HostRuntime) {
-    let mut desk = Desk::new(Failing::new(&rt, fresh_keeper(&rt), 1));
     let mut both = Vec::new(rt.alloc());
     put(&rt, &mut both, NO_CALLER);
     put(&rt, &mut both, LOST);
+    let mut desk = Desk::new(Failing::new(&rt, fresh_keeper(&rt), 1));
     fails(&rt, &mut desk, TWO, 2, both.as_slice());
     fails(&rt, &mut desk, TWO, 1, LOST.as_bytes());
 }
 
-/// Checks that a change fails with a fault of the store, and that the desk then stays failed.
-fn is_lost(rt: &(impl Abort + AllocGlobal), desk: Desk<ListKeeper>, line: &str) {
+/// Checks that a change after these scripts fails with a fault of the store, and that the desk then
+/// stays failed.
+fn is_lost(rt: &(impl Abort + AllocGlobal), scripts: &[&str], line: &str) {
     let asked = request(rt, line);
-    let mut failing = Desk::new(Failing::new(rt, desk.into_keeper(), u32::MAX));
-    fails(rt, &mut failing, asked.as_str(), 1, LOST.as_bytes());
-    fails(rt, &mut failing, TWO, 1, LOST.as_bytes());
+    let mut desk = Desk::new(Failing::new(rt, after(rt, scripts).into_keeper(), u32::MAX));
+    fails(rt, &mut desk, asked.as_str(), 1, LOST.as_bytes());
+    fails(rt, &mut desk, TWO, 1, LOST.as_bytes());
 }
 
 #[test]
 fn each_change_of_the_second_round_is_lost(rt: HostRuntime) {
-    let opening = r#"office  POST /phase {"phase":"choosing","round":2}"#;
-    is_lost(&rt, published(&rt), opening);
-    let list = r#"cyr  PUT /choices {"projects":["P3"]}"#;
-    is_lost(&rt, reopened(&rt), list);
-    let ranking = r#"moe  PUT /ranking {"students":["S3"]}"#;
-    is_lost(&rt, ranking_again(&rt), ranking);
-    is_lost(&rt, ranking_again(&rt), "office  POST /ranking/fill {}");
+    is_lost(
+        &rt,
+        FIRST_ROUND,
+        r#"office  POST /phase {"phase":"choosing","round":2}"#,
+    );
+    is_lost(&rt, REOPENED, r#"cyr  PUT /choices {"projects":["P3"]}"#);
+    is_lost(
+        &rt,
+        RANKING_AGAIN,
+        r#"moe  PUT /ranking {"students":["S3"]}"#,
+    );
+    is_lost(&rt, RANKING_AGAIN, "office  POST /ranking/fill {}");
 }
 
 /// The publication fails because the keeper returns no instance.
 #[test]
 fn the_second_publication_is_lost(rt: HostRuntime) {
-    let publication = r#"office  POST /phase {"phase":"published"}"#;
-    is_lost(&rt, ranked_again(&rt), publication);
+    is_lost(
+        &rt,
+        RANKED_AGAIN,
+        r#"office  POST /phase {"phase":"published"}"#,
+    );
 }

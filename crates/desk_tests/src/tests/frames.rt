@@ -1,36 +1,38 @@
 //! Tests framing by examples.
 
 use portal_fixtures::{cut, unescaped};
-use portal_frame::{Frame, frame};
+use portal_frame::{Frame, Refusal, Request, frame};
 use std::process::Abort;
 
 /// Describes in short what framing finds in the bytes.
-fn told(rt: &(impl Abort + AllocGlobal), bytes: &str, ended: bool) -> String {
-    let alloc = rt.alloc();
-    match frame(alloc, bytes.as_bytes(), ended).expect(rt, "memory") {
-        Frame::Need => format!(in alloc; "need").expect(rt, "memory"),
-        Frame::End => format!(in alloc; "end").expect(rt, "memory"),
-        Frame::Request(request, used) => {
-            format!(in alloc;
-                "request {} {} {} {} {used}",
-                request.path.len(),
-                request.code.len(),
-                request.close,
-                request.body.len()
-            )
-            .expect(rt, "memory")
-        }
-        Frame::Bad { refusal, head_only } => {
-            format!(in alloc; "{} {} {}", refusal.status, refusal.word, head_only).expect(
-                rt, "memory",
-            )
-        }
+fn told(rt: &(impl Abort + AllocGlobal), bytes: &[u8], ended: bool) -> String {
+    match frame(rt.alloc(), bytes, ended).expect(rt, "memory") {
+        Frame::Need => "need".to_string(rt.alloc()).expect(rt, "memory"),
+        Frame::End => "end".to_string(rt.alloc()).expect(rt, "memory"),
+        Frame::Request(request, used) => told_request(rt, &request, used),
+        Frame::Bad { refusal, head_only } => told_refusal(rt, &refusal, head_only),
     }
 }
 
-pub(crate) fn is(rt: &(impl Abort + AllocGlobal), bytes: &str, ended: bool, wanted: &str) {
+fn told_request(rt: &(impl Abort + AllocGlobal), request: &Request, used: usize) -> String {
+    let (path, code, body) = (request.path.len(), request.code.len(), request.body.len());
+    let text = format!(in rt.alloc(); "request {path} {code} {} {body} {used}", request.close);
+    text.expect(rt, "memory")
+}
+
+fn told_refusal(rt: &(impl Abort + AllocGlobal), refusal: &Refusal, head_only: bool) -> String {
+    let text = format!(in rt.alloc(); "{} {} {head_only}", refusal.status, refusal.word);
+    text.expect(rt, "memory")
+}
+
+/// Checks what framing finds in the bytes. `ended` says whether the input ends after them.
+pub(crate) fn finds(rt: &(impl Abort + AllocGlobal), bytes: &[u8], ended: bool, wanted: &str) {
     let text = told(rt, bytes, ended);
     assert_eq!(rt; text.as_str(), wanted);
+}
+
+pub(crate) fn is(rt: &(impl Abort + AllocGlobal), bytes: &str, ended: bool, wanted: &str) {
+    finds(rt, bytes.as_bytes(), ended, wanted);
 }
 
 /// Each row says whether the input has ended, what framing finds, and the bytes.
@@ -63,11 +65,15 @@ open   400 bad_head false      GET /me HTTP/1.1\na:\na:\na:\na:\na:\na:\na:\na:\
 /// Checks that framing finds what each row says.
 fn are(rt: &(impl Abort + AllocGlobal), rows: &str) {
     for row in rows.lines().skip(1) {
-        let (input, rest) = cut(row, "  ");
-        let (wanted, bytes) = cut(rest.trim_start(), "  ");
-        let bytes = unescaped(rt.alloc(), bytes.trim_start()).expect(rt, "memory");
-        is(rt, bytes.as_str(), input == "ended", wanted);
+        is_row(rt, row);
     }
+}
+
+fn is_row(rt: &(impl Abort + AllocGlobal), row: &str) {
+    let (input, rest) = cut(row, "  ");
+    let (wanted, bytes) = cut(rest.trim_start(), "  ");
+    let bytes = unescaped(rt.alloc(), bytes.trim_start()).expect(rt, "memory");
+    is(rt, bytes.as_str(), input == "ended", wanted);
 }
 
 #[test]

@@ -6,17 +6,25 @@ use portal_desk::Ending;
 use std::process::Abort;
 
 /// Returns a head with a request line, a Host line and `more` further lines.
-fn with_lines(rt: &(impl Abort + AllocGlobal), more: usize) -> String {
-    let lines = "a: b\r\n".repeat(rt.alloc(), more).expect(rt, "memory");
-    let head = format!(in rt.alloc(); "GET /me HTTP/1.1\r\nHost: h\r\n{lines}\r\n");
-    head.expect(rt, "memory")
+fn with_lines(rt: &(impl Abort + AllocGlobal), more: u32) -> String {
+    let opening = "GET /me HTTP/1.1\r\nHost: h\r\n";
+    let mut head = opening.to_string(rt.alloc()).expect(rt, "memory");
+    for _ in 0..more {
+        head.push_str("a: b\r\n").expect(rt, "memory");
+    }
+    head.push_str("\r\n").expect(rt, "memory");
+    head
 }
 
 /// Returns a head with a header value of `length` bytes, followed by `end`.
-fn with_value(rt: &(impl Abort + AllocGlobal), length: usize, end: &str) -> String {
-    let value = "b".repeat(rt.alloc(), length).expect(rt, "memory");
-    let head = format!(in rt.alloc(); "GET /me HTTP/1.1\r\nHost: h\r\na: {value}{end}");
-    head.expect(rt, "memory")
+fn with_value(rt: &(impl Abort + AllocGlobal), length: u32, end: &str) -> String {
+    let opening = "GET /me HTTP/1.1\r\nHost: h\r\na: ";
+    let mut head = opening.to_string(rt.alloc()).expect(rt, "memory");
+    for _ in 0..length {
+        head.push('b').expect(rt, "memory");
+    }
+    head.push_str(end).expect(rt, "memory");
+    head
 }
 
 #[test]

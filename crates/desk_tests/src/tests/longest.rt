@@ -115,20 +115,21 @@ fn fails_writing(
     plays(rt, desk, SHOWS_NONE);
 }
 
-#[test]
-fn writers_fail_at_each_byte(rt: HostRuntime) {
-    let mut desk = choosing(&rt);
-    let bytes = longest(&rt);
+/// Checks writers that fail after each number of bytes. They accept up to `step` bytes a call.
+fn writers_fail(rt: &(impl Abort + AllocGlobal), step: usize) {
+    let mut desk = choosing(rt);
+    let bytes = longest(rt);
     for many in 0..REPLY.len() {
-        fails_writing(&rt, &mut desk, bytes.as_slice(), 1, many);
+        fails_writing(rt, &mut desk, bytes.as_slice(), step, many);
     }
 }
 
 #[test]
+fn writers_fail_at_each_byte(rt: HostRuntime) {
+    writers_fail(&rt, 1);
+}
+
+#[test]
 fn writers_fail_at_each_part(rt: HostRuntime) {
-    let mut desk = choosing(&rt);
-    let bytes = longest(&rt);
-    for many in 0..REPLY.len() {
-        fails_writing(&rt, &mut desk, bytes.as_slice(), usize::MAX, many);
-    }
+    writers_fail(&rt, usize::MAX);
 }

@@ -2,6 +2,7 @@
 
 ghost use Rattle.std.specs.Prelude.{None};
 
+use crate::tests::devices::{ended, is_outcome};
 use crate::tests::portal::fresh_keeper;
 use portal_core::{Change, KeepFault, Keeper, View};
 use portal_desk::{Desk, Ending, Failed, Sink, Source};
@@ -9,6 +10,7 @@ use portal_list::ListKeeper;
 use spa_model::Instance;
 use std::alloc::Global;
 use std::cell::Cell;
+use std::process::Abort;
 
 /// Counts of what was done so far.
 #[derive(Drop)]
@@ -119,17 +121,20 @@ fn a_request_is_answered_before_more_is_read(rt: HostRuntime) {
         kept: fresh_keeper(&rt),
         done: &done,
     });
+    is_in_turn(&rt, &mut desk, &done);
+    assert_eq!(rt; done.bytes.get(), 5 * REPLY);
+}
+
+/// Checks that a desk answers each of five requests before more is read.
+fn is_in_turn(rt: &(impl Abort + AllocGlobal), desk: &mut Desk<Noting<'_>>, done: &Done) {
     let mut source = Watching {
         left: 5,
         given: 0,
-        done: &done,
+        done,
         in_turn: true,
     };
-    let mut sink = Tallying { done: &done };
-    let served = desk.serve(rt.alloc(), &mut source, &mut sink);
-    let served = served.expect(&rt, "served");
-    assert_eq!(rt; served.ending, Ending::End);
-    assert_eq!(rt; served.requests, 5);
+    let mut sink = Tallying { done };
+    let outcome = desk.serve(rt.alloc(), &mut source, &mut sink);
+    is_outcome(rt, outcome, ended(Ending::End, 5), 0);
     assert!(rt; source.in_turn);
-    assert_eq!(rt; done.bytes.get(), 5 * REPLY);
 }

@@ -4,9 +4,7 @@ ghost use Rattle.portal_core.specs.Good.{Good};
 
 use crate::tests::devices::{ended, is_text, served_by};
 use portal_desk::{Counted, Desk, Ending};
-use portal_fixtures::worked::{
-    ENROLLED, FIRST_ROUND, LISTS, PUBLISHED_AGAIN, RANKED_AGAIN, RANKING_AGAIN, REOPENED,
-};
+use portal_fixtures::worked::{ENROLLED, FIRST_ROUND, LISTS, REOPENED};
 use portal_fixtures::{Line, office_code, play};
 use portal_list::ListKeeper;
 use std::process::Abort;
@@ -82,7 +80,7 @@ fn play_all(rt: &(impl Abort + AllocGlobal), desk: &mut Desk<ListKeeper>, script
 }
 
 /// Makes a desk, and plays these scripts on it.
-fn after(rt: &(impl Abort + AllocGlobal), scripts: &[&str]) -> Desk<ListKeeper> {
+pub(crate) fn after(rt: &(impl Abort + AllocGlobal), scripts: &[&str]) -> Desk<ListKeeper> {
     let mut desk = fresh(rt);
     play_all(rt, &mut desk, scripts);
     desk
@@ -106,19 +104,4 @@ pub(crate) fn published(rt: &(impl Abort + AllocGlobal)) -> Desk<ListKeeper> {
 /// Returns a desk in the second round, in choosing.
 pub(crate) fn reopened(rt: &(impl Abort + AllocGlobal)) -> Desk<ListKeeper> {
     after(rt, REOPENED)
-}
-
-/// Returns a desk in the second round, in ranking: S3 chose P3, and L2 is still to rank.
-pub(crate) fn ranking_again(rt: &(impl Abort + AllocGlobal)) -> Desk<ListKeeper> {
-    after(rt, RANKING_AGAIN)
-}
-
-/// Returns a desk in the second round, in ranking, with nobody still to rank.
-pub(crate) fn ranked_again(rt: &(impl Abort + AllocGlobal)) -> Desk<ListKeeper> {
-    after(rt, RANKED_AGAIN)
-}
-
-/// Returns a desk over the published second round: S3 has P3.
-pub(crate) fn published_again(rt: &(impl Abort + AllocGlobal)) -> Desk<ListKeeper> {
-    after(rt, PUBLISHED_AGAIN)
 }

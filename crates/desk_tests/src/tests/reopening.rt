@@ -2,9 +2,10 @@
 
 use crate::tests::conversation::{Asked, Stream};
 use crate::tests::devices::is_text;
-use crate::tests::portal::{plays, published, ranked_again, written};
+use crate::tests::portal::{after, plays, published, written};
 use crate::tests::trials::{ended_at, reader_fails_at, served_cut, writer_fails_at};
 use portal_desk::{Desk, Ending};
+use portal_fixtures::worked::{FIRST_ROUND, RANKED_AGAIN};
 use portal_list::ListKeeper;
 use std::process::Abort;
 
@@ -102,7 +103,11 @@ fn goes_on(rt: &(impl Abort + AllocGlobal), desk: &mut Desk<ListKeeper>, acted: 
     let bytes = ROUND.behind(rt, acted);
     let left = ROUND.requests().saturating_sub(acted);
     let output = written(rt, desk, bytes.as_slice(), Ending::End, left);
-    is_text(rt, output.as_slice(), ROUND.replies_behind(rt, acted).as_slice());
+    is_text(
+        rt,
+        output.as_slice(),
+        ROUND.replies_behind(rt, acted).as_slice(),
+    );
     plays(rt, desk, r#"cyr  GET /result  200 {"project":"P3"}"#);
 }
 
@@ -116,22 +121,30 @@ fn is_played(rt: HostRuntime) {
 fn ends_at_each_place(rt: HostRuntime) {
     let length = ROUND.bytes(&rt).len();
     for many in 0..=length {
-        let mut desk = published(&rt);
-        ended_at(&rt, &mut desk, &ROUND, many);
-        let (whole, _) = ROUND.whole_in(many);
-        goes_on(&rt, &mut desk, whole);
+        ends_at(&rt, many);
     }
+}
+
+fn ends_at(rt: &(impl Abort + AllocGlobal), many: usize) {
+    let mut desk = published(rt);
+    ended_at(rt, &mut desk, &ROUND, many);
+    let (whole, _) = ROUND.whole_in(many);
+    goes_on(rt, &mut desk, whole);
 }
 
 /// Lets readers fail after each number of bytes. They return up to `step` bytes a call.
 fn readers_fail(rt: &(impl Abort + AllocGlobal), step: usize) {
     let length = ROUND.bytes(rt).len();
     for many in 0..=length {
-        let mut desk = published(rt);
-        reader_fails_at(rt, &mut desk, &ROUND, step, many);
-        let (whole, _) = ROUND.whole_in(many);
-        goes_on(rt, &mut desk, whole);
+        reader_fails(rt, step, many);
     }
+}
+
+fn reader_fails(rt: &(impl Abort + AllocGlobal), step: usize, many: usize) {
+    let mut desk = published(rt);
+    reader_fails_at(rt, &mut desk, &ROUND, step, many);
+    let (whole, _) = ROUND.whole_in(many);
+    goes_on(rt, &mut desk, whole);
 }
 
 #[test]
@@ -148,10 +161,14 @@ fn readers_fail_at_each_piece(rt: HostRuntime) {
 fn writers_fail(rt: &(impl Abort + AllocGlobal), step: usize) {
     let length = ROUND.output(rt).len();
     for many in 0..length {
-        let mut desk = published(rt);
-        writer_fails_at(rt, &mut desk, &ROUND, step, many);
-        goes_on(rt, &mut desk, ROUND.acted_at(many));
+        writer_fails(rt, step, many);
     }
+}
+
+fn writer_fails(rt: &(impl Abort + AllocGlobal), step: usize, many: usize) {
+    let mut desk = published(rt);
+    writer_fails_at(rt, &mut desk, &ROUND, step, many);
+    goes_on(rt, &mut desk, ROUND.acted_at(many));
 }
 
 #[test]
@@ -170,38 +187,36 @@ fn is_cut_in_two_places(rt: HostRuntime) {
     let length = ROUND.bytes(&rt).len();
     for first in 1..length {
         for second in [1usize, 50, 150] {
-            let mut desk = published(&rt);
-            served_cut(&rt, &mut desk, &ROUND, first, second);
+            cut_twice(&rt, first, second);
         }
     }
 }
 
+fn cut_twice(rt: &(impl Abort + AllocGlobal), first: usize, second: usize) {
+    let mut desk = published(rt);
+    served_cut(rt, &mut desk, &ROUND, first, second);
+}
+
 /// Checks the stream with a cut at `first` and one at each later place. All runs use one desk: only
 /// the first changes it, since repeated requests change nothing.
-fn cut_at(
-    rt: &(impl Abort + AllocGlobal),
-    desk: &mut Desk<ListKeeper>,
-    stream: &Stream,
-    first: usize,
-) {
+fn cut_at(rt: &(impl Abort + AllocGlobal), scripts: &[&str], stream: &Stream, first: usize) {
+    let mut desk = after(rt, scripts);
     let behind = stream.bytes(rt).len().saturating_sub(first);
     for second in 1..=behind {
-        served_cut(rt, desk, stream, first, second);
+        served_cut(rt, &mut desk, stream, first, second);
     }
 }
 
 #[test]
 fn the_lists_are_cut_at_each_two_places(rt: HostRuntime) {
     for first in 1..LISTS.bytes(&rt).len() {
-        let mut desk = published(&rt);
-        cut_at(&rt, &mut desk, &LISTS, first);
+        cut_at(&rt, FIRST_ROUND, &LISTS, first);
     }
 }
 
 #[test]
 fn the_result_is_cut_at_each_two_places(rt: HostRuntime) {
     for first in 1..RESULT.bytes(&rt).len() {
-        let mut desk = ranked_again(&rt);
-        cut_at(&rt, &mut desk, &RESULT, first);
+        cut_at(&rt, RANKED_AGAIN, &RESULT, first);
     }
 }

@@ -1,20 +1,24 @@
 //! Tests how bytes become requests and calls, and how replies become bytes.
 
+use crate::tests::devices::is_text;
+use crate::tests::frames::finds;
 use crate::tests::portal::{BAD_HEAD, reply};
 use portal_core::{Body, Call, Reply, Round, StudentRow};
 use portal_fixtures::{Line, lines, unescaped};
 use portal_wire::{Frame, Refusal, Request, call_of, frame, reply_bytes, reply_of};
 use serde_json::{Value, json};
 use std::process::Abort;
-use std::test::Fail;
 
 /// A request of 29 bytes.
 const ME: &[u8] = b"GET /me HTTP/1.1\r\nHost: h\r\n\r\n";
 
-/// Returns the request at the beginning of these bytes, and its length.
-fn request(rt: &(impl Abort + AllocGlobal), bytes: &[u8]) -> (Request, usize) {
+/// Returns the request that these bytes are.
+fn request(rt: &(impl Abort + AllocGlobal), bytes: &[u8]) -> Request {
     match frame(rt.alloc(), bytes, false).expect(rt, "memory") {
-        Frame::Request(request, used) => (request, used),
+        Frame::Request(request, used) => {
+            assert!(rt; used == bytes.len());
+            request
+        }
         _ => panic!(rt; "no request"),
     }
 }
@@ -35,20 +39,27 @@ fn is_refused(rt: &impl Abort, refusal: &Refusal, status: u16, word: &str) {
 
 /// Builds the request of a line.
 fn asked(rt: &(impl Abort + AllocGlobal), line: &Line) -> Request {
-    let alloc = rt.alloc();
-    let body = unescaped(alloc, line.body).expect(rt, "memory");
+    let body = unescaped(rt.alloc(), line.body).expect(rt, "memory");
     Request {
-        method: Vec::from_slice(alloc, line.method.as_bytes()).expect(rt, "memory"),
-        path: Vec::from_slice(alloc, line.path.as_bytes()).expect(rt, "memory"),
-        code: Vec::from_slice(alloc, line.code.as_bytes()).expect(rt, "memory"),
+        method: bytes_of(rt, line.method),
+        path: bytes_of(rt, line.path),
+        code: bytes_of(rt, line.code),
         close: false,
-        body: Vec::from_slice(alloc, body.as_bytes()).expect(rt, "memory"),
+        body: body.into_bytes(),
     }
+}
+
+fn bytes_of(rt: &(impl Abort + AllocGlobal), text: &str) -> Vec<u8> {
+    Vec::from_slice(rt.alloc(), text.as_bytes()).expect(rt, "memory")
 }
 
 /// Returns the call that the request of a line makes.
 fn call(rt: &(impl Abort + AllocGlobal), line: &Line) -> Call {
-    match call_of(rt.alloc(), &asked(rt, line)) {
+    made_by(rt, &asked(rt, line))
+}
+
+fn made_by(rt: &(impl Abort + AllocGlobal), request: &Request) -> Call {
+    match call_of(rt.alloc(), request) {
         Ok((_, call)) => call,
         Err(_) => panic!(rt; "no call"),
     }
@@ -62,12 +73,11 @@ fn no_call(rt: &(impl Abort + AllocGlobal), line: &str) -> Refusal {
     }
 }
 
-/// Makes a reply with a JSON body.
-fn json_reply(status: u16, body: Value) -> Reply {
+fn replied(status: u16, body: Body) -> Reply {
     Reply {
         status,
         allow: "",
-        body: Body::Json(body),
+        body,
     }
 }
 
@@ -80,7 +90,18 @@ fn writes(
     text: &str,
 ) {
     let bytes = reply_bytes(rt.alloc(), reply, head_only, close).expect(rt, "memory");
-    assert_eq!(rt; bytes.as_slice(), text.as_bytes());
+    is_text(rt, bytes.as_slice(), text.as_bytes());
+}
+
+/// Checks that this body makes the reply of a line.
+fn is_reply(rt: &(impl Abort + AllocGlobal), body: Body, line: &str) {
+    writes(
+        rt,
+        &replied(200, body),
+        false,
+        false,
+        reply(rt, line).as_str(),
+    );
 }
 
 /// Checks the bytes of the reply to a refusal.
@@ -91,23 +112,21 @@ fn refuses(rt: &(impl Abort + AllocGlobal), refusal: &Refusal, close: bool, text
 
 #[test]
 fn a_request_and_its_beginnings(rt: HostRuntime) {
-    let (found, used) = request(&rt, ME);
-    assert!(rt; used == 29);
-    assert!(rt; found.method.as_slice() == b"GET".as_slice());
-    assert!(rt; found.path.as_slice() == b"/me".as_slice());
+    assert!(rt; ME.len() == 29);
+    let found = request(&rt, ME);
+    is_text(&rt, found.method.as_slice(), b"GET");
+    is_text(&rt, found.path.as_slice(), b"/me");
     assert!(rt; found.code.is_empty());
     assert!(rt; !found.close);
     assert!(rt; found.body.is_empty());
     for length in 0..29usize {
-        let open = frame(rt.alloc(), &ME[..length], false).expect(&rt, "memory");
-        assert!(rt; matches!(open, Frame::Need));
+        finds(&rt, &ME[..length], false, "need");
     }
 }
 
 #[test]
 fn the_end_of_the_input(rt: HostRuntime) {
-    let over = frame(rt.alloc(), b"", true).expect(&rt, "memory");
-    assert!(rt; matches!(over, Frame::End));
+    finds(&rt, b"", true, "end");
     for length in 1..29usize {
         is_refused(&rt, &refusal(&rt, &ME[..length], true), 400, "bad_head");
     }
@@ -115,14 +134,12 @@ fn the_end_of_the_input(rt: HostRuntime) {
 
 #[test]
 fn what_a_head_says(rt: HostRuntime) {
-    let (query, _) = request(&rt, b"GET /me?x=1 HTTP/1.1\r\nHost: h\r\n\r\n");
-    assert!(rt; query.path.as_slice() == b"/me".as_slice());
+    let query = request(&rt, b"GET /me?x=1 HTTP/1.1\r\nHost: h\r\n\r\n");
+    is_text(&rt, query.path.as_slice(), b"/me");
     let closes = b"GET /me HTTP/1.1\r\nHost: h\r\nConnection: keep-alive, Close\r\n\r\n";
-    let (closing, _) = request(&rt, closes);
-    assert!(rt; closing.close);
+    assert!(rt; request(&rt, closes).close);
     let by_ann = b"GET /me HTTP/1.1\r\nHost: h\r\nPortal-Code: ann-code-1\r\n\r\n";
-    let (coded, _) = request(&rt, by_ann);
-    assert!(rt; coded.code.as_slice() == b"ann-code-1".as_slice());
+    is_text(&rt, request(&rt, by_ann).code.as_slice(), b"ann-code-1");
 }
 
 #[test]
@@ -151,24 +168,15 @@ fn closing_refusals(rt: HostRuntime) {
 }
 
 #[test]
-fn the_longest_body(rt: HostRuntime) -> Result<(), Fail> {
-    let alloc = rt.alloc();
-    let mut bytes = Vec::from_slice(
-        alloc,
-        b"PUT /choices HTTP/1.1\r\nHost: h\r\nContent-Length: 1048576\r\n\r\n{\"projects\":[]}",
-    )?;
-    let head = bytes.len();
-    bytes.resize(head + 1_048_561, b' ')?;
-    let (found, used) = request(&rt, bytes.as_slice());
-    assert!(rt; used == bytes.len());
-    let Ok((_, call)) = call_of(alloc, &found) else {
-        panic!(rt; "no call");
-    };
-    match call {
-        Call::SetChoices(list) => assert!(rt; list.is_empty()),
-        _ => panic!(rt; "another call"),
-    }
-    Ok(())
+fn the_longest_body(rt: HostRuntime) {
+    let text =
+        "PUT /choices HTTP/1.1\r\nHost: h\r\nContent-Length: 1048576\r\n\r\n{\"projects\":[]}";
+    let mut bytes = bytes_of(&rt, text);
+    bytes
+        .resize(text.len() + 1_048_561, b' ')
+        .expect(&rt, "memory");
+    let made = made_by(&rt, &request(&rt, bytes.as_slice()));
+    assert_eq!(rt; told(&rt, &made).as_str(), "set choices");
 }
 
 /// Returns the word for a call.
@@ -194,20 +202,25 @@ fn word_of(call: &Call) -> &'static str {
     }
 }
 
-/// Appends the keys of a list, with a space before each.
-fn put_keys(rt: &(impl Abort + AllocGlobal), text: &mut String, list: &[Vec<u8>]) {
+/// Appends a word, with a space before it.
+fn put_word(rt: &impl Abort, text: &mut String, word: &str) {
+    text.push(' ').expect(rt, "memory");
+    text.push_str(word).expect(rt, "memory");
+}
+
+fn put_keys(rt: &impl Abort, text: &mut String, list: &[Vec<u8>]) {
     for key in list {
-        let key = str::from_utf8(key.as_slice()).expect(rt, "a text");
-        text.push(' ').expect(rt, "memory");
-        text.push_str(key).expect(rt, "memory");
+        put_word(
+            rt,
+            text,
+            str::from_utf8(key.as_slice()).expect(rt, "a text"),
+        );
     }
 }
 
-/// Appends the names of students, with a space before each.
-fn put_names(rt: &(impl Abort + AllocGlobal), text: &mut String, rows: &[StudentRow]) {
+fn put_names(rt: &impl Abort, text: &mut String, rows: &[StudentRow]) {
     for row in rows {
-        text.push(' ').expect(rt, "memory");
-        text.push_str(row.name.as_str()).expect(rt, "memory");
+        put_word(rt, text, row.name.as_str());
     }
 }
 
@@ -219,8 +232,8 @@ fn told(rt: &(impl Abort + AllocGlobal), call: &Call) -> String {
         Call::SetRanking(list) => put_keys(rt, &mut text, list.as_slice()),
         Call::AddStudents(rows) => put_names(rt, &mut text, rows.as_slice()),
         Call::Move { round, .. } => match round {
-            Some(Round::First) => text.push_str(" of 1").expect(rt, "memory"),
-            Some(Round::Second) => text.push_str(" of 2").expect(rt, "memory"),
+            Some(Round::First) => put_word(rt, &mut text, "of 1"),
+            Some(Round::Second) => put_word(rt, &mut text, "of 2"),
             None => {}
         },
         _ => {}
@@ -253,10 +266,14 @@ ann  POST /rolls/students id,name,code\nS1,Ann,ann-code-1\n  200 add students An
 
 /// Checks that the requests of these lines make the calls that the lines name.
 fn make_calls(rt: &(impl Abort + AllocGlobal), rows: &str) {
-    for row in lines(rt.alloc(), rows).expect(rt, "memory") {
-        let found = told(rt, &call(rt, &row));
-        assert_eq!(rt; found.as_str(), row.answer);
+    for row in &lines(rt.alloc(), rows).expect(rt, "memory") {
+        makes(rt, row, row.answer);
     }
+}
+
+fn makes(rt: &(impl Abort + AllocGlobal), row: &Line, wanted: &str) {
+    let found = told(rt, &call(rt, row));
+    assert_eq!(rt; found.as_str(), wanted);
 }
 
 #[test]
@@ -269,7 +286,7 @@ fn calls_with_bodies(rt: HostRuntime) {
     make_calls(&rt, CALLS_WITH_BODIES);
     let mut blanks = Line::new("ann  PUT /ranking");
     blanks.body = r#" { "students" : [] } "#;
-    assert_eq!(rt; told(&rt, &call(&rt, &blanks)).as_str(), "set ranking");
+    makes(&rt, &blanks, "set ranking");
 }
 
 #[test]
@@ -311,7 +328,7 @@ ann  POST /phase {}
 
 /// Checks that the bodies of these lines' requests are refused.
 fn are_bad_bodies(rt: &(impl Abort + AllocGlobal), rows: &str) {
-    for row in lines(rt.alloc(), rows).expect(rt, "memory") {
+    for row in &lines(rt.alloc(), rows).expect(rt, "memory") {
         is_refused(rt, &no_call(rt, row.text), 400, "bad_body");
     }
 }
@@ -330,86 +347,75 @@ fn moves_that_are_refused(rt: HostRuntime) {
 fn rolls_that_are_refused(rt: HostRuntime) {
     let short =
         r#"ann  POST /rolls/students id,name,code\nS1,Ann,short\n  422 {"error":"bad_row","row":1}"#;
-    let bad_row = no_call(&rt, short);
-    is_refused(&rt, &bad_row, 422, "bad_row");
-    refuses(&rt, &bad_row, false, reply(&rt, short).as_str());
+    is_refused(&rt, &no_call(&rt, short), 422, "bad_row");
+    is_told(&rt, short);
     let two = r"ann  POST /rolls/students id,name,code\nS1,Ann,ann-code-1\nS2,Bea\n";
     assert!(rt; no_call(&rt, two).row == Some(2));
 }
 
 #[test]
-fn a_roll_too_long(rt: HostRuntime) -> Result<(), Fail> {
-    let rows = r"S1,Ann,ann-code-1\n".repeat(rt.alloc(), 2001)?;
-    let line = format!(in rt.alloc(); "ann  POST /rolls/students id,name,code\\n{rows}")?;
+fn a_roll_too_long(rt: HostRuntime) {
+    let rows = r"S1,Ann,ann-code-1\n".repeat(rt.alloc(), 2001);
+    let rows = rows.expect(&rt, "memory");
+    let line = format!(in rt.alloc(); "ann  POST /rolls/students id,name,code\\n{rows}");
+    let line = line.expect(&rt, "memory");
     is_refused(&rt, &no_call(&rt, line.as_str()), 422, "roll_full");
-    Ok(())
 }
 
 #[test]
 fn routes_and_methods(rt: HostRuntime) {
-    let nowhere = r#"ann  GET /nowhere  404 {"error":"no_route"}"#;
-    refuses(
-        &rt,
-        &no_call(&rt, nowhere),
-        false,
-        reply(&rt, nowhere).as_str(),
-    );
+    is_told(&rt, r#"ann  GET /nowhere  404 {"error":"no_route"}"#);
     is_refused(&rt, &no_call(&rt, "ann  GET /ranking/"), 404, "no_route");
-    let deleted = no_call(&rt, "ann  DELETE /catalogue");
     let wanted =
         "HTTP/1.1 405 Method Not Allowed\r\ncontent-type: application/json\r\ncontent-length: 22\r\nallow: GET, HEAD\r\n\r\n{\"error\":\"bad_method\"}";
-    refuses(&rt, &deleted, false, wanted);
-    assert_eq!(rt; no_call(&rt, "ann  POST /choices").allow, "GET, HEAD, PUT");
-    assert_eq!(rt; no_call(&rt, "ann  GET /ranking/fill").allow, "POST");
+    refuses(&rt, &no_call(&rt, "ann  DELETE /catalogue"), false, wanted);
+    allows(&rt, "ann  POST /choices", "GET, HEAD, PUT");
+    allows(&rt, "ann  GET /ranking/fill", "POST");
+}
+
+/// Checks that the refusal of a line's request makes the reply of the line.
+fn is_told(rt: &(impl Abort + AllocGlobal), line: &str) {
+    refuses(rt, &no_call(rt, line), false, reply(rt, line).as_str());
+}
+
+/// Checks the methods that a refusal allows.
+fn allows(rt: &(impl Abort + AllocGlobal), line: &str, methods: &str) {
+    assert_eq!(rt; no_call(rt, line).allow, methods);
 }
 
 #[test]
-fn replies_of_the_wire(rt: HostRuntime) -> Result<(), Fail> {
-    let alloc = rt.alloc();
-    let ann = json!(in alloc; {"key": "S1", "name": "Ann", "phase": "setup", "role": "student"})?;
+fn replies_of_the_wire(rt: HostRuntime) {
+    let ann =
+        json!(in rt.alloc(); {"key": "S1", "name": "Ann", "phase": "setup", "role": "student"});
     let line = r#"ann  GET /me  200 {"key":"S1","name":"Ann","phase":"setup","role":"student"}"#;
-    writes(
-        &rt,
-        &json_reply(200, ann),
-        false,
-        false,
-        reply(&rt, line).as_str(),
-    );
-    let nobody = json!(in alloc; {"error": "no_caller"})?;
+    is_reply(&rt, Body::Json(ann.expect(&rt, "memory")), line);
+    let nobody = json!(in rt.alloc(); {"error": "no_caller"}).expect(&rt, "memory");
     let wanted =
         "HTTP/1.1 403 Forbidden\r\ncontent-type: application/json\r\ncontent-length: 21\r\nconnection: close\r\n\r\n{\"error\":\"no_caller\"}";
-    writes(&rt, &json_reply(403, nobody), false, true, wanted);
-    Ok(())
+    writes(&rt, &replied(403, Body::Json(nobody)), false, true, wanted);
 }
 
 #[test]
-fn a_reply_to_head(rt: HostRuntime) -> Result<(), Fail> {
-    let alloc = rt.alloc();
-    let none = Value::Array(Vec::new(alloc));
-    let catalogue = json!(in alloc; {"projects": none})?;
+fn a_reply_to_head(rt: HostRuntime) {
+    let none = Value::Array(Vec::new(rt.alloc()));
+    let catalogue = json!(in rt.alloc(); {"projects": none}).expect(&rt, "memory");
     let wanted = "HTTP/1.1 200 OK\r\ncontent-type: application/json\r\ncontent-length: 15\r\n\r\n";
-    writes(&rt, &json_reply(200, catalogue), true, false, wanted);
-    Ok(())
+    writes(
+        &rt,
+        &replied(200, Body::Json(catalogue)),
+        true,
+        false,
+        wanted,
+    );
 }
 
 #[test]
-fn sheets_and_want_of_memory(rt: HostRuntime) -> Result<(), Fail> {
-    let csv = Reply {
-        status: 200,
-        allow: "",
-        body: Body::Csv(Vec::from_slice(rt.alloc(), b"student,name\n")?),
-    };
-    let line = r"office  GET /allocation.csv  200 student,name\n";
-    writes(&rt, &csv, false, false, reply(&rt, line).as_str());
-    let plain = Reply {
-        status: 200,
-        allow: "",
-        body: Body::Plain(Vec::from_slice(rt.alloc(), b"assigned 2 of 3\n")?),
-    };
-    let line = r"office  GET /report  200 assigned 2 of 3\n";
-    writes(&rt, &plain, false, false, reply(&rt, line).as_str());
+fn sheets_and_want_of_memory(rt: HostRuntime) {
+    let csv = Body::Csv(bytes_of(&rt, "student,name\n"));
+    is_reply(&rt, csv, r"office  GET /allocation.csv  200 student,name\n");
+    let plain = Body::Plain(bytes_of(&rt, "assigned 2 of 3\n"));
+    is_reply(&rt, plain, r"office  GET /report  200 assigned 2 of 3\n");
     let wanted =
         "HTTP/1.1 503 Service Unavailable\r\ncontent-type: application/json\r\ncontent-length: 23\r\n\r\n{\"error\":\"unavailable\"}";
     writes(&rt, &Reply::unavailable(), false, false, wanted);
-    Ok(())
 }

@@ -1,7 +1,9 @@
 //! Tests the sheets of the second round, to the byte.
 
-use crate::tests::portal::{gives, published_again, ranking_again, reopened};
+use crate::tests::portal::{after, gives};
 use portal_desk::Ending;
+use portal_fixtures::worked::{PUBLISHED_AGAIN, RANKING_AGAIN, REOPENED};
+use std::process::Abort;
 
 /// The office asks for both sheets.
 const SHEETS: &str =
@@ -18,10 +20,13 @@ const BOTH_SHEETS: &str =
 /// The sheets show the first result alone until the second is published.
 #[test]
 fn the_sheets_are_there_in_each_phase(rt: HostRuntime) {
-    let mut desk = reopened(&rt);
-    gives(&rt, &mut desk, SHEETS, Ending::End, 2, FIRST_SHEETS);
-    let mut desk = ranking_again(&rt);
-    gives(&rt, &mut desk, SHEETS, Ending::End, 2, FIRST_SHEETS);
-    let mut desk = published_again(&rt);
-    gives(&rt, &mut desk, SHEETS, Ending::End, 2, BOTH_SHEETS);
+    are_sheets(&rt, REOPENED, FIRST_SHEETS);
+    are_sheets(&rt, RANKING_AGAIN, FIRST_SHEETS);
+    are_sheets(&rt, PUBLISHED_AGAIN, BOTH_SHEETS);
+}
+
+/// Checks both sheets after these scripts.
+fn are_sheets(rt: &(impl Abort + AllocGlobal), scripts: &[&str], sheets: &str) {
+    let mut desk = after(rt, scripts);
+    gives(rt, &mut desk, SHEETS, Ending::End, 2, sheets);
 }

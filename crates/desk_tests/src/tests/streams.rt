@@ -1,8 +1,11 @@
 //! Tests a repeated short request, on devices that end or fail after each number of bytes.
 
-use crate::tests::devices::{Basin, Feeder, served_by};
+use crate::tests::conversation::put;
+use crate::tests::devices::{
+    Feeder, ended, is_first, is_text, served_by, served_failing, stopped, taken,
+};
 use crate::tests::portal::{BAD_HEAD, NO_CALLER, fresh, plays, published, reply, request, written};
-use portal_desk::{Cause, Counted, Desk, Ending, Sink, Source};
+use portal_desk::{Cause, Desk, Ending};
 use portal_list::ListKeeper;
 use std::process::Abort;
 
@@ -29,8 +32,7 @@ fn requests(rt: &(impl Abort + AllocGlobal)) -> Vec<u8> {
 /// Returns the replies to all requests that a connection serves. The last reply closes it.
 fn replies(rt: &(impl Abort + AllocGlobal)) -> Vec<u8> {
     let mut text = repeated(rt, NO_CALLER, 255);
-    text.extend_from_slice(LAST_REPLY.as_bytes())
-        .expect(rt, "memory");
+    put(rt, &mut text, LAST_REPLY);
     assert_eq!(rt; text.len(), 25_363);
     text
 }
@@ -41,7 +43,7 @@ fn no_more_than_256_requests(rt: HostRuntime) {
     let bytes = requests(&rt);
     let output = written(&rt, &mut desk, bytes.as_slice(), Ending::Limit, 256);
     let wanted = replies(&rt);
-    assert_eq!(rt; output.as_slice(), wanted.as_slice());
+    is_text(&rt, output.as_slice(), wanted.as_slice());
 }
 
 /// The first request opens the second round, and the others change nothing.
@@ -53,10 +55,8 @@ fn no_more_than_256_openings(rt: HostRuntime) {
     let bytes = repeated(&rt, request(&rt, opening).as_str(), 257);
     let output = written(&rt, &mut desk, bytes.as_slice(), Ending::Limit, 256);
     let mut wanted = repeated(&rt, reply(&rt, opening).as_str(), 255);
-    wanted
-        .extend_from_slice(LAST_OPENING.as_bytes())
-        .expect(&rt, "memory");
-    assert!(rt; output.as_slice() == wanted.as_slice());
+    put(&rt, &mut wanted, LAST_OPENING);
+    is_text(&rt, output.as_slice(), wanted.as_slice());
     let me = r#"office  GET /me  200 {"phase":"choosing","role":"office","round":2}"#;
     plays(&rt, &mut desk, me);
 }
@@ -69,27 +69,14 @@ fn fails_reading(
     wanted: &[u8],
     many: usize,
 ) {
-    let mut source = Feeder::failing(&bytes[..many.min(bytes.len())], 4_096);
-    let mut sink = Counted::new(Vec::new(rt.alloc()));
-    match desk.serve(rt.alloc(), &mut source, &mut sink) {
-        Ok(served) => {
-            assert!(rt; many >= 7_424, "at {many}");
-            assert_eq!(rt; served.ending, Ending::Limit);
-            assert_eq!(rt; served.requests, 256);
-            assert_eq!(rt; Source::failures(&source), 0);
-            assert_eq!(rt; sink.into_inner().as_slice(), wanted);
-        }
-        Err(fault) => {
-            assert!(rt; many < 7_424, "at {many}");
-            assert_eq!(rt; fault.cause, Cause::Read);
-            assert_eq!(rt; fault.requests as usize, many / 29);
-            assert_eq!(rt; Source::failures(&source), 1);
-            let whole = many / 29 * 99;
-            assert_eq!(rt;
-                sink.into_inner().as_slice(),
-                &wanted[..whole.min(wanted.len())]
-            );
-        }
+    let bytes = &bytes[..many.min(bytes.len())];
+    if many >= 7_424 {
+        let output = served_failing(rt, desk, bytes, 4_096, ended(Ending::Limit, 256));
+        is_text(rt, output.as_slice(), wanted);
+    } else {
+        let whole = many / 29;
+        let output = served_failing(rt, desk, bytes, 4_096, stopped(Cause::Read, whole));
+        is_first(rt, output.as_slice(), wanted, whole * 99);
     }
 }
 
@@ -117,8 +104,8 @@ fn readers_fail_up_to_7_453(rt: HostRuntime) {
 fn is_written(rt: &impl Abort, output: &[u8], wanted: &[u8], many: usize, closing: &str) {
     assert!(rt; many <= output.len());
     assert!(rt; many <= wanted.len());
-    assert_eq!(rt; &output[..many], &wanted[..many]);
-    assert_eq!(rt; &output[many..], closing.as_bytes());
+    is_text(rt, &output[..many], &wanted[..many]);
+    is_text(rt, &output[many..], closing.as_bytes());
 }
 
 /// Checks an input that ends after `many` bytes: an incomplete request is refused.
@@ -130,20 +117,16 @@ fn ends_reading(
     many: usize,
 ) {
     let mut source = Feeder::new(&bytes[..many.min(bytes.len())], 4_096);
-    if many >= 7_424 {
-        let output = served_by(rt, desk, &mut source, Ending::Limit, 256);
-        assert_eq!(rt; output.as_slice(), wanted);
-        return;
-    }
-    let whole = many / 29;
-    if many % 29 == 0 {
-        let output = served_by(rt, desk, &mut source, Ending::End, whole as u32);
-        is_written(rt, output.as_slice(), wanted, whole * 99, "");
-        return;
-    }
-    let ending = Ending::Refused("bad_head");
-    let output = served_by(rt, desk, &mut source, ending, whole as u32);
-    is_written(rt, output.as_slice(), wanted, whole * 99, BAD_HEAD);
+    let (ending, replies, closing) = if many >= 7_424 {
+        (Ending::Limit, wanted.len(), "")
+    } else if many % 29 == 0 {
+        (Ending::End, many / 29 * 99, "")
+    } else {
+        (Ending::Refused("bad_head"), many / 29 * 99, BAD_HEAD)
+    };
+    let outcome = ended(ending, (many / 29).min(256));
+    let output = served_by(rt, desk, &mut source, outcome, many);
+    is_written(rt, output.as_slice(), wanted, replies, closing);
 }
 
 /// Checks inputs that end after each number of bytes in `from..to`.
@@ -174,18 +157,9 @@ fn fails_writing(
     wanted: &[u8],
     many: usize,
 ) {
-    let mut source = Feeder::new(bytes, 4_096);
-    let mut sink = Basin::new(rt.alloc(), usize::MAX, many);
-    match desk.serve(rt.alloc(), &mut source, &mut sink) {
-        Ok(_) => assert!(rt; false, "at {many}"),
-        Err(fault) => {
-            assert_eq!(rt; fault.cause, Cause::Write);
-            assert_eq!(rt; fault.requests as usize, (many / 99).min(255) + 1);
-            assert_eq!(rt; sink.held(), &wanted[..many.min(wanted.len())]);
-            assert_eq!(rt; sink.held().len(), many);
-            assert_eq!(rt; Sink::failures(&sink), 1);
-        }
-    }
+    let requests = (many / 99).min(255) + 1;
+    let held = taken(rt, desk, bytes, usize::MAX, many, requests);
+    is_first(rt, held.as_slice(), wanted, many);
 }
 
 /// Checks writers that fail after each number of bytes in `from..to`.
