@@ -113,26 +113,17 @@ fn is_lost(rt: &(impl Abort + AllocGlobal), scripts: &[&str], line: &str) {
 
 #[test]
 fn each_change_of_the_second_round_is_lost(rt: HostRuntime) {
-    is_lost(
-        &rt,
-        FIRST_ROUND,
-        r#"office  POST /phase {"phase":"choosing","round":2}"#,
-    );
+    let opening = r#"office  POST /phase {"phase":"choosing","round":2}"#;
+    is_lost(&rt, FIRST_ROUND, opening);
     is_lost(&rt, REOPENED, r#"cyr  PUT /choices {"projects":["P3"]}"#);
-    is_lost(
-        &rt,
-        RANKING_AGAIN,
-        r#"moe  PUT /ranking {"students":["S3"]}"#,
-    );
+    let ranking = r#"moe  PUT /ranking {"students":["S3"]}"#;
+    is_lost(&rt, RANKING_AGAIN, ranking);
     is_lost(&rt, RANKING_AGAIN, "office  POST /ranking/fill {}");
 }
 
 /// The publication fails because the keeper returns no instance.
 #[test]
 fn the_second_publication_is_lost(rt: HostRuntime) {
-    is_lost(
-        &rt,
-        RANKED_AGAIN,
-        r#"office  POST /phase {"phase":"published"}"#,
-    );
+    let publication = r#"office  POST /phase {"phase":"published"}"#;
+    is_lost(&rt, RANKED_AGAIN, publication);
 }

@@ -103,11 +103,8 @@ fn goes_on(rt: &(impl Abort + AllocGlobal), desk: &mut Desk<ListKeeper>, acted: 
     let bytes = ROUND.behind(rt, acted);
     let left = ROUND.requests().saturating_sub(acted);
     let output = written(rt, desk, bytes.as_slice(), Ending::End, left);
-    is_text(
-        rt,
-        output.as_slice(),
-        ROUND.replies_behind(rt, acted).as_slice(),
-    );
+    let wanted = ROUND.replies_behind(rt, acted);
+    is_text(rt, output.as_slice(), wanted.as_slice());
     plays(rt, desk, r#"cyr  GET /result  200 {"project":"P3"}"#);
 }
 

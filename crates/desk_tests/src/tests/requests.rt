@@ -95,13 +95,8 @@ fn writes(
 
 /// Checks that this body makes the reply of a line.
 fn is_reply(rt: &(impl Abort + AllocGlobal), body: Body, line: &str) {
-    writes(
-        rt,
-        &replied(200, body),
-        false,
-        false,
-        reply(rt, line).as_str(),
-    );
+    let wanted = reply(rt, line);
+    writes(rt, &replied(200, body), false, false, wanted.as_str());
 }
 
 /// Checks the bytes of the reply to a refusal.
@@ -210,11 +205,8 @@ fn put_word(rt: &impl Abort, text: &mut String, word: &str) {
 
 fn put_keys(rt: &impl Abort, text: &mut String, list: &[Vec<u8>]) {
     for key in list {
-        put_word(
-            rt,
-            text,
-            str::from_utf8(key.as_slice()).expect(rt, "a text"),
-        );
+        let key = str::from_utf8(key.as_slice()).expect(rt, "a text");
+        put_word(rt, text, key);
     }
 }
 
@@ -400,13 +392,8 @@ fn a_reply_to_head(rt: HostRuntime) {
     let none = Value::Array(Vec::new(rt.alloc()));
     let catalogue = json!(in rt.alloc(); {"projects": none}).expect(&rt, "memory");
     let wanted = "HTTP/1.1 200 OK\r\ncontent-type: application/json\r\ncontent-length: 15\r\n\r\n";
-    writes(
-        &rt,
-        &replied(200, Body::Json(catalogue)),
-        true,
-        false,
-        wanted,
-    );
+    let body = Body::Json(catalogue);
+    writes(&rt, &replied(200, body), true, false, wanted);
 }
 
 #[test]

@@ -13,13 +13,19 @@ use portal_fixtures::changes::{
     CHOOSING, FIRST, OPENED, PUBLICATION, RANKED, RANKING, SECOND_PUBLICATION, SETUP,
 };
 use portal_store::{NotOpened, Store};
+use sqlite::{Alter, Connection};
 use std::process::Abort;
 
-/// Returns whether a read failed after `reads` others while the request was served. If so, the
-/// reply is 503, and the store and the desk have failed. If not, the reply is 200.
-fn fails_at(rt: &(impl Abort + AllocGlobal), image: &Image, line: &Line, reads: u64) -> bool {
-    let plan = Plan::new(Fault::Read);
-    let mut desk = desk_over(rt, connected(rt, image, &plan, TIGHT));
+/// Returns whether a read failed after `reads` others while the request was served, and the
+/// connection. If so, the reply is 503, and the store and the desk have failed. If not, it is 200.
+fn fails_over<S: Alter + Drop>(
+    rt: &(impl Abort + AllocGlobal),
+    conn: Connection<S>,
+    plan: &Plan,
+    line: &Line,
+    reads: u64,
+) -> (bool, Connection<S>) {
+    let mut desk = desk_over(rt, conn);
     plan.arm(reads);
     let (cause, reply) = stopped(rt, &mut desk, line);
     let came = plan.came();
@@ -31,8 +37,16 @@ fn fails_at(rt: &(impl Abort + AllocGlobal), image: &Image, line: &Line, reads: 
     assert!(rt; reply.starts_with(wanted));
     assert!(rt; desk.failed() == came);
     assert!(rt; cause == if came { Some(Cause::Store) } else { None });
+    (came, desk.into_keeper().into_connection())
+}
+
+/// Returns whether a read failed after `reads` others while the request was served.
+fn fails_at(rt: &(impl Abort + AllocGlobal), image: &Image, line: &Line, reads: u64) -> bool {
+    let plan = Plan::new(Fault::Read);
+    let conn = connected(rt, image, &plan, TIGHT);
+    let (came, conn) = fails_over(rt, conn, &plan, line, reads);
     plan.arm(u64::MAX);
-    let _left = left_of(rt, desk.into_keeper().into_connection());
+    let _left = left_of(rt, conn);
     came
 }
 
@@ -87,28 +101,33 @@ fn a_publication_meets_a_failed_read(rt: HostRuntime) {
 }
 
 /// Asks a new portal for its instance, with a read that fails after `reads` others. Returns whether
-/// it failed, and checks that it is then reported as a fault of the store.
-fn instance_fails_at(rt: &(impl Abort + AllocGlobal), reads: u64) -> bool {
-    let plan = Plan::new(Fault::Read);
-    let conn = connected(rt, &blank(rt), &plan, TIGHT);
+/// it failed, and the connection. Checks that it is then reported as a fault of the store.
+fn instance_fails_over<S: Alter + Drop>(
+    rt: &(impl Abort + AllocGlobal),
+    conn: Connection<S>,
+    plan: &Plan,
+    reads: u64,
+) -> (bool, Connection<S>) {
     assert!(rt; conn.is_autocommit());
     match Store::create(rt.alloc(), conn, new_office_code(rt)) {
         Ok(mut store) => {
             plan.arm(reads);
             let told = store.instance(rt.alloc());
-            let came = plan.came();
-            assert!(rt; matches!(told, Err(KeepFault::Store)) == came);
-            plan.arm(u64::MAX);
-            let _left = left_of(rt, store.into_connection());
-            came
+            assert!(rt; matches!(told, Err(KeepFault::Store)) == plan.came());
+            (plan.came(), store.into_connection())
         }
-        Err(
-            NotOpened {
-                fault: _,
-                connection: _,
-            },
-        ) => panic!(rt; "a portal"),
+        Err(NotOpened { .. }) => panic!(rt; "a portal"),
     }
+}
+
+/// Returns whether a read failed after `reads` others while a new portal made its instance.
+fn instance_fails_at(rt: &(impl Abort + AllocGlobal), reads: u64) -> bool {
+    let plan = Plan::new(Fault::Read);
+    let conn = connected(rt, &blank(rt), &plan, TIGHT);
+    let (came, conn) = instance_fails_over(rt, conn, &plan, reads);
+    plan.arm(u64::MAX);
+    let _left = left_of(rt, conn);
+    came
 }
 
 /// Each read for an instance fails in turn, and there is at least one.
@@ -124,15 +143,25 @@ fn an_instance_meets_a_failed_read(rt: HostRuntime) {
     assert!(rt; reads > 0 && reads < 1_000);
 }
 
+/// Checks that a failed read of the office's code is a fault of the store. Returns the connection.
+fn code_fails_over<S: Alter + Drop>(
+    rt: &(impl Abort + AllocGlobal),
+    conn: Connection<S>,
+    plan: &Plan,
+) -> Connection<S> {
+    let mut store = desk_over(rt, conn).into_keeper();
+    plan.arm(0);
+    let told = store.office_code(rt.alloc());
+    assert!(rt; plan.came() && matches!(told, Err(KeepFault::Store)));
+    store.into_connection()
+}
+
 /// A failed read of the office's code is reported as a fault of the store.
 #[test]
 fn the_code_of_the_office_meets_a_failed_read(rt: HostRuntime) {
     let plan = Plan::new(Fault::Read);
     let image = files_after(&rt, &[INIT, SETUP]);
-    let mut store = desk_over(&rt, connected(&rt, &image, &plan, TIGHT)).into_keeper();
-    plan.arm(0);
-    let told = store.office_code(rt.alloc());
-    assert!(rt; plan.came() && matches!(told, Err(KeepFault::Store)));
+    let conn = code_fails_over(&rt, connected(&rt, &image, &plan, TIGHT), &plan);
     plan.arm(u64::MAX);
-    let _left = left_of(&rt, store.into_connection());
+    let _left = left_of(&rt, conn);
 }

@@ -9,7 +9,7 @@ use portal_fixtures::changes::{CHOOSING, PUBLICATION, RANKING, SETUP};
 use portal_fixtures::version1::{IN_PUBLISHED, run_all};
 use portal_fixtures::{Line, SEEN, ask, lines, seen};
 use portal_store::{NotOpened, OpenFault, Store, UpgradeFault};
-use sqlite::{Connection, FileStore, Files, Options};
+use sqlite::{Alter, Connection, FileStore, Files, Options};
 use sqlite_disk::{Crash, Disk, Memory};
 use std::process::Abort;
 
@@ -132,61 +132,66 @@ struct Sight {
     text: Option<Vec<u8>>,
 }
 
-/// Upgrades tables of version 1, and returns what the portal then shows.
-fn shown_upgraded(rt: &(impl Abort + AllocGlobal), conn: TrialConnection<'_>) -> Vec<u8> {
+/// Returns what the portal shows, and its connection.
+fn shown_by<S: Alter + Drop>(
+    rt: &(impl Abort + AllocGlobal),
+    mut desk: Desk<Store<S>>,
+) -> (Vec<u8>, Connection<S>) {
+    let text = seen(rt.alloc(), &mut desk).expect(rt, "memory");
+    (text, desk.into_keeper().into_connection())
+}
+
+/// Upgrades tables of version 1. Returns what the portal then shows, and the connection.
+fn shown_upgraded<S: Alter + Drop>(
+    rt: &(impl Abort + AllocGlobal),
+    conn: Connection<S>,
+) -> (Vec<u8>, Connection<S>) {
     assert!(rt; conn.is_autocommit());
     match Store::upgrade(rt.alloc(), conn) {
-        Ok(store) => {
-            let mut desk = Desk::new(store);
-            let text = seen(rt.alloc(), &mut desk).expect(rt, "memory");
-            let _left = left_of(rt, desk.into_keeper().into_connection());
-            text
-        }
-        Err(
-            NotOpened {
-                fault: _,
-                connection: _,
-            },
-        ) => panic!(rt; "an upgrade"),
+        Ok(store) => shown_by(rt, Desk::new(store)),
+        Err(NotOpened { .. }) => panic!(rt; "an upgrade"),
     }
+}
+
+/// Returns what the tables show, and the connection. Tables of version 1 are upgraded first.
+fn shown_over<S: Alter + Drop>(
+    rt: &(impl Abort + AllocGlobal),
+    conn: Connection<S>,
+) -> (Sight, Connection<S>) {
+    assert!(rt; conn.is_autocommit());
+    match Store::open(rt.alloc(), conn) {
+        Ok(store) => {
+            let (text, conn) = shown_by(rt, Desk::new(store));
+            (sight_of(true, Some(text)), conn)
+        }
+        Err(NotOpened { fault, connection }) => {
+            if fault == OpenFault::OtherVersion {
+                let (text, conn) = shown_upgraded(rt, connection);
+                return (sight_of(false, Some(text)), conn);
+            }
+            assert_eq!(rt; fault, OpenFault::NotPortal);
+            (sight_of(false, None), connection)
+        }
+    }
+}
+
+fn sight_of(is_current: bool, text: Option<Vec<u8>>) -> Sight {
+    Sight { is_current, text }
 }
 
 /// Returns what these files show. Tables of version 1 are upgraded first.
 fn shown(rt: &(impl Abort + AllocGlobal), image: &Image) -> Sight {
     let plan = Plan::new(Fault::Stop);
-    let conn = connected(rt, image, &plan, Options::new(7));
-    assert!(rt; conn.is_autocommit());
-    match Store::open(rt.alloc(), conn) {
-        Ok(store) => {
-            let mut desk = Desk::new(store);
-            let text = Some(seen(rt.alloc(), &mut desk).expect(rt, "memory"));
-            let _left = left_of(rt, desk.into_keeper().into_connection());
-            Sight {
-                is_current: true,
-                text,
-            }
-        }
-        Err(NotOpened { fault, connection }) => {
-            let text = if fault == OpenFault::OtherVersion {
-                Some(shown_upgraded(rt, connection))
-            } else {
-                let _left = left_of(rt, connection);
-                assert_eq!(rt; fault, OpenFault::NotPortal);
-                None
-            };
-            Sight {
-                is_current: false,
-                text,
-            }
-        }
-    }
+    let (sight, conn) = shown_over(rt, connected(rt, image, &plan, Options::new(7)));
+    let _left = left_of(rt, conn);
+    sight
 }
 
-/// Creates a portal in the files. Returns whether that succeeded, and the connection.
-fn makes<'a>(
+/// Creates a portal. Returns whether that succeeded, and the connection.
+fn makes<S: Alter + Drop>(
     rt: &(impl Abort + AllocGlobal),
-    conn: TrialConnection<'a>,
-) -> (bool, TrialConnection<'a>) {
+    conn: Connection<S>,
+) -> (bool, Connection<S>) {
     assert!(rt; conn.is_autocommit());
     match Store::create(rt.alloc(), conn, new_office_code(rt)) {
         Ok(store) => (true, store.into_connection()),
@@ -200,10 +205,10 @@ fn makes<'a>(
 }
 
 /// Upgrades tables of version 1. Returns whether that succeeded, and the connection.
-fn upgrades<'a>(
+fn upgrades<S: Alter + Drop>(
     rt: &(impl Abort + AllocGlobal),
-    conn: TrialConnection<'a>,
-) -> (bool, TrialConnection<'a>) {
+    conn: Connection<S>,
+) -> (bool, Connection<S>) {
     assert!(rt; conn.is_autocommit());
     match Store::upgrade(rt.alloc(), conn) {
         Ok(store) => (true, store.into_connection()),
@@ -214,20 +219,16 @@ fn upgrades<'a>(
     }
 }
 
-/// Opens the portal in the files, and returns a desk over it.
-pub(crate) fn desk_over<'a>(
+/// Opens the portal, and returns a desk over it. Generic, as all functions here that have a store,
+/// because proofs over `FileStore` are slow.
+pub(crate) fn desk_over<S: Alter + Drop>(
     rt: &(impl Abort + AllocGlobal),
-    conn: TrialConnection<'a>,
-) -> Desk<Store<FileStore<Trial<'a, Memory>>>> {
+    conn: Connection<S>,
+) -> Desk<Store<S>> {
     assert!(rt; conn.is_autocommit());
     match Store::open(rt.alloc(), conn) {
         Ok(store) => Desk::new(store),
-        Err(
-            NotOpened {
-                fault: _,
-                connection: _,
-            },
-        ) => panic!(rt; "a portal"),
+        Err(NotOpened { .. }) => panic!(rt; "a portal"),
     }
 }
 
@@ -247,16 +248,32 @@ struct Case {
     shown_after: Sight,
 }
 
+/// Sends the request, with a fault after `calls` calls. Returns whether it succeeded, and the
+/// connection.
+fn asked<S: Alter + Drop>(
+    rt: &(impl Abort + AllocGlobal),
+    conn: Connection<S>,
+    line: &Line,
+    plan: &Plan,
+    calls: u64,
+) -> (bool, Connection<S>) {
+    let mut desk = desk_over(rt, conn);
+    plan.arm(calls);
+    let reply = ask(rt.alloc(), &mut desk, line).expect(rt, "memory");
+    let is_done = reply.starts_with(b"HTTP/1.1 200");
+    assert!(rt; is_done || reply.starts_with(b"HTTP/1.1 503"));
+    (is_done, desk.into_keeper().into_connection())
+}
+
 /// Tries the change, with a fault after `calls` calls. Returns whether the change was reported as
 /// done, and the connection.
-fn tried<'a>(
+fn tried_over<S: Alter + Drop>(
     rt: &(impl Abort + AllocGlobal),
-    before: &Image,
+    conn: Connection<S>,
     line: &Line,
-    plan: &'a Plan,
+    plan: &Plan,
     calls: u64,
-) -> (bool, TrialConnection<'a>) {
-    let conn = connected(rt, before, plan, TIGHT);
+) -> (bool, Connection<S>) {
     match line.method {
         "init" => {
             plan.arm(calls);
@@ -266,15 +283,19 @@ fn tried<'a>(
             plan.arm(calls);
             upgrades(rt, conn)
         }
-        _ => {
-            let mut desk = desk_over(rt, conn);
-            plan.arm(calls);
-            let reply = ask(rt.alloc(), &mut desk, line).expect(rt, "memory");
-            let is_done = reply.starts_with(b"HTTP/1.1 200");
-            assert!(rt; is_done || reply.starts_with(b"HTTP/1.1 503"));
-            (is_done, desk.into_keeper().into_connection())
-        }
+        _ => asked(rt, conn, line, plan, calls),
     }
+}
+
+/// Tries the change of these files. Returns whether it was reported as done, and the connection.
+fn tried<'a>(
+    rt: &(impl Abort + AllocGlobal),
+    before: &Image,
+    line: &Line,
+    plan: &'a Plan,
+    calls: u64,
+) -> (bool, TrialConnection<'a>) {
+    tried_over(rt, connected(rt, before, plan, TIGHT), line, plan, calls)
 }
 
 /// Makes the change without a fault. Returns the files as they are before closing writes to them.
@@ -551,11 +572,15 @@ fn is_dead<K: Keeper>(rt: &(impl Abort + AllocGlobal), desk: &mut Desk<K>, scrip
     }
 }
 
-/// Lets the disk fail at a change after these scripts, and checks that the desk then serves nobody.
-pub(crate) fn dies(rt: &(impl Abort + AllocGlobal), fault: Fault, played: &[&str], change: &str) {
-    let image = files_after(rt, played);
-    let plan = Plan::new(fault);
-    let mut desk = desk_over(rt, connected(rt, &image, &plan, TIGHT));
+/// Lets the disk fail at a change, checks that the desk then serves nobody, and returns the
+/// connection.
+fn dies_over<S: Alter + Drop>(
+    rt: &(impl Abort + AllocGlobal),
+    conn: Connection<S>,
+    plan: &Plan,
+    change: &str,
+) -> Connection<S> {
+    let mut desk = desk_over(rt, conn);
     let (cause, _) = stopped(rt, &mut desk, &Line::new("office  GET /status"));
     assert_eq!(rt; cause, None);
     assert!(rt; !desk.failed());
@@ -563,7 +588,15 @@ pub(crate) fn dies(rt: &(impl Abort + AllocGlobal), fault: Fault, played: &[&str
     is_dead(rt, &mut desk, change);
     is_dead(rt, &mut desk, SEEN);
     is_dead(rt, &mut desk, change);
-    let _left = left_of(rt, desk.into_keeper().into_connection());
+    desk.into_keeper().into_connection()
+}
+
+/// Lets the disk fail at a change after these scripts, and checks that the desk then serves nobody.
+pub(crate) fn dies(rt: &(impl Abort + AllocGlobal), fault: Fault, played: &[&str], change: &str) {
+    let image = files_after(rt, played);
+    let plan = Plan::new(fault);
+    let conn = dies_over(rt, connected(rt, &image, &plan, TIGHT), &plan, change);
+    let _left = left_of(rt, conn);
 }
 
 #[test]

@@ -13,12 +13,7 @@ fn again(rt: &(impl Abort + AllocGlobal), desk: MemDesk) -> MemDesk {
     let conn = desk.into_keeper().into_connection();
     match Store::open(rt.alloc(), conn) {
         Ok(store) => Desk::new(store),
-        Err(
-            NotOpened {
-                fault: _,
-                connection: _,
-            },
-        ) => rt.abort(),
+        Err(NotOpened { .. }) => panic!(rt; "a portal"),
     }
 }
 
@@ -35,9 +30,7 @@ fn a_year_over_connections_of_their_own(rt: HostRuntime) {
 fn refused(rt: &(impl Abort + AllocGlobal), statement: &str) -> Option<CreateFault> {
     let mut conn = Connection::open_in_memory(rt.alloc()).expect(rt, "a connection");
     conn.execute(statement, &[]).expect(rt, "a table");
-    if !conn.is_autocommit() {
-        rt.abort();
-    }
+    assert!(rt; conn.is_autocommit());
     match Store::create(rt.alloc(), conn, new_office_code(rt)) {
         Ok(store) => {
             let _conn = store.into_connection();
