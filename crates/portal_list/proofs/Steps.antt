@@ -1,5 +1,5 @@
 -- Steps of loops over lists.
-use Rattle.portal_list.proofs.Base.{◌≡◌, ℕ, ◌+◌, ◌<◌, Bool, true, false, cond, List, [], ◌∷◌, ◌++◌, map, take, length, get_or, refl, sym, ◌∙◌, ap, subst, filter, Option, AllByRecursion, filter_map, filter_map-append, take_more, all_append}
+use Rattle.portal_list.proofs.Base.{◌≡◌, ℕ, ◌+◌, ◌<◌, Bool, true, false, cond, List, [], ◌∷◌, ◌++◌, map, take, length, get_or, append-nil, refl, sym, ◌∙◌, ap, subst, filter, Option, Some, None, AllByRecursion, filter_map, cons_option, filter_map-append, take_more, all_append}
 
 -- one more element
 pub grown : {X : Type 0} (xs : List X) (i : ℕ) (x : X) → i < length xs → get_or xs i x ≡ x → take (i + 1) xs ≡ take i xs ++ x ∷ []
@@ -25,5 +25,12 @@ pub filter_more : {X Y : Type 0} (p : X → Bool) (f : X → Y) (xs : List X) (i
 filter_more p f xs i x b low at e = ap (λ ys. map f (filter p ys)) (grown xs i x low at) ∙ filter_push p f (take i xs) x b e
 
 -- one more element that gives something, or nothing
-pub picked : {X Y : Type 0} (h : X → Option Y) (xs : List X) (i : ℕ) (x : X) → i < length xs → get_or xs i x ≡ x → filter_map h (take (i + 1) xs) ≡ filter_map h (take i xs) ++ filter_map h (x ∷ [])
-picked h xs i x low at = ap (filter_map h) (grown xs i x low at) ∙ filter_map-append h (take i xs) (x ∷ [])
+module _ {X Y : Type 0} (h : X → Option Y) (xs : List X) (i : ℕ) (x : X) (low : i < length xs) (at : get_or xs i x ≡ x) where
+  picked : filter_map h (take (i + 1) xs) ≡ filter_map h (take i xs) ++ filter_map h (x ∷ [])
+  picked = ap (filter_map h) (grown xs i x low at) ∙ filter_map-append h (take i xs) (x ∷ [])
+
+  pub some_more : (y : Y) → h x ≡ Some y → filter_map h (take (i + 1) xs) ≡ filter_map h (take i xs) ++ y ∷ []
+  some_more y e = picked ∙ ap (λ o. filter_map h (take i xs) ++ cons_option o []) e
+
+  pub none_more : h x ≡ None → filter_map h (take (i + 1) xs) ≡ filter_map h (take i xs)
+  none_more e = picked ∙ ap (λ o. filter_map h (take i xs) ++ cons_option o []) e ∙ append-nil (filter_map h (take i xs))

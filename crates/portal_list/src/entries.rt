@@ -1,7 +1,6 @@
 //! Entries: rows of the rolls, joined with their owners' lists and rankings.
 
-ghost use Rattle.std.specs.Prelude.{◌≡◌, true, false, Ok, IfOk, OnOk, OnErr, map, option_map};
-ghost use Rattle.std.specs.Prelude.{None, []};
+ghost use Rattle.std.specs.Prelude.{◌≡◌, true, false, Ok, IfOk, OnOk, OnErr, map};
 ghost use Rattle.portal_core.specs.World.{World, changed, with_place};
 ghost use Rattle.portal_core.specs.Good.{Sound};
 ghost use Rattle.portal_core.specs.Meaning.{change_model};
@@ -9,8 +8,7 @@ ghost use Rattle.portal_list.specs.Rows.{HasEntries};
 ghost use Rattle.portal_list.specs.inner.Played.{is_followed};
 
 use crate::changes::{fill_rankings, place_all, replace_choice, replace_ranking};
-use crate::copies::place_copy;
-use portal_core::{Change, LecturerRow, ProjectRow, Round, StudentRow, copy_keys};
+use portal_core::{Change, LecturerRow, ProjectRow, Round, StudentRow};
 use spa_rows::Key;
 use std::alloc::{AllocError, Global};
 use std::marker::Model;
@@ -60,30 +58,6 @@ impl Model for StudentEntry {
       earlier_choice = e.earlier_choice.items;
       earlier_placement = e.earlier_placement;
     } };
-}
-
-/// Makes the entry of a student from copies of these parts, without data of the first round.
-pub(crate) fn fresh_student(
-    alloc: Global,
-    row: &StudentRow,
-    choice: &[Key],
-    placed: Option<&Key>,
-) -> Result<StudentEntry, AllocError>
-    ensures { IfOk result (λ s. s ≡ record {
-      row = row.now;
-      choice = choice.now;
-      placed = option_map (λ p. p.now) placed.entry;
-      earlier_choice = [];
-      earlier_placement = None;
-    }) }
-{
-    Ok(StudentEntry {
-        row: row.copy(alloc)?,
-        choice: copy_keys(alloc, choice)?,
-        placed: place_copy(alloc, placed)?,
-        earlier_choice: Vec::new(alloc),
-        earlier_placement: None,
-    })
 }
 
 /// The entries of a world, in the order of its rolls.

@@ -11,7 +11,6 @@ mod fills;
 mod fit;
 mod from_rows;
 mod good;
-mod grow;
 mod instance;
 mod keeper;
 mod keyed;

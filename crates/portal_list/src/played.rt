@@ -8,10 +8,9 @@ ghost use Rattle.portal_core.specs.inner.Alone.{alone_student};
 ghost use Rattle.portal_list.specs.inner.Played as meant;
 ghost use Rattle.portal_list.specs.inner.Played.{lecturer_played, project_played, all_played};
 
-use crate::copies::ranking_copy;
-use crate::entries::{Entries, LecturerEntry, StudentEntry, fresh_student};
-use crate::grow::push_some;
-use portal_core::{ProjectRow, Round, lecturer_left, project_left};
+use crate::copies::{place_copy, ranking_copy};
+use crate::entries::{Entries, LecturerEntry, StudentEntry};
+use portal_core::{ProjectRow, Round, copy_keys, lecturer_left, project_left};
 use spa_rows::Key;
 use std::alloc::{AllocError, Global};
 
@@ -42,7 +41,9 @@ fn earlier_pairs(alloc: Global, students: &[StudentEntry]) -> Result<Vec<(Key, K
 {
     let mut pairs = Vec::new(alloc);
     for student in students {
-        push_some(&mut pairs, earlier_pair(alloc, student)?)?;
+        if let Some(pair) = earlier_pair(alloc, student)? {
+            pairs.push(pair)?;
+        }
     }
     Ok(pairs)
 }
@@ -78,10 +79,9 @@ fn lecturers_played(
 {
     let mut found = Vec::new(alloc);
     for lecturer in lecturers {
-        push_some(
-            &mut found,
-            lecturer_played(alloc, projects, pairs, lecturer)?,
-        )?;
+        if let Some(left) = lecturer_played(alloc, projects, pairs, lecturer)? {
+            found.push(left)?;
+        }
     }
     Ok(found)
 }
@@ -121,10 +121,9 @@ fn projects_played(
 {
     let mut found = Vec::new(alloc);
     for project in projects {
-        push_some(
-            &mut found,
-            project_played(alloc, lecturers, pairs, project)?,
-        )?;
+        if let Some(left) = project_played(alloc, lecturers, pairs, project)? {
+            found.push(left)?;
+        }
     }
     Ok(found)
 }
@@ -133,12 +132,13 @@ fn projects_played(
 fn alone(alloc: Global, student: &StudentEntry) -> Result<StudentEntry, AllocError>
     ensures { IfOk result (λ s. s ≡ alone_student student.now) }
 {
-    fresh_student(
-        alloc,
-        &student.row,
-        &student.choice,
-        student.placed.as_ref(),
-    )
+    Ok(StudentEntry {
+        row: student.row.copy(alloc)?,
+        choice: copy_keys(alloc, &student.choice)?,
+        placed: place_copy(alloc, student.placed.as_ref())?,
+        earlier_choice: Vec::new(alloc),
+        earlier_placement: None,
+    })
 }
 
 /// Copies the students who have no project of the first round, without its data.

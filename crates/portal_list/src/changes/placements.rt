@@ -10,33 +10,6 @@ use portal_core::Pairs;
 use spa_rows::Key;
 use std::alloc::{AllocError, Global};
 
-/// Returns the project that the pairs give to the student, or `None`.
-fn place_of(
-    alloc: Global,
-    pairs: &Pairs<'_>,
-    student: &StudentEntry,
-) -> Result<Option<Key>, AllocError>
-    ensures { IfOk result (λ o. o ≡ placement_in pairs.now student.now.row.key) }
-{
-    place_copy(alloc, pairs.project_of(student.row.key.as_bytes()))
-}
-
-/// Returns the project that the indexed pairs give to each student, or `None`.
-fn places_by(
-    alloc: Global,
-    students: &[StudentEntry],
-    pairs: &Pairs<'_>,
-) -> Result<Vec<Option<Key>>, AllocError>
-    ensures { IfOk result (λ v. v.items
-        ≡ map (λ s. placement_in pairs.now s.row.key) students.now) }
-{
-    let mut places = Vec::with_capacity(alloc, students.len())?;
-    for student in students {
-        places.push(place_of(alloc, pairs, student)?)?;
-    }
-    Ok(places)
-}
-
 /// Returns the project that the pairs give to each student, or `None`.
 fn places_of(
     alloc: Global,
@@ -47,7 +20,12 @@ fn places_of(
         ≡ map (λ s. placement_in pairs.now s.row.key) students.now) }
 {
     let pairs = Pairs::of(alloc, pairs)?;
-    places_by(alloc, students, &pairs)
+    let mut places = Vec::with_capacity(alloc, students.len())?;
+    for student in students {
+        let project = pairs.project_of(student.row.key.as_bytes());
+        places.push(place_copy(alloc, project)?)?;
+    }
+    Ok(places)
 }
 
 /// Sets the student's project, unless the student has a project of the first round.

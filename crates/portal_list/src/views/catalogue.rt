@@ -6,7 +6,6 @@ ghost use Rattle.portal_core.specs.declared.rows.LecturerRow as rows;
 ghost use Rattle.portal_list.specs.inner.Shown.{name_of, offered, catalogue_in};
 
 use crate::entries::{Entries, LecturerEntry};
-use crate::grow::push_some;
 use crate::played::played;
 use portal_core::{LecturerRow, Listing, Name, ProjectRow, Round};
 use spa_rows::Key;
@@ -80,7 +79,9 @@ pub fn listings_of<L: HasLecturerRow>(
 {
     let mut found = Vec::with_capacity(alloc, projects.len())?;
     for project in projects {
-        push_some(&mut found, listing_among(alloc, lecturers, project)?)?;
+        if let Some(listing) = listing_among(alloc, lecturers, project)? {
+            found.push(listing)?;
+        }
     }
     Ok(found)
 }

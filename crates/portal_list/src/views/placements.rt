@@ -4,7 +4,6 @@ ghost use Rattle.std.specs.Prelude.{◌≡◌, IfOk, option_map};
 ghost use Rattle.portal_core.specs.World.{shown_placement, pairs_with};
 
 use crate::entries::StudentEntry;
-use crate::grow::push_some;
 use portal_core::Phase;
 use spa_rows::Key;
 use std::alloc::{AllocError, Global};
@@ -47,7 +46,9 @@ pub(super) fn pairs_of(
 {
     let mut pairs = Vec::new(alloc);
     for student in students {
-        push_some(&mut pairs, pair_of(alloc, phase, student)?)?;
+        if let Some(pair) = pair_of(alloc, phase, student)? {
+            pairs.push(pair)?;
+        }
     }
     Ok(pairs)
 }

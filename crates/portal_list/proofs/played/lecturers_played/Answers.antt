@@ -1,7 +1,7 @@
-use Rattle.portal_list.proofs.Base.{◌++◌, [], sym, ◌∙◌, cons_option, lecturer_played}
-use Rattle.portal_list.proofs.Steps.{picked}
+use Rattle.portal_list.proofs.Base.{arith}
+use Rattle.portal_list.proofs.Steps.{some_more, none_more}
 use Rattle.portal_list.proofs.played.lecturers_played.Goals as goal
+use Rattle.portal_list.proofs.played.lecturers_played.Goals.{in-Some+in_ok-push, in_default}
 
 pub loop-lecturer-preserved : goal.loop-lecturer-preserved
-loop-lecturer-preserved c =
-    c.in_ok-push_some.ensures ∙ (λ j. c.loop-lecturer.invariant j ++ cons_option (c.in_ok-lecturer_played.ensures j) []) ∙ sym (picked (lecturer_played c.args.projects.now c.args.pairs.now) c.args.lecturers.now c.loop-lecturer.lecturer-index c.lecturer-item.result c.loop-lecturer-test.true (sym c.lecturer-item.is))
+loop-lecturer-preserved c = grind (arith, in-Some+in_ok-push, some_more, in_default, none_more)

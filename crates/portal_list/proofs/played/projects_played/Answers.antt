@@ -1,7 +1,7 @@
-use Rattle.portal_list.proofs.Base.{◌++◌, [], sym, ◌∙◌, cons_option, project_played}
-use Rattle.portal_list.proofs.Steps.{picked}
+use Rattle.portal_list.proofs.Base.{arith}
+use Rattle.portal_list.proofs.Steps.{some_more, none_more}
 use Rattle.portal_list.proofs.played.projects_played.Goals as goal
+use Rattle.portal_list.proofs.played.projects_played.Goals.{in-Some+in_ok-push, in_default}
 
 pub loop-project-preserved : goal.loop-project-preserved
-loop-project-preserved c =
-    c.in_ok-push_some.ensures ∙ (λ j. c.loop-project.invariant j ++ cons_option (c.in_ok-project_played.ensures j) []) ∙ sym (picked (project_played c.args.lecturers.now c.args.pairs.now) c.args.projects.now c.loop-project.project-index c.project-item.result c.loop-project-test.true (sym c.project-item.is))
+loop-project-preserved c = grind (arith, in-Some+in_ok-push, some_more, in_default, none_more)
