@@ -11,8 +11,8 @@ use std::alloc::Global;
 use std::fs;
 use std::io::ErrorKind;
 
-/// A connection to a database in a file. Only functions that connect or close have one: all others
-/// are generic over the store of tables, because proofs over `FileStore` are slow.
+/// A connection to a database in a file. A function that has a store is generic over its tables,
+/// because proofs over `FileStore` are slow.
 pub(crate) type FileConnection = Connection<FileStore<File>>;
 
 /// Connects to a database file, which is created if it does not exist.
