@@ -1,4 +1,4 @@
-//! Traits of byte sources and sinks, which count failed calls.
+//! Traits of byte sources and sinks that count their failed calls.
 
 ghost use Rattle.std.specs.Prelude.{◌≡◌, ℕ, ◌<◌, List, Option, take, length, OnOk, OnErr, IfOk};
 ghost use Rattle.std.specs.Io.KnownBytes.{ReadConsumes, WriteAppends, Appends};

@@ -1,4 +1,4 @@
-//! Looks up the students who list a project, by hashing.
+//! A hash table from projects to the students who list them.
 
 ghost use Rattle.std.specs.Prelude.{◌≡◌, ◌<◌, ◌==◌, ◌||◌, ◌&&◌, ℕ, List, map, length, get_or};
 ghost use Rattle.std.specs.Prelude.{false, IfOk, OnOk};

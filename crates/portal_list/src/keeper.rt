@@ -1,4 +1,4 @@
-//! `ListKeeper` implements `Keeper` in memory, with a method for each kind of change.
+//! `ListKeeper` implements `Keeper` in memory, with methods for the changes.
 
 ghost use Rattle.std.specs.Prelude.{◌≡◌, true, [], IfOk, IfErr, OnOk, OnErr};
 ghost use Rattle.portal_core.specs.View as seen;

@@ -1,4 +1,4 @@
-//! Makes the view of a student, a lecturer or the office.
+//! Finds students and lecturers by code; makes their views and the office's.
 
 ghost use Rattle.std.specs.Prelude.{◌≡◌, IfOk, option_map};
 ghost use Rattle.std.specs.List.{find};

@@ -1,4 +1,4 @@
-//! Connects to a command's database file, opens and closes its store.
+//! Opens and closes a database file, and makes a desk over its store.
 
 ghost use Rattle.std.specs.Prelude.{◌≡◌, ◌⊎◌, false, IfErr, IfOk};
 ghost use Rattle.portal_run.specs.inner.Lines.{status_of};

@@ -1,5 +1,4 @@
-//! Checks the first round's tables before opening: readable, right version, distinct rowids, good
-//! world.
+//! Checks the first round's tables: readable, right version, distinct rowids, good world.
 
 ghost use Rattle.std.specs.Prelude.{◌≡◌, ◌≢◌, ◌↔◌, ◌⊎◌, false, [], ◌∷◌, pos, Err, List, IfErr};
 ghost use Rattle.std.specs.Prelude.{OnOk, IsTrue};

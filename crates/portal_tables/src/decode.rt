@@ -1,4 +1,4 @@
-//! Decodes query rows into rows of rolls and keys of lists, and checks their order.
+//! Decodes query results into rows of rolls and keys of lists, and checks their order.
 
 ghost use Rattle.std.specs.Prelude.{◌≡◌, ◌↔◌, ◌≤◌};
 ghost use Rattle.portal_tables.specs.inner.Base.{true, Err, IfOk, IsTrue, length, map, ⊤};

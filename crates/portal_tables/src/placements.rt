@@ -1,4 +1,4 @@
-//! Reads students' placements in the results of both rounds.
+//! Reads placements of both rounds; tests whether a student takes part.
 
 ghost use Rattle.std.specs.Prelude.{◌≡◌, ◌≤◌, is_none, if◌then◌else◌};
 ghost use Rattle.portal_tables.specs.inner.Base.{true, Err, None, IfOk, option_map, length, map};

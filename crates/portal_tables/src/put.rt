@@ -1,4 +1,4 @@
-//! Replaces or clears an owner's list.
+//! Replaces or clears an owner's list or ranking.
 
 ghost use Rattle.std.specs.Prelude.{◌≡◌, ◌≤◌};
 ghost use Rattle.portal_tables.specs.inner.Base.{length, map, IfOk};

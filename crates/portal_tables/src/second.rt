@@ -1,4 +1,4 @@
-//! Reads and sets the second round's phase, records who has ranked, and replaces its result.
+//! The second round: reads and sets its phase, records who has ranked, and replaces its result.
 
 ghost use Rattle.std.specs.Prelude.{◌≡◌, ◌∷◌};
 ghost use Rattle.portal_tables.specs.inner.Base.{[], pos, Err, IfOk, ThePhase, InSecond};

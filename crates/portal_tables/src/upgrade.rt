@@ -1,4 +1,4 @@
-//! Upgrades the six tables of version 1 to all eleven.
+//! Upgrades the six tables of version 1 to the eleven of version 2.
 
 ghost use Rattle.std.specs.Prelude.{◌≡◌};
 ghost use Rattle.portal_tables.specs.inner.Base.{false, Err, OnOk, OnErr, IsTrue, HasCleanDisk};

@@ -1,4 +1,4 @@
-//! Traits that the kinds of lines share: row and key, capacity, list.
+//! Traits of lines: row number and key, capacity, list.
 
 ghost use Rattle.std.specs.Prelude.{◌≡◌, ℕ, List, map};
 

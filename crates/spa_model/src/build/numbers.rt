@@ -1,4 +1,4 @@
-//! Converts lines into students, projects and lecturers, with indices for keys.
+//! Converts lines into students, projects and lecturers, replacing keys by indices.
 
 ghost use Rattle.std.specs.Prelude.{◌≡◌, ◌<◌, ◌≤◌, All, IfOk, true, length, map};
 ghost use Rattle.spa_rows.specs.Lines.{is_key};
