@@ -52,6 +52,17 @@ fn listening<'a>(matches: &ArgMatches<'a>) -> Option<Command<'a>> {
     })
 }
 
+// Returns the command for the name of a subcommand that takes only a database.
+fn on_database<'a>(name: &str, database: &'a str) -> Option<Command<'a>> {
+    match name {
+        "init" => Some(Command::Init(database)),
+        "pipe" => Some(Command::Pipe(database)),
+        "report" => Some(Command::Report(database)),
+        "upgrade" => Some(Command::Upgrade(database)),
+        _ => None,
+    }
+}
+
 // Returns the command for a subcommand's name and matches.
 fn named<'a>(name: &str, matches: &ArgMatches<'a>) -> Option<Command<'a>>
     ensures check { name.now ≡ codes "check"
@@ -62,12 +73,8 @@ fn named<'a>(name: &str, matches: &ArgMatches<'a>) -> Option<Command<'a>>
     match name {
         "check" => Some(Command::Check(matches.get_str("FILE"))),
         "solve" => Some(Command::Solve(matches.get_str("FILE"))),
-        "init" => Some(Command::Init(matches.get_str("DB")?)),
         "serve" => listening(matches),
-        "pipe" => Some(Command::Pipe(matches.get_str("DB")?)),
-        "report" => Some(Command::Report(matches.get_str("DB")?)),
-        "upgrade" => Some(Command::Upgrade(matches.get_str("DB")?)),
-        _ => None,
+        _ => on_database(name, matches.get_str("DB")?),
     }
 }
 
