@@ -1,4 +1,4 @@
-//! Laws on the bytes of replies: privacy and the main promise.
+//! Laws on the bytes of replies: privacy and the headline.
 
 ghost use Rattle.std.specs.Prelude.{◌≡◌, ℕ, List, Some, ◌++◌};
 ghost use Rattle.std.specs.List.{AllZip};
@@ -55,9 +55,9 @@ pub fn equal_byte_for_byte<K: Keeper, L: Keeper>()
         → replies_in c first ≡ replies_in c second) }
 {}
 
-/// Law: the main promise. Two desks each serve a list of streams in turn, over keepers of any kind.
-/// A call of `serve` may stop before its stream ends, and a keeper may be closed and reopened
-/// between streams. Each first keeper is clean with a good world, no reply is 503, and each last
+/// Law: the headline. Two desks each serve a list of streams in turn, over keepers of any kind. A
+/// call of `serve` may stop before its stream ends, and a keeper may be closed and reopened between
+/// streams. Each first keeper is clean with a good world, no reply is 503, and each last
 /// keeper's disk has returned what was written. Then visits describe these streams.
 ///
 /// Each world in these visits is good, so each published result is stable. Each step that publishes
