@@ -1,10 +1,12 @@
-//! Tests framing, calls, replies and connections over a keeper in lists.
+//! Tests framing, calls, replies and connections over a keeper in lists, and the timeouts of connections.
 
+mod callers;
 mod conversation;
 mod devices;
 mod each;
 mod failing;
 mod frames;
+mod halls;
 mod heads;
 mod longest;
 mod order;
@@ -13,6 +15,7 @@ mod reopening;
 mod requests;
 mod second_sheets;
 mod streams;
+mod times;
 mod trials;
 mod wire;
 mod worked;

@@ -12,9 +12,6 @@ use portal_store::Store;
 use portal_store::laws::disk_in_memory;
 use std::alloc::Global;
 
-#[cfg(test)]
-mod tests;
-
 /// Serves streams one after another over a new portal in memory, and returns what was written for
 /// each. Returns `None` if making the portal or serving a stream fails, or memory runs out.
 pub fn replies_in_memory(alloc: Global, office: Code, streams: &[&[u8]]) -> Option<Vec<Vec<u8>>>

@@ -31,7 +31,7 @@ const PIPE_PRINTS: &str = "Prints the replies.
 Exit status: 0 the connection ended, 2 the database is refused, 3 a device or memory failed.";
 
 const REPORT_PRINTS: &str =
-    "Prints the texts of /report and, once it is published, of the allocation.
+    "Prints the status of the round and, once there is a result, the text of /report.
 Exit status: 0 printed, 2 the database is refused, 3 a device or memory failed.";
 
 const UPGRADE_PRINTS: &str = "Prints `upgraded`.

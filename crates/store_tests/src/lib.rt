@@ -1,4 +1,4 @@
-//! Tests the store, through its public items and through a desk over it.
+//! Tests the tables and the store in both rounds, through public items and through a desk.
 #![tactic(auto)]
 
 #[cfg(test)]

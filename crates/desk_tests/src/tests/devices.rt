@@ -4,7 +4,6 @@ ghost use Rattle.std.specs.Prelude.{Some};
 
 use portal_core::Keeper;
 use portal_desk::{Cause, Counted, Desk, Ending, Failed, ServeFault, Served, Sink, Source};
-use portal_list::ListKeeper;
 use std::alloc::Global;
 use std::io::{Read, Write};
 use std::process::Abort;
@@ -182,9 +181,9 @@ pub(crate) fn served_by<K: Keeper, R: Source>(
 
 /// Serves a reader that returns up to `step` of these bytes a call, and then fails. Checks the
 /// outcome and whether the failure was met, and returns the output.
-pub(crate) fn served_failing(
+pub(crate) fn served_failing<K: Keeper>(
     rt: &(impl Abort + AllocGlobal),
-    desk: &mut Desk<ListKeeper>,
+    desk: &mut Desk<K>,
     bytes: &[u8],
     step: usize,
     wanted: Outcome,
@@ -197,9 +196,9 @@ pub(crate) fn served_failing(
 
 /// Serves to a writer that accepts up to `step` bytes a call, and fails after `many` bytes. Checks
 /// that it fails once, after this many requests, and returns the bytes that it accepted.
-pub(crate) fn taken(
+pub(crate) fn taken<K: Keeper>(
     rt: &(impl Abort + AllocGlobal),
-    desk: &mut Desk<ListKeeper>,
+    desk: &mut Desk<K>,
     bytes: &[u8],
     step: usize,
     many: usize,

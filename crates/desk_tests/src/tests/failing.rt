@@ -78,9 +78,9 @@ const LOST: &str =
     "HTTP/1.1 503 Service Unavailable\r\ncontent-type: application/json\r\ncontent-length: 23\r\nconnection: close\r\n\r\n{\"error\":\"unavailable\"}";
 
 /// Checks that `serve` ends with a fault of the store, after these requests and this output.
-fn fails(
+fn fails<K: Keeper>(
     rt: &(impl Abort + AllocGlobal),
-    desk: &mut Desk<Failing>,
+    desk: &mut Desk<K>,
     asked: &str,
     requests: usize,
     output: &[u8],
@@ -92,23 +92,34 @@ fn fails(
     assert!(rt; desk.failed());
 }
 
+/// Checks that `serve` ends so, and that the desk then stays failed.
+fn stays_failed<K: Keeper + Drop>(
+    rt: &(impl Abort + AllocGlobal),
+    desk: Desk<K>,
+    asked: &str,
+    requests: usize,
+    output: &[u8],
+) {
+    let mut desk = desk;
+    fails(rt, &mut desk, asked, requests, output);
+    fails(rt, &mut desk, TWO, 1, LOST.as_bytes());
+}
+
 #[test]
 fn the_desk_has_failed_from_then_on(rt: HostRuntime) {
     let mut both = Vec::new(rt.alloc());
     put(&rt, &mut both, NO_CALLER);
     put(&rt, &mut both, LOST);
-    let mut desk = Desk::new(Failing::new(&rt, fresh_keeper(&rt), 1));
-    fails(&rt, &mut desk, TWO, 2, both.as_slice());
-    fails(&rt, &mut desk, TWO, 1, LOST.as_bytes());
+    let desk = Desk::new(Failing::new(&rt, fresh_keeper(&rt), 1));
+    stays_failed(&rt, desk, TWO, 2, both.as_slice());
 }
 
 /// Checks that a change after these scripts fails with a fault of the store, and that the desk then
 /// stays failed.
 fn is_lost(rt: &(impl Abort + AllocGlobal), scripts: &[&str], line: &str) {
     let asked = request(rt, line);
-    let mut desk = Desk::new(Failing::new(rt, after(rt, scripts).into_keeper(), u32::MAX));
-    fails(rt, &mut desk, asked.as_str(), 1, LOST.as_bytes());
-    fails(rt, &mut desk, TWO, 1, LOST.as_bytes());
+    let desk = Desk::new(Failing::new(rt, after(rt, scripts).into_keeper(), u32::MAX));
+    stays_failed(rt, desk, asked.as_str(), 1, LOST.as_bytes());
 }
 
 #[test]

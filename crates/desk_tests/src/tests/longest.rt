@@ -3,8 +3,8 @@
 use crate::tests::conversation::put;
 use crate::tests::devices::{is_first, is_text, served_failing, stopped, taken};
 use crate::tests::portal::{choosing, plays, reopened, written};
+use portal_core::Keeper;
 use portal_desk::{Cause, Desk, Ending};
-use portal_list::ListKeeper;
 use std::process::Abort;
 
 const HEAD: &str =
@@ -38,7 +38,7 @@ fn longest(rt: &(impl Abort + AllocGlobal)) -> Vec<u8> {
 }
 
 /// Checks the reply to the longest body, and that the student is then shown an empty list.
-fn is_answered(rt: &(impl Abort + AllocGlobal), desk: &mut Desk<ListKeeper>, reply: &str) {
+fn is_answered<K: Keeper>(rt: &(impl Abort + AllocGlobal), desk: &mut Desk<K>, reply: &str) {
     let bytes = longest(rt);
     let output = written(rt, desk, bytes.as_slice(), Ending::End, 1);
     is_text(rt, output.as_slice(), reply.as_bytes());
@@ -59,9 +59,9 @@ fn is_read_before_it_is_refused(rt: HostRuntime) {
 }
 
 /// Checks a reader that fails before the last byte: the request has not acted.
-fn fails_reading(
+fn fails_reading<K: Keeper>(
     rt: &(impl Abort + AllocGlobal),
-    desk: &mut Desk<ListKeeper>,
+    desk: &mut Desk<K>,
     bytes: &[u8],
     step: usize,
     many: usize,
@@ -102,9 +102,9 @@ fn a_reader_fails_behind_it(rt: HostRuntime) {
 }
 
 /// Checks a writer that fails after `many` bytes: the request has acted.
-fn fails_writing(
+fn fails_writing<K: Keeper>(
     rt: &(impl Abort + AllocGlobal),
-    desk: &mut Desk<ListKeeper>,
+    desk: &mut Desk<K>,
     bytes: &[u8],
     step: usize,
     many: usize,

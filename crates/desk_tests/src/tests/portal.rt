@@ -3,6 +3,7 @@
 ghost use Rattle.portal_core.specs.Good.{Good};
 
 use crate::tests::devices::{ended, is_text, served_by};
+use portal_core::Keeper;
 use portal_desk::{Counted, Desk, Ending};
 use portal_fixtures::worked::{ENROLLED, FIRST_ROUND, LISTS, REOPENED};
 use portal_fixtures::{Line, office_code, play};
@@ -35,9 +36,9 @@ pub(crate) fn fresh(rt: &(impl Abort + AllocGlobal)) -> Desk<ListKeeper> {
 }
 
 /// Serves one connection, checks its ending and number of requests, and returns the output.
-pub(crate) fn written(
+pub(crate) fn written<K: Keeper>(
     rt: &(impl Abort + AllocGlobal),
-    desk: &mut Desk<ListKeeper>,
+    desk: &mut Desk<K>,
     bytes: &[u8],
     ending: Ending,
     requests: usize,
@@ -47,9 +48,9 @@ pub(crate) fn written(
 }
 
 /// Checks that a connection with these bytes has this ending, number of requests and output.
-pub(crate) fn gives(
+pub(crate) fn gives<K: Keeper>(
     rt: &(impl Abort + AllocGlobal),
-    desk: &mut Desk<ListKeeper>,
+    desk: &mut Desk<K>,
     bytes: &str,
     ending: Ending,
     requests: usize,
@@ -70,11 +71,11 @@ pub(crate) fn reply(rt: &(impl Abort + AllocGlobal), line: &str) -> String {
 }
 
 /// Checks that each line of the script gets its reply, each on a new connection.
-pub(crate) fn plays(rt: &(impl Abort + AllocGlobal), desk: &mut Desk<ListKeeper>, script: &str) {
+pub(crate) fn plays<K: Keeper>(rt: &(impl Abort + AllocGlobal), desk: &mut Desk<K>, script: &str) {
     play_all(rt, desk, &[script]);
 }
 
-fn play_all(rt: &(impl Abort + AllocGlobal), desk: &mut Desk<ListKeeper>, scripts: &[&str]) {
+fn play_all<K: Keeper>(rt: &(impl Abort + AllocGlobal), desk: &mut Desk<K>, scripts: &[&str]) {
     let wrong = play(rt.alloc(), desk, scripts).expect(rt, "memory");
     assert_eq!(rt; wrong.as_str(), "");
 }

@@ -4,9 +4,9 @@ use crate::tests::conversation::{Asked, Stream};
 use crate::tests::devices::is_text;
 use crate::tests::portal::{after, plays, published, written};
 use crate::tests::trials::{ended_at, reader_fails_at, served_cut, writer_fails_at};
+use portal_core::Keeper;
 use portal_desk::{Desk, Ending};
 use portal_fixtures::worked::{FIRST_ROUND, RANKED_AGAIN};
-use portal_list::ListKeeper;
 use std::process::Abort;
 
 /// The office opens the second round.
@@ -99,7 +99,7 @@ const RESULT: Stream = Stream {
 
 /// Sends the requests that have not acted on another connection. Checks their replies and the
 /// result of the round.
-fn goes_on(rt: &(impl Abort + AllocGlobal), desk: &mut Desk<ListKeeper>, acted: usize) {
+fn goes_on<K: Keeper>(rt: &(impl Abort + AllocGlobal), desk: &mut Desk<K>, acted: usize) {
     let bytes = ROUND.behind(rt, acted);
     let left = ROUND.requests().saturating_sub(acted);
     let output = written(rt, desk, bytes.as_slice(), Ending::End, left);

@@ -5,8 +5,8 @@ use crate::tests::devices::{
     Feeder, ended, is_first, is_text, served_by, served_failing, stopped, taken,
 };
 use crate::tests::portal::{BAD_HEAD, NO_CALLER, fresh, plays, published, reply, request, written};
+use portal_core::Keeper;
 use portal_desk::{Cause, Desk, Ending};
-use portal_list::ListKeeper;
 use std::process::Abort;
 
 const SHORT: &str = "GET /me HTTP/1.1\r\nHost: h\r\n\r\n";
@@ -62,9 +62,9 @@ fn no_more_than_256_openings(rt: HostRuntime) {
 }
 
 /// Checks a reader that fails after `many` bytes: the requests that are complete are answered.
-fn fails_reading(
+fn fails_reading<K: Keeper>(
     rt: &(impl Abort + AllocGlobal),
-    desk: &mut Desk<ListKeeper>,
+    desk: &mut Desk<K>,
     bytes: &[u8],
     wanted: &[u8],
     many: usize,
@@ -109,9 +109,9 @@ fn is_written(rt: &impl Abort, output: &[u8], wanted: &[u8], many: usize, closin
 }
 
 /// Checks an input that ends after `many` bytes: an incomplete request is refused.
-fn ends_reading(
+fn ends_reading<K: Keeper>(
     rt: &(impl Abort + AllocGlobal),
-    desk: &mut Desk<ListKeeper>,
+    desk: &mut Desk<K>,
     bytes: &[u8],
     wanted: &[u8],
     many: usize,
@@ -150,9 +150,9 @@ fn readers_end_up_to_7_453(rt: HostRuntime) {
 }
 
 /// Checks a writer that fails after `many` bytes: no request after the failed reply has acted.
-fn fails_writing(
+fn fails_writing<K: Keeper>(
     rt: &(impl Abort + AllocGlobal),
-    desk: &mut Desk<ListKeeper>,
+    desk: &mut Desk<K>,
     bytes: &[u8],
     wanted: &[u8],
     many: usize,

@@ -4,14 +4,14 @@ use crate::tests::conversation::{Stream, put};
 use crate::tests::devices::{
     Feeder, ended, is_first, is_text, served_by, served_failing, stopped, taken,
 };
+use portal_core::Keeper;
 use portal_desk::{Cause, Desk};
-use portal_list::ListKeeper;
 use std::process::Abort;
 
 /// Checks a stream that arrives in pieces: `first` bytes, then `second` bytes, then the rest.
-pub(crate) fn served_cut(
+pub(crate) fn served_cut<K: Keeper>(
     rt: &(impl Abort + AllocGlobal),
-    desk: &mut Desk<ListKeeper>,
+    desk: &mut Desk<K>,
     stream: &Stream,
     first: usize,
     second: usize,
@@ -24,9 +24,9 @@ pub(crate) fn served_cut(
 }
 
 /// Checks a stream whose input ends after `many` bytes.
-pub(crate) fn ended_at(
+pub(crate) fn ended_at<K: Keeper>(
     rt: &(impl Abort + AllocGlobal),
-    desk: &mut Desk<ListKeeper>,
+    desk: &mut Desk<K>,
     stream: &Stream,
     many: usize,
 ) {
@@ -53,9 +53,9 @@ fn are_replies(
 
 /// Checks a reader that returns up to `step` bytes a call and fails after `many` bytes. Requests
 /// that are complete by then are answered, and nothing else is written.
-pub(crate) fn reader_fails_at(
+pub(crate) fn reader_fails_at<K: Keeper>(
     rt: &(impl Abort + AllocGlobal),
-    desk: &mut Desk<ListKeeper>,
+    desk: &mut Desk<K>,
     stream: &Stream,
     step: usize,
     many: usize,
@@ -75,9 +75,9 @@ pub(crate) fn reader_fails_at(
 
 /// Checks a writer that accepts up to `step` bytes a call and fails after `many` bytes. The request
 /// of the failed reply has acted, and no later one.
-pub(crate) fn writer_fails_at(
+pub(crate) fn writer_fails_at<K: Keeper>(
     rt: &(impl Abort + AllocGlobal),
-    desk: &mut Desk<ListKeeper>,
+    desk: &mut Desk<K>,
     stream: &Stream,
     step: usize,
     many: usize,

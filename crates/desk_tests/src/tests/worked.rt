@@ -3,8 +3,8 @@
 use crate::tests::conversation::Stream;
 use crate::tests::portal::{BAD_HEAD, BAD_LENGTH, fresh, with_rolls};
 use crate::tests::trials::{ended_at, reader_fails_at, served_cut, writer_fails_at};
+use portal_core::Keeper;
 use portal_desk::Desk;
-use portal_list::ListKeeper;
 use std::process::Abort;
 
 /// The office, a student, a lecturer and an unknown caller ask who they are.
@@ -117,9 +117,9 @@ const REFUSED_SECOND: Stream = Stream {
     waits: true,
 };
 
-fn cut_at_each_two_places(
+fn cut_at_each_two_places<K: Keeper>(
     rt: &(impl Abort + AllocGlobal),
-    desk: &mut Desk<ListKeeper>,
+    desk: &mut Desk<K>,
     stream: &Stream,
 ) {
     let length = stream.bytes(rt).len();
@@ -131,9 +131,9 @@ fn cut_at_each_two_places(
     }
 }
 
-fn ended_at_each_place(
+fn ended_at_each_place<K: Keeper>(
     rt: &(impl Abort + AllocGlobal),
-    desk: &mut Desk<ListKeeper>,
+    desk: &mut Desk<K>,
     stream: &Stream,
 ) {
     let length = stream.bytes(rt).len();
@@ -143,7 +143,7 @@ fn ended_at_each_place(
 }
 
 /// Checks readers that fail after each number of bytes, returned one by one or all at once.
-fn readers_fail(rt: &(impl Abort + AllocGlobal), desk: &mut Desk<ListKeeper>, stream: &Stream) {
+fn readers_fail<K: Keeper>(rt: &(impl Abort + AllocGlobal), desk: &mut Desk<K>, stream: &Stream) {
     let length = stream.bytes(rt).len();
     for many in 0..=length {
         reader_fails_at(rt, desk, stream, 1, many);
@@ -152,7 +152,7 @@ fn readers_fail(rt: &(impl Abort + AllocGlobal), desk: &mut Desk<ListKeeper>, st
 }
 
 /// Checks writers that fail after each number of bytes, accepted one by one or all at once.
-fn writers_fail(rt: &(impl Abort + AllocGlobal), desk: &mut Desk<ListKeeper>, stream: &Stream) {
+fn writers_fail<K: Keeper>(rt: &(impl Abort + AllocGlobal), desk: &mut Desk<K>, stream: &Stream) {
     let length = stream.output(rt).len();
     for many in 0..length {
         writer_fails_at(rt, desk, stream, 1, many);
@@ -161,9 +161,9 @@ fn writers_fail(rt: &(impl Abort + AllocGlobal), desk: &mut Desk<ListKeeper>, st
 }
 
 /// Checks the stream with all cuts and early ends, and on failing devices.
-fn is_served_on_any_device(
+fn is_served_on_any_device<K: Keeper>(
     rt: &(impl Abort + AllocGlobal),
-    desk: &mut Desk<ListKeeper>,
+    desk: &mut Desk<K>,
     stream: &Stream,
 ) {
     cut_at_each_two_places(rt, desk, stream);

@@ -3,10 +3,10 @@
 use crate::tests::steps::{new_desk, plays};
 use portal_core::{LecturerView, View};
 use portal_fixtures::worked::{LISTS, PUBLICATION, ROLLS, SECOND_OPENING, TO_RANKING};
-use portal_fixtures::{LEE, MOE, MemDesk};
+use portal_fixtures::{LEE, MOE};
 use portal_store::queries::view;
 use sqlite::types::ValueRef;
-use sqlite::{Connection, MemStore};
+use sqlite::{Alter, Connection};
 use std::process::Abort;
 
 /// How many students choose one project.
@@ -20,7 +20,7 @@ fn key_of(rt: &(impl Abort + AllocGlobal), at: usize) -> String {
 }
 
 /// Inserts the students, the last key first. The statement inserts the choice of each.
-fn add_crowd(rt: &(impl Abort + AllocGlobal), conn: &mut Connection<MemStore>, statement: &str) {
+fn add_crowd<S: Alter>(rt: &(impl Abort + AllocGlobal), conn: &mut Connection<S>, statement: &str) {
     for back in 0..CROWD {
         let key = key_of(rt, CROWD.saturating_sub(back));
         let text = ValueRef::Text(key.as_bytes());
@@ -51,31 +51,35 @@ fn sees_no_other(rt: &(impl Abort + AllocGlobal), lecturer: &LecturerView) {
     }
 }
 
-/// Returns the view of the caller with this code.
-fn seen_by(rt: &(impl Abort + AllocGlobal), conn: &mut Connection<MemStore>, code: &str) -> View {
+/// Returns the view of the lecturer with this code.
+fn seen_by<S: Alter>(
+    rt: &(impl Abort + AllocGlobal),
+    conn: &mut Connection<S>,
+    code: &str,
+) -> LecturerView {
     assert!(rt; conn.is_autocommit());
-    view(rt.alloc(), conn, code.as_bytes()).expect(rt, "a view")
+    match view(rt.alloc(), conn, code.as_bytes()).expect(rt, "a view") {
+        View::Lecturer(lecturer) => lecturer,
+        _ => panic!(rt; "no lecturer"),
+    }
 }
 
-/// Inserts the students and their choices, runs the second statement, and checks the view.
-fn is_seen(
+/// Inserts the students and their choices, runs the second statement, and checks the view. Generic,
+/// because proofs over `MemStore` are slow.
+fn is_seen<S: Alter + Drop>(
     rt: &(impl Abort + AllocGlobal),
-    desk: MemDesk,
+    conn: Connection<S>,
     statements: (&str, &str),
     code: &str,
     projects: usize,
 ) {
     let (choice, ranking) = statements;
-    let mut conn = desk.into_keeper().into_connection();
+    let mut conn = conn;
     add_crowd(rt, &mut conn, choice);
     conn.execute(ranking, &[]).expect(rt, "a statement");
-    match seen_by(rt, &mut conn, code) {
-        View::Lecturer(lecturer) => {
-            sees_all(rt, &lecturer, projects);
-            sees_no_other(rt, &lecturer);
-        }
-        _ => assert!(rt; false, "no lecturer"),
-    }
+    let lecturer = seen_by(rt, &mut conn, code);
+    sees_all(rt, &lecturer, projects);
+    sees_no_other(rt, &lecturer);
 }
 
 #[test]
@@ -86,7 +90,8 @@ fn a_crowd_is_seen_by_key(rt: HostRuntime) {
         "INSERT INTO choice (student, place, project) VALUES (?1, 1, 'P1')",
         "UPDATE portal SET phase = 2 WHERE id = 1",
     );
-    is_seen(&rt, desk, statements, LEE, 2);
+    let conn = desk.into_keeper().into_connection();
+    is_seen(&rt, conn, statements, LEE, 2);
 }
 
 #[test]
@@ -98,5 +103,6 @@ fn a_crowd_of_the_second_round_is_seen_by_key(rt: HostRuntime) {
         "INSERT INTO choice2 (student, place, project) VALUES (?1, 1, 'P3')",
         "UPDATE second SET phase = 2 WHERE id = 1",
     );
-    is_seen(&rt, desk, statements, MOE, 1);
+    let conn = desk.into_keeper().into_connection();
+    is_seen(&rt, conn, statements, MOE, 1);
 }

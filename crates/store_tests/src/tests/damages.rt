@@ -7,11 +7,12 @@ use portal_fixtures::worked::{IN_CHOOSING, IN_PUBLISHED, IN_RANKING, IN_SETUP};
 use portal_fixtures::{ANN, cut, version1};
 use portal_store::queries::view;
 use portal_store::{NotOpened, OpenFault, Store, UpgradeFault};
-use sqlite::{Connection, MemStore};
+use sqlite::{Alter, Connection, MemStore};
 use std::process::Abort;
 
-/// Opens the database, and returns the word for the outcome.
-fn opened(rt: &(impl Abort + AllocGlobal), conn: Connection<MemStore>) -> &'static str {
+/// Opens the database, and returns the word for the outcome. Generic, because proofs over `MemStore`
+/// are slow.
+fn opened<S: Alter + Drop>(rt: &(impl Abort + AllocGlobal), conn: Connection<S>) -> &'static str {
     assert!(rt; conn.is_autocommit());
     match Store::open(rt.alloc(), conn) {
         Ok(store) => {
@@ -34,7 +35,7 @@ fn opened(rt: &(impl Abort + AllocGlobal), conn: Connection<MemStore>) -> &'stat
 }
 
 /// Upgrades the database, and returns the word for the outcome.
-fn upgraded(rt: &(impl Abort + AllocGlobal), conn: Connection<MemStore>) -> &'static str {
+fn upgraded<S: Alter + Drop>(rt: &(impl Abort + AllocGlobal), conn: Connection<S>) -> &'static str {
     assert!(rt; conn.is_autocommit());
     match Store::upgrade(rt.alloc(), conn) {
         Ok(store) => {
@@ -168,13 +169,12 @@ fn each_damage_is_told_by_an_upgrade(rt: HostRuntime) {
 
 /// Checks that the view is that of the first student in choosing, with a list of two projects.
 fn is_of_ann(rt: &impl Abort, student: &StudentView) {
-    assert_eq!(rt; student.phase, Phase::Choosing);
-    assert_eq!(rt; student.me.key.as_bytes(), b"S1".as_slice());
-    assert_eq!(rt; student.catalogue.len(), 3);
-    assert!(rt; student.choices.len() == 2);
-    assert_eq!(rt; student.choices[0].as_bytes(), b"P1".as_slice());
-    assert_eq!(rt; student.choices[1].as_bytes(), b"P2".as_slice());
-    assert!(rt; student.result.is_none());
+    let is_ann = student.me.key.as_bytes() == b"S1".as_slice();
+    assert!(rt; is_ann && student.phase == Phase::Choosing);
+    assert!(rt; student.catalogue.len() == 3 && student.choices.len() == 2);
+    let first = student.choices[0].as_bytes() == b"P1".as_slice();
+    let second = student.choices[1].as_bytes() == b"P2".as_slice();
+    assert!(rt; first && second && student.result.is_none());
 }
 
 /// Statements that damage rows of other persons.
@@ -187,16 +187,26 @@ const OF_OTHERS: &[&str] = &[
     "INSERT INTO ranking (lecturer, place, student) VALUES ('L1', 2, 'S1')",
 ];
 
+/// Returns the view of the student with this code.
+pub(crate) fn student_seen<S: Alter + Drop>(
+    rt: &(impl Abort + AllocGlobal),
+    conn: Connection<S>,
+    code: &str,
+) -> StudentView {
+    let mut conn = conn;
+    assert!(rt; conn.is_autocommit());
+    match view(rt.alloc(), &mut conn, code.as_bytes()).expect(rt, "a view") {
+        View::Student(student) => student,
+        _ => panic!(rt; "no student"),
+    }
+}
+
 /// A student is shown the same after each damage of `OF_OTHERS`.
 #[test]
 fn a_view_reads_no_other_row(rt: HostRuntime) {
     for statements in OF_OTHERS {
         let mut conn = played(&rt, "choosing");
         run_all(&mut conn, &[statements]).expect(&rt, "statements");
-        assert!(rt; conn.is_autocommit());
-        match view(rt.alloc(), &mut conn, ANN.as_bytes()).expect(&rt, "a view") {
-            View::Student(student) => is_of_ann(&rt, &student),
-            _ => assert!(rt; false, "no student"),
-        }
+        is_of_ann(&rt, &student_seen(&rt, conn, ANN));
     }
 }

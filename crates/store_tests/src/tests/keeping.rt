@@ -2,14 +2,15 @@
 
 use crate::tests::steps::{new_desk, new_office_code, plays};
 use portal_desk::Desk;
+use portal_fixtures::OFFICE;
 use portal_fixtures::worked::TWO_ROUNDS;
-use portal_fixtures::{MemDesk, OFFICE};
 use portal_store::{CreateFault, NotOpened, Store};
-use sqlite::Connection;
+use sqlite::{Alter, Connection};
 use std::process::Abort;
 
-/// Opens the same database again, and returns a desk over it.
-fn again(rt: &(impl Abort + AllocGlobal), desk: MemDesk) -> MemDesk {
+/// Opens the same database again, and returns a desk over it. Generic, because proofs over `MemStore`
+/// are slow.
+fn again<S: Alter + Drop>(rt: &(impl Abort + AllocGlobal), desk: Desk<Store<S>>) -> Desk<Store<S>> {
     let conn = desk.into_keeper().into_connection();
     match Store::open(rt.alloc(), conn) {
         Ok(store) => Desk::new(store),
@@ -17,13 +18,18 @@ fn again(rt: &(impl Abort + AllocGlobal), desk: MemDesk) -> MemDesk {
     }
 }
 
+/// Plays two rounds, and opens the database again after each part.
+fn plays_reopening<S: Alter + Drop>(rt: &(impl Abort + AllocGlobal), desk: Desk<Store<S>>) {
+    let mut desk = desk;
+    for part in TWO_ROUNDS {
+        plays(rt, &mut desk, &[part]);
+        desk = again(rt, desk);
+    }
+}
+
 #[test]
 fn a_year_over_connections_of_their_own(rt: HostRuntime) {
-    let mut desk = new_desk(&rt);
-    for part in TWO_ROUNDS {
-        plays(&rt, &mut desk, &[part]);
-        desk = again(&rt, desk);
-    }
+    plays_reopening(&rt, new_desk(&rt));
 }
 
 /// Returns why no store is created in a database that has this table, if none is.

@@ -103,7 +103,9 @@ fn have_all<K: Keeper>(rt: &(impl Abort + AllocGlobal), desk: &mut Desk<K>) {
 }
 
 /// Plays a year of one round.
-fn runs<K: Keeper>(rt: &(impl Abort + AllocGlobal), desk: &mut Desk<K>) {
+fn runs<K: Keeper + Drop>(rt: &(impl Abort + AllocGlobal), desk: Desk<K>) {
+    let mut desk = desk;
+    let desk = &mut desk;
     loads_all(rt, desk);
     moves(rt, desk, r#"{"phase":"choosing"}"#);
     puts_all(rt, desk, CHOOSES, &NUMBERS, LIST);
@@ -127,7 +129,9 @@ const SECOND_RANKING: &str =
     r#"{"students":["S11","S12","S13","S14","S15","S16","S17","S18","S19","S20"]}"#;
 
 /// Plays a year in which ten students get a project in the first round and ten in the second.
-fn runs_twice<K: Keeper>(rt: &(impl Abort + AllocGlobal), desk: &mut Desk<K>) {
+fn runs_twice<K: Keeper + Drop>(rt: &(impl Abort + AllocGlobal), desk: Desk<K>) {
+    let mut desk = desk;
+    let desk = &mut desk;
     loads_all(rt, desk);
     moves(rt, desk, r#"{"phase":"choosing"}"#);
     puts_all(rt, desk, CHOOSES, &FIRST_TEN, LIST);
@@ -145,12 +149,12 @@ fn runs_twice<K: Keeper>(rt: &(impl Abort + AllocGlobal), desk: &mut Desk<K>) {
 
 #[test]
 fn a_long_run_of_two_rounds(rt: HostRuntime) {
-    runs_twice(&rt, &mut new_desk(&rt));
-    runs_twice(&rt, &mut new_lists(&rt));
+    runs_twice(&rt, new_desk(&rt));
+    runs_twice(&rt, new_lists(&rt));
 }
 
 #[test]
 fn a_long_run(rt: HostRuntime) {
-    runs(&rt, &mut new_desk(&rt));
-    runs(&rt, &mut new_lists(&rt));
+    runs(&rt, new_desk(&rt));
+    runs(&rt, new_lists(&rt));
 }

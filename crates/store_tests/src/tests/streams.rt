@@ -7,9 +7,9 @@ use portal_fixtures::worked::{
     IN_CHOOSING, IN_PUBLISHED, IN_SETUP, SECOND_PUBLICATION, SECOND_TO_RANKING,
 };
 use portal_fixtures::written;
-use std::io;
 use std::io::Read;
 use std::process::Abort;
+use std::{io, slice};
 
 const FOUR: &str =
     "GET /me HTTP/1.1\r\nHost: h\r\nPortal-Code: office-code-0\r\n\r\nGET /me HTTP/1.1\r\nHost: h\r\nPortal-Code: ann-code-1\r\n\r\nGET /me HTTP/1.1\r\nHost: h\r\nPortal-Code: lee-code-01\r\n\r\nGET /me HTTP/1.1\r\nHost: h\r\n\r\n";
@@ -93,18 +93,24 @@ fn gives<K: Keeper>(rt: &(impl Abort + AllocGlobal), desk: &mut Desk<K>, served:
     let (parts, bytes, output) = *served;
     plays(rt, desk, parts);
     let text = written(rt.alloc(), desk, bytes.as_bytes());
-    assert_eq!(rt; text.as_slice(), output.as_bytes());
+    assert!(rt; text.as_slice() == output.as_bytes());
     let text = dripped(rt, desk, bytes.as_bytes());
-    assert_eq!(rt; text.as_slice(), output.as_bytes());
+    assert!(rt; text.as_slice() == output.as_bytes());
+}
+
+/// Checks the output of these streams in order. Generic, because proofs over `MemStore` are slow.
+fn gives_all<K: Keeper + Drop>(rt: &(impl Abort + AllocGlobal), desk: Desk<K>, all: &[Served]) {
+    let mut desk = desk;
+    for served in all {
+        gives(rt, &mut desk, served);
+    }
 }
 
 #[test]
 fn streams_are_served(rt: HostRuntime) {
     for served in SERVED {
-        let mut desk = new_desk(&rt);
-        gives(&rt, &mut desk, served);
-        let mut lists = new_lists(&rt);
-        gives(&rt, &mut lists, served);
+        gives_all(&rt, new_desk(&rt), slice::from_ref(served));
+        gives_all(&rt, new_lists(&rt), slice::from_ref(served));
     }
 }
 
@@ -145,17 +151,14 @@ const SECOND_SERVED: &[Served] = &[
 
 #[test]
 fn the_second_round_is_served(rt: HostRuntime) {
-    let mut desk = new_desk(&rt);
-    let mut lists = new_lists(&rt);
-    for served in SECOND_SERVED {
-        gives(&rt, &mut desk, served);
-        gives(&rt, &mut lists, served);
-    }
+    gives_all(&rt, new_desk(&rt), SECOND_SERVED);
+    gives_all(&rt, new_lists(&rt), SECOND_SERVED);
 }
 
 /// Checks that an empty list, padded with spaces to the longest body, is accepted.
-fn takes_the_longest<K: Keeper>(rt: &(impl Abort + AllocGlobal), desk: &mut Desk<K>) {
-    plays(rt, desk, IN_CHOOSING);
+fn takes_the_longest<K: Keeper + Drop>(rt: &(impl Abort + AllocGlobal), desk: Desk<K>) {
+    let mut desk = desk;
+    plays(rt, &mut desk, IN_CHOOSING);
     let mut bytes = Vec::new(rt.alloc());
     let head =
         b"PUT /choices HTTP/1.1\r\nHost: h\r\nPortal-Code: ann-code-1\r\nContent-Length: 1048576\r\n\r\n{\"projects\":[]}";
@@ -163,7 +166,7 @@ fn takes_the_longest<K: Keeper>(rt: &(impl Abort + AllocGlobal), desk: &mut Desk
     bytes
         .resize(bytes.len() + 1_048_561, b' ')
         .expect(rt, "memory");
-    let text = written(rt.alloc(), desk, &bytes);
+    let text = written(rt.alloc(), &mut desk, &bytes);
     let wanted =
         "HTTP/1.1 200 OK\r\ncontent-type: application/json\r\ncontent-length: 15\r\n\r\n{\"projects\":[]}";
     assert_eq!(rt; text.as_slice(), wanted.as_bytes());
@@ -171,8 +174,6 @@ fn takes_the_longest<K: Keeper>(rt: &(impl Abort + AllocGlobal), desk: &mut Desk
 
 #[test]
 fn the_longest_body_is_taken(rt: HostRuntime) {
-    let mut desk = new_desk(&rt);
-    takes_the_longest(&rt, &mut desk);
-    let mut lists = new_lists(&rt);
-    takes_the_longest(&rt, &mut lists);
+    takes_the_longest(&rt, new_desk(&rt));
+    takes_the_longest(&rt, new_lists(&rt));
 }

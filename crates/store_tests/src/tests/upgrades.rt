@@ -6,16 +6,17 @@ use portal_fixtures::worked::{
     IN_CHOOSING, IN_PUBLISHED, IN_RANKING, IN_SETUP, LISTS, PUBLICATION, RESULT, SECOND_LISTS,
     SECOND_OPENING, SECOND_PUBLICATION, SECOND_TO_RANKING, TO_RANKING,
 };
-use portal_fixtures::{MemDesk, seen, version1};
+use portal_fixtures::{seen, version1};
 use portal_store::{NotOpened, OpenFault, Store, UpgradeFault};
-use sqlite::{Connection, MemStore};
+use sqlite::{Alter, Connection, MemStore};
 use std::process::Abort;
 
-/// Upgrades the tables. Returns a desk over them, or the fault and the connection.
-fn upgrade(
+/// Upgrades the tables. Returns a desk over them, or the fault and the connection. Generic, because
+/// proofs over `MemStore` are slow.
+fn upgrade<S: Alter + Drop>(
     rt: &(impl Abort + AllocGlobal),
-    conn: Connection<MemStore>,
-) -> Result<MemDesk, (UpgradeFault, Connection<MemStore>)> {
+    conn: Connection<S>,
+) -> Result<Desk<Store<S>>, (UpgradeFault, Connection<S>)> {
     if !conn.is_autocommit() {
         rt.abort();
     }
@@ -26,10 +27,10 @@ fn upgrade(
 }
 
 /// Opens the tables. Returns a desk over them, or the fault and the connection.
-fn open(
+fn open<S: Alter + Drop>(
     rt: &(impl Abort + AllocGlobal),
-    conn: Connection<MemStore>,
-) -> Result<MemDesk, (OpenFault, Connection<MemStore>)> {
+    conn: Connection<S>,
+) -> Result<Desk<Store<S>>, (OpenFault, Connection<S>)> {
     if !conn.is_autocommit() {
         rt.abort();
     }
@@ -40,11 +41,11 @@ fn open(
 }
 
 /// Checks that an upgrade is refused for this reason, and returns the connection.
-fn not_upgraded(
+fn not_upgraded<S: Alter + Drop>(
     rt: &(impl Abort + AllocGlobal),
-    conn: Connection<MemStore>,
+    conn: Connection<S>,
     wanted: UpgradeFault,
-) -> Connection<MemStore> {
+) -> Connection<S> {
     match upgrade(rt, conn) {
         Ok(_) => panic!(rt; "upgraded"),
         Err((fault, conn)) => {
@@ -55,7 +56,10 @@ fn not_upgraded(
 }
 
 /// Checks that `open` refuses the version of the tables, and returns the connection.
-fn not_opened(rt: &(impl Abort + AllocGlobal), conn: Connection<MemStore>) -> Connection<MemStore> {
+fn not_opened<S: Alter + Drop>(
+    rt: &(impl Abort + AllocGlobal),
+    conn: Connection<S>,
+) -> Connection<S> {
     match open(rt, conn) {
         Ok(_) => panic!(rt; "opened"),
         Err((fault, conn)) => {
@@ -66,7 +70,10 @@ fn not_opened(rt: &(impl Abort + AllocGlobal), conn: Connection<MemStore>) -> Co
 }
 
 /// Upgrades tables that `open` refuses, and returns a desk over them.
-fn upgraded(rt: &(impl Abort + AllocGlobal), conn: Connection<MemStore>) -> MemDesk {
+fn upgraded<S: Alter + Drop>(
+    rt: &(impl Abort + AllocGlobal),
+    conn: Connection<S>,
+) -> Desk<Store<S>> {
     match upgrade(rt, not_opened(rt, conn)) {
         Ok(desk) => desk,
         Err(_) => panic!(rt; "an upgrade"),
@@ -74,7 +81,7 @@ fn upgraded(rt: &(impl Abort + AllocGlobal), conn: Connection<MemStore>) -> MemD
 }
 
 /// Checks that the tables are not upgraded again. Opens them, and returns a desk over them.
-fn again(rt: &(impl Abort + AllocGlobal), desk: MemDesk) -> MemDesk {
+fn again<S: Alter + Drop>(rt: &(impl Abort + AllocGlobal), desk: Desk<Store<S>>) -> Desk<Store<S>> {
     let conn = desk.into_keeper().into_connection();
     match open(rt, not_upgraded(rt, conn, UpgradeFault::OtherVersion)) {
         Ok(desk) => desk,
@@ -82,24 +89,33 @@ fn again(rt: &(impl Abort + AllocGlobal), desk: MemDesk) -> MemDesk {
     }
 }
 
-/// Checks that the desk shows the same as a new desk on which these scripts were played.
-fn shows(rt: &(impl Abort + AllocGlobal), desk: &mut MemDesk, played: &[&str]) {
-    let mut other = new_desk(rt);
-    plays(rt, &mut other, played);
-    let wanted = seen(rt.alloc(), &mut other).expect(rt, "memory");
-    let found = seen(rt.alloc(), desk).expect(rt, "memory");
-    assert_eq!(rt; found.as_slice(), wanted.as_slice());
+/// Returns what a new desk shows after these scripts.
+fn seen_after(rt: &(impl Abort + AllocGlobal), played: &[&str]) -> Vec<u8> {
+    let mut desk = new_desk(rt);
+    plays(rt, &mut desk, played);
+    seen(rt.alloc(), &mut desk).expect(rt, "memory")
+}
+
+/// Checks that the desk shows the same as a new desk after the first scripts, and plays the others.
+fn shows<S: Alter + Drop>(
+    rt: &(impl Abort + AllocGlobal),
+    desk: Desk<Store<S>>,
+    played: &[&str],
+    parts: &[&str],
+) {
+    let mut desk = desk;
+    let wanted = seen_after(rt, played);
+    let found = seen(rt.alloc(), &mut desk).expect(rt, "memory");
+    assert!(rt; found.as_slice() == wanted.as_slice());
+    plays(rt, &mut desk, parts);
 }
 
 /// Upgrades tables of version 1 that these texts create. Checks that they show the played world,
 /// and plays further parts on them. Does the same after they are opened again.
 fn goes_on(rt: &(impl Abort + AllocGlobal), texts: &[&str], played: &[&str], parts: &[&str]) {
-    let mut desk = upgraded(rt, database(rt, texts));
-    shows(rt, &mut desk, played);
-    plays(rt, &mut desk, parts);
-    let mut desk = again(rt, upgraded(rt, database(rt, texts)));
-    shows(rt, &mut desk, played);
-    plays(rt, &mut desk, parts);
+    shows(rt, upgraded(rt, database(rt, texts)), played, parts);
+    let desk = again(rt, upgraded(rt, database(rt, texts)));
+    shows(rt, desk, played, parts);
 }
 
 /// The rest of a year after setup. `AFTER_PUBLISHED` is the rest after a publication.

@@ -1,13 +1,23 @@
 //! Plays whole years, over a database in memory and over lists.
 
 use crate::tests::steps::{new_desk, new_lists, plays};
-use portal_fixtures::{fills, rolls, runs, watched, years};
+use portal_core::Keeper;
+use portal_desk::Desk;
+use portal_fixtures::second::SECOND_ROUND;
+use portal_fixtures::{fills, rolls, runs, watched, wide, years};
 use std::process::Abort;
+
+/// Checks that each line of the year gets its reply. Generic, because proofs over `MemStore` are
+/// slow.
+fn is_told<K: Keeper + Drop>(rt: &(impl Abort + AllocGlobal), desk: Desk<K>, year: &[&str]) {
+    let mut desk = desk;
+    plays(rt, &mut desk, year);
+}
 
 /// Checks that each line of the year gets its reply from both keepers.
 fn is_played(rt: &(impl Abort + AllocGlobal), year: &[&str]) {
-    plays(rt, &mut new_desk(rt), year);
-    plays(rt, &mut new_lists(rt), year);
+    is_told(rt, new_desk(rt), year);
+    is_told(rt, new_lists(rt), year);
 }
 
 #[test]
@@ -78,4 +88,19 @@ fn a_lecturer_hears_this(rt: HostRuntime) {
 #[test]
 fn a_lecturer_hears_the_same(rt: HostRuntime) {
     is_played(&rt, runs::TURNED);
+}
+
+#[test]
+fn the_worked_round(rt: HostRuntime) {
+    is_played(&rt, SECOND_ROUND);
+}
+
+#[test]
+fn a_lecturer_hears_this_in_both_rounds(rt: HostRuntime) {
+    is_played(&rt, wide::PLAIN);
+}
+
+#[test]
+fn a_lecturer_hears_the_same_in_both_rounds(rt: HostRuntime) {
+    is_played(&rt, wide::TURNED);
 }

@@ -1,6 +1,6 @@
 //! Tests the tables of the second round, and the upgrade of databases that lack them.
 
-use crate::tests::{
+use crate::tests::tables::{
     CHOICES, Changes, Database, STUDENTS, are_apart, change, code, created, department, is_text,
     key, opened, put_key, put_keys, put_place, put_slash, reads, reads_rows, tells, value_of,
     write_list,

@@ -4,9 +4,9 @@ ghost use Rattle.std.specs.Prelude.{◌≡◌, ◌<◌, ◌∷◌, ◌++◌, [],
 ghost use Rattle.portal_core.specs.Meaning.{CountsFaults};
 
 use crate::tests::callers::Act::{Ends, Sends};
-use crate::tests::callers::{Act, Caller, PROMPT, TestClock};
+use crate::tests::callers::{Act, Caller, ME, PROMPT, TestClock};
+use crate::tests::portal::fresh_keeper;
 use crate::tests::times::{end, fault};
-use crate::tests::{ME, fresh_keeper};
 use portal_core::{Change, KeepFault, Keeper, View};
 use portal_desk::{Cause, Desk};
 use portal_list::ListKeeper;

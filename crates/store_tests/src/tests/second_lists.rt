@@ -2,10 +2,10 @@
 //! database in memory and from lists.
 
 use crate::tests::steps::{new_desk, new_lists, plays};
+use portal_core::Keeper;
 use portal_desk::Desk;
 use portal_fixtures::worked::FIRST_ROUND;
-use portal_fixtures::{ANN, CYR, LEE, Line, MOE, MemDesk, OFFICE, ask, cut, lines};
-use portal_list::ListKeeper;
+use portal_fixtures::{ANN, CYR, LEE, Line, MOE, OFFICE, ask, cut, lines};
 use std::process::Abort;
 
 /// The callers: an unknown one, a student with a project and one without, a lecturer without room
@@ -22,32 +22,43 @@ fn status_of(mark: u8) -> &'static str {
     }
 }
 
+/// Sends the request of a line to both desks. Checks the status, and that both desks return equal
+/// bytes.
+fn are_alike<K: Keeper, L: Keeper>(
+    rt: &(impl Abort + AllocGlobal),
+    desk: &mut Desk<K>,
+    lists: &mut Desk<L>,
+    text: &str,
+    wanted: &str,
+) {
+    let line = Line::new(text);
+    let reply = ask(rt.alloc(), desk, &line).expect(rt, "memory");
+    let other = ask(rt.alloc(), lists, &line).expect(rt, "memory");
+    assert!(rt; reply.starts_with(wanted.as_bytes()), "{text}");
+    assert!(rt; reply.as_slice() == other.as_slice(), "{text}");
+}
+
 /// Sends the row's request from each caller to both desks. Checks the statuses by the marks, and
 /// that both desks return equal bytes.
-fn is_answered(
+fn is_answered<K: Keeper, L: Keeper>(
     rt: &(impl Abort + AllocGlobal),
-    desk: &mut MemDesk,
-    lists: &mut Desk<ListKeeper>,
+    desk: &mut Desk<K>,
+    lists: &mut Desk<L>,
     row: &Line,
 ) {
     assert_eq!(rt; row.status.len(), CALLERS.len());
     let (_, request) = cut(row.text, "  ");
     for (code, mark) in CALLERS.iter().zip(row.status.as_bytes()) {
         let text = format!(in rt.alloc(); "{code}  {request}").expect(rt, "memory");
-        let line = Line::new(text.as_str());
-        let reply = ask(rt.alloc(), desk, &line).expect(rt, "memory");
-        let other = ask(rt.alloc(), lists, &line).expect(rt, "memory");
-        let wanted = status_of(*mark);
-        assert!(rt; reply.starts_with(wanted.as_bytes()), "{text}");
-        assert_eq!(rt; reply.as_slice(), other.as_slice());
+        are_alike(rt, desk, lists, text.as_str(), status_of(*mark));
     }
 }
 
 /// Checks these rows in order.
-fn are_answered(
+fn are_answered<K: Keeper, L: Keeper>(
     rt: &(impl Abort + AllocGlobal),
-    desk: &mut MemDesk,
-    lists: &mut Desk<ListKeeper>,
+    desk: &mut Desk<K>,
+    lists: &mut Desk<L>,
     rows: &str,
 ) {
     for row in lines(rt.alloc(), rows).expect(rt, "memory") {
@@ -136,15 +147,25 @@ const PHASES: &[&str] = &[
     ALWAYS,
 ];
 
+/// Plays the first round on both desks, and checks all rows. Generic, because proofs over `MemStore`
+/// are slow.
+fn all_are_answered<K: Keeper + Drop, L: Keeper + Drop>(
+    rt: &(impl Abort + AllocGlobal),
+    desk: Desk<K>,
+    lists: Desk<L>,
+) {
+    let mut desk = desk;
+    let mut lists = lists;
+    plays(rt, &mut desk, FIRST_ROUND);
+    plays(rt, &mut lists, FIRST_ROUND);
+    let opening = r#"each  POST /phase {"phase":"choosing","round":2}  333332"#;
+    are_answered(rt, &mut desk, &mut lists, opening);
+    for rows in PHASES {
+        are_answered(rt, &mut desk, &mut lists, rows);
+    }
+}
+
 #[test]
 fn each_role_in_each_phase(rt: HostRuntime) {
-    let mut desk = new_desk(&rt);
-    let mut lists = new_lists(&rt);
-    plays(&rt, &mut desk, FIRST_ROUND);
-    plays(&rt, &mut lists, FIRST_ROUND);
-    let opening = r#"each  POST /phase {"phase":"choosing","round":2}  333332"#;
-    are_answered(&rt, &mut desk, &mut lists, opening);
-    for rows in PHASES {
-        are_answered(&rt, &mut desk, &mut lists, rows);
-    }
+    all_are_answered(&rt, new_desk(&rt), new_lists(&rt));
 }

@@ -1,7 +1,7 @@
-//! Tests that a second stream finds what the first one stored.
+//! Tests that a second stream over a portal in memory finds what the first one stored.
 
-use crate::replies_in_memory;
-use portal_core::Code;
+use crate::tests::steps::new_office_code;
+use portal_whole::replies_in_memory;
 
 /// The office's request to add a lecturer.
 const ENROLS: &[u8] =
@@ -19,7 +19,7 @@ const TOLD: &[u8] =
 
 #[test]
 fn the_second_stream_finds_what_the_first_left(rt: HostRuntime) {
-    let office = Code::parse(rt.alloc(), b"office-code-0".as_slice()).expect(&rt, "a code");
+    let office = new_office_code(&rt);
     let streams = [ENROLS, ASKS];
     let texts = replies_in_memory(rt.alloc(), office, streams.as_slice()).expect(&rt, "served");
     assert_eq!(rt; texts.len(), 2);

@@ -1,6 +1,7 @@
 //! Tests databases that are opened again after their disk stopped at a write, or failed once at a
 //! write or a read.
 
+use crate::tests::failed_reads::{code_fails, instance_fails, request_fails};
 use crate::tests::steps::new_office_code;
 use crate::tests::trial::{Fault, Plan, Trial};
 use portal_core::Keeper;
@@ -265,9 +266,26 @@ fn asked<S: Alter + Drop>(
     (is_done, desk.into_keeper().into_connection())
 }
 
+/// What is tried over files while a fault may occur.
+#[derive(Clone, Copy)]
+pub(crate) enum Attempt<'a> {
+    /// The change of a line.
+    Change(&'a Line<'a>),
+    /// The request of a line, while a read may fail.
+    Request(&'a Line<'a>),
+    /// The instance of a new portal, while a read may fail.
+    Instance,
+    /// The code of the office, while a read may fail.
+    Code,
+    /// The changes of a script, after the disk has failed at the first.
+    Death(&'a str),
+    /// The tables of version 1, with a published result.
+    Earlier,
+}
+
 /// Tries the change, with a fault after `calls` calls. Returns whether the change was reported as
 /// done, and the connection.
-fn tried_over<S: Alter + Drop>(
+fn changed_over<S: Alter + Drop>(
     rt: &(impl Abort + AllocGlobal),
     conn: Connection<S>,
     line: &Line,
@@ -287,21 +305,40 @@ fn tried_over<S: Alter + Drop>(
     }
 }
 
-/// Tries the change of these files. Returns whether it was reported as done, and the connection.
-fn tried<'a>(
+/// Makes the attempt, with a fault after `calls` calls. Returns whether it was reported as done,
+/// and the connection.
+fn tried_over<S: Alter + Drop>(
+    rt: &(impl Abort + AllocGlobal),
+    conn: Connection<S>,
+    attempt: &Attempt,
+    plan: &Plan,
+    calls: u64,
+) -> (bool, Connection<S>) {
+    match attempt {
+        Attempt::Change(line) => changed_over(rt, conn, line, plan, calls),
+        Attempt::Request(line) => request_fails(rt, conn, line, plan, calls),
+        Attempt::Instance => instance_fails(rt, conn, plan, calls),
+        Attempt::Code => code_fails(rt, conn, plan, calls),
+        Attempt::Death(script) => (false, dies_over(rt, conn, plan, script)),
+        Attempt::Earlier => (true, earlier_over(rt, conn)),
+    }
+}
+
+/// Makes the attempt over these files. Returns whether it was reported as done, and the connection.
+pub(crate) fn tried<'a>(
     rt: &(impl Abort + AllocGlobal),
     before: &Image,
-    line: &Line,
+    attempt: &Attempt,
     plan: &'a Plan,
     calls: u64,
 ) -> (bool, TrialConnection<'a>) {
-    tried_over(rt, connected(rt, before, plan, TIGHT), line, plan, calls)
+    tried_over(rt, connected(rt, before, plan, TIGHT), attempt, plan, calls)
 }
 
 /// Makes the change without a fault. Returns the files as they are before closing writes to them.
 fn done(rt: &(impl Abort + AllocGlobal), before: &Image, line: &Line) -> Image {
     let plan = Plan::new(Fault::Stop);
-    let (is_done, conn) = tried(rt, before, line, &plan, u64::MAX);
+    let (is_done, conn) = tried(rt, before, &Attempt::Change(line), &plan, u64::MAX);
     assert!(rt; is_done);
     plan.arm(0);
     left_of(rt, conn).0
@@ -334,7 +371,7 @@ fn survives_crashes(
 fn survives(rt: &(impl Abort + AllocGlobal), case: &Case, fault: Fault, calls: u64) -> bool {
     let plan = Plan::new(fault);
     let line = Line::new(case.text.as_str());
-    let (is_done, conn) = tried(rt, &case.before, &line, &plan, calls);
+    let (is_done, conn) = tried(rt, &case.before, &Attempt::Change(&line), &plan, calls);
     let came = plan.came();
     if !came {
         plan.arm(if fault == Fault::Stop { 0 } else { u64::MAX });
@@ -507,11 +544,20 @@ fn a_read_fails_in_ranking(rt: HostRuntime) {
     comes_in_ranking(&rt, Fault::Read, 60);
 }
 
+/// Makes the tables of version 1 with a published result, and returns the connection.
+fn earlier_over<S: Alter + Drop>(
+    rt: &(impl Abort + AllocGlobal),
+    conn: Connection<S>,
+) -> Connection<S> {
+    let mut conn = conn;
+    run_all(&mut conn, IN_PUBLISHED).expect(rt, "statements");
+    conn
+}
+
 /// Returns files of version 1 with a published result.
 fn earlier(rt: &(impl Abort + AllocGlobal)) -> Image {
     let plan = Plan::new(Fault::Stop);
-    let mut conn = connected(rt, &blank(rt), &plan, TIGHT);
-    run_all(&mut conn, IN_PUBLISHED).expect(rt, "statements");
+    let (_, conn) = tried(rt, &blank(rt), &Attempt::Earlier, &plan, u64::MAX);
     left_of(rt, conn).0
 }
 
@@ -595,7 +641,7 @@ fn dies_over<S: Alter + Drop>(
 pub(crate) fn dies(rt: &(impl Abort + AllocGlobal), fault: Fault, played: &[&str], change: &str) {
     let image = files_after(rt, played);
     let plan = Plan::new(fault);
-    let conn = dies_over(rt, connected(rt, &image, &plan, TIGHT), &plan, change);
+    let (_, conn) = tried(rt, &image, &Attempt::Death(change), &plan, 0);
     let _left = left_of(rt, conn);
 }
 

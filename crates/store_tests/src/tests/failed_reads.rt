@@ -3,7 +3,7 @@
 
 use crate::tests::steps::new_office_code;
 use crate::tests::stops::{
-    INIT, Image, TIGHT, blank, connected, desk_over, files_after, left_of, stopped,
+    Attempt, INIT, Image, blank, desk_over, files_after, left_of, stopped, tried,
 };
 use crate::tests::trial::{Fault, Plan};
 use portal_core::{KeepFault, Keeper};
@@ -16,13 +16,14 @@ use portal_store::{NotOpened, Store};
 use sqlite::{Alter, Connection};
 use std::process::Abort;
 
-/// Returns whether a read failed after `reads` others while the request was served, and the
-/// connection. If so, the reply is 503, and the store and the desk have failed. If not, it is 200.
-fn fails_over<S: Alter + Drop>(
+/// Serves the request, with a read that fails after `reads` others. If it fails, the reply is 503,
+/// and the store and the desk have failed. If not, the reply is 200. Returns whether it is 200, and
+/// the connection.
+pub(crate) fn request_fails<S: Alter + Drop>(
     rt: &(impl Abort + AllocGlobal),
     conn: Connection<S>,
-    plan: &Plan,
     line: &Line,
+    plan: &Plan,
     reads: u64,
 ) -> (bool, Connection<S>) {
     let mut desk = desk_over(rt, conn);
@@ -37,17 +38,16 @@ fn fails_over<S: Alter + Drop>(
     assert!(rt; reply.starts_with(wanted));
     assert!(rt; desk.failed() == came);
     assert!(rt; cause == if came { Some(Cause::Store) } else { None });
-    (came, desk.into_keeper().into_connection())
+    (!came, desk.into_keeper().into_connection())
 }
 
-/// Returns whether a read failed after `reads` others while the request was served.
-fn fails_at(rt: &(impl Abort + AllocGlobal), image: &Image, line: &Line, reads: u64) -> bool {
+/// Returns whether a read failed after `reads` others during the attempt.
+fn fails_at(rt: &(impl Abort + AllocGlobal), image: &Image, attempt: &Attempt, reads: u64) -> bool {
     let plan = Plan::new(Fault::Read);
-    let conn = connected(rt, image, &plan, TIGHT);
-    let (came, conn) = fails_over(rt, conn, &plan, line, reads);
+    let (is_done, conn) = tried(rt, image, attempt, &plan, reads);
     plan.arm(u64::MAX);
     let _left = left_of(rt, conn);
-    came
+    !is_done
 }
 
 /// Lets reads of the line's request fail: each of the first sixteen, and later ones at growing
@@ -56,7 +56,7 @@ fn fails(rt: &(impl Abort + AllocGlobal), image: &Image, line: &str, least: u64)
     let line = Line::new(line.trim_start());
     let mut reads = 0u64;
     for _ in 0..1_000 {
-        if !fails_at(rt, image, &line, reads) {
+        if !fails_at(rt, image, &Attempt::Request(&line), reads) {
             break;
         }
         reads = reads.saturating_add(reads / 16).saturating_add(1);
@@ -100,9 +100,9 @@ fn a_publication_meets_a_failed_read(rt: HostRuntime) {
     fails(&rt, &second, SECOND_PUBLICATION, 2);
 }
 
-/// Asks a new portal for its instance, with a read that fails after `reads` others. Returns whether
-/// it failed, and the connection. Checks that it is then reported as a fault of the store.
-fn instance_fails_over<S: Alter + Drop>(
+/// Asks a new portal for its instance, with a read that fails after `reads` others. If it fails,
+/// this is reported as a fault of the store. Returns whether no read failed, and the connection.
+pub(crate) fn instance_fails<S: Alter + Drop>(
     rt: &(impl Abort + AllocGlobal),
     conn: Connection<S>,
     plan: &Plan,
@@ -114,28 +114,19 @@ fn instance_fails_over<S: Alter + Drop>(
             plan.arm(reads);
             let told = store.instance(rt.alloc());
             assert!(rt; matches!(told, Err(KeepFault::Store)) == plan.came());
-            (plan.came(), store.into_connection())
+            (!plan.came(), store.into_connection())
         }
         Err(NotOpened { .. }) => panic!(rt; "a portal"),
     }
 }
 
-/// Returns whether a read failed after `reads` others while a new portal made its instance.
-fn instance_fails_at(rt: &(impl Abort + AllocGlobal), reads: u64) -> bool {
-    let plan = Plan::new(Fault::Read);
-    let conn = connected(rt, &blank(rt), &plan, TIGHT);
-    let (came, conn) = instance_fails_over(rt, conn, &plan, reads);
-    plan.arm(u64::MAX);
-    let _left = left_of(rt, conn);
-    came
-}
-
 /// Each read for an instance fails in turn, and there is at least one.
 #[test]
 fn an_instance_meets_a_failed_read(rt: HostRuntime) {
+    let image = blank(&rt);
     let mut reads = 0u64;
     for _ in 0..1_000 {
-        if !instance_fails_at(&rt, reads) {
+        if !fails_at(&rt, &image, &Attempt::Instance, reads) {
             break;
         }
         reads = reads.saturating_add(1);
@@ -143,25 +134,24 @@ fn an_instance_meets_a_failed_read(rt: HostRuntime) {
     assert!(rt; reads > 0 && reads < 1_000);
 }
 
-/// Checks that a failed read of the office's code is a fault of the store. Returns the connection.
-fn code_fails_over<S: Alter + Drop>(
+/// Asks for the office's code, with a read that fails after `reads` others. If it fails, this is
+/// reported as a fault of the store. Returns whether no read failed, and the connection.
+pub(crate) fn code_fails<S: Alter + Drop>(
     rt: &(impl Abort + AllocGlobal),
     conn: Connection<S>,
     plan: &Plan,
-) -> Connection<S> {
+    reads: u64,
+) -> (bool, Connection<S>) {
     let mut store = desk_over(rt, conn).into_keeper();
-    plan.arm(0);
+    plan.arm(reads);
     let told = store.office_code(rt.alloc());
-    assert!(rt; plan.came() && matches!(told, Err(KeepFault::Store)));
-    store.into_connection()
+    assert!(rt; matches!(told, Err(KeepFault::Store)) == plan.came());
+    (!plan.came(), store.into_connection())
 }
 
 /// A failed read of the office's code is reported as a fault of the store.
 #[test]
 fn the_code_of_the_office_meets_a_failed_read(rt: HostRuntime) {
-    let plan = Plan::new(Fault::Read);
     let image = files_after(&rt, &[INIT, SETUP]);
-    let conn = code_fails_over(&rt, connected(&rt, &image, &plan, TIGHT), &plan);
-    plan.arm(u64::MAX);
-    let _left = left_of(&rt, conn);
+    assert!(rt; fails_at(&rt, &image, &Attempt::Code, 0));
 }

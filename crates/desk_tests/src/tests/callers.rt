@@ -6,6 +6,9 @@ use std::io;
 use std::io::{ErrorKind, Read};
 use std::time::{Clock, Duration};
 
+/// A request of an unknown caller, whose reply has 99 bytes.
+pub(crate) const ME: &str = "GET /me HTTP/1.1\r\nHost: h\r\n\r\n";
+
 /// A clock that moves only during waits.
 #[derive(Drop)]
 pub(crate) struct TestClock {

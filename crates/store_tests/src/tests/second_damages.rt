@@ -1,13 +1,13 @@
 //! Tests the opening of databases of the wider department that other programs have changed.
 
+use crate::tests::damages::student_seen;
 use crate::tests::steps::{new_desk, plays};
-use portal_core::{Listing, StudentView, View};
+use portal_core::{Listing, StudentView};
 use portal_fixtures::wide::{
     CHOOSING, PUBLISHED, RANKING, ROLLS, SECOND_CHOOSING, SECOND_RANKING, WIDE_YEAR,
 };
-use portal_store::queries::view;
 use portal_store::{NotOpened, OpenFault, Store};
-use sqlite::{Connection, MemStore};
+use sqlite::{Alter, Connection, MemStore};
 use std::process::Abort;
 
 /// Makes a database, and plays these scripts in it.
@@ -18,7 +18,10 @@ fn database(rt: &(impl Abort + AllocGlobal), played: &[&str]) -> Connection<MemS
 }
 
 /// Opens the database, and returns the fault, if there is one.
-fn opened(rt: &(impl Abort + AllocGlobal), conn: Connection<MemStore>) -> Option<OpenFault> {
+fn opened<S: Alter + Drop>(
+    rt: &(impl Abort + AllocGlobal),
+    conn: Connection<S>,
+) -> Option<OpenFault> {
     assert!(rt; conn.is_autocommit());
     match Store::open(rt.alloc(), conn) {
         Ok(store) => {
@@ -301,10 +304,9 @@ fn offers(rt: &(impl Abort + AllocGlobal), listing: &Listing, key: &[u8], room: 
 /// Checks that the view is that of S6: a list of P4, and the remaining projects with their
 /// remaining room.
 fn is_of_fay(rt: &(impl Abort + AllocGlobal), student: &StudentView) {
-    assert_eq!(rt; student.me.key.as_bytes(), b"S6".as_slice());
-    assert!(rt; student.choices.len() == 1 && student.result.is_none());
-    assert_eq!(rt; student.choices[0].as_bytes(), b"P4".as_slice());
-    assert!(rt; student.catalogue.len() == 3);
+    assert!(rt; student.me.key.as_bytes() == b"S6".as_slice() && student.result.is_none());
+    assert!(rt; student.choices.len() == 1 && student.catalogue.len() == 3);
+    assert!(rt; student.choices[0].as_bytes() == b"P4".as_slice());
     offers(rt, &student.catalogue[0], b"P3", 1);
     offers(rt, &student.catalogue[1], b"P4", 2);
     offers(rt, &student.catalogue[2], b"P5", 1);
@@ -316,10 +318,6 @@ fn a_view_reads_no_other_row(rt: HostRuntime) {
     for text in OF_OTHERS {
         let mut conn = database(&rt, IN_CHOOSING);
         conn.execute_batch(text).expect(&rt, "statements");
-        assert!(rt; conn.is_autocommit());
-        match view(rt.alloc(), &mut conn, b"stud-code-6").expect(&rt, "a view") {
-            View::Student(student) => is_of_fay(&rt, &student),
-            _ => assert!(rt; false, "no student"),
-        }
+        is_of_fay(&rt, &student_seen(&rt, conn, "stud-code-6"));
     }
 }

@@ -1,8 +1,8 @@
 //! Tests the timeouts of a connection, by a clock that moves only during waits.
 
 use crate::tests::callers::Act::{Ends, Sends, Signal};
-use crate::tests::callers::{Act, Caller, PROMPT, Pace, TestClock, pace_of};
-use crate::tests::{ME, fresh_keeper};
+use crate::tests::callers::{Act, Caller, ME, PROMPT, Pace, TestClock, pace_of};
+use crate::tests::portal::fresh_keeper;
 use portal_desk::{Cause, Desk, Ending, ServeFault, Served};
 use portal_serve::serve_stream;
 use std::process::Abort;
