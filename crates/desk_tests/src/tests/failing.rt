@@ -1,6 +1,6 @@
 //! Tests a desk over a keeper that fails.
 
-ghost use Rattle.std.specs.Prelude.{length};
+ghost use Rattle.std.specs.Prelude.{Err};
 ghost use Rattle.portal_core.specs.Meaning.{CountsFaults};
 
 use crate::tests::conversation::put;
@@ -16,29 +16,31 @@ use std::process::Abort;
 
 /// A keeper in lists that fails after `left` views, and at each instance and each change.
 #[derive(Drop)]
-struct Failing {
+pub(crate) struct Failing {
     kept: ListKeeper,
     left: u32,
-    /// One entry for each fault that was returned.
-    faults: Vec<u8>,
+    faults: u64,
 }
 
 impl Failing {
-    fn new(rt: &(impl Abort + AllocGlobal), kept: ListKeeper, left: u32) -> Failing {
+    pub(crate) fn new(kept: ListKeeper, left: u32) -> Failing {
         Failing {
             kept,
             left,
-            faults: Vec::new(rt.alloc()),
+            faults: 0,
         }
     }
 
     /// Returns a fault, and counts it.
-    fn fail<T>(&mut self) -> Result<T, KeepFault>
-        ensures { CountsFaults result (length self.old.faults.items) (length self.new.faults.items) }
+    fn fault(&mut self) -> KeepFault
+        ensures { CountsFaults {A = Unit {0}} (Err result) self.old.faults self.new.faults }
     {
-        match self.faults.push(0) {
-            Ok(()) => Err(KeepFault::Store),
-            Err(_) => Err(KeepFault::Memory),
+        match self.faults.checked_add(1) {
+            Some(faults) => {
+                self.faults = faults;
+                KeepFault::Store
+            }
+            None => KeepFault::Memory,
         }
     }
 }
@@ -50,11 +52,11 @@ impl Keeper for Failing {
 
     ghost disk = { λ failing. Unit {0} };
 
-    ghost faults = { λ failing. length failing.faults.items };
+    ghost faults = { λ failing. failing.faults };
 
     fn view(&mut self, alloc: Global, code: &[u8]) -> Result<View, KeepFault> {
         if self.left == 0 {
-            return self.fail();
+            return Err(self.fault());
         }
         self.left -= 1;
         self.kept.view(alloc, code)
@@ -62,13 +64,13 @@ impl Keeper for Failing {
 
     fn instance(&mut self, alloc: Global) -> Result<Instance, KeepFault> {
         let _alloc = alloc;
-        self.fail()
+        Err(self.fault())
     }
 
     fn apply(&mut self, alloc: Global, change: &Change) -> Result<(), KeepFault> {
         let _alloc = alloc;
         let _change = change;
-        self.fail()
+        Err(self.fault())
     }
 }
 
@@ -110,7 +112,7 @@ fn the_desk_has_failed_from_then_on(rt: HostRuntime) {
     let mut both = Vec::new(rt.alloc());
     put(&rt, &mut both, NO_CALLER);
     put(&rt, &mut both, LOST);
-    let desk = Desk::new(Failing::new(&rt, fresh_keeper(&rt), 1));
+    let desk = Desk::new(Failing::new(fresh_keeper(&rt), 1));
     stays_failed(&rt, desk, TWO, 2, both.as_slice());
 }
 
@@ -118,7 +120,7 @@ fn the_desk_has_failed_from_then_on(rt: HostRuntime) {
 /// stays failed.
 fn is_lost(rt: &(impl Abort + AllocGlobal), scripts: &[&str], line: &str) {
     let asked = request(rt, line);
-    let desk = Desk::new(Failing::new(rt, after(rt, scripts).into_keeper(), u32::MAX));
+    let desk = Desk::new(Failing::new(after(rt, scripts).into_keeper(), u32::MAX));
     stays_failed(rt, desk, asked.as_str(), 1, LOST.as_bytes());
 }
 

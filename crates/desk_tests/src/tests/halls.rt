@@ -1,17 +1,15 @@
 //! Tests how many connections are accepted, and the outcome of each.
 
-ghost use Rattle.std.specs.Prelude.{◌≡◌, ◌<◌, ◌∷◌, ◌++◌, [], Some, Err, vec_len, vec_capacity};
-ghost use Rattle.portal_core.specs.Meaning.{CountsFaults};
+ghost use Rattle.std.specs.Prelude.{◌≡◌, ◌<◌, ◌∷◌, ◌++◌, [], Some, vec_len, vec_capacity};
 
 use crate::tests::callers::Act::{Ends, Sends};
 use crate::tests::callers::{Act, Caller, ME, PROMPT, TestClock};
+use crate::tests::failing::Failing;
 use crate::tests::portal::fresh_keeper;
 use crate::tests::times::{end, fault};
-use portal_core::{Change, KeepFault, Keeper, View};
+use portal_core::Keeper;
 use portal_desk::{Cause, Desk};
-use portal_list::ListKeeper;
 use portal_serve::{Connections, Ended, Hall, Outcome, serve_each, serve_stream};
-use spa_model::Instance;
 use std::alloc::Global;
 use std::process::Abort;
 
@@ -53,58 +51,6 @@ impl<'a> Connections for Queue<'a> {
         let outcome = Outcome { ended, failed };
         note(&mut self.outcomes, outcome);
         Some(outcome)
-    }
-}
-
-/// A keeper in lists that fails after `left` views, and at each instance and each change.
-#[derive(Drop)]
-struct Failing {
-    kept: ListKeeper,
-    left: u32,
-    faults: u64,
-}
-
-impl Failing {
-    /// Returns a fault, and counts it.
-    fn fault(&mut self) -> KeepFault
-        ensures { CountsFaults {A = Unit {0}} (Err result) self.old.faults self.new.faults }
-    {
-        match self.faults.checked_add(1) {
-            Some(faults) => {
-                self.faults = faults;
-                KeepFault::Store
-            }
-            None => KeepFault::Memory,
-        }
-    }
-}
-
-impl Keeper for Failing {
-    ghost world = { λ failing. failing.kept };
-
-    ghost clean = { λ failing. ⊥ };
-
-    ghost disk = { λ failing. Unit {0} };
-
-    ghost faults = { λ failing. failing.faults };
-
-    fn view(&mut self, alloc: Global, code: &[u8]) -> Result<View, KeepFault> {
-        if self.left == 0 {
-            return Err(self.fault());
-        }
-        self.left -= 1;
-        self.kept.view(alloc, code)
-    }
-
-    fn instance(&mut self, alloc: Global) -> Result<Instance, KeepFault> {
-        let _alloc = alloc;
-        Err(self.fault())
-    }
-
-    fn apply(&mut self, alloc: Global, change: &Change) -> Result<(), KeepFault> {
-        let _alloc = alloc;
-        let _change = change;
-        Err(self.fault())
     }
 }
 
@@ -173,11 +119,7 @@ fn come<K: Keeper>(
 
 /// Makes a desk over a keeper that fails after `left` views.
 fn desk_failing_after(rt: &(impl Abort + AllocGlobal), left: u32) -> Desk<Failing> {
-    Desk::new(Failing {
-        kept: fresh_keeper(rt),
-        left,
-        faults: 0,
-    })
+    Desk::new(Failing::new(fresh_keeper(rt), left))
 }
 
 #[test]

@@ -10,27 +10,31 @@ use portal_store::{NotOpened, OpenFault, Store, UpgradeFault};
 use sqlite::{Alter, Connection, MemStore};
 use std::process::Abort;
 
-/// Opens the database, and returns the word for the outcome. Generic, because proofs over `MemStore`
-/// are slow.
-fn opened<S: Alter + Drop>(rt: &(impl Abort + AllocGlobal), conn: Connection<S>) -> &'static str {
+/// Opens the database, and returns the fault, if there is one. Generic, because proofs over
+/// `MemStore` are slow.
+pub(crate) fn opening_fault<S: Alter + Drop>(
+    rt: &(impl Abort + AllocGlobal),
+    conn: Connection<S>,
+) -> Option<OpenFault> {
     assert!(rt; conn.is_autocommit());
     match Store::open(rt.alloc(), conn) {
         Ok(store) => {
             let _conn = store.into_connection();
-            "good"
+            None
         }
-        Err(
-            NotOpened {
-                fault,
-                connection: _,
-            },
-        ) => match fault {
-            OpenFault::NotPortal => "not_portal",
-            OpenFault::OtherVersion => "other_version",
-            OpenFault::Damaged => "damaged",
-            OpenFault::Store => "store",
-            OpenFault::Memory => "memory",
-        },
+        Err(refused) => Some(refused.fault),
+    }
+}
+
+/// Returns the word for the outcome of an opening.
+fn word_of(fault: Option<OpenFault>) -> &'static str {
+    match fault {
+        None => "good",
+        Some(OpenFault::NotPortal) => "not_portal",
+        Some(OpenFault::OtherVersion) => "other_version",
+        Some(OpenFault::Damaged) => "damaged",
+        Some(OpenFault::Store) => "store",
+        Some(OpenFault::Memory) => "memory",
     }
 }
 
@@ -140,7 +144,7 @@ fn is_answered(rt: &(impl Abort + AllocGlobal), row: &str, is_first: bool) {
     let found = if is_first {
         upgraded(rt, conn)
     } else {
-        opened(rt, conn)
+        word_of(opening_fault(rt, conn))
     };
     assert_eq!(rt; found, wanted, "{row}");
 }

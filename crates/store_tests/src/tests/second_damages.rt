@@ -1,13 +1,13 @@
 //! Tests the opening of databases of the wider department that other programs have changed.
 
-use crate::tests::damages::student_seen;
+use crate::tests::damages::{opening_fault, student_seen};
 use crate::tests::steps::{new_desk, plays};
 use portal_core::{Listing, StudentView};
 use portal_fixtures::wide::{
     CHOOSING, PUBLISHED, RANKING, ROLLS, SECOND_CHOOSING, SECOND_RANKING, WIDE_YEAR,
 };
-use portal_store::{NotOpened, OpenFault, Store};
-use sqlite::{Alter, Connection, MemStore};
+use portal_store::OpenFault;
+use sqlite::{Connection, MemStore};
 use std::process::Abort;
 
 /// Makes a database, and plays these scripts in it.
@@ -15,26 +15,6 @@ fn database(rt: &(impl Abort + AllocGlobal), played: &[&str]) -> Connection<MemS
     let mut desk = new_desk(rt);
     plays(rt, &mut desk, played);
     desk.into_keeper().into_connection()
-}
-
-/// Opens the database, and returns the fault, if there is one.
-fn opened<S: Alter + Drop>(
-    rt: &(impl Abort + AllocGlobal),
-    conn: Connection<S>,
-) -> Option<OpenFault> {
-    assert!(rt; conn.is_autocommit());
-    match Store::open(rt.alloc(), conn) {
-        Ok(store) => {
-            let _conn = store.into_connection();
-            None
-        }
-        Err(
-            NotOpened {
-                fault,
-                connection: _,
-            },
-        ) => Some(fault),
-    }
 }
 
 /// Checks that opening the database has this outcome after each of these texts.
@@ -47,7 +27,7 @@ fn are_answered(
     for text in texts {
         let mut conn = database(rt, played);
         conn.execute_batch(text).expect(rt, "statements");
-        let found = opened(rt, conn);
+        let found = opening_fault(rt, conn);
         assert!(rt; found == wanted, "{text}");
     }
 }
