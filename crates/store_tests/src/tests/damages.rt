@@ -22,7 +22,12 @@ pub(crate) fn opening_fault<S: Alter + Drop>(
             let _conn = store.into_connection();
             None
         }
-        Err(refused) => Some(refused.fault),
+        Err(
+            NotOpened {
+                fault,
+                connection: _,
+            },
+        ) => Some(fault),
     }
 }
 
