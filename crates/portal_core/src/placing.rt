@@ -1,4 +1,4 @@
-//! Looks up a student's project row in the result that the office sees.
+//! Looks up a student's project in the result that the office sees.
 
 ghost use Rattle.std.specs.Prelude.{◌≡◌, IfOk, option_map};
 ghost use Rattle.portal_core.specs.Bodies.{is_assigned};

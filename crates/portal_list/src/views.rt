@@ -1,4 +1,4 @@
-//! Finds students and lecturers by code; makes their views and the office's.
+//! Finds students and lecturers by code; makes their views and the office's view.
 
 ghost use Rattle.std.specs.Prelude.{◌≡◌, IfOk, option_map};
 ghost use Rattle.std.specs.List.{find};

@@ -1,4 +1,4 @@
-//! Laws: what a crash left can be opened or upgraded; stores in memory stay clean.
+//! Laws: tables after a crash can be opened or upgraded; stores in memory stay clean.
 
 ghost use Rattle.portal_store.specs.Kept.{DiskInMemory, LastsInMemory};
 ghost use Rattle.portal_store.specs.Crash.{OpensAgain, OpensFresh, UpgradesAgain};

@@ -1,4 +1,4 @@
-//! Reads the list or ranking of one owner, or of several in turn.
+//! Reads the list or ranking of one owner, or of several owners one after another.
 
 ghost use Rattle.std.specs.Prelude.{◌≡◌, ◌↔◌, if◌then◌else◌};
 ghost use Rattle.portal_tables.specs.inner.Base.{[], false, true, Err, IfOk, OnOk, IsTrue, Some};

@@ -1,4 +1,4 @@
-//! Defines all queries, each of one table, and runs them.
+//! Defines all queries, and runs them. Each query reads one table.
 
 ghost use Rattle.std.specs.Prelude.{◌≡◌};
 ghost use Rattle.portal_tables.specs.inner.Base.{Err, List, AllByRecursion, Cells, bound};

@@ -1,4 +1,4 @@
-//! Serves streams over a new portal in memory; its contract is the headline.
+//! Serves streams over a new portal in memory; the function's contract is the headline.
 #![tactic(auto)]
 
 ghost use Rattle.std.specs.Prelude.{IfSome, map};

@@ -1,4 +1,4 @@
-//! The ways in which the requests of a stream end.
+//! The ways in which a stream of requests ends.
 
 /// How the requests of a stream end.
 #[derive(Clone, Copy, Debug, PartialEq, Eq, Drop)]

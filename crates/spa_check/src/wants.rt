@@ -1,4 +1,4 @@
-//! Finds the projects that a student prefers to the assigned one.
+//! Finds the projects that a student prefers to the assigned project.
 
 ghost use Rattle.std.specs.Prelude.{◌≡◌, ◌<◌, ◌↔◌, ℕ, Contains, MatchOption, length};
 ghost use Rattle.spa_model.specs.Spa.{IsMatching, Wants, place};

@@ -1,4 +1,4 @@
-//! Laws: a blocking pair's letter, the best matching and the instance are each unique.
+//! Laws: a blocking pair has one letter, an instance one best matching, and rows one instance.
 
 ghost use Rattle.std.specs.Prelude.{◌≡◌, ℕ, List, Option};
 ghost use Rattle.spa_rows.specs.Lines.{Rows};

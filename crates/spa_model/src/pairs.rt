@@ -1,4 +1,4 @@
-//! Checks the pairs of a matching, and finds the project that they give each student.
+//! Checks the pairs of a matching, and finds each student's project in them.
 
 ghost use Rattle.std.specs.Prelude.{◌≡◌, ◌<◌, ◌≤◌, ◌↔◌, IfOk, IfErr, OnOk, All, IsTrue, length};
 ghost use Rattle.std.specs.Prelude.{map};

@@ -1,4 +1,4 @@
-//! Checks the rows to be added to a roll; refuses all if one is faulty.
+//! Checks the rows to be added to a roll; refuses all rows if any row is faulty.
 
 ghost use Rattle.std.specs.Prelude.{◌≡◌, [], ◌∷◌, ◌++◌, List, reverse, nat_le, length};
 ghost use Rattle.std.specs.Prelude.{if◌then◌else◌, OnOk, IfOk, IfErr, MatchResult};

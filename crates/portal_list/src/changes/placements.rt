@@ -1,4 +1,4 @@
-//! Stores a result: assigns its projects to the students who take part.
+//! Stores a result: gives the students who take part their projects.
 
 ghost use Rattle.std.specs.Prelude.{◌≡◌, IfOk, OnOk, OnErr, map};
 ghost use Rattle.portal_core.specs.World.{placement_in, with_place};
