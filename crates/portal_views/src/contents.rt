@@ -1,4 +1,4 @@
-//! Reads the rolls, with the lists and the result of a round.
+//! Reads the rolls, with the lists, the rankings and the result of a round.
 
 ghost use Rattle.std.specs.Prelude.{◌≡◌};
 ghost use Rattle.portal_views.specs.inner.Base.{Err, IfOk, map, AllByRecursion, IsDatabase};
