@@ -1,4 +1,4 @@
-//! Looks up a student's project in the result that the office sees.
+//! Finds a student's project in the office's view, as a row (`pairs` finds its key).
 
 ghost use Rattle.std.specs.Prelude.{◌≡◌, IfOk, option_map};
 ghost use Rattle.portal_core.specs.Bodies.{is_assigned};

@@ -1,4 +1,4 @@
-//! Finds rows by key, and inserts rows in key order.
+//! `index_of` finds a row's index by key; `put_rows` inserts rows in key order.
 
 ghost use Rattle.std.specs.Prelude.{◌≡◌, ◌<◌, ◌≤◌, ◌+◌, true, false, length, IfSome, IfNone};
 ghost use Rattle.std.specs.Prelude.{slice_index_or, insert, vec_len, vec_capacity};

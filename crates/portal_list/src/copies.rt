@@ -1,4 +1,4 @@
-//! Copies keys, persons and rows; `holds` searches a list for a key.
+//! Copies project rows, optional projects and rankings; makes persons; `holds` searches for a key.
 
 ghost use Rattle.std.specs.Prelude.{◌≡◌, IfOk, option_map};
 ghost use Rattle.portal_core.specs.Words.{has};

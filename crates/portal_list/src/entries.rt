@@ -1,4 +1,4 @@
-//! Entries: rows of the rolls, joined with their owners' lists and rankings.
+//! Entries: rows of the rolls, joined with lists and rankings. `follow` applies a change to them.
 
 ghost use Rattle.std.specs.Prelude.{◌≡◌, true, false, Ok, IfOk, OnOk, OnErr, map};
 ghost use Rattle.portal_core.specs.World.{World, changed, with_place};

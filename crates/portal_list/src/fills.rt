@@ -1,4 +1,4 @@
-//! Computes the rankings that a fill would add, without adding them.
+//! `Entries::fills`: lists the lecturers still to rank with their applicants, for the store's fill.
 
 ghost use Rattle.std.specs.Prelude.{◌≡◌, IfOk, List, map};
 ghost use Rattle.portal_core.specs.Words as words;

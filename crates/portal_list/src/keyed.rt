@@ -1,4 +1,4 @@
-//! Implements `Keyed` for entries; tests whether keys are in rising order, and looks a key up.
+//! Implements `Keyed` for entries; tests whether keys rise, and whether a row has a key.
 
 ghost use Rattle.std.specs.Prelude.{◌≡◌, ◌↔◌, ℕ, List, IsTrue, map};
 ghost use Rattle.std.specs.Ordering.{nat_cmp};

@@ -1,4 +1,4 @@
-//! Tests whether lists, rankings and results obey the rules, apart from stability.
+//! Tests whether lists, rankings and results obey the rules; finds a lecturer's applicants.
 
 ghost use Rattle.std.specs.Prelude.{◌≡◌, ◌↔◌, IfOk, IsTrue, true, map, option_map, [], None};
 ghost use Rattle.std.specs.List.{AllByRecursion};

@@ -1,4 +1,4 @@
-//! Reads instance files.
+//! Reads instance files: parses each record by its letter, and groups lines by kind.
 
 ghost use Rattle.std.specs.Prelude.{◌≡◌, IfOk, IfErr};
 ghost use Rattle.csv.specs.Records.{fields_of};

@@ -1,4 +1,4 @@
-//! Serves the connections of a TCP listener, with timeouts.
+//! `serve_stream` serves one stream within timeouts; `serve_on` serves a listener's connections.
 
 ghost use Rattle.std.specs.Prelude.{◌≡◌, ◌≢◌, ◌≤◌, true, List, IfOk, IfErr};
 ghost use Rattle.portal_desk.specs.Kept.{FailsByCount, AtFirst};

@@ -1,4 +1,4 @@
-//! Converts database errors into the faults of a store.
+//! Converts errors of tables and rows into a store's faults, by functions; counts them.
 
 ghost use Rattle.std.specs.Prelude.{◌≡◌, ◌≢◌, ◌↔◌, ◌+◌, ◌-◌, ◌^◌};
 ghost use Rattle.sqlite.specs.Tree.{Trees};

@@ -1,4 +1,4 @@
-//! Reads the code of the office.
+//! Reads only the office's code, for `Store::office_code`; counts a fault of the store.
 
 ghost use Rattle.std.specs.Prelude.{◌≡◌};
 ghost use Rattle.sqlite.specs.Effect.{IsDatabase};

@@ -1,4 +1,4 @@
-//! Inserts rows into tables: eight in a statement, and then the rest one by one.
+//! Inserts rows, eight in a statement, the rest one by one; also the rows of `portal` and `second`.
 
 ghost use Rattle.std.specs.Prelude.{◌≡◌, ◌<◌, ◌≤◌, ◌++◌, ◌∷◌};
 ghost use Rattle.portal_tables.specs.inner.Base.{ℕ, [], pos, map, OnOk, flat_map, Row, bound};

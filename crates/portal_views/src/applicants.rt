@@ -1,4 +1,4 @@
-//! Reads the applicants and placed students of a lecturer's projects.
+//! Finds each project's applicants and placed students, as far as the phase shows them.
 
 ghost use Rattle.std.specs.Prelude.{◌≡◌, ◌∷◌, ◌++◌};
 ghost use Rattle.portal_views.specs.inner.Base.{[], IfOk, OnOk, map, is_at, is_from_ranking};

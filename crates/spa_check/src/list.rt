@@ -1,4 +1,4 @@
-//! Lists all blocking pairs of a matching.
+//! Lists all blocking pairs; finds a pair's letter from the counts and worst ranks of `groups`.
 
 ghost use Rattle.std.specs.Prelude.{◌≡◌, ◌+◌, ◌<◌, IfOk, OnOk, MatchOption, length};
 ghost use Rattle.spa_model.specs.declared.letter.Letter.{Letter};

@@ -1,4 +1,4 @@
-//! Checks the rows of an instance, but not whether rankings match the applicants.
+//! Runs the tests of `least` on lines of every kind, but does not check rankings.
 
 ghost use Rattle.std.specs.Prelude.{◌≡◌, Err, IfErr, IfOk, IsOk, MatchOption, OnOk};
 ghost use Rattle.spa_rows.specs.Faults.{HasFault, HasNoneBefore, IsRefusal};

@@ -1,4 +1,4 @@
-//! Adds rows to the rolls, as entries without a list or ranking.
+//! Adds rows to the rolls in key order; makes entries without a list or ranking.
 
 ghost use Rattle.std.specs.Prelude.{◌≡◌, IfOk, OnOk, OnErr, map};
 ghost use Rattle.portal_core.specs.Words.{put_all};
