@@ -1,4 +1,4 @@
-//! Serves streams over a new portal in memory; the function's contract is the headline.
+//! `replies_in_memory` serves streams over a new store in memory; its contract is the headline.
 #![tactic(auto)]
 
 ghost use Rattle.std.specs.Prelude.{IfSome, map};
