@@ -23,7 +23,7 @@ pub enum Task {
 /// The greatest size of a file, in bytes.
 pub const LIMIT: usize = 4_194_304;
 
-/// Computes the answer for an instance and a matching.
+/// Computes the answer of `check` or `solve` for an instance and a matching.
 fn of_matching(
     alloc: Global,
     task: Task,
@@ -39,7 +39,7 @@ fn of_matching(
     }
 }
 
-/// Computes the answer for an instance and the pairs of a matching.
+/// Computes the answer of `check` or `solve` for an instance and the pairs of a matching.
 fn of_pairs(
     alloc: Global,
     task: Task,
@@ -54,7 +54,8 @@ fn of_pairs(
     }
 }
 
-/// Computes the answer for the bytes of a file. An error means that memory ran out.
+/// Computes the answer of `check` or `solve` for the bytes of an instance file. An error means that
+/// memory ran out.
 pub fn answer_to(alloc: Global, task: Task, bytes: &[u8]) -> Result<Told, AllocError>
     ensures { IfOk result (λ t. IsAnswer task bytes.now t) }
 {

@@ -9,7 +9,7 @@ use spa_check::{Block, blocking_pairs};
 use spa_model::{Instance, Matching};
 use std::alloc::{AllocError, Global};
 
-/// Appends the line of a blocking pair.
+/// Appends the line of a blocking pair, for `check`.
 fn put_block(
     alloc: Global,
     text: &mut Vec<u8>,
@@ -31,7 +31,7 @@ fn put_block(
     Ok(())
 }
 
-/// Writes the lines of these pairs, then their number. The status is 0 without pairs, else 1.
+/// Writes a line for each blocking pair, then their number. The status is 0 without pairs, else 1.
 fn lines(alloc: Global, instance: &Instance, blocks: &[Block]) -> Result<Told, AllocError>
     requires { All (λ b. (b.student < length instance.now.choices)
         × (b.project < length instance.now.lecturers)) blocks.now }

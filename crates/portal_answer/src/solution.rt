@@ -9,7 +9,7 @@ use spa_model::{Instance, Matching};
 use spa_student::solve;
 use std::alloc::{AllocError, Global};
 
-/// Appends the line of a student.
+/// Appends the line of a student in the student-optimal matching, for `solve`.
 fn put_student(
     text: &mut Vec<u8>,
     instance: &Instance,
@@ -38,7 +38,7 @@ fn put_student(
     Ok(())
 }
 
-/// Writes a line for each student, then how many have a project and how many do not.
+/// Writes a line for each student, then how many have a project and how many do not, for `solve`.
 fn lines(alloc: Global, instance: &Instance, matching: &Matching) -> Result<Told, AllocError>
     requires { IsMatching instance.now matching.now }
     ensures { IfOk result (λ t. t ≡ assignment instance.now matching.now) }

@@ -1,4 +1,4 @@
-//! An answer as text and exit status, and the texts of refusals.
+//! Text and exit status of an answer; texts of refusals.
 
 ghost use Rattle.std.specs.Prelude.{◌≡◌, IfOk, IsErr};
 ghost use Rattle.portal_answer.specs.Answer.{refused_plain, refused_row};
@@ -24,7 +24,7 @@ impl Model for Told {
     ghost view = { λ t. record { text = t.text.items; status = t.status } };
 }
 
-/// Writes a refusal that names no row.
+/// Writes the text of a refusal that names no row.
 pub(crate) fn plain(alloc: Global, word: &str) -> Result<Told, AllocError>
     ensures { IfOk result (λ t. t ≡ refused_plain word.now) }
 {
@@ -35,7 +35,7 @@ pub(crate) fn plain(alloc: Global, word: &str) -> Result<Told, AllocError>
     })
 }
 
-/// Writes a refusal that names a row.
+/// Writes the text of a refusal that names a row.
 fn at_row(alloc: Global, word: &str, row: u32) -> Result<Told, AllocError>
     ensures { IfOk result (λ t. t ≡ refused_row word.now row) }
 {
@@ -46,7 +46,7 @@ fn at_row(alloc: Global, word: &str, row: u32) -> Result<Told, AllocError>
     })
 }
 
-/// Writes the refusal of a malformed field.
+/// Writes the text that refuses a malformed field of a file.
 fn bad_field(alloc: Global, row: u32, column: u32) -> Result<Told, AllocError>
     ensures { IfOk result (λ t. t ≡ spec.refused_file (RollFault.BadField row column)) }
 {
@@ -57,7 +57,7 @@ fn bad_field(alloc: Global, row: u32, column: u32) -> Result<Told, AllocError>
     })
 }
 
-/// Writes the refusal of a file that cannot be read. An error means that memory ran out.
+/// Writes the text that refuses a file that cannot be read. An error means that memory ran out.
 pub(crate) fn refused_file(alloc: Global, fault: RollFault) -> Result<Told, AllocError>
     ensures told { IfOk result (λ t. t ≡ spec.refused_file fault) }
     ensures memory { fault ≡ RollFault.Memory → IsErr result }
@@ -73,6 +73,7 @@ pub(crate) fn refused_file(alloc: Global, fault: RollFault) -> Result<Told, Allo
     }
 }
 
+/// Returns the word that names this fault of an instance's rows in the text of a refusal.
 fn instance_word(fault: InstanceFault) -> &'static str
     ensures { result.now ≡ spec.instance_word fault }
 {
@@ -91,6 +92,7 @@ fn instance_word(fault: InstanceFault) -> &'static str
     }
 }
 
+/// Returns the word that names this fault of a matching's pairs in the text of a refusal.
 fn matching_word(fault: MatchingFault) -> &'static str
     ensures { result.now ≡ spec.matching_word fault }
 {
@@ -105,7 +107,7 @@ fn matching_word(fault: MatchingFault) -> &'static str
     }
 }
 
-/// Writes the refusal of rows that are no instance. An error means that memory ran out.
+/// Writes the text that refuses rows that are no instance. An error means that memory ran out.
 pub(crate) fn refused_instance(alloc: Global, bad: BadInstance) -> Result<Told, AllocError>
     ensures told { IfOk result (λ t. t ≡ spec.refused_instance bad.fault bad.row) }
     ensures memory { bad.fault ≡ InstanceFault.Memory → IsErr result }
@@ -117,7 +119,7 @@ pub(crate) fn refused_instance(alloc: Global, bad: BadInstance) -> Result<Told, 
     }
 }
 
-/// Writes the refusal of pairs that are no matching. An error means that memory ran out.
+/// Writes the text that refuses pairs that are no matching. An error means that memory ran out.
 pub(crate) fn refused_matching(alloc: Global, bad: BadMatching) -> Result<Told, AllocError>
     ensures told { IfOk result (λ t. t ≡ spec.refused_matching bad.fault bad.row) }
     ensures memory { bad.fault ≡ MatchingFault.Memory → IsErr result }

@@ -5,7 +5,7 @@ ghost use Rattle.std.specs.Prelude.{◌≡◌, IfOk};
 use spa_rows::Key;
 use std::alloc::{AllocError, Global};
 
-/// Copies the keys. Fails if memory runs out.
+/// Copies a list of keys. Fails if memory runs out.
 pub fn copy_keys(alloc: Global, keys: &[Key]) -> Result<Vec<Key>, AllocError>
     ensures { IfOk result (λ v. v.items ≡ keys.now) }
 {
@@ -16,7 +16,7 @@ pub fn copy_keys(alloc: Global, keys: &[Key]) -> Result<Vec<Key>, AllocError>
     Ok(copies)
 }
 
-/// Copies the pairs. Fails if memory runs out.
+/// Copies a list of pairs. Fails if memory runs out.
 pub(crate) fn copy_pairs(alloc: Global, pairs: &[(Key, Key)]) -> Result<Vec<(Key, Key)>, AllocError>
     ensures { IfOk result (λ v. v.items ≡ pairs.now) }
 {

@@ -62,7 +62,7 @@ impl Keyed for &Key {
     }
 }
 
-/// Indexes the rows by key. If several rows have the same key, the first one counts.
+/// Makes a hash table of the rows by key. If several rows have the same key, the first one counts.
 pub(crate) fn rows_by_key<'a, X: Keyed>(
     alloc: Global,
     rows: &'a [X],
@@ -76,7 +76,7 @@ pub(crate) fn rows_by_key<'a, X: Keyed>(
     Ok(table)
 }
 
-/// Returns the row with this key.
+/// Returns the row that the hash table holds for this key.
 pub(crate) fn row_at<'a, X>(table: &HashMap<&'a [u8], &'a X>, key: &[u8]) -> Option<&'a X>
     ensures { result ≡ get text_eq table.now key.entry }
 {

@@ -1,4 +1,4 @@
-//! Laws of the portal: privacy, good worlds, runs, results and honest lists.
+//! Laws of the portal: privacy, good worlds, runs, refusals, results and honest lists.
 
 ghost use Rattle.std.specs.Prelude.{◌≡◌, ◌⊎◌, ◌++◌, ◌∷◌, [], List, map, codes, true, false, Some};
 ghost use Rattle.std.specs.Prelude.{None};
@@ -236,18 +236,18 @@ pub fn published_best()
         → ShowsBest w }
 {}
 
-/// Law: by the honest list, what a student is shown with it is at least as good as with another
-/// list. The law compares two good worlds of one round that differ at most in that student's list.
-/// The first world is published with its best result. Each lecturer orders the students on both
+/// Law: by the honest list, no good world with another list shows the student a better project. The
+/// world with the honest list is good, and published with its best result. Both worlds are of one
+/// round, and differ at most in that student's list. Each lecturer orders the students on both
 /// rankings alike.
 pub fn honest_is_best()
     ensures { HonestIsBest }
 {}
 
-/// Law: a student gains nothing by waiting for the second round. By the honest list, what is shown
-/// with it in the first round is at least as good as what a second round shows. The two first
-/// rounds differ at most in this student's list. The same holds for each second round that a run
-/// reaches from such a published first round.
+/// Law: by what the portal shows, a student gains nothing by waiting for the second round. By the
+/// honest list, what is shown with it in the first round is at least as good as what a second round
+/// shows. The two first rounds differ at most in this student's list. The same holds for each
+/// second round that a run reaches from such a published first round.
 pub fn honest_over_both()
     ensures worlds { HonestOverBoth }
     ensures runs { HonestOverRuns }
@@ -259,9 +259,10 @@ pub fn left_finds_none()
     ensures { LeftFindsNone }
 {}
 
-/// Law: whatever lists a group submits, some member is shown nothing better than with honest lists,
-/// by that member's honest list. The two worlds are as in `honest_is_best`, but may differ in all
-/// lists of the group. At least one member takes part in the round.
+/// Law: no lists of a group make the portal show every member something better. Some member is
+/// shown nothing better than with honest lists, by that member's honest list. The two worlds are as
+/// in `honest_is_best`, but may differ in all lists of the group. At least one member takes part in
+/// the round.
 pub fn no_group_gains()
     ensures { NoGroupGains }
 {}

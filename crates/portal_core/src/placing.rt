@@ -1,4 +1,4 @@
-//! Finds a student's project in the office's view, as a row (`pairs` finds its key).
+//! Finds a student's project, as a row, in the result that the office sees.
 
 ghost use Rattle.std.specs.Prelude.{◌≡◌, IfOk, option_map};
 ghost use Rattle.portal_core.specs.Bodies.{is_assigned};

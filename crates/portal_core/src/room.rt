@@ -11,7 +11,7 @@ use crate::rows::{LecturerRow, ProjectRow};
 use spa_rows::Key;
 use std::alloc::{AllocError, Global};
 
-/// Counts the pairs with this project.
+/// Counts the first round's pairs with this project, to compute the capacity left.
 fn given_to(pairs: &[(Key, Key)], project: &Key) -> usize
     ensures { result ≡ students_at pairs.now project.now }
 {
@@ -24,7 +24,8 @@ fn given_to(pairs: &[(Key, Key)], project: &Key) -> usize
     count
 }
 
-/// Returns the keys of the lecturer's projects, in their order. Fails if memory runs out.
+/// Returns the keys of the lecturer's projects, which share the lecturer's capacity, in their
+/// order. Fails if memory runs out.
 pub fn own_keys<'a>(
     alloc: Global,
     projects: &'a [ProjectRow],
@@ -41,14 +42,14 @@ pub fn own_keys<'a>(
     Ok(own)
 }
 
-/// Returns whether the key is one of these.
+/// Returns whether the project of a first-round pair is one of these, to compute the capacity left.
 fn is_among(keys: &[&Key], key: &Key) -> bool
     ensures { result ≡ list_any (λ k. equals key.now k.now) keys.now }
 {
     keys.iter().any(|k| *key == **k)
 }
 
-/// Counts the pairs with one of these projects.
+/// Counts the first round's pairs with one of these projects, to compute the capacity left.
 fn given_among(pairs: &[(Key, Key)], projects: &[&Key]) -> usize
     ensures { result ≡ pairs_among pairs.now (map (λ k. k.now) projects.now) }
 {
@@ -61,7 +62,8 @@ fn given_among(pairs: &[(Key, Key)], projects: &[&Key]) -> usize
     count
 }
 
-/// Returns the capacity minus `given`, or `None` if that is not positive.
+/// Returns the capacity that `given` placements of the first round leave, or `None` if none is
+/// left.
 fn room_of(capacity: u32, given: usize) -> Option<u32>
     ensures { result ≡ room_of capacity given }
 {
@@ -73,8 +75,8 @@ fn room_of(capacity: u32, given: usize) -> Option<u32>
     }
 }
 
-/// Returns the project with its remaining capacity, or `None` if it is full. `pairs` is the first
-/// round's result. Fails if memory runs out.
+/// Returns the project with the capacity that the first round left, or `None` if it is full.
+/// `pairs` is the first round's result. Fails if memory runs out.
 pub fn project_left(
     alloc: Global,
     pairs: &[(Key, Key)],
@@ -92,8 +94,8 @@ pub fn project_left(
     }
 }
 
-/// Returns the lecturer with the capacity that remains over all projects, or `None` if none
-/// remains. `pairs` is the first round's result. Fails if memory runs out.
+/// Returns the lecturer with the capacity that the first round left over all projects, or `None` if
+/// none. `pairs` is the first round's result. Fails if memory runs out.
 pub fn lecturer_left(
     alloc: Global,
     projects: &[ProjectRow],

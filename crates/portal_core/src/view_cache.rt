@@ -69,7 +69,7 @@ impl ViewCache {
     }
 }
 
-/// Removes this key from the keys.
+/// Removes a student or lecturer from the keys that the cached view of the office shows.
 fn but_for(mut keys: Vec<Key>, key: &Key) -> Vec<Key>
     ensures { result.items ≡ filter (λ x. not (equals x key.now)) keys.items }
 {
@@ -107,7 +107,7 @@ fn after_ranking(view: OfficeView, lecturer: &Key, students: &[Key]) -> Option<O
     })
 }
 
-/// Returns the office's view after the missing rankings are filled: nobody is still to rank.
+/// Returns the office's cached view after the missing rankings are filled: nobody is still to rank.
 fn after_fill(mut view: OfficeView) -> OfficeView
     ensures { (w : World) → view ≡ office_sees w → result ≡ office_sees (changed w Fill) }
 {

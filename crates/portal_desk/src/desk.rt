@@ -241,7 +241,7 @@ impl<K: Keeper> Desk<K> {
     }
 }
 
-/// Returns the reply to a request that makes no call, or 503 if memory runs out.
+/// Returns the desk's reply to a request that makes no call, or 503 if memory runs out.
 fn turn_away(alloc: Global, refusal: &Refusal) -> Reply
     ensures told { TurnsAway refusal.now (reply_model result) }
     ensures whole { HasWholeNumbers (body_model result.body) }
@@ -252,14 +252,15 @@ fn turn_away(alloc: Global, refusal: &Refusal) -> Reply
     }
 }
 
-/// Returns whether the method is HEAD.
+/// Returns whether the desk has to omit the reply's body: the method is HEAD.
 fn asks_head(request: &Request) -> bool
     ensures { result ≡ is_head request.now.method.items }
 {
     request.method.as_slice() == b"HEAD".as_slice()
 }
 
-/// Returns whether the connection closes after this request, which follows `done` others.
+/// Returns whether the desk stops after this request: it asks to close, or is the 256th. `done`
+/// requests came before it.
 fn closes_now(request: &Request, done: u32) -> bool
     requires { done < 256 }
     ensures { result ≡ closes_at (256 - done) (seen request.now) }
@@ -267,14 +268,15 @@ fn closes_now(request: &Request, done: u32) -> bool
     request.close || 256 - done <= 1
 }
 
-/// Returns the ending after the last reply; `close` says that the request closes the connection.
+/// Returns the ending after the desk's last reply to a stream: `Closed` or `Limit`. `close` says
+/// that the request closes the connection.
 fn ending_of(close: bool) -> Ending
     ensures { last result ≡ last_for close }
 {
     if close { Ending::Closed } else { Ending::Limit }
 }
 
-/// Makes the result for a stream that was served to its end.
+/// Makes the desk's result for a stream that it served to its end.
 fn served(requests: u32, ending: Ending) -> Served
     ensures requests { result.requests ≡ requests }
     ensures ending { result.ending ≡ ending }
@@ -282,7 +284,7 @@ fn served(requests: u32, ending: Ending) -> Served
     Served { requests, ending }
 }
 
-/// Makes the fault for a stream that was served in part.
+/// Makes the desk's fault for a stream that it served in part.
 fn stopped(cause: Cause, requests: u32) -> ServeFault
     ensures cause { result.cause ≡ cause }
     ensures requests { result.requests ≡ requests }

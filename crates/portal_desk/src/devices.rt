@@ -1,4 +1,4 @@
-//! Traits of byte sources and sinks that count their failed calls.
+//! Traits of sources and sinks, which count failures; `write_whole` writes all bytes to a sink.
 
 ghost use Rattle.std.specs.Prelude.{◌≡◌, ℕ, ◌<◌, List, Option, take, length, OnOk, OnErr, IfOk};
 ghost use Rattle.std.specs.Io.KnownBytes.{ReadConsumes, WriteAppends, Appends};
@@ -143,7 +143,8 @@ impl<T: Write> Sink for Counted<T> {
     }
 }
 
-/// Writes all the bytes. On failure it has written a proper prefix of them.
+/// Writes all the bytes to a sink, by calls of `Sink::write`. On failure it has written a proper
+/// prefix of them.
 pub(crate) fn write_whole<W: Sink>(sink: &mut W, bytes: &[u8]) -> Result<(), Failed>
     ensures whole { OnOk result (Appends (W.contents sink.old) (W.contents sink.new) bytes.now) }
     ensures part { OnErr result ((k : ℕ) × (k < length bytes.now)

@@ -1,4 +1,4 @@
-//! Serves a list of streams in memory, one after another.
+//! Serves streams in memory one after another, on a given desk.
 
 ghost use Rattle.std.specs.Prelude.{List, IfSome, map};
 ghost use Rattle.portal_desk.specs.Headline.{ServesEach};
@@ -9,8 +9,8 @@ use crate::devices::Counted;
 use portal_core::Keeper;
 use std::alloc::Global;
 
-/// Serves streams one after another, and returns what was written for each. Returns `None` if
-/// serving a stream fails or memory runs out.
+/// Serves a list of streams on a desk, one after another, and returns what was written for each.
+/// Returns `None` if serving a stream fails or memory runs out.
 pub fn serve_each<K: Keeper>(
     alloc: Global,
     desk: &mut Desk<K>,

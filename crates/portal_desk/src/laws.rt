@@ -1,4 +1,4 @@
-//! Laws on the bytes of replies: privacy and the headline.
+//! Laws on the bytes of replies: privacy, and "The headline" of PROMISES.md.
 
 ghost use Rattle.std.specs.Prelude.{◌≡◌, ℕ, List, Some, ◌++◌};
 ghost use Rattle.std.specs.List.{AllZip};
@@ -16,7 +16,8 @@ ghost use Rattle.portal_desk.specs.Kept.{state_of};
 use portal_core::Keeper;
 use portal_core::laws::{published_best, run_good};
 
-/// Law: take two lists of visits without a 503 reply. If a caller starts with the same view and
+/// Law: if no reply is 503, a caller's first view and what the caller hears determine the reply
+/// bytes. Take two lists of visits without a 503 reply. If a caller starts with the same view and
 /// hears the same in both, the caller's replies and last view are equal. Now let the first worlds
 /// and the requests differ at most in the order within students' lists. Then all replies are equal,
 /// up to and including the first accepted move to published, except replies with a student's list.
@@ -55,7 +56,7 @@ pub fn equal_byte_for_byte<K: Keeper, L: Keeper>()
         → replies_in c first ≡ replies_in c second) }
 {}
 
-/// Law: the headline. Two desks each serve a list of streams in turn, over keepers of any kind. A
+/// Law: the headline, for two desks that each serve a list of streams in turn over any keepers. A
 /// call of `serve` may stop before its stream ends, and a keeper may be closed and reopened between
 /// streams. Each first keeper is clean with a good world, no reply is 503, and each last
 /// keeper's disk has returned what was written. Then visits describe these streams.

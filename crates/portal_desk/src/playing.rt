@@ -1,4 +1,4 @@
-//! Plays a call over any keeper: gets the view, decides, performs the act.
+//! Plays a call over any keeper: gets the view, decides, writes any sheet, performs the act.
 
 ghost use Rattle.std.specs.Prelude.{◌≡◌, IfOk, OnOk, OnErr};
 ghost use Rattle.spa_model.specs.Spa.{IsMatching};
@@ -22,7 +22,7 @@ use spa_model::{Instance, Key, Matching};
 use spa_student::solve;
 use std::alloc::{AllocError, Global};
 
-/// Makes the body with the text of a sheet.
+/// Makes the reply's body with the text of the sheet for which the act asks.
 fn sheet_body(alloc: Global, view: &OfficeView, sheet: Sheet) -> Result<Body, AllocError>
     ensures { IfOk result (λ body. body_model body ≡ sheet_text view.now sheet) }
 {
@@ -64,7 +64,7 @@ fn decide_whole(alloc: Global, view: &View, call: &Call) -> Result<Decision, All
     Ok(Decision { reply, act })
 }
 
-/// Decides a call for the caller with this code.
+/// Gets the view of the caller with this code from the keeper, and decides the call.
 fn ask<K: Keeper>(
     alloc: Global,
     keeper: &mut K,
@@ -88,7 +88,7 @@ fn ask<K: Keeper>(
     }
 }
 
-/// Returns the pairs of a matching, in the order of the students.
+/// Returns the pairs of the matching that a call publishes, in the order of the students.
 fn pairs_of(
     alloc: Global,
     instance: &Instance,
@@ -109,7 +109,7 @@ fn pairs_of(
     Ok(pairs)
 }
 
-/// The pairs of the students' best matching.
+/// Solves the instance for a publication. Returns the pairs of the best matching.
 fn solved(alloc: Global, instance: &Instance) -> Result<Vec<(Key, Key)>, AllocError>
     ensures { IfOk result (λ pairs. IsSolved instance.now pairs.items) }
 {
@@ -117,7 +117,7 @@ fn solved(alloc: Global, instance: &Instance) -> Result<Vec<(Key, Key)>, AllocEr
     pairs_of(alloc, instance, &matching)
 }
 
-/// Solves the world's instance and publishes the matching.
+/// Performs a publication: gets the keeper's instance, solves it and applies the result.
 fn publish<K: Keeper>(alloc: Global, keeper: &mut K) -> Result<(), KeepFault>
     requires good { K.clean keeper.old → Good (K.world keeper.old) }
     requires ready { K.clean keeper.old → CanPublish (K.world keeper.old) }
@@ -136,7 +136,7 @@ fn publish<K: Keeper>(alloc: Global, keeper: &mut K) -> Result<(), KeepFault>
     }
 }
 
-/// Performs an act.
+/// Performs a decision's act on the keeper.
 fn perform<K: Keeper>(alloc: Global, keeper: &mut K, act: Act) -> Result<(), KeepFault>
     requires good { K.clean keeper.old → Good (K.world keeper.old) }
     requires can { K.clean keeper.old → CanDo (K.world keeper.old) (act_model act) }

@@ -1,4 +1,4 @@
-//! Reads a stream up to its next request.
+//! Reads a stream into a buffer up to its next request; removes answered requests.
 
 ghost use Rattle.std.specs.Prelude.{◌≡◌, ◌≢◌, ℕ, ◌+◌, ◌-◌, ◌<◌, ◌≤◌, List, length, drop, IfOk};
 ghost use Rattle.std.specs.Prelude.{OnErr, IfErr, OnOk, if◌then◌else◌};
@@ -38,7 +38,7 @@ impl From<Failed> for FrameFault {
     }
 }
 
-/// Reads once into the buffer, and returns whether the source has ended.
+/// Reads a stream's next bytes into the buffer, and returns whether the source has ended.
 fn read_piece<R: Source>(source: &mut R, buffer: &mut Vec<u8>) -> Result<bool, FrameFault>
     requires { length buffer.old.items < 1064960 }
     ensures bytes { IfOk result (ReadsMore (R.remaining source.old)
@@ -67,7 +67,7 @@ fn read_piece<R: Source>(source: &mut R, buffer: &mut Vec<u8>) -> Result<bool, F
     Ok(false)
 }
 
-/// Reads until the buffer begins with a request, a fault or the end of the stream.
+/// Reads from a source until the buffer begins with a request, a fault or the stream's end.
 pub(crate) fn next_frame<R: Source>(
     alloc: Global,
     source: &mut R,
@@ -100,7 +100,7 @@ pub(crate) fn next_frame<R: Source>(
     }
 }
 
-/// Removes the first `used` bytes of the buffer.
+/// Removes the first `used` bytes of the buffer: the request that was answered.
 pub(crate) fn cut_front(buffer: &mut Vec<u8>, used: usize)
     requires { used ≤ length buffer.old.items }
     ensures { buffer.new.items ≡ drop used buffer.old.items }

@@ -18,7 +18,7 @@ use portal_frame::Refusal;
 use portal_wire::{reply_bytes, reply_of};
 use std::alloc::Global;
 
-/// Writes all the bytes to a sink.
+/// Writes all the bytes of a reply to a sink, or returns the cause `Write`.
 fn send<W: Sink>(bytes: &[u8], sink: &mut W) -> Result<(), Cause>
     ensures ok { OnOk result (Appends (W.contents sink.old) (W.contents sink.new) bytes.now) }
     ensures err { IfErr result (λ cause. Partly cause (W.contents sink.old)
@@ -58,7 +58,7 @@ pub(crate) fn send_reply<W: Sink>(
     }
 }
 
-/// Writes the reply for the refusal that ends a stream.
+/// Writes to a sink the reply for the refusal that ends a stream.
 pub(crate) fn send_refusal<W: Sink>(
     alloc: Global,
     refusal: &Refusal,

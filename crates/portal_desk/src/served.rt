@@ -1,4 +1,4 @@
-//! The outcomes of serving a stream.
+//! Types for how serving a stream ended, and why it stopped early.
 
 use portal_wire::Ending;
 

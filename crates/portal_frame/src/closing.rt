@@ -1,4 +1,4 @@
-//! Tests whether a request asks to close the connection.
+//! Tests whether a request closes the connection, by its version or a `Connection` header.
 
 ghost use Rattle.std.specs.Prelude.{◌≡◌, length, map, All, codes};
 ghost use Rattle.httparse.specs.Grammar.{skip_ows};
@@ -8,7 +8,7 @@ ghost use Rattle.portal_frame.specs.Stream.{before_comma, closes_after};
 
 use httparse::spans::HeaderSpan;
 
-/// Skips the leading spaces and tabs.
+/// Skips leading spaces and tabs, to find the word `close` in a header.
 fn skip(bytes: &[u8]) -> &[u8]
     ensures { result.now ≡ skip_ows bytes.now }
 {
@@ -34,7 +34,7 @@ fn is_close_part(part: &[u8]) -> bool
     word.eq_ignore_ascii_case(b"close") && skip(after).is_empty()
 }
 
-/// Returns the bytes before the first comma, or all bytes if there is none.
+/// Returns the part of a `Connection` header before the first comma, or all if there is none.
 fn part_of(value: &[u8]) -> &[u8]
     ensures { result.now ≡ before_comma value.now }
 {
@@ -46,7 +46,7 @@ fn part_of(value: &[u8]) -> &[u8]
     part
 }
 
-/// Returns whether some comma-separated part of a value is the word `close`.
+/// Returns whether some comma-separated part of a header's value is the word `close`.
 fn has_close_part(value: &[u8]) -> bool
     ensures { result ≡ has_close value.now }
 {
@@ -63,7 +63,7 @@ fn has_close_part(value: &[u8]) -> bool
     false
 }
 
-/// Returns whether a header name is `Connection` in any case.
+/// Returns whether a header's name is `Connection` in any case, so that it may ask to close.
 fn is_connection(name: &[u8]) -> bool
     ensures { result ≡ same_name name.now (codes "connection") }
 {

@@ -20,7 +20,7 @@ pub(crate) enum At {
     Inside,
 }
 
-/// Returns the position after one more byte.
+/// Returns the position in the lines of a head after one more byte.
 fn step(at: At, byte: u8) -> At
     ensures { result ≡ step_of at byte }
 {
@@ -49,7 +49,7 @@ fn step(at: At, byte: u8) -> At
     }
 }
 
-/// Returns whether the byte ends an empty line after a non-empty one.
+/// Returns whether the byte ends an empty line after a non-empty one; counting stops there.
 fn stops(at: At, byte: u8) -> bool
     ensures { result ≡ stops_at at byte }
 {
@@ -60,7 +60,7 @@ fn stops(at: At, byte: u8) -> bool
     }
 }
 
-/// Returns how many non-empty lines the byte ends: 0 or 1.
+/// Returns how many non-empty lines of a head the byte ends: 0 or 1.
 fn counts(at: At, byte: u8) -> usize
     ensures exact { result ≡ counted at byte }
     ensures few { result ≤ 1 }

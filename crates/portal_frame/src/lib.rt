@@ -22,7 +22,8 @@ use httparse::spans::{EMPTY_HEADER_SPAN, HeaderSpan, RequestSpans, parse_request
 use httparse::{Error, Status};
 use std::alloc::{AllocError, Global};
 
-/// Returns whether the bytes are only empty lines; the last one may lack its LF.
+/// Returns whether the bytes are only empty lines, as they may be at the end of a stream. The
+/// last one may lack its LF.
 fn is_all_blank(bytes: &[u8]) -> bool
     ensures { result ≡ is_blank bytes.now }
 {

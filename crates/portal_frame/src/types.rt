@@ -1,4 +1,4 @@
-//! Requests, refusals, frames and faults of framing.
+//! The types of frames, requests, refusals and framing faults.
 
 ghost use Rattle.std.specs.Prelude.{◌≡◌};
 ghost use Rattle.portal_frame.specs.Stream.{refused, told, plain};
@@ -50,7 +50,7 @@ pub(crate) enum Fault {
 }
 
 impl Fault {
-    /// Returns the refusal for this fault.
+    /// Returns the refusal for this fault of framing.
     #[tactic(auto, unfolding(crate::specs::Stream::bad_head, crate::specs::Stream::bad_host, crate::specs::Stream::coded_body, crate::specs::Stream::bad_length, crate::specs::Stream::too_large))]
     pub(crate) fn refusal(self) -> Refusal
         ensures { refused result ≡ told self }
@@ -65,7 +65,7 @@ impl Fault {
     }
 }
 
-/// Makes a refusal that has only a status and an error word.
+/// Makes the refusal for a fault of framing: only a status and an error word.
 fn by_word(status: u16, word: &'static str) -> Refusal
     ensures { refused result ≡ plain status word.now }
 {

@@ -1,4 +1,4 @@
-//! Checks headers, and reads body length, caller's code and path.
+//! Checks headers; reads body length, caller's code and path; copies method and body.
 
 ghost use Rattle.std.specs.Prelude.{◌≡◌, length, map, All, IfOk, codes, ◌∷◌, []};
 ghost use Rattle.httparse.specs.Spans.{IsHeaderWithin, header_bytes};
@@ -104,7 +104,7 @@ pub(crate) fn code_of(
     }
 }
 
-/// Copies the bytes to a new vector.
+/// Copies the bytes of a request's method or body to a new vector.
 pub(crate) fn copied(alloc: Global, bytes: &[u8]) -> Result<Vec<u8>, AllocError>
     ensures { IfOk result (λ copy. copy.items ≡ bytes.now) }
 {

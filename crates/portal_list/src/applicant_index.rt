@@ -35,7 +35,7 @@ impl<'a> Model for ApplicantIndex<'a> {
     ghost invariant = { λ w. IsIndexOf w.students.now w.places };
 }
 
-/// Adds a student's position in the roll to the entry of a project.
+/// Adds a student's position in the roll to a project's entry in the hash table.
 fn note<'a>(
     alloc: Global,
     places: &mut HashMap<&'a [u8], Vec<usize>>,
@@ -51,7 +51,7 @@ fn note<'a>(
     Ok(())
 }
 
-/// Adds a student's position in the roll to the entry of each project on the list.
+/// Adds a student's position in the roll to the hash table, for each project on the student's list.
 fn note_all<'a>(
     alloc: Global,
     places: &mut HashMap<&'a [u8], Vec<usize>>,
@@ -68,7 +68,8 @@ fn note_all<'a>(
     Ok(())
 }
 
-/// Sets the marks at these positions, and ignores positions beyond the end.
+/// Marks the students at these positions, found in the hash table; ignores positions beyond the
+/// end.
 fn mark(marks: &mut [bool], places: &[usize])
     ensures len { length marks.new ≡ length marks.old }
     ensures marks { (i : ℕ) → i < length marks.old

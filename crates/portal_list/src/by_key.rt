@@ -24,7 +24,8 @@ pub(crate) fn index_of<T: Keyed>(rows: &[T], key: &Key) -> Option<usize>
     None
 }
 
-/// Returns the index of the first row with a greater key, or the length if there is none.
+/// Returns the index at which to insert a row with this key in key order. It is that of the first
+/// row with a greater key, or the length if there is none.
 fn place_for<T: Keyed>(rows: &[T], key: &Key) -> usize
     ensures low { result ≤ length rows.now }
     ensures place { (row : T) → T.key_of row ≡ key.now
@@ -38,7 +39,7 @@ fn place_for<T: Keyed>(rows: &[T], key: &Key) -> usize
     rows.len()
 }
 
-/// Inserts a row in key order. The vector must have spare capacity.
+/// Inserts a row in key order into a vector, which must have spare capacity.
 fn put_row<T: Keyed + Drop>(rows: &mut Vec<T>, row: T)
     requires { vec_len rows.old < vec_capacity rows.old }
     ensures items { rows.new.items ≡ put T.key_of row rows.old.items }
@@ -51,7 +52,7 @@ fn put_row<T: Keyed + Drop>(rows: &mut Vec<T>, row: T)
     }
 }
 
-/// Inserts rows in key order. The vector must have spare capacity for all of them.
+/// Inserts rows in key order into a vector, which must have spare capacity for all of them.
 pub(crate) fn put_rows<T: Keyed + Drop>(rows: &mut Vec<T>, fresh: Vec<T>)
     requires { vec_len rows.old + vec_len fresh ≤ vec_capacity rows.old }
     ensures { rows.new.items ≡ put_all T.key_of fresh.items rows.old.items }

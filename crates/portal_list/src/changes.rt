@@ -1,4 +1,4 @@
-//! Replaces a list or a ranking; the submodules make the other changes.
+//! Replaces a list or a ranking in the entries; the submodules make the other changes.
 
 ghost use Rattle.std.specs.Prelude.{◌≡◌, OnOk, OnErr, map};
 ghost use Rattle.portal_core.specs.Words.{Rise};
@@ -19,7 +19,7 @@ use portal_core::copy_keys;
 use spa_rows::Key;
 use std::alloc::{AllocError, Global};
 
-/// Replaces the list of the student with this key.
+/// Replaces the list of the student with this key, in the entries.
 pub(crate) fn replace_choice(
     alloc: Global,
     students: &mut [StudentEntry],
@@ -38,7 +38,7 @@ pub(crate) fn replace_choice(
     Ok(())
 }
 
-/// Replaces the ranking of the lecturer with this key.
+/// Replaces the ranking of the lecturer with this key, in the entries.
 pub(crate) fn replace_ranking(
     alloc: Global,
     lecturers: &mut [LecturerEntry],

@@ -1,4 +1,4 @@
-//! Copies project rows, optional projects and rankings; makes persons; `holds` searches for a key.
+//! Copies rankings, project keys and project rows; makes `Person` values; `holds` looks for a key.
 
 ghost use Rattle.std.specs.Prelude.{◌≡◌, IfOk, option_map};
 ghost use Rattle.portal_core.specs.Words.{has};
@@ -14,6 +14,7 @@ pub(crate) fn holds(keys: &[Key], key: &Key) -> bool
     keys.iter().any(|k| key == k)
 }
 
+/// Makes a person from copies of the key and the name.
 pub(crate) fn person_of(alloc: Global, key: &Key, name: &Name) -> Result<Person, AllocError>
     ensures { IfOk result (λ p. p ≡ record { key = key.now; name = name.now }) }
 {

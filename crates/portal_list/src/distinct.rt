@@ -7,7 +7,7 @@ use spa_rows::Key;
 use std::alloc::{AllocError, Global};
 use std::collections::BTreeSet;
 
-/// Returns whether the texts are distinct.
+/// Returns whether the texts, which are codes or keys, are distinct.
 pub(crate) fn are_distinct(alloc: Global, texts: &[&[u8]]) -> Result<bool, AllocError>
     ensures { IfOk result (λ yes. IsTrue yes ↔ AreDistinct (map (λ text. text.now) texts.now)) }
 {
@@ -20,7 +20,7 @@ pub(crate) fn are_distinct(alloc: Global, texts: &[&[u8]]) -> Result<bool, Alloc
     Ok(true)
 }
 
-/// Returns the bytes of each key.
+/// Returns the bytes of each key, to test whether keys are distinct.
 fn bytes_of<'a>(alloc: Global, keys: &'a [Key]) -> Result<Vec<&'a [u8]>, AllocError>
     ensures { IfOk result (λ texts. map (λ text. text.now) texts.items ≡ keys.now) }
 {

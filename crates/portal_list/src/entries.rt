@@ -1,4 +1,4 @@
-//! Entries: rows of the rolls, joined with lists and rankings. `follow` applies a change to them.
+//! Entries: rows of the rolls, joined with lists and rankings. `follow` and `place` change them.
 
 ghost use Rattle.std.specs.Prelude.{◌≡◌, true, false, Ok, IfOk, OnOk, OnErr, map};
 ghost use Rattle.portal_core.specs.World.{World, changed, with_place};
@@ -83,7 +83,8 @@ impl Model for Entries {
 }
 
 impl Entries {
-    /// Gives each student who takes part the project that the pairs assign, or none.
+    /// Changes the entries for a result: gives each student who takes part the project of the
+    /// pairs, or none.
     pub(crate) fn place(&mut self, alloc: Global, pairs: &[(Key, Key)]) -> Result<(), AllocError>
         ensures made { OnOk result (self.new
             ≡ record self.old { students = map (with_place pairs.now) self.old.students }) }
@@ -92,7 +93,7 @@ impl Entries {
         place_all(alloc, &mut self.students, pairs)
     }
 
-    /// Updates the entries for a change of a list, a ranking or the phase, or for a fill, and
+    /// Updates the entries for a fill, or for a change of a list, a ranking or the phase. It then
     /// returns `true`. For new rolls, a result or the second round it returns `false`. In that
     /// case, and if an allocation fails, the entries are unchanged.
     pub fn follow(&mut self, alloc: Global, change: &Change) -> Result<bool, AllocError>

@@ -1,4 +1,4 @@
-//! `Entries::fills`: lists the lecturers still to rank with their applicants, for the store's fill.
+//! `Entries::fills` finds the lecturers still to rank, and their applicants, for the store's fill.
 
 ghost use Rattle.std.specs.Prelude.{◌≡◌, IfOk, List, map};
 ghost use Rattle.portal_core.specs.Words as words;
@@ -15,7 +15,8 @@ use portal_core::ProjectRow;
 use spa_rows::Key;
 use std::alloc::{AllocError, Global};
 
-/// Returns each of these lecturers with the keys of the lecturer's applicants.
+/// Returns each of these lecturers with the keys of the lecturer's applicants, for the store's
+/// fill.
 fn with_applicants(
     alloc: Global,
     lecturers: &[Key],
@@ -35,8 +36,8 @@ fn with_applicants(
 }
 
 impl Entries {
-    /// Returns the lecturers who are still to rank, in roll order, each with the keys of the
-    /// applicants in key order. These are the rankings that a fill would add.
+    /// Returns the lecturers still to rank, in roll order, each with the applicants' keys in key
+    /// order. These are the rankings that a fill would add.
     pub fn fills(&self, alloc: Global) -> Result<Vec<(Key, Vec<Key>)>, AllocError>
         ensures { IfOk result (λ v. (w : World) → HasEntries self.now w
             → map {B = words.Key × List words.Key} (λ f. (f.0, f.1.items)) v.items

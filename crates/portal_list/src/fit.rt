@@ -10,7 +10,8 @@ use spa_rows::Key;
 use std::alloc::{AllocError, Global};
 use std::collections::VecDeque;
 
-/// Removes the first pair if it has this key, and returns its value.
+/// Removes the next list or placement, if it has the row's key, to join it to the row. Returns
+/// `None` if the key differs or nothing is left.
 fn take_for<V: Drop>(rest: &mut VecDeque<(Key, V)>, key: &Key) -> Option<V>
     ensures taken { result ≡ next_for key.now rest.old.items }
     ensures left { rest.new.items ≡ rest_for key.now rest.old.items }
@@ -26,8 +27,8 @@ fn take_for<V: Drop>(rest: &mut VecDeque<(Key, V)>, key: &Key) -> Option<V>
     Some(value)
 }
 
-/// Returns an empty list in the first round. In the second it removes the first pair if that has
-/// this key, and returns its list.
+/// Returns the earlier list to join to a student's row. In the first round this is an empty list.
+/// In the second it removes the first pair if that has this key, and returns its list.
 fn earlier_for(
     alloc: Global,
     round: Round,
@@ -45,8 +46,8 @@ fn earlier_for(
     }
 }
 
-/// Joins each lecturer with the rankings of both rounds, all in roll order. Returns `None` if a
-/// ranking is left over: it is for no lecturer, or out of order.
+/// Joins each lecturer with the rankings of both rounds into an entry, all in roll order. Returns
+/// `None` if a ranking is left over: it is for no lecturer, or out of order.
 pub(crate) fn lecturer_entries(
     alloc: Global,
     rows: Vec<LecturerRow>,
@@ -76,8 +77,8 @@ pub(crate) fn lecturer_entries(
     })
 }
 
-/// Joins each student with lists and placements, all in roll order. Returns `None` if a student
-/// lacks a list (two in the second round), or if a list or placement is left over.
+/// Joins each student with lists and placements into an entry, all in roll order. Returns `None` if
+/// a student lacks a list (two in the second round), or if a list or placement is left over.
 pub(crate) fn student_entries(
     alloc: Global,
     round: Round,

@@ -1,4 +1,4 @@
-//! Builds a keeper or entries from the rows of tables.
+//! Builds a keeper or entries from the rows of tables; turns a keeper into its entries.
 
 ghost use Rattle.std.specs.Prelude.{◌≡◌, ◌↔◌, Err, IfOk, IsTrue, MatchOption};
 ghost use Rattle.portal_core.specs.World.{World};
@@ -80,7 +80,7 @@ impl From<AllocError> for RowsFault {
     }
 }
 
-/// Returns whether the rolls obey the rules of a sound world.
+/// Returns whether the rolls obey the rules of a sound world, before a keeper is built from rows.
 fn rolls_of_rows_fit(alloc: Global, rows: &WorldRows) -> Result<bool, AllocError>
     ensures { IfOk result (λ yes. IsTrue yes
         ↔ RollsFit rows.now.office rows.now.lecturers rows.now.projects rows.now.students) }
@@ -162,7 +162,7 @@ impl ListKeeper {
         Ok(keeper)
     }
 
-    /// Returns the entries of the keeper's world.
+    /// Turns a keeper, usually one built from the rows of tables, into the entries of its world.
     pub fn into_entries(self) -> Entries
         ensures { HasEntries result self }
     {

@@ -19,7 +19,8 @@ use spa_check::is_stable;
 use spa_model::{Instance, Matching};
 use std::alloc::{AllocError, Global};
 
-/// Returns the number of the student's project: the count of projects if it is unknown.
+/// Returns the number of the student's project in the instance, to test whether the result is
+/// stable. If the project is unknown, the number is the count of projects.
 fn placement_in(instance: &Instance, student: &StudentEntry) -> Option<usize>
     ensures { result ≡ option_map (number_in instance.now.project_keys) student.now.placed }
 {
@@ -29,7 +30,7 @@ fn placement_in(instance: &Instance, student: &StudentEntry) -> Option<usize>
     }
 }
 
-/// Returns the project number, if any, of each student who takes part in the round.
+/// Returns the project number, or `None`, of each student who takes part, to test stability.
 fn placements_in(
     alloc: Global,
     instance: &Instance,
@@ -49,7 +50,7 @@ fn placements_in(
     Ok(places)
 }
 
-/// Returns whether the placements are a stable matching.
+/// Returns whether the placements in a keeper's world are a stable matching.
 fn are_stable(instance: &Instance, places: Vec<Option<usize>>) -> bool
     ensures { IsTrue result ↔ IsStable instance.now places.items }
 {
@@ -60,7 +61,7 @@ fn are_stable(instance: &Instance, places: Vec<Option<usize>>) -> bool
     is_stable(instance, &matching)
 }
 
-/// Returns the lecturer as of the publication of the first round.
+/// Copies the lecturer as of the first round's publication, to test that round's result.
 fn first_lecturer(alloc: Global, lecturer: &LecturerEntry) -> Result<LecturerEntry, AllocError>
     ensures { IfOk result (λ l. l ≡ first_published lecturer.now) }
 {
@@ -71,6 +72,7 @@ fn first_lecturer(alloc: Global, lecturer: &LecturerEntry) -> Result<LecturerEnt
     })
 }
 
+/// Copies the lecturers as of the first round's publication, to test that round's result.
 fn first_lecturers(
     alloc: Global,
     lecturers: &[LecturerEntry],
@@ -84,7 +86,7 @@ fn first_lecturers(
     Ok(found)
 }
 
-/// Returns the student as of the publication of the first round.
+/// Copies the student as of the first round's publication, to test that round's result.
 fn first_student(alloc: Global, student: &StudentEntry) -> Result<StudentEntry, AllocError>
     ensures { IfOk result (λ s. s ≡ first_placed student.now) }
 {
@@ -97,6 +99,7 @@ fn first_student(alloc: Global, student: &StudentEntry) -> Result<StudentEntry, 
     })
 }
 
+/// Copies the students as of the first round's publication, to test that round's result.
 fn first_students(alloc: Global, students: &[StudentEntry]) -> Result<Vec<StudentEntry>, AllocError>
     ensures { IfOk result (λ v. v.items ≡ map first_placed students.now) }
 {
@@ -122,7 +125,8 @@ impl ListKeeper {
         Ok(are_stable(&instance, places))
     }
 
-    /// Returns the world in which the first round was published.
+    /// Returns the world in which the first round was published, to test whether it was sound and
+    /// stable.
     fn first(&self, alloc: Global) -> Result<ListKeeper, AllocError>
         ensures { IfOk result (λ keeper. keeper ≡ first self.now) }
     {

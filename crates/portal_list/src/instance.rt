@@ -1,4 +1,4 @@
-//! Builds the allocation instance from entries.
+//! Makes lines from the entries, and builds the allocation instance from these lines.
 
 ghost use Rattle.std.specs.Prelude.{◌≡◌, false, Err, IfOk, map};
 ghost use Rattle.std.specs.List.{AllByRecursion};
@@ -18,14 +18,14 @@ use spa_model::{Instance, InstanceFault, InstanceRows, LecturerLine, ProjectLine
 use spa_rows::Key;
 use std::alloc::{AllocError, Global};
 
-/// Copies the bytes of a key.
+/// Copies the bytes of a key, for a line of the instance.
 fn text_of(alloc: Global, key: &Key) -> Result<Vec<u8>, AllocError>
     ensures { IfOk result (λ text. text.items ≡ key.now) }
 {
     key.as_bytes().to_vec(alloc)
 }
 
-/// Copies the bytes of each key.
+/// Copies the bytes of each key on a list, for a line of the instance.
 fn key_texts(alloc: Global, keys: &[Key]) -> Result<Vec<Vec<u8>>, AllocError>
     ensures { IfOk result (λ texts. map (λ text. text.items) texts.items ≡ keys.now) }
 {
@@ -36,6 +36,7 @@ fn key_texts(alloc: Global, keys: &[Key]) -> Result<Vec<Vec<u8>>, AllocError>
     Ok(texts)
 }
 
+/// Makes the instance's line of a lecturer from the entry.
 fn lecturer_line(alloc: Global, entry: &LecturerEntry) -> Result<LecturerLine, AllocError>
     ensures { IfOk result (λ line. line ≡ instance_lecturer entry.now) }
 {
@@ -51,6 +52,7 @@ fn lecturer_line(alloc: Global, entry: &LecturerEntry) -> Result<LecturerLine, A
     })
 }
 
+/// Makes the instance's line of a project from the project's row.
 fn project_line(alloc: Global, project: &ProjectRow) -> Result<ProjectLine, AllocError>
     ensures { IfOk result (λ line. line ≡ instance_project project.now) }
 {
@@ -62,6 +64,7 @@ fn project_line(alloc: Global, project: &ProjectRow) -> Result<ProjectLine, Allo
     })
 }
 
+/// Makes the instance's line of a student from the entry.
 fn student_line(alloc: Global, entry: &StudentEntry) -> Result<StudentLine, AllocError>
     ensures { IfOk result (λ line. line ≡ instance_student entry.now) }
 {
@@ -72,6 +75,7 @@ fn student_line(alloc: Global, entry: &StudentEntry) -> Result<StudentLine, Allo
     })
 }
 
+/// Makes the instance's lines of the lecturers from their entries.
 fn lecturer_lines(alloc: Global, entries: &[LecturerEntry]) -> Result<Vec<LecturerLine>, AllocError>
     ensures { IfOk result (λ lines. lines.items ≡ map instance_lecturer entries.now) }
 {
@@ -82,6 +86,7 @@ fn lecturer_lines(alloc: Global, entries: &[LecturerEntry]) -> Result<Vec<Lectur
     Ok(lines)
 }
 
+/// Makes the instance's lines of the projects from their rows.
 fn project_lines(alloc: Global, projects: &[ProjectRow]) -> Result<Vec<ProjectLine>, AllocError>
     ensures { IfOk result (λ lines. lines.items ≡ map instance_project projects.now) }
 {
@@ -92,6 +97,7 @@ fn project_lines(alloc: Global, projects: &[ProjectRow]) -> Result<Vec<ProjectLi
     Ok(lines)
 }
 
+/// Makes the instance's lines of the students from their entries.
 fn student_lines(alloc: Global, entries: &[StudentEntry]) -> Result<Vec<StudentLine>, AllocError>
     ensures { IfOk result (λ lines. lines.items ≡ map instance_student entries.now) }
 {
@@ -102,7 +108,7 @@ fn student_lines(alloc: Global, entries: &[StudentEntry]) -> Result<Vec<StudentL
     Ok(lines)
 }
 
-/// Converts the entries into the lines of an instance.
+/// Makes all lines of the instance from the entries.
 fn rows_of(alloc: Global, entries: &Entries) -> Result<InstanceRows, AllocError>
     ensures { IfOk result (λ rows. rows ≡ instance_rows entries.now) }
 {
@@ -135,7 +141,8 @@ fn instance_among(alloc: Global, entries: &Entries) -> Result<Instance, RowsFaul
     }
 }
 
-/// Builds the instance of the current round of a sound world in which no ranking is missing.
+/// Builds the current round's instance from the entries of a sound world in which no ranking is
+/// missing.
 pub(crate) fn instance_of(alloc: Global, entries: &Entries) -> Result<Instance, AllocError>
     requires ready { (w : World) × HasEntries entries.now w × Sound w
         × AllByRecursion (λ l. is_still_to_rank w l ≡ false) w.lecturers }
@@ -150,8 +157,8 @@ pub(crate) fn instance_of(alloc: Global, entries: &Entries) -> Result<Instance, 
 }
 
 impl Entries {
-    /// Builds the instance of the current round of a sound world in which no ranking is missing.
-    /// Other entries give `NotGood` or a meaningless instance.
+    /// Builds the current round's instance from the entries of a sound world in which no ranking is
+    /// missing. Other entries give `NotGood` or a meaningless instance.
     pub fn instance(&self, alloc: Global) -> Result<Instance, RowsFault>
         ensures instance { IfOk result (λ instance. (w : World) → HasEntries self.now w → Sound w
             → instance ≡ meant_by.instance w) }

@@ -19,6 +19,7 @@ use spa_rows::Key;
 use spa_rows::limits::LONGEST_CHOICE;
 use std::alloc::{AllocError, Global};
 
+/// Returns whether all students' lists are empty, as the rules for the phase setup require.
 fn have_no_choices(students: &[StudentEntry]) -> bool
     ensures { IsTrue result ↔ AllByRecursion (λ s. s.choice ≡ []) students.now }
 {
@@ -30,6 +31,7 @@ fn have_no_choices(students: &[StudentEntry]) -> bool
     true
 }
 
+/// Returns whether no lecturer has a ranking, as the rules require before the phase ranking.
 fn have_no_rankings(lecturers: &[LecturerEntry]) -> bool
     ensures { IsTrue result ↔ AllByRecursion (λ l. l.ranking ≡ None) lecturers.now }
 {
@@ -41,6 +43,7 @@ fn have_no_rankings(lecturers: &[LecturerEntry]) -> bool
     true
 }
 
+/// Returns whether no student has a placement, as the rules require before publication.
 fn have_no_placements(students: &[StudentEntry]) -> bool
     ensures { IsTrue result ↔ AllByRecursion (λ s. s.placed ≡ None) students.now }
 {
@@ -69,13 +72,16 @@ fn phase_fits(phase: Phase, entries: &Entries) -> bool
     }
 }
 
-/// Returns whether the student has no list and no placement of an earlier round.
+/// Returns whether the student has no earlier list and no earlier placement, as the first round
+/// requires.
 fn has_nothing_earlier(student: &StudentEntry) -> bool
     ensures { IsTrue result ↔ HasNothingEarlier student.now }
 {
     student.earlier_choice.is_empty() && student.earlier_placement.is_none()
 }
 
+/// Returns whether no student has an earlier list or an earlier placement, as the first round
+/// requires.
 fn have_nothing_earlier(students: &[StudentEntry]) -> bool
     ensures { IsTrue result ↔ AllByRecursion HasNothingEarlier students.now }
 {
@@ -87,6 +93,7 @@ fn have_nothing_earlier(students: &[StudentEntry]) -> bool
     true
 }
 
+/// Returns whether no lecturer has an earlier ranking, as the first round requires.
 fn have_no_earlier_rankings(lecturers: &[LecturerEntry]) -> bool
     ensures { IsTrue result ↔ AllByRecursion (λ l. l.earlier_ranking ≡ None) lecturers.now }
 {
@@ -106,6 +113,7 @@ fn is_out_if_placed(student: &StudentEntry) -> bool
     student.earlier_placement.is_none() || (student.choice.is_empty() && student.placed.is_none())
 }
 
+/// Returns whether no student placed in the first round has a list or placement in the current one.
 fn are_out_if_placed(students: &[StudentEntry]) -> bool
     ensures { IsTrue result ↔ AllByRecursion IsOutIfPlaced students.now }
 {
@@ -130,7 +138,7 @@ fn round_fits(phase: Phase, entries: &Entries) -> bool
     }
 }
 
-/// Returns whether every key is that of a project.
+/// Returns whether every key on a list is that of a project.
 fn are_projects(projects: &[ProjectRow], keys: &[Key]) -> bool
     requires { Rise (map project_key projects.now) }
     ensures { IsTrue result
@@ -139,7 +147,7 @@ fn are_projects(projects: &[ProjectRow], keys: &[Key]) -> bool
     keys.iter().all(|key| is_known(projects, key))
 }
 
-/// Returns whether the list has at most 20 keys, all of projects and all distinct.
+/// Returns whether a stored list obeys the rules: at most 20 keys, all of projects, all distinct.
 fn is_choice(alloc: Global, projects: &[ProjectRow], choice: &[Key]) -> Result<bool, AllocError>
     requires { Rise (map project_key projects.now) }
     ensures { IfOk result (λ yes. IsTrue yes ↔ IsChoice (map project_key projects.now) choice.now) }
@@ -153,6 +161,7 @@ fn is_choice(alloc: Global, projects: &[ProjectRow], choice: &[Key]) -> Result<b
     keys_are_distinct(alloc, choice)
 }
 
+/// Returns whether each student's stored list obeys the rules, given these projects.
 fn choices_fit(
     alloc: Global,
     projects: &[ProjectRow],
@@ -184,7 +193,7 @@ fn choices_in_play_fit(alloc: Global, entries: &Entries) -> Result<bool, AllocEr
     }
 }
 
-/// Returns the keys of the lecturer's applicants.
+/// Finds the applicants whom the lecturer's ranking must contain, and returns their keys.
 pub(crate) fn applicants<'a>(
     alloc: Global,
     projects: &[ProjectRow],
@@ -198,7 +207,7 @@ pub(crate) fn applicants<'a>(
     wanted.wanting(alloc, &own)
 }
 
-/// Returns whether every key is that of an applicant.
+/// Returns whether every key of a ranking is that of an applicant.
 fn are_applicants(applicants: &[&Key], keys: &[Key]) -> bool
     requires { Rise (map (λ k. k.now) applicants.now) }
     ensures { IsTrue result
@@ -207,7 +216,7 @@ fn are_applicants(applicants: &[&Key], keys: &[Key]) -> bool
     keys.iter().all(|key| is_known(applicants, key))
 }
 
-/// Returns whether the ranking has each applicant once, and nobody else.
+/// Returns whether a stored ranking obeys the rules: each applicant once, and nobody else.
 fn is_ranking(alloc: Global, applicants: &[&Key], ranking: &[Key]) -> Result<bool, AllocError>
     requires { Rise (map (λ k. k.now) applicants.now) }
     ensures { IfOk result (λ yes. IsTrue yes
@@ -222,8 +231,8 @@ fn is_ranking(alloc: Global, applicants: &[&Key], ranking: &[Key]) -> Result<boo
     keys_are_distinct(alloc, ranking)
 }
 
-/// Returns whether the ranking, if there is one, ranks exactly the applicants. If it is required
-/// (`asked`), it may be missing only if there are no applicants.
+/// Returns whether a lecturer's stored ranking, if there is one, ranks exactly the applicants. If a
+/// ranking is required (`asked`), it may be missing only if there are no applicants.
 fn is_ranked(
     alloc: Global,
     asked: bool,
@@ -241,8 +250,8 @@ fn is_ranked(
     }
 }
 
-/// Returns whether the lecturer's ranking passes `is_ranked`. It finds the applicants only if the
-/// answer depends on them.
+/// Returns whether the lecturer's stored ranking obeys the rules of `is_ranked`. It finds the
+/// applicants only if the answer depends on them.
 fn ranking_fits(
     alloc: Global,
     asked: bool,
@@ -262,6 +271,7 @@ fn ranking_fits(
     is_ranked(alloc, asked, &applicants, &lecturer.ranking)
 }
 
+/// Returns whether every lecturer's stored ranking obeys the rules of `is_ranked`.
 fn rankings_fit(
     alloc: Global,
     asked: bool,

@@ -14,7 +14,7 @@ use portal_core::{ProjectRow, Round, copy_keys, lecturer_left, project_left};
 use spa_rows::Key;
 use std::alloc::{AllocError, Global};
 
-/// Returns whether the student takes part in the round.
+/// Returns whether a student takes part in the round, from the student's entry.
 pub(crate) fn takes_part(round: Round, student: &StudentEntry) -> bool
     ensures { result ≡ meant.takes_part round student.now }
 {
@@ -24,7 +24,7 @@ pub(crate) fn takes_part(round: Round, student: &StudentEntry) -> bool
     }
 }
 
-/// Returns the student's pair in the first round's result, if there is one.
+/// Returns the student's pair in the first round's result, if there is one, from the entry.
 fn earlier_pair(alloc: Global, student: &StudentEntry) -> Result<Option<(Key, Key)>, AllocError>
     ensures { IfOk result (λ o. o
         ≡ option_map (λ p. (student.now.row.key, p)) student.now.earlier_placement) }
@@ -35,7 +35,7 @@ fn earlier_pair(alloc: Global, student: &StudentEntry) -> Result<Option<(Key, Ke
     }
 }
 
-/// Returns the pairs of the first round's result.
+/// Returns the pairs of the first round's result, to compute the remaining room.
 fn earlier_pairs(alloc: Global, students: &[StudentEntry]) -> Result<Vec<(Key, Key)>, AllocError>
     ensures { IfOk result (λ v. v.items ≡ pairs_with (λ s. s.earlier_placement) students.now) }
 {
@@ -48,7 +48,7 @@ fn earlier_pairs(alloc: Global, students: &[StudentEntry]) -> Result<Vec<(Key, K
     Ok(pairs)
 }
 
-/// Returns the lecturer with the remaining room as capacity, or `None` if no room remains.
+/// Returns the lecturer's entry with the remaining room as capacity, or `None` if no room remains.
 fn lecturer_played(
     alloc: Global,
     projects: &[ProjectRow],
@@ -67,7 +67,7 @@ fn lecturer_played(
     }
 }
 
-/// Returns the lecturers with room left, each with the remaining room as capacity.
+/// Selects the second round's lecturers: those with room left, each with that room as capacity.
 fn lecturers_played(
     alloc: Global,
     lecturers: &[LecturerEntry],
@@ -86,14 +86,15 @@ fn lecturers_played(
     Ok(found)
 }
 
-/// Returns whether a lecturer has the key.
+/// Returns whether one of the second round's lecturers has the key.
 fn is_there(lecturers: &[LecturerEntry], key: &Key) -> bool
     ensures { result ≡ list_any (λ l. equals key.now l.row.key) lecturers.now }
 {
     lecturers.iter().any(|l| *key == l.row.key)
 }
 
-/// Returns the project with its remaining room, if any remains and its lecturer is one of these.
+/// Returns the project with its remaining room, if it is one of the second round's. It is if room
+/// remains and its lecturer is one of these.
 fn project_played(
     alloc: Global,
     lecturers: &[LecturerEntry],
@@ -109,7 +110,8 @@ fn project_played(
     }
 }
 
-/// Returns the projects of these lecturers with room left, each with the remaining room.
+/// Selects the second round's projects: those of these lecturers with room left, each with that
+/// room.
 fn projects_played(
     alloc: Global,
     lecturers: &[LecturerEntry],
@@ -128,7 +130,7 @@ fn projects_played(
     Ok(found)
 }
 
-/// Copies the student without the data of the first round.
+/// Copies the entry of a student of the second round, without the data of the first.
 fn alone(alloc: Global, student: &StudentEntry) -> Result<StudentEntry, AllocError>
     ensures { IfOk result (λ s. s ≡ alone_student student.now) }
 {
@@ -141,7 +143,8 @@ fn alone(alloc: Global, student: &StudentEntry) -> Result<StudentEntry, AllocErr
     })
 }
 
-/// Copies the students who have no project of the first round, without its data.
+/// Selects the second round's students: copies those without a project of the first round. The
+/// copies have no data of the first round.
 fn students_played(
     alloc: Global,
     students: &[StudentEntry],

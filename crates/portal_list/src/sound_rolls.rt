@@ -13,7 +13,8 @@ use portal_core::{Code, LecturerRow, ProjectRow, StudentRow};
 use spa_rows::limits::{MOST_LECTURERS, MOST_PROJECTS, MOST_STUDENTS, is_capacity};
 use std::alloc::{AllocError, Global};
 
-/// Returns whether the row is valid. The types of its texts leave only the capacity to check.
+/// Returns whether a row of the roll of lecturers is valid. The types of its texts leave only the
+/// capacity to check.
 fn is_lecturer(row: &LecturerRow) -> bool
     ensures { IsTrue result ↔ IsLecturer row.now }
 {
@@ -23,7 +24,8 @@ fn is_lecturer(row: &LecturerRow) -> bool
     is_capacity(row.capacity)
 }
 
-/// Returns whether the row is valid. The types of its texts leave only the capacity to check.
+/// Returns whether a row of the roll of projects is valid. The types of its texts leave only the
+/// capacity to check.
 fn is_project(row: &ProjectRow) -> bool
     ensures { IsTrue result ↔ IsProject row.now }
 {
@@ -33,7 +35,8 @@ fn is_project(row: &ProjectRow) -> bool
     is_capacity(row.capacity)
 }
 
-/// States for the proofs that a row is valid, because the types of its texts ensure it.
+/// States for the proofs that a row of the roll of students is valid. The types of its texts ensure
+/// it.
 fn has_student_form(row: &StudentRow)
     ensures { IsStudent row.now }
 {
@@ -42,6 +45,7 @@ fn has_student_form(row: &StudentRow)
     let _code = row.code.as_bytes();
 }
 
+/// Returns whether all rows of the roll of lecturers are valid.
 fn are_lecturers(rows: &[LecturerRow]) -> bool
     ensures { IsTrue result ↔ AllByRecursion IsLecturer rows.now }
 {
@@ -53,6 +57,7 @@ fn are_lecturers(rows: &[LecturerRow]) -> bool
     true
 }
 
+/// Returns whether all rows of the roll of projects are valid.
 fn are_projects(rows: &[ProjectRow]) -> bool
     ensures { IsTrue result ↔ AllByRecursion IsProject rows.now }
 {
@@ -64,6 +69,7 @@ fn are_projects(rows: &[ProjectRow]) -> bool
     true
 }
 
+/// States for the proofs that all rows of the roll of students are valid.
 fn have_student_form(rows: &[StudentRow])
     ensures { AllByRecursion IsStudent rows.now }
 {
@@ -84,6 +90,7 @@ fn lecturers_are_known(lecturers: &[LecturerRow], projects: &[ProjectRow]) -> bo
         .all(|project| is_known(lecturers, &project.lecturer))
 }
 
+/// Returns the codes of the lecturers, to test whether all codes are distinct.
 fn lecturer_codes<'a>(alloc: Global, rows: &'a [LecturerRow]) -> Result<Vec<&'a [u8]>, AllocError>
     ensures { IfOk result (λ codes. map (λ code. code.now) codes.items
         ≡ map (λ r. r.code) rows.now) }
@@ -95,6 +102,7 @@ fn lecturer_codes<'a>(alloc: Global, rows: &'a [LecturerRow]) -> Result<Vec<&'a 
     Ok(codes)
 }
 
+/// Returns the codes of the students, to test whether all codes are distinct.
 fn student_codes<'a>(alloc: Global, rows: &'a [StudentRow]) -> Result<Vec<&'a [u8]>, AllocError>
     ensures { IfOk result (λ codes. map (λ code. code.now) codes.items
         ≡ map (λ r. r.code) rows.now) }
@@ -106,7 +114,7 @@ fn student_codes<'a>(alloc: Global, rows: &'a [StudentRow]) -> Result<Vec<&'a [u
     Ok(codes)
 }
 
-/// Returns whether no two callers have the same code.
+/// Returns whether the office's code and the codes on the rolls are distinct.
 fn codes_differ(
     alloc: Global,
     office: &Code,
@@ -141,7 +149,8 @@ fn are_few(lecturers: &[LecturerRow], projects: &[ProjectRow], students: &[Stude
         && students.len() <= MOST_STUDENTS
 }
 
-/// Returns whether the rolls obey the rules of a sound world.
+/// Returns whether the rolls obey the rules of a sound world, such as distinct codes and rising
+/// keys.
 pub(crate) fn rolls_fit(
     alloc: Global,
     office: &Code,

@@ -1,4 +1,4 @@
-//! Finds students and lecturers by code; makes their views and the office's view.
+//! Finds students and lecturers by code; makes each role's view from the entries.
 
 ghost use Rattle.std.specs.Prelude.{◌≡◌, IfOk, option_map};
 ghost use Rattle.std.specs.List.{find};
@@ -22,7 +22,7 @@ use placements::{pairs_of, placement_shown};
 use portal_core::{LecturerView, OfficeView, Phase, StudentView, copy_keys};
 use std::alloc::{AllocError, Global};
 
-/// Finds the lecturer with this code.
+/// Finds the entry of the lecturer with this code.
 pub(crate) fn lecturer_with<'a>(
     lecturers: &'a [LecturerEntry],
     code: &[u8],
@@ -38,7 +38,7 @@ pub(crate) fn lecturer_with<'a>(
     None
 }
 
-/// Finds the student with this code.
+/// Finds the entry of the student with this code.
 pub(crate) fn student_with<'a>(
     students: &'a [StudentEntry],
     code: &[u8],
@@ -53,6 +53,7 @@ pub(crate) fn student_with<'a>(
     None
 }
 
+/// Makes a student's view from the entries.
 pub(crate) fn student_view(
     alloc: Global,
     keeper: &ListKeeper,
@@ -70,6 +71,7 @@ pub(crate) fn student_view(
     })
 }
 
+/// Makes a lecturer's view from the entries.
 pub(crate) fn lecturer_view(
     alloc: Global,
     keeper: &ListKeeper,
@@ -104,6 +106,7 @@ pub(crate) fn lecturer_view(
     })
 }
 
+/// Makes the office's view from the entries.
 pub(crate) fn office_view(alloc: Global, keeper: &ListKeeper) -> Result<OfficeView, AllocError>
     ensures { IfOk result (λ v. v ≡ office_sees keeper.now) }
 {

@@ -9,14 +9,14 @@ use portal_core::{OfficeView, Placings, StudentRow};
 use spa_rows::Key;
 use std::alloc::{AllocError, Global};
 
-/// Returns how many students the pairs give to the project.
+/// Returns how many students the result gives to the project.
 fn students_at(pairs: &[(Key, Key)], project: &Key) -> usize
     ensures { result ≡ sheet.students_at pairs.now project.now }
 {
     pairs.iter().filter(|pair| pair.1 == *project).count()
 }
 
-/// Formats the line of a student.
+/// Returns the result's line of a student, with a project or without.
 fn student_line(
     alloc: Global,
     placings: &Placings,
@@ -31,7 +31,7 @@ fn student_line(
     }
 }
 
-/// Appends the line of a student.
+/// Appends the line of a student to the text of the result.
 fn put_student(
     text: &mut Vec<u8>,
     alloc: Global,
@@ -45,7 +45,7 @@ fn put_student(
     text.extend_from_slice(line.as_bytes())
 }
 
-/// Appends the lines of the students.
+/// Appends the lines of the students to the text of the result.
 fn put_students(text: &mut Vec<u8>, alloc: Global, view: &OfficeView) -> Result<(), AllocError>
     ensures { OnOk result (text.new.items ≡ text.old.items
         ++ flat_map (sheet.student_line view.now) view.now.students) }
@@ -57,7 +57,7 @@ fn put_students(text: &mut Vec<u8>, alloc: Global, view: &OfficeView) -> Result<
     Ok(())
 }
 
-/// Appends the lines of the projects.
+/// Appends the lines of the projects to the text of the result.
 fn put_projects(text: &mut Vec<u8>, alloc: Global, view: &OfficeView) -> Result<(), AllocError>
     ensures { OnOk result (text.new.items ≡ text.old.items
         ++ flat_map (sheet.project_line view.now) view.now.projects) }

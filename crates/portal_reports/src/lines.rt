@@ -10,7 +10,7 @@ use portal_core::{Phase, ProjectRow};
 use spa_rows::Key;
 use std::alloc::{AllocError, Global};
 
-/// Returns the text of a key, which has at most 16 ASCII bytes.
+/// Returns the text of a key for a line; it has at most 16 ASCII bytes.
 fn short(key: &Key) -> &str
     ensures text { result.now ≡ key.now }
     ensures short { IsTrue (form.is_short key.now) }
@@ -19,7 +19,7 @@ fn short(key: &Key) -> &str
     key.as_str()
 }
 
-/// Formats a line with a label and a number.
+/// Formats a line of the office's texts with a label and a number.
 pub(crate) fn number_line(alloc: Global, label: &str, number: usize) -> Result<String, AllocError>
     requires { IsTrue (form.is_short label.now) }
     ensures { IfOk result (λ line. string_bytes line ≡ spec.number_line label.now number) }
@@ -27,7 +27,7 @@ pub(crate) fn number_line(alloc: Global, label: &str, number: usize) -> Result<S
     format!(in alloc; "{label:<16}{number:>6}\n")
 }
 
-/// Formats the line of the phase.
+/// Formats the line of the phase in the office's texts.
 pub(crate) fn phase_line(alloc: Global, phase: Phase) -> Result<String, AllocError>
     ensures { IfOk result (λ line. string_bytes line ≡ spec.phase_line phase) }
 {

@@ -8,7 +8,7 @@ use crate::lines::{number_line, phase_line};
 use portal_core::{OfficeView, Round};
 use std::alloc::{AllocError, Global};
 
-/// Appends a line with a label and a number.
+/// Appends a line with a label and a number to the status.
 fn put_number(
     text: &mut Vec<u8>,
     alloc: Global,
@@ -22,7 +22,7 @@ fn put_number(
     text.extend_from_slice(line.as_bytes())
 }
 
-/// Appends the line of the round if it is the second.
+/// Appends the line of the round to the status if it is the second.
 fn put_round(text: &mut Vec<u8>, alloc: Global, round: Round) -> Result<(), AllocError>
     ensures { OnOk result (text.new.items ≡ text.old.items ++ spec.round_lines round) }
 {
@@ -32,7 +32,7 @@ fn put_round(text: &mut Vec<u8>, alloc: Global, round: Round) -> Result<(), Allo
     }
 }
 
-/// Appends the sizes of the rolls.
+/// Appends the sizes of the rolls to the status.
 fn put_rolls(text: &mut Vec<u8>, alloc: Global, view: &OfficeView) -> Result<(), AllocError>
     ensures { OnOk result (text.new.items ≡ text.old.items
         ++ spec.number_line (codes "lecturers") (length view.now.lecturers)
@@ -44,7 +44,7 @@ fn put_rolls(text: &mut Vec<u8>, alloc: Global, view: &OfficeView) -> Result<(),
     put_number(text, alloc, "students", view.students.len())
 }
 
-/// Appends how many students have no list, and how many lecturers are still to rank.
+/// Appends to the status how many students have no list and how many lecturers are still to rank.
 fn put_missing(text: &mut Vec<u8>, alloc: Global, view: &OfficeView) -> Result<(), AllocError>
     ensures { OnOk result (text.new.items ≡ text.old.items
         ++ spec.number_line (codes "without list") (length view.now.without_list)
@@ -55,7 +55,7 @@ fn put_missing(text: &mut Vec<u8>, alloc: Global, view: &OfficeView) -> Result<(
     Ok(())
 }
 
-/// Appends how many students have a project, if a result is available.
+/// Appends to the status how many students have a project, if a result is available.
 fn put_assigned(text: &mut Vec<u8>, alloc: Global, view: &OfficeView) -> Result<(), AllocError>
     ensures { OnOk result (text.new.items ≡ text.old.items ++ spec.assigned_number view.now) }
 {

@@ -8,7 +8,7 @@ use csv::Writer;
 use portal_core::{OfficeView, Placings, StudentRow};
 use std::alloc::{AllocError, Global};
 
-/// Writes one record of five fields.
+/// Writes one CSV record of five fields.
 fn put_record(writer: &mut Writer<Vec<u8>>, fields: &[&[u8]; 5]) -> Result<(), AllocError>
     ensures { OnOk result ((text : List ℕ) → HasWritten writer.old text
         → HasWritten writer.new (text ++ sheet.csv_record (map (λ f. f.now) fields.now))) }
@@ -19,7 +19,7 @@ fn put_record(writer: &mut Writer<Vec<u8>>, fields: &[&[u8]; 5]) -> Result<(), A
     Ok(())
 }
 
-/// Writes the record of a student.
+/// Writes the CSV record of a student, with the project that the result gives.
 fn put_student(
     writer: &mut Writer<Vec<u8>>,
     placings: &Placings,
@@ -49,7 +49,7 @@ fn put_student(
     }
 }
 
-/// Returns the text that a writer holds.
+/// Returns the CSV text that a writer holds.
 fn text_of(writer: Writer<Vec<u8>>) -> Result<Vec<u8>, AllocError>
     ensures { IfOk result (λ v. (text : List ℕ) → HasWritten writer text → v.items ≡ text) }
 {

@@ -107,14 +107,14 @@ pub(crate) fn is_all_text(row: &ByteRecord) -> bool
     true
 }
 
-/// Returns whether each byte is an ASCII digit.
+/// Returns whether each byte of a field is an ASCII digit.
 fn is_digits(field: &[u8]) -> bool
     ensures { result ≡ list_all is_ascii_digit field.now }
 {
     field.iter().all(|b| b.is_ascii_digit())
 }
 
-/// Parses a number of 1 to 7 digits.
+/// Parses a field that holds a number of 1 to 7 digits.
 pub(crate) fn capacity_of(field: &[u8]) -> Option<u32>
     ensures { result ≡ form.capacity_in field.now }
 {
@@ -171,7 +171,7 @@ pub(crate) fn code_at(alloc: Global, row: u32, column: u32, field: &[u8]) -> Res
     }
 }
 
-/// Splits a list at each blank. An empty field is an empty list.
+/// Splits the list in a field at each blank. An empty field is an empty list.
 pub(crate) fn list_of(alloc: Global, field: &[u8]) -> Result<Vec<Vec<u8>>, AllocError>
     ensures { IfOk result (λ v. form.text_views v.items ≡ spec.list_of field.now) }
 {

@@ -1,4 +1,4 @@
-//! Reads instance files: parses each record by its letter, and groups lines by kind.
+//! Reads instance files: parses each record by its first field, and groups lines by kind.
 
 ghost use Rattle.std.specs.Prelude.{◌≡◌, IfOk, IfErr};
 ghost use Rattle.csv.specs.Records.{fields_of};
@@ -24,7 +24,7 @@ pub(crate) enum Mark {
     Pair,
 }
 
-/// Decodes the letter in the first field of a record.
+/// Decodes the letter in the first field of an instance file's record.
 fn mark_of(field: &[u8]) -> Option<Mark>
     ensures { result ≡ spec.mark_of field.now }
 {
@@ -37,7 +37,7 @@ fn mark_of(field: &[u8]) -> Option<Mark>
     }
 }
 
-/// Parses the line of a record of this kind.
+/// Parses an instance file's record of this kind into a line.
 fn line_at(
     alloc: Global,
     mark: Mark,
@@ -124,7 +124,7 @@ impl Kind for InstanceFile {
     }
 }
 
-/// Groups the lines of a file by kind.
+/// Groups the lines of an instance file by kind.
 fn file_of(alloc: Global, lines: Vec<Line>) -> Result<File, RollFault>
     ensures ok { IfOk result (λ file. form.file file ≡ spec.file_of lines.items) }
     ensures fault { IfErr result (λ e. e ≡ RollFault.Memory) }

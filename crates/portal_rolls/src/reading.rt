@@ -24,16 +24,16 @@ pub(crate) trait Kind {
     /// The definition of this kind of file.
     ghost format: { Format Self.Line };
 
-    /// Returns the names of the columns.
+    /// Returns the names of the columns of this kind of CSV file.
     fn names() -> &'static [&'static str]
         ensures { map (λ n. n.now) result.now ≡ format.header };
 
-    /// Returns the greatest number of records after the header.
+    /// Returns the greatest number of records that this kind of CSV file may have after the header.
     fn limit() -> u32
         ensures value { result ≡ format.limit }
         ensures small { result < 10000 };
 
-    /// Parses a record that has as many fields as the header, each of them UTF-8.
+    /// Parses a record of this kind of CSV file; it has the right number of fields, all UTF-8.
     fn says(alloc: Global, number: u32, row: &ByteRecord) -> Result<Self::Line, RollFault>
         requires { length (fields_of row.now) ≡ length format.header }
         ensures { Gives form.same result (format.says number (fields_of row.now)) };
@@ -52,7 +52,7 @@ fn line_of<K: Kind>(alloc: Global, number: u32, row: &ByteRecord) -> Result<K::L
     K::says(alloc, number, row)
 }
 
-/// Creates a reader of the records of a text.
+/// Creates a reader of the records of a CSV text.
 fn reader_of(alloc: Global, text: &[u8]) -> Reader<&[u8]>
     ensures set_up { IsSetUp result }
     ensures has { Has result (records_of text.entry.now) }
@@ -92,7 +92,7 @@ fn read_lines<K: Kind>(
     Ok(lines)
 }
 
-/// Parses a whole text, or returns its first fault as an error.
+/// Parses a whole CSV text of any kind, or returns its first fault as an error.
 pub(crate) fn read_text<K: Kind>(alloc: Global, text: &[u8]) -> Result<Vec<K::Line>, RollFault>
     ensures { Gives view.items result (lines_of K.format (records_of text.now)) }
 {

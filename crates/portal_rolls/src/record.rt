@@ -8,7 +8,7 @@ ghost use Rattle.portal_rolls.specs.inner.Records.{Has, IsSetUp, TakesRecord};
 use crate::fault::RollFault;
 use csv::{ByteRecord, ErrorKind, Reader};
 
-/// Reads the next record into `row`, and returns whether there was one.
+/// Reads the next CSV record into `row`, and returns whether there was one.
 pub(crate) fn take_record(rdr: &mut Reader<&[u8]>, row: &mut ByteRecord) -> Result<bool, RollFault>
     requires { IsSetUp rdr.old }
     ensures kept { OnOk result (IsSetUp rdr.new) }

@@ -1,4 +1,4 @@
-//! Reads the rolls of lecturers, projects and students.
+//! Reads the rolls of lecturers, projects and students from CSV.
 
 ghost use Rattle.std.specs.Prelude.{◌≡◌, IfOk};
 ghost use Rattle.std.specs.List.{AllByRecursion};
@@ -103,7 +103,7 @@ impl Kind for StudentRoll {
     }
 }
 
-/// Reads the rows of a roll of lecturers.
+/// Reads the rows of a roll of lecturers from CSV.
 ///
 /// # Errors
 ///
@@ -115,7 +115,7 @@ pub fn read_lecturers(alloc: Global, text: &[u8]) -> Result<Vec<LecturerRow>, Ro
     read_text::<LecturerRoll>(alloc, text)
 }
 
-/// Reads the rows of a roll of projects.
+/// Reads the rows of a roll of projects from CSV.
 ///
 /// # Errors
 ///
@@ -127,7 +127,7 @@ pub fn read_projects(alloc: Global, text: &[u8]) -> Result<Vec<ProjectRow>, Roll
     read_text::<ProjectRoll>(alloc, text)
 }
 
-/// Reads the rows of a roll of students.
+/// Reads the rows of a roll of students from CSV.
 ///
 /// # Errors
 ///

@@ -15,6 +15,7 @@ pub(crate) struct Borrowed<'a, T> {
 }
 
 impl<'a, T> Borrowed<'a, T> {
+    /// Borrows a reader or writer, and starts the count of failed calls at 0.
     pub(crate) fn new(device: &'a mut T) -> Borrowed<'a, T>
         ensures same_device { result.device.ghost_name ≡ device.entry.ghost_name }
         ensures device { result.device.now ≡ device.old }

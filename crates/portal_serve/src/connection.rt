@@ -39,11 +39,13 @@ pub(crate) struct Connection<'a, T: Clock, S: TimedStream> {
     told: Cell<Option<Instant>>,
 }
 
+/// Makes the error for a read or write of a connection whose time is over.
 fn too_late() -> io::Error {
     io::Error::from(ErrorKind::TimedOut)
 }
 
 impl<'a, T: Clock, S: TimedStream> Connection<'a, T, S> {
+    /// Makes a connection over a stream, before any of its times begins.
     pub(crate) fn new(clock: &'a T, stream: &'a S) -> Connection<'a, T, S> {
         Connection {
             clock,
@@ -66,8 +68,8 @@ impl<'a, T: Clock, S: TimedStream> Connection<'a, T, S> {
         }
     }
 
-    /// Returns how long the next read may wait: the shortest of the allowed silence, the request's
-    /// remaining time and the connection's remaining time.
+    /// Returns how long the next read may wait. It is the shortest of the allowed silence, the
+    /// request's remaining time and the connection's remaining time.
     fn patience(&self) -> io::Result<Duration> {
         if self.began.get().is_none() {
             self.began.set(Some(Instant::now(self.clock)?));

@@ -1,4 +1,4 @@
-//! The server loop: serves connections one after another, and counts faults.
+//! The server loop: serves connections in turn, and counts those that end with a fault.
 
 ghost use Rattle.std.specs.Prelude.{◌≡◌, ◌≢◌, ◌+◌, ◌-◌, ◌^◌, ◌<◌, ◌≤◌, true, if◌then◌else◌, List};
 ghost use Rattle.std.specs.Prelude.{Option, None, IfSome};
@@ -61,8 +61,8 @@ pub trait Connections {
         ensures over { result ≡ None → over self.new };
 }
 
-/// Returns whether a connection ended with a fault of its own: of the reader, of the writer or of
-/// memory, but not of the store.
+/// Returns whether a connection ended with a fault of its own, not of the store. Its own faults are
+/// those of the reader, of the writer or of memory.
 pub(crate) fn is_fault(ended: &Result<Served, ServeFault>) -> bool
     ensures { result ≡ is_own_fault ended.now }
 {
@@ -83,7 +83,8 @@ fn faults_with(faults: u32, ended: &Result<Served, ServeFault>) -> u32
     if is_fault(ended) { faults + 1 } else { faults }
 }
 
-/// Serves up to `most` connections in turn. Stops early if the desk fails or none can be accepted.
+/// Serves up to `most` connections one after another, and counts their faults. Stops early if the
+/// desk fails or none can be accepted.
 pub fn serve_each<C: Connections, K: Keeper>(
     connections: &mut C,
     most: u32,
@@ -116,6 +117,7 @@ pub fn serve_each<C: Connections, K: Keeper>(
     closed(most, faults, Ended::Full)
 }
 
+/// Makes the server loop's result: the numbers of connections and faults, and why serving ended.
 fn closed(accepted: u32, faults: u32, ended: Ended) -> Hall
     ensures accepted { result.accepted ≡ accepted }
     ensures faults { result.faults ≡ faults }

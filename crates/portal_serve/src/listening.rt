@@ -13,14 +13,14 @@ use portal_desk::{Counted, Desk, ServeFault, Served};
 use std::net::TcpListener;
 use std::time::Clock;
 
-/// Serves one connection within time limits; a missed limit ends it with a fault. The client may be
-/// silent for 30 seconds, and has 60 seconds to take a reply. A request has 60 seconds from its
-/// first byte, or from the first reply since the last read: its first byte may have come before
+/// Serves one stream on a desk within timeouts; a missed timeout ends it with a fault. The client
+/// may be silent for 30 seconds, and has 60 seconds to take a reply. A request has 60 seconds from
+/// its first byte, or from the first reply since the last read: its first byte may have come before
 /// that reply. The connection reads no request after 300 seconds.
 ///
 /// # Errors
 ///
-/// The stream failed or missed a time limit, memory ran out, or the store failed.
+/// The stream failed or missed a timeout, memory ran out, or the store failed.
 pub fn serve_stream<T: Clock + AllocGlobal, S: TimedStream, K: Keeper>(
     rt: &T,
     stream: &S,
@@ -69,7 +69,7 @@ impl<'a, T: Clock + AllocGlobal> Connections for Listening<'a, T> {
     }
 }
 
-/// Serves up to `connections` connections of a listener in turn, each within the time limits of
+/// Serves up to `connections` connections of a listener in turn, each within the timeouts of
 /// `serve_stream`. Stops early if the desk or the listener fails.
 pub fn serve_on<T: Clock + AllocGlobal, K: Keeper>(
     rt: &T,

@@ -13,7 +13,7 @@ use portal_desk::{Desk, ServeFault, Served};
 use std::alloc::Global;
 use std::io::{Read, Write};
 
-/// Serves the requests of a reader, and writes the replies to a writer.
+/// Serves a reader and a writer as one connection: reads requests, and writes replies.
 ///
 /// # Errors
 ///

@@ -18,7 +18,7 @@ pub enum Unreported {
     Memory,
 }
 
-/// Writes the status of the round, then an empty line and the result if there is a result.
+/// Writes the report: the status of the round, then an empty line and the result if there is one.
 fn text_of(alloc: Global, view: &OfficeView) -> Result<Vec<u8>, AllocError>
     ensures { IfOk result (λ text. text.items ≡ told_of view.now) }
 {
@@ -32,7 +32,7 @@ fn text_of(alloc: Global, view: &OfficeView) -> Result<Vec<u8>, AllocError>
     Ok(text)
 }
 
-/// Returns the report if the view is the office's.
+/// Returns the office's report if the view is the office's.
 fn told(alloc: Global, view: &View) -> Result<Vec<u8>, Unreported>
     ensures text { IfOk result (λ text. IsOfficeReport view.now text.items) }
     ensures other { result ≡ Err Unreported.Store → IsOther view.now }

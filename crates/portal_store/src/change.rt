@@ -26,8 +26,8 @@ use portal_tables::{TableFault, commit};
 use sqlite::{Alter, Connection};
 use std::alloc::Global;
 
-/// Commits the change, or leaves the tables unchanged. `entries` still match the world before it.
-/// `Damaged` means that the rows it read represent no good world.
+/// Commits a change of any kind, given the round, or leaves the tables unchanged. `entries` still
+/// match the world before it. `Damaged` means that the rows it read represent no good world.
 fn take_step<S: Alter>(
     alloc: Global,
     conn: &mut Connection<S>,
@@ -69,8 +69,8 @@ fn take_step<S: Alter>(
     }
 }
 
-/// Commits the change, or leaves the tables unchanged. `entries` still match the world before it.
-/// `Damaged` means that the rows it read represent no good world.
+/// Reads the round and commits a change of any kind, or leaves the tables unchanged. `entries`
+/// still match the world before it. `Damaged` means that the rows it read represent no good world.
 fn take<S: Alter>(
     alloc: Global,
     conn: &mut Connection<S>,
@@ -88,8 +88,8 @@ fn take<S: Alter>(
     take_step(alloc, conn, entries, round, change)
 }
 
-/// Commits the change, or leaves the tables unchanged. `entries` still match the world before it.
-/// Counts a fault of the store; rows that represent no good world are one.
+/// Commits a change of any kind, or leaves the tables unchanged. `entries` still match the world
+/// before it. Counts a fault of the store; rows that represent no good world are one.
 pub(crate) fn make<S: Alter>(
     alloc: Global,
     conn: &mut Connection<S>,

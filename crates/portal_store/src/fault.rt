@@ -1,4 +1,4 @@
-//! Converts errors of tables and rows into a store's faults, by functions; counts them.
+//! Converts faults of tables, rows and queries into a store's faults; counts `Store` faults.
 
 ghost use Rattle.std.specs.Prelude.{◌≡◌, ◌≢◌, ◌↔◌, ◌+◌, ◌-◌, ◌^◌};
 ghost use Rattle.sqlite.specs.Tree.{Trees};

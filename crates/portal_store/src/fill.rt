@@ -1,4 +1,4 @@
-//! Fills the missing rankings, in one transaction.
+//! Fills the missing rankings in the database, in one transaction.
 
 ghost use Rattle.std.specs.Prelude.{◌≡◌, false, List, map};
 ghost use Rattle.sqlite.specs.Held.{state};
@@ -44,8 +44,9 @@ impl Step for PutRankings<'_> {
     }
 }
 
-/// Gives each lecturer who is still to rank a ranking of the applicants in key order. Caches the
-/// entries that it reads. `Damaged` means that the rows it read represent no good world.
+/// Fills the missing rankings in the database, in one transaction. Each lecturer who is still to
+/// rank gets a ranking of the applicants in key order. Caches the entries that it reads. `Damaged`
+/// means that the rows it read represent no good world.
 pub(crate) fn fill_rankings<S: Alter>(
     alloc: Global,
     conn: &mut Connection<S>,

@@ -11,7 +11,7 @@ use portal_core::{Change, KeepFault};
 use portal_list::Entries;
 use std::alloc::Global;
 
-/// Returns the entries after the change, or `None` if they do not follow it.
+/// Returns the cached entries after the change, or `None` if they do not follow it.
 fn after(alloc: Global, mut entries: Entries, change: &Change) -> Option<Entries>
     ensures { (w : World) → Sound w → HasEntries entries w
         → AreEntries result (changed w (change_model change.now)) }
@@ -22,8 +22,8 @@ fn after(alloc: Global, mut entries: Entries, change: &Change) -> Option<Entries
     }
 }
 
-/// Updates the cached entries after a successful change, or drops them if they do not follow it or
-/// memory runs out. A failed change leaves them as they are.
+/// Updates the cached entries after a successful change, or drops them. It drops them if they do
+/// not follow the change or memory runs out. A failed change leaves them as they are.
 pub(crate) fn follow(
     alloc: Global,
     entries: &mut Option<Entries>,

@@ -19,8 +19,8 @@ use spa_model::Instance;
 use sqlite::{Alter, Connection};
 use std::alloc::Global;
 
-/// Builds the instance of these entries, without checking them. If they have no instance, it counts
-/// and returns a fault of the store.
+/// Builds the instance of the store's entries, cached or just read, without checking them. If they
+/// have no instance, it counts and returns a fault of the store.
 pub(crate) fn instance_of(
     alloc: Global,
     entries: &Entries,

@@ -1,4 +1,4 @@
-//! Implements `Keeper` for the store.
+//! Implements `Keeper` for the store; `Store::office_code` returns the office's code.
 
 ghost use Rattle.std.specs.Prelude.{◌≡◌, IfOk, OnOk, OnErr, IsTrue};
 ghost use Rattle.sqlite.specs.State.{HasCleanDisk, Survives};
@@ -29,7 +29,8 @@ use sqlite::Alter;
 use std::alloc::Global;
 
 impl<S: Alter> Store<S> {
-    /// Returns `Store` if the tables were the portal's own and no longer are.
+    /// Checks before each call of the keeper that tables that were the portal's own still are.
+    /// Otherwise returns `Store`.
     fn check_own(&self) -> Result<(), TableFault>
         ensures { IsTrue self.now.own → OnOk result (IsCurrentSchema self.now.conn.schema) }
     {

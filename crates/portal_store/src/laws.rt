@@ -3,8 +3,9 @@
 ghost use Rattle.portal_store.specs.Kept.{DiskInMemory, LastsInMemory};
 ghost use Rattle.portal_store.specs.Crash.{OpensAgain, OpensFresh, UpgradesAgain};
 
-/// Law: a crash in a change leaves the portal's own tables with a good world, the one before or
-/// after the change. `Store::open` then fails only for a fault of the store or memory shortage.
+/// Law: a crash in a change leaves the portal's own tables with a good world. It is the world
+/// before or after the change. `Store::open` then fails only for a fault of the store or memory
+/// shortage.
 pub fn opens_again()
     ensures { OpensAgain }
 {}

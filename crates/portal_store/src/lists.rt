@@ -64,7 +64,8 @@ impl Step for PutRanking<'_> {
     }
 }
 
-/// Replaces the lecturer's ranking by these students, best first, if the lecturer is on the roll.
+/// Replaces the lecturer's ranking in one transaction, if the lecturer is on the roll. The students
+/// are best first.
 pub(crate) fn replace_ranking<S: Alter>(
     alloc: Global,
     conn: &mut Connection<S>,

@@ -1,4 +1,4 @@
-//! Reads only the office's code, for `Store::office_code`; counts a fault of the store.
+//! Reads the office's code by a query, for `Store::office_code`; counts `Store` faults.
 
 ghost use Rattle.std.specs.Prelude.{◌≡◌};
 ghost use Rattle.sqlite.specs.Effect.{IsDatabase};
@@ -13,7 +13,7 @@ use portal_tables::{VERSION, office_in};
 use sqlite::{Alter, Connection};
 use std::alloc::Global;
 
-/// Reads the office's code, and counts a fault of the store.
+/// Reads the office's code by a query, for `Store::office_code`. Counts a fault of the store.
 pub(crate) fn office_code<S: Alter>(
     alloc: Global,
     conn: &mut Connection<S>,

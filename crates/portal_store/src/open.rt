@@ -1,4 +1,4 @@
-//! Checks the tables of both rounds and their world, and opens a store over them.
+//! Opens a store over tables. Checks the second round's tables, and the world of both rounds.
 
 ghost use Rattle.std.specs.Prelude.{◌≡◌, ◌≢◌, ◌↔◌, false, [], Err, IfOk, IfErr, IsTrue};
 ghost use Rattle.sqlite.specs.Effect.{IsDatabase};
@@ -53,7 +53,7 @@ fn see_second_tables<S: Alter>(conn: &mut Connection<S>, own: bool) -> Result<()
     see_table(conn, Query::SecondPlacements)
 }
 
-/// Checks that a query of a whole table returns no row.
+/// Checks that a table of the second round is empty: a query of it returns no row.
 fn see_none<S: Alter>(conn: &mut Connection<S>, query: Query<'_>) -> Result<(), OpenFault>
     ensures { Reads (round_asked query.entry) S.Store (λ _. ReadsAll query.entry)
         (Answers (λ db _. queried_rows query.entry db.trees ≡ [])
@@ -67,7 +67,7 @@ fn see_none<S: Alter>(conn: &mut Connection<S>, query: Query<'_>) -> Result<(), 
     }
 }
 
-/// Checks that the second round has no lists, rankings or placements.
+/// Checks that a second round that is not open has no lists, rankings or placements.
 fn see_nothing<S: Alter>(conn: &mut Connection<S>) -> Result<(), OpenFault>
     ensures { Reads Second S.Store Always
         (Answers (λ db _. AreEmpty db.trees) (λ db fault. Denies fault (AreEmpty db.trees)))
@@ -79,7 +79,7 @@ fn see_nothing<S: Alter>(conn: &mut Connection<S>) -> Result<(), OpenFault>
     see_none(conn, Query::SecondPlacements)
 }
 
-/// Checks that the first round is published.
+/// Checks that the first round is published, as an open second round requires.
 fn see_published<S: Alter>(alloc: Global, conn: &mut Connection<S>) -> Result<(), OpenFault>
     ensures { Reads First S.Store IsDatabase
         (Answers (λ db _. phase_in First db.trees ≡ Published)
@@ -124,7 +124,7 @@ fn see_second_numbers<S: Alter>(conn: &mut Connection<S>) -> Result<(), OpenFaul
     see_row_numbers(conn, Table::OfPlaces)
 }
 
-/// Checks that rowids are distinct in all tables of many rows.
+/// Checks that rowids are distinct in the tables of many rows of both rounds.
 fn see_numbers<S: Alter>(conn: &mut Connection<S>) -> Result<(), OpenFault>
     ensures refused { IfErr result SaysNothing }
     ensures reads { Reads Second S.Store Always (Gives (λ db _. NumbersDiffer db.trees))
@@ -134,7 +134,7 @@ fn see_numbers<S: Alter>(conn: &mut Connection<S>) -> Result<(), OpenFault>
     see_second_numbers(conn)
 }
 
-/// Loads the world, checks that it is good, and returns its entries.
+/// Loads the world of both rounds, checks that it is good, and returns its entries.
 fn see_world<S: Alter>(alloc: Global, conn: &mut Connection<S>) -> Result<Entries, OpenFault>
     ensures { Reads Second S.Store IsDatabase
         (Answers (λ db e. IsJudged db.trees × HasEntries e (world_of db.trees))
@@ -150,7 +150,8 @@ fn see_world<S: Alter>(alloc: Global, conn: &mut Connection<S>) -> Result<Entrie
     }
 }
 
-/// Checks the rowids, then the row of `second`, then the world, and returns its entries.
+/// Checks the rowids of both rounds, then the row of `second`, then the world, and returns its
+/// entries.
 fn judge_both<S: Alter>(alloc: Global, conn: &mut Connection<S>) -> Result<Entries, OpenFault>
     ensures { Reads Second S.Store (IsSoundIfOpen S.Store conn.old)
         (Answers (λ db e. Admits db.trees × HasEntries e (world_of db.trees))
@@ -162,8 +163,9 @@ fn judge_both<S: Alter>(alloc: Global, conn: &mut Connection<S>) -> Result<Entri
     see_world(alloc, conn)
 }
 
-/// Checks that the first round's tables can be queried and have the version, then that the second's
-/// can be queried, then their rows. Returns the entries of the world.
+/// Checks the tables of both rounds and their world, before a store is opened. First, the first
+/// round's tables must be readable and have the version, and the second's must be readable. Then it
+/// checks their rows, and returns the entries of the world.
 fn examine<S: Alter>(
     alloc: Global,
     conn: &mut Connection<S>,

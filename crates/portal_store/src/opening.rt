@@ -1,4 +1,4 @@
-//! Opens the second round, in one transaction.
+//! Opens the second round in the database, in one transaction.
 
 ghost use Rattle.std.specs.Prelude.{◌≡◌, ◌&&◌, false, not};
 ghost use Rattle.sqlite.specs.Held.{state};
@@ -26,7 +26,7 @@ impl Step for OpenSecond {
     }
 }
 
-/// Returns whether the second round opens from this round and phase.
+/// Returns whether the store opens the second round from this round and phase.
 fn opens_from(round: Round, phase: Phase) -> bool
     ensures { result ≡ (not (is_second round) && is_published phase) }
 {
@@ -36,7 +36,8 @@ fn opens_from(round: Round, phase: Phase) -> bool
     }
 }
 
-/// Opens the second round if the first is published, and otherwise changes nothing.
+/// Opens the second round in one transaction if the first is published, and otherwise changes
+/// nothing.
 pub(crate) fn open_second<S: Alter>(
     alloc: Global,
     conn: &mut Connection<S>,

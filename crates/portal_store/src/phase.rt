@@ -35,8 +35,8 @@ impl Step for SetPhase {
     }
 }
 
-/// Moves the portal to this phase. If no entries are cached, it loads them first, so that a
-/// publication finds them. `Damaged` means that the rows it read represent no good world.
+/// Sets the phase of the round, in one transaction. If no entries are cached, it loads them first,
+/// so that a publication finds them. `Damaged` means that the rows it read represent no good world.
 pub(crate) fn set_phase<S: Alter>(
     alloc: Global,
     conn: &mut Connection<S>,

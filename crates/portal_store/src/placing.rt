@@ -23,7 +23,8 @@ use sqlite::types::ValueRef;
 use sqlite::{Alter, Connection, Error, Row, Transaction};
 use std::alloc::{AllocError, Global};
 
-/// Returns the project of the first pair with this student's key, if there is one.
+/// Returns the bytes of the project that the result to publish gives to this student, if any. The
+/// first pair with the student's key counts.
 fn project_bytes<'a>(pairs: &Pairs<'a>, student: &[u8]) -> Option<&'a [u8]>
     ensures { option_map (λ p. p.now) result ≡ placement_in pairs.now student.now }
 {
@@ -31,7 +32,8 @@ fn project_bytes<'a>(pairs: &Pairs<'a>, student: &[u8]) -> Option<&'a [u8]>
     Some(project.as_bytes())
 }
 
-/// Returns each of these students with the project that the pairs give, or without one.
+/// Returns the assignments to write: each student of the rows with the project of the pairs, or
+/// none.
 fn assignments<'a>(
     alloc: Global,
     rows: &'a [Row],
@@ -69,7 +71,8 @@ impl Step for PutResult<'_> {
     }
 }
 
-/// Returns whether the row's student has no project of the first round.
+/// Returns whether the row's student has no project of the first round, to publish the second's
+/// result.
 fn is_left(row: &Row) -> bool
     ensures { result ≡ is_none (text_or_none (column row.now 3)) }
 {
@@ -79,8 +82,8 @@ fn is_left(row: &Row) -> bool
     }
 }
 
-/// Returns the pair of the row's student, if there is one and the student has no project of the
-/// first round.
+/// Returns the pair to publish for the row's student, if there is one. A student with a project of
+/// the first round has none.
 fn pair_left(alloc: Global, row: &Row, pairs: &Pairs<'_>) -> Result<Option<(Key, Key)>, TableFault>
     ensures { IfOk result (λ o. o ≡ pair_left pairs.now row.now) }
 {
@@ -93,7 +96,8 @@ fn pair_left(alloc: Global, row: &Row, pairs: &Pairs<'_>) -> Result<Option<(Key,
     }
 }
 
-/// Returns the pairs of the students in these rows who have no project of the first round.
+/// Returns the pairs to publish in the second round: those of students without a first-round
+/// project.
 fn pairs_left(
     alloc: Global,
     rows: &[Row],

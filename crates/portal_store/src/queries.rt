@@ -1,4 +1,4 @@
-//! Finds out who the caller is, and makes the view from cache and queries.
+//! Identifies the caller, and makes the view from cache and queries.
 
 ghost use Rattle.std.specs.Prelude.{◌≡◌, false, None};
 ghost use Rattle.portal_core.specs.Meaning.{CountsFaults};
@@ -42,7 +42,7 @@ fn read_office<S: Alter>(
     office_view(alloc, conn, round, office, catalogue)
 }
 
-/// Returns the office's view, and caches it.
+/// Returns the office's view from the cache, or makes it by queries and caches it.
 fn show_office<S: Alter>(
     alloc: Global,
     conn: &mut Connection<S>,
@@ -63,7 +63,7 @@ fn show_office<S: Alter>(
     Ok(View::Office(view))
 }
 
-/// Returns the view of the student with the code, or `Nobody`.
+/// Returns the view of the student with the code, or `Nobody`, from cache and queries.
 fn show_student<S: Alter>(
     alloc: Global,
     conn: &mut Connection<S>,
@@ -84,7 +84,7 @@ fn show_student<S: Alter>(
     Ok(View::Student(student_view(alloc, conn, round, phase, &row, catalogue)?))
 }
 
-/// Returns the view of a caller other than the office.
+/// Returns the view of a caller other than the office, from cache and queries.
 fn show_person<S: Alter>(
     alloc: Global,
     conn: &mut Connection<S>,
@@ -105,7 +105,7 @@ fn show_person<S: Alter>(
     Ok(View::Lecturer(lecturer_view(alloc, conn, round, phase, &row, catalogue)?))
 }
 
-/// Returns the view of the caller with the code.
+/// Returns the view of the caller with the code, from cache and queries.
 fn show<S: Alter>(
     alloc: Global,
     conn: &mut Connection<S>,
@@ -143,10 +143,10 @@ pub(crate) fn counted_view<S: Alter>(
     }
 }
 
-/// Returns the view of the caller with the code. For a student or a lecturer it queries what that
-/// role may see. For the office it queries the rolls, and who has a list, an applicant and a
-/// placement. The second round's catalogue also needs the students' keys and first-round projects;
-/// it reads nothing else of them.
+/// Returns the view of the caller with the code, by queries without a cache. For a student or a
+/// lecturer it queries what that role may see. For the office it queries the rolls, and who has a
+/// list, an applicant and a placement. The second round's catalogue also needs the students' keys
+/// and first-round projects; it reads nothing else of them.
 ///
 /// # Errors
 ///

@@ -1,4 +1,4 @@
-//! Adds rows to a roll, in one transaction.
+//! Adds rows to a roll in the database, in one transaction.
 
 ghost use Rattle.std.specs.Prelude.{◌≡◌, false};
 ghost use Rattle.sqlite.specs.Held.{state};
@@ -43,7 +43,7 @@ impl Step for AddRows<'_> {
     }
 }
 
-/// Adds rows to their roll; in the second round it changes nothing.
+/// Adds rows to their roll in one transaction; in the second round it changes nothing.
 pub(crate) fn add_rows<S: Alter>(
     alloc: Global,
     conn: &mut Connection<S>,

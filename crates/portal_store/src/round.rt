@@ -33,7 +33,8 @@ pub(crate) fn round_in<S: Alter>(
     }
 }
 
-/// Returns the second round if it has a phase, or else the first with the phase of the office.
+/// Returns the current round: the second if it has a phase, or else the first with the office's
+/// phase.
 fn now_of(second: Phase, office: Office) -> (Round, Office)
     ensures first { is_setup second ≡ true → result ≡ (First, office) }
     ensures second { is_setup second ≡ false

@@ -1,4 +1,4 @@
-//! Checks the first round's tables: readable, right version, distinct rowids, good world.
+//! Checks the first round's tables, with version and rowids; checks a loaded world.
 
 ghost use Rattle.std.specs.Prelude.{◌≡◌, ◌≢◌, ◌↔◌, ◌⊎◌, false, [], ◌∷◌, pos, Err, List, IfErr};
 ghost use Rattle.std.specs.Prelude.{OnOk, IsTrue};
@@ -33,7 +33,7 @@ use portal_tables::{is_number, row_numbers_differ};
 use sqlite::{Alter, Connection, Row};
 use std::alloc::Global;
 
-/// Checks that a table can be queried.
+/// Checks that a single table can be queried.
 pub(crate) fn see_table<S: Alter>(
     conn: &mut Connection<S>,
     query: Query<'_>,
@@ -122,8 +122,8 @@ pub(crate) fn see_first<S: Alter>(
     see_office(conn, version)
 }
 
-/// Checks that the rowids of a table are distinct. They are in a sound database, so otherwise it
-/// returns `Store`.
+/// Checks that the rowids of a single table are distinct. They are in a sound database, so
+/// otherwise it returns `Store`.
 pub(crate) fn see_row_numbers<S: Alter>(
     conn: &mut Connection<S>,
     table: Table,
@@ -163,7 +163,7 @@ fn see_lists_numbers<S: Alter>(conn: &mut Connection<S>) -> Result<(), OpenFault
     see_row_numbers(conn, Table::OfLists(Lists::Rankings))
 }
 
-/// Checks that the keeper's world is good.
+/// Checks that a loaded world, in a keeper, is good.
 pub(crate) fn judge_world(alloc: Global, keeper: &ListKeeper) -> Result<(), OpenFault>
     requires { Sound keeper.now }
     ensures good { OnOk result (Good keeper.now) }

@@ -6,8 +6,8 @@ ghost use Rattle.sqlite.specs.State.{IsLive};
 
 use sqlite::{Alter, Connection};
 
-/// Does nothing. Its contract states that a connection outside a transaction shows what is
-/// committed, and that an open one has a sound database.
+/// States for proofs what holds of a connection outside a transaction, and does nothing. Such a
+/// connection shows what is committed, and an open one has a sound database.
 pub(crate) fn settled<S: Alter>(conn: &Connection<S>)
     requires idle { conn.now.in_transaction ≡ false }
     ensures settled { IsTrue (state S.Store conn.now).is_open

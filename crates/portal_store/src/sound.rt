@@ -18,8 +18,8 @@ use portal_tables::TableFault;
 use sqlite::{Alter, Connection};
 use std::alloc::Global;
 
-/// Loads a keeper of the first round from tables of this schema version. Its world is sound, but
-/// its result need not be stable.
+/// Loads the first round's world from tables of this schema version into a keeper in lists. The
+/// world is sound, but its result need not be stable.
 pub(crate) fn first_keeper<S: Alter>(
     alloc: Global,
     conn: &mut Connection<S>,
@@ -38,7 +38,8 @@ pub(crate) fn first_keeper<S: Alter>(
     }
 }
 
-/// Loads a keeper from the tables. Its world is sound, but its results need not be stable.
+/// Loads the world from the tables into a keeper in lists. The world is sound, but its results need
+/// not be stable.
 pub(crate) fn load_keeper<S: Alter>(
     alloc: Global,
     conn: &mut Connection<S>,

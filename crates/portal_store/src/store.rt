@@ -1,4 +1,4 @@
-//! The store, and the faults of creating, opening and upgrading one.
+//! Declares the store, and the faults of creating, opening or upgrading it; closes and reopens it.
 
 ghost use Rattle.std.specs.Prelude.{◌≡◌, false, IfOk};
 ghost use Rattle.sqlite.specs.Held.{state};

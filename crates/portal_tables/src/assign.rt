@@ -26,7 +26,7 @@ impl<'a> Model for Assignment<'a> {
     ghost view = { λ a. (a.student.now, option_map (λ p. p.now) a.project) };
 }
 
-/// Returns the text as an SQL value, or NULL for `None`.
+/// Returns the key of an assigned project as an SQL value, or NULL for `None`.
 fn text_or_null(text: Option<&[u8]>) -> ValueRef<'_>
     ensures { owned result ≡ text_or_null_of (option_map (λ t. t.now) text.entry) }
 {
@@ -36,7 +36,7 @@ fn text_or_null(text: Option<&[u8]>) -> ValueRef<'_>
     }
 }
 
-/// Writes a student's assigned project, or NULL if there is none.
+/// Writes a student's assigned project into the student's row, or NULL if there is none.
 fn set_assigned<S: Alter>(tx: &mut Transaction<'_, S>, a: &Assignment<'_>) -> Result<(), Error>
     ensures { Does S.Store (Made (Assigns (a.now ∷ []))) result tx.old tx.new }
 {
@@ -47,8 +47,8 @@ fn set_assigned<S: Alter>(tx: &mut Transaction<'_, S>, a: &Assignment<'_>) -> Re
     )
 }
 
-/// Writes each student's assigned project, or NULL, one student after another. Stops at the first
-/// error and returns it.
+/// Writes each student's assigned project, or NULL, into the student's row, one after another.
+/// Stops at the first error and returns it.
 pub fn assign_all<S: Alter>(
     tx: &mut Transaction<'_, S>,
     all: &[Assignment<'_>],

@@ -1,4 +1,4 @@
-//! Decodes query results into rows of rolls and keys of lists, and checks their order.
+//! Decodes query results into rolls' rows or lists' keys, and checks the results' order.
 
 ghost use Rattle.std.specs.Prelude.{◌≡◌, ◌↔◌, ◌≤◌};
 ghost use Rattle.portal_tables.specs.inner.Base.{true, Err, IfOk, IsTrue, length, map, ⊤};
@@ -98,7 +98,7 @@ impl FromCells for Row {
     }
 }
 
-/// Decodes the rows in order. Stops at the first fault and returns it.
+/// Decodes the rows of a query's result in order. Stops at the first fault and returns it.
 pub fn decoded<T: FromCells>(alloc: Global, rows: &[Row]) -> Result<Vec<T>, TableFault>
     ensures ok { IfOk result (λ v. v.items ≡ map T.shown rows.now) }
     ensures damaged { result ≡ Err TableFault.Damaged → AllByRecursion T.is_fine rows.now → ⊥ }
@@ -110,7 +110,8 @@ pub fn decoded<T: FromCells>(alloc: Global, rows: &[Row]) -> Result<Vec<T>, Tabl
     Ok(all)
 }
 
-/// Returns the only item, or `None` without items. Fails with `Damaged` if there are several.
+/// Returns the only decoded row of a query's result, or `None` without rows. Fails with `Damaged`
+/// if there are several.
 pub fn at_most_one<T: Drop>(mut rows: Vec<T>) -> Result<Option<T>, TableFault>
     ensures ok { IfOk result (λ row. as_list row ≡ rows.items) }
     ensures damaged { result ≡ Err TableFault.Damaged → length rows.items ≤ 1 → ⊥ }
@@ -121,20 +122,21 @@ pub fn at_most_one<T: Drop>(mut rows: Vec<T>) -> Result<Option<T>, TableFault>
     Ok(rows.pop())
 }
 
+/// Returns whether row `a` has a lower key in column 0 than row `b`, to check the order.
 fn is_lower(a: &Row, b: &Row) -> bool
     ensures { result ≡ is_before (first_cell a.now) (first_cell b.now) }
 {
     bytes_at(a, 0).cmp(bytes_at(b, 0)).is_lt()
 }
 
-/// Returns whether the keys in column 0 are strictly ascending.
+/// Returns whether a query's rows are in order: their keys, in column 0, are strictly ascending.
 pub fn do_rise(rows: &[Row]) -> bool
     ensures { IsTrue result ↔ Rise (map first_cell rows.now) }
 {
     rows.is_sorted_by(|a, b| is_lower(a, b))
 }
 
-/// Returns whether the places in column 0 are 1, 2 and so on, in this order.
+/// Returns whether a list's rows are in order: their places, in column 0, are 1, 2 and so on.
 fn do_count_up(rows: &[Row]) -> bool
     ensures { IsTrue result ↔ CountUp 1 (map shown_rank rows.now) }
 {

@@ -58,7 +58,8 @@ pub fn has_list_in<S: Alter>(
     }
 }
 
-/// Returns the owner with the list if `is_there`. Otherwise checks that the list is empty.
+/// Returns the owner with the list that was read if `is_there`. Otherwise checks that the list is
+/// empty.
 fn kept_entry(
     is_there: bool,
     owner: Key,

@@ -1,4 +1,4 @@
-//! Inserts rows, eight in a statement, the rest one by one; also the rows of `portal` and `second`.
+//! Inserts rows, first eight at a time, then singly; inserts the rows of `portal` and `second`.
 
 ghost use Rattle.std.specs.Prelude.{◌≡◌, ◌<◌, ◌≤◌, ◌++◌, ◌∷◌};
 ghost use Rattle.portal_tables.specs.inner.Base.{ℕ, [], pos, map, OnOk, flat_map, Row, bound};
@@ -75,7 +75,7 @@ fn next_text<S: Alter, R, T: Target<R>>(table: &T, left: usize) -> (usize, &'sta
     }
 }
 
-/// Executes the statement with the values of these rows as parameters.
+/// Executes an INSERT statement with the values of these rows as parameters.
 fn write_rows<S: Alter, R, T: Target<R>>(
     alloc: Global,
     tx: &mut Transaction<'_, S>,
@@ -91,8 +91,8 @@ fn write_rows<S: Alter, R, T: Target<R>>(
     write(tx, text, &values)
 }
 
-/// Inserts the rows into the table in order. Stops at the first error and returns it. The error may
-/// be a memory shortage.
+/// Inserts the rows into the table in order, eight in a statement while eight remain. Stops at the
+/// first error and returns it. The error may be a memory shortage.
 pub fn add_all<S: Alter, R, T: Target<R>>(
     alloc: Global,
     tx: &mut Transaction<'_, S>,

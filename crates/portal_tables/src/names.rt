@@ -19,6 +19,7 @@ pub enum Names {
     OfSecond,
 }
 
+/// Returns whether this is the name of one of the first round's six tables.
 fn is_first_name(name: &[u8]) -> bool
     ensures { result ≡ has_first_name name.now }
 {
@@ -30,6 +31,7 @@ fn is_first_name(name: &[u8]) -> bool
         || same_name(name, b"ranking".as_slice())
 }
 
+/// Returns whether this is the name of one of the second round's five tables.
 fn is_second_name(name: &[u8]) -> bool
     ensures { result ≡ has_second_name name.now }
 {
@@ -52,7 +54,7 @@ impl Names {
     }
 }
 
-/// Returns whether this is a view, or a table that the connection cannot read.
+/// Returns whether this entry of a schema is a view, or a table that the connection cannot read.
 fn is_view(view: &View) -> bool
     ensures { result ≡ stands_for_table view.now.name view.now.foreign }
 {
@@ -62,14 +64,15 @@ fn is_view(view: &View) -> bool
     }
 }
 
-/// Returns whether a table has one of the names.
+/// Returns whether a table of the schema has one of the portal's names.
 fn has_tables(names: Names, tables: &[Table]) -> bool
     ensures { result ≡ list_any (is_named_table names) tables.now }
 {
     tables.iter().any(|table| names.has(table.name.as_slice()))
 }
 
-/// Returns whether a view, or a table that the connection cannot read, has one of the names.
+/// Returns whether a view, or a table that the connection cannot read, has one of the portal's
+/// names.
 fn has_views(names: Names, views: &[View]) -> bool
     ensures { result ≡ list_any (is_named_view names) views.now }
 {
@@ -78,7 +81,7 @@ fn has_views(names: Names, views: &[View]) -> bool
         .any(|view| names.has(view.name.as_slice()) && is_view(view))
 }
 
-/// Returns whether a table or a view has one of the names, ignoring case.
+/// Returns whether a table or a view of the schema has one of the portal's names, ignoring case.
 pub fn is_there(schema: &Schema, names: Names) -> bool
     ensures { result ≡ has_names names schema.now }
 {

@@ -33,7 +33,7 @@ pub struct Office {
     pub code: Code,
 }
 
-/// Returns whether the cell holds this integer.
+/// Returns whether the cell holds this integer, such as the version in the office's row.
 pub fn is_number(row: &Row, at: usize, number: u32) -> bool
     ensures { IsTrue result ↔ (column row.now at ≡ Int (pos number)) }
 {
@@ -70,7 +70,8 @@ pub(crate) fn phase_at(row: &Row, at: usize) -> Option<Phase>
     }
 }
 
-/// Decodes the code in a cell. Fails with `Damaged` unless the cell holds a valid code as text.
+/// Decodes the code in the office's row. Fails with `Damaged` unless the cell holds a valid code as
+/// text.
 fn text_code_at(alloc: Global, row: &Row, at: usize) -> Result<Code, TableFault>
     ensures ok { IfOk result (λ code. column row.now at ≡ Words code) }
     ensures damaged { result ≡ Err TableFault.Damaged → (code : List ℕ)

@@ -1,4 +1,4 @@
-//! Reads placements of both rounds; tests whether a student takes part.
+//! Reads placements of both rounds; tests whether a student takes part in a round.
 
 ghost use Rattle.std.specs.Prelude.{◌≡◌, ◌≤◌, is_none, if◌then◌else◌};
 ghost use Rattle.portal_tables.specs.inner.Base.{true, Err, None, IfOk, option_map, length, map};
@@ -27,7 +27,7 @@ use spa_rows::Key;
 use sqlite::{Alter, Connection, Row};
 use std::alloc::Global;
 
-/// Returns the key in the only row, or `None` without rows.
+/// Returns the project in the only row of a placement, or `None` without rows.
 fn only_name(alloc: Global, rows: &[Row]) -> Result<Option<Key>, TableFault>
     ensures ok { IfOk result (λ p. as_list p ≡ map shown_name rows.now) }
     ensures damaged { result ≡ Err TableFault.Damaged → length rows.now ≤ 1
@@ -93,7 +93,8 @@ pub fn takes_part(round: Round, row: &Row) -> bool
     }
 }
 
-/// Returns a round's placement if the phase is `Published`, otherwise `None`.
+/// Returns a round's placement of the student in this row if the phase is `Published`, otherwise
+/// `None`.
 fn published_in<S: Alter>(
     alloc: Global,
     conn: &mut Connection<S>,
@@ -113,8 +114,8 @@ fn published_in<S: Alter>(
     }
 }
 
-/// Returns the placement that the student in this row sees: the earlier one, or else the round's
-/// own once it is published. Fails like `placement_in`.
+/// Returns the placement that the student in this row sees. It is the earlier one, or else the
+/// round's own once it is published. Fails like `placement_in`.
 pub fn result_in<S: Alter>(
     alloc: Global,
     conn: &mut Connection<S>,
@@ -133,8 +134,8 @@ pub fn result_in<S: Alter>(
     published_in(alloc, conn, round, phase, row)
 }
 
-/// Returns a round's placement of the student in this row or, given a phase, the one that the
-/// student sees in that phase.
+/// Returns a round's placement of the student in this row, or the one that the student sees. Given
+/// a phase, it returns the one that the student sees in that phase.
 fn placement_asked<S: Alter>(
     alloc: Global,
     conn: &mut Connection<S>,
@@ -185,7 +186,7 @@ fn pair_in<S: Alter>(
     with_placement(alloc, row, place)
 }
 
-/// Returns a round's result as pairs of student and project, in the order of the students' rows.
+/// Reads a round's placements as pairs of student and project, in the order of the students' rows.
 /// Given a phase, it returns the placements that the students see in that phase. Fails like
 /// `placement_in`, and with `Damaged` if a student's key is invalid.
 pub fn pairs_in<S: Alter>(

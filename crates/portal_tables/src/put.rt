@@ -16,7 +16,7 @@ use sqlite::types::ValueRef;
 use sqlite::{Alter, Error, ErrorCode, Transaction};
 use std::alloc::{AllocError, Global};
 
-/// Deletes the rows of an owner's list.
+/// Clears an owner's list or ranking: deletes its rows.
 pub fn clear_list<S: Alter>(
     tx: &mut Transaction<'_, S>,
     lists: Lists,
@@ -27,7 +27,8 @@ pub fn clear_list<S: Alter>(
     write(tx, lists.clear_text(), &[ValueRef::Text(owner)])
 }
 
-/// Returns the rows of a list, with places from 1 on. Fails only if memory runs out.
+/// Returns the rows that put a list into its table, with places from 1 on. Fails only if memory
+/// runs out.
 fn places_of<'a>(
     alloc: Global,
     owner: &'a Key,
@@ -49,9 +50,9 @@ fn places_of<'a>(
     Ok(rows)
 }
 
-/// Replaces an owner's list by these items, best first. Fails with `TooBig` for more than
-/// `MOST_STUDENTS` items. Otherwise it stops at the first error and returns it. The error may be a
-/// memory shortage.
+/// Replaces an owner's list or ranking by these items, best first. Fails with `TooBig` for more
+/// than `MOST_STUDENTS` items. Otherwise it stops at the first error and returns it. The error may
+/// be a memory shortage.
 pub fn put_list<S: Alter>(
     alloc: Global,
     tx: &mut Transaction<'_, S>,

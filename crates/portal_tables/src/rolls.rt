@@ -1,4 +1,4 @@
-//! Reads the three rolls in key order, and decodes them.
+//! Reads and decodes rolls, sorted by key; `rising` reads any query's rows in key order.
 
 ghost use Rattle.std.specs.Prelude.{◌≡◌};
 ghost use Rattle.portal_tables.specs.inner.Base.{Err, IfOk, List, Cells, map, AllByRecursion};
@@ -29,7 +29,7 @@ pub struct Rolls {
     pub students: Vec<Row>,
 }
 
-/// Returns the rows if the keys in column 0 are strictly ascending, otherwise `Damaged`.
+/// Returns the rows if they are in key order by column 0, and otherwise fails with `Damaged`.
 fn risen(rows: Vec<Row>) -> Result<Vec<Row>, TableFault>
     ensures ok { IfOk result (λ v. (v ≡ rows) × Rise (map first_cell rows.items)) }
     ensures damaged { result ≡ Err TableFault.Damaged → Rise (map first_cell rows.items) → ⊥ }
@@ -41,9 +41,9 @@ fn risen(rows: Vec<Row>) -> Result<Vec<Row>, TableFault>
     }
 }
 
-/// Reads the rows of a query. Fails with `Damaged` if the keys in column 0 are not strictly
-/// ascending. Fails with `Store` if the store reports an error, and with `Memory` if memory runs
-/// out.
+/// Reads the rows of any query, which must be in key order. Fails with `Damaged` if the keys in
+/// column 0 are not strictly ascending. Fails with `Store` if the store reports an error, and with
+/// `Memory` if memory runs out.
 pub fn rising<S: Alter>(
     alloc: Global,
     conn: &mut Connection<S>,
@@ -99,8 +99,8 @@ pub struct Parts {
     pub students: Vec<StudentRow>,
 }
 
-/// Decodes the rows of the rolls. Fails with `Damaged` if a cell holds an invalid value, and with
-/// `Memory` if memory runs out.
+/// Decodes the rows of the three rolls. Fails with `Damaged` if a cell holds an invalid value, and
+/// with `Memory` if memory runs out.
 pub fn parts_of(alloc: Global, rolls: &Rolls) -> Result<Parts, TableFault>
     ensures lecturers { IfOk result (λ p. p.lecturers.items
         ≡ map shown_lecturer rolls.now.lecturers.items) }

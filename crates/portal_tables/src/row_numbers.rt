@@ -11,13 +11,14 @@ ghost use Rattle.portal_tables.specs.inner.Rising.{rises};
 use crate::select::{Query, Table, read};
 use sqlite::{Alter, Connection, Error, Row};
 
+/// Returns the rowid in column 0 of the row, or `None` if the cell holds no integer.
 fn number_of(row: &Row) -> Option<i64>
     ensures { IfSome result (λ n. column row.now 0 ≡ Int n) }
 {
     row.get::<i64>(0).ok()
 }
 
-/// Returns whether the rows begin with strictly ascending integers.
+/// Returns whether the rowids in column 0 of the rows are strictly ascending.
 fn do_rise(rows: &[Row]) -> bool
     ensures { IsTrue result → rises None rows.now ≡ true }
 {

@@ -20,10 +20,12 @@ use std::marker::Model;
 
 /// A part of a schema that can be compared in full.
 trait Same {
+    /// Returns whether the two parts of a schema are the same.
     fn is_the_same(&self, other: &Self) -> bool
         ensures { IsTrue result ↔ (self.now ≡ other.now) };
 }
 
+/// Returns whether two lists of parts of a schema are the same.
 fn are_same<T: Same>(a: &[T], b: &[T]) -> bool
     ensures { IsTrue result ↔ (a.now ≡ b.now) }
 {
@@ -111,6 +113,7 @@ fn has_same_defaults(a: &Table, b: &Table) -> bool
         && are_same(a.stamps.formats.as_slice(), b.stamps.formats.as_slice())
 }
 
+/// Returns whether two tables are the same, except for the terms of CHECK and DEFAULT.
 fn is_same_table(a: &Table, b: &Table) -> bool
     ensures { IsTrue result ↔ SameTable a.now b.now }
 {
@@ -123,6 +126,7 @@ fn is_same_table(a: &Table, b: &Table) -> bool
         && has_same_defaults(a, b)
 }
 
+/// Returns whether two lists of tables are the same, except for the terms of CHECK and DEFAULT.
 fn are_same_tables(a: &[Table], b: &[Table]) -> bool
     ensures { IsTrue result ↔ AllZip SameTable a.now b.now }
 {
@@ -149,7 +153,7 @@ fn is_same_schema(schema: &Schema, tables: &[Table], indexes: &[Index]) -> bool
         && schema.views.is_empty()
 }
 
-/// Creates the portal's tables in an empty in-memory database.
+/// Creates the portal's tables in an empty in-memory database, to compare schemas with it.
 fn make_scratch(conn: &mut Connection<MemStore>) -> Result<(), Error>
     requires idle { conn.old.in_transaction ≡ false }
     requires empty { conn.old.schema ≡ no_schema }
@@ -161,7 +165,7 @@ fn make_scratch(conn: &mut Connection<MemStore>) -> Result<(), Error>
     Ok(())
 }
 
-/// Opens an in-memory database and creates the portal's tables in it.
+/// Opens an in-memory database with the portal's tables, to compare schemas with it.
 fn scratch(alloc: Global) -> Result<Connection<MemStore>, Error>
     ensures { IfOk result (λ c. c.schema ≡ portal_schema) }
 {

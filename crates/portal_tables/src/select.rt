@@ -84,6 +84,7 @@ pub enum Query<'a> {
 }
 
 impl<'a> Query<'a> {
+    /// Returns the SQL text of the query.
     fn text(self) -> &'static str
         ensures { result.now ≡ query_text self.entry }
     {
@@ -202,6 +203,7 @@ impl<'a> Query<'a> {
     }
 }
 
+/// Returns the parameter of a query as a slice, which is empty without a parameter.
 fn values<'a>(value: &'a Option<ValueRef<'a>>) -> &'a [ValueRef<'a>]
     ensures { result.now ≡ as_list value.now }
 {
@@ -211,7 +213,7 @@ fn values<'a>(value: &'a Option<ValueRef<'a>>) -> &'a [ValueRef<'a>]
     }
 }
 
-/// Runs a query and returns its rows, or the store's own error.
+/// Runs one of the queries and returns its rows, or the store's own error.
 pub fn read<S: Alter>(conn: &mut Connection<S>, query: Query<'_>) -> Result<Vec<Row>, Error>
     ensures { Reads (round_asked query.entry) S.Store Always
         (Gives (λ db rows. Shows query.entry db.trees rows.items)) result conn.old conn.new }
@@ -219,8 +221,8 @@ pub fn read<S: Alter>(conn: &mut Connection<S>, query: Query<'_>) -> Result<Vec<
     conn.query_all(query.text(), values(&query.value()))
 }
 
-/// Runs a query and decodes each row as it is read. Stops at the first fault: an error of the
-/// store, or a row that decoding refuses.
+/// Runs one of the queries and decodes each row as it is read. Stops at the first fault: an error
+/// of the store, or a row that decoding refuses.
 pub fn read_each<S: Alter, T: FromCells>(
     alloc: Global,
     conn: &mut Connection<S>,
@@ -235,7 +237,7 @@ pub fn read_each<S: Alter, T: FromCells>(
     run::read_each(alloc, conn, query.text(), values(&query.value()))
 }
 
-/// Runs a query and returns copies of its rows. Never fails with `Damaged`.
+/// Runs one of the queries and returns copies of its rows. Never fails with `Damaged`.
 pub fn read_rows<S: Alter>(
     alloc: Global,
     conn: &mut Connection<S>,
@@ -248,7 +250,7 @@ pub fn read_rows<S: Alter>(
     read_each(alloc, conn, query)
 }
 
-/// Returns whether a query returns any row. Reads at most one row.
+/// Runs one of the queries and returns whether it finds any row. Reads at most one row.
 pub fn finds_any<S: Alter>(conn: &mut Connection<S>, query: Query<'_>) -> Result<bool, Error>
     ensures { Reads (round_asked query.entry) S.Store Always
         (Gives (λ db. FindsAny (Shows query.entry db.trees))) result conn.old conn.new }

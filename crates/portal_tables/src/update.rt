@@ -1,4 +1,4 @@
-//! Sets the first round's phase, the version, or the flag that a lecturer has a ranking.
+//! Sets the version, the first round's phase, or the flag that a lecturer has a ranking.
 
 ghost use Rattle.portal_tables.specs.inner.Running.{Does, Made};
 ghost use Rattle.portal_tables.specs.inner.RowChanges.{IsOfVersion, MovesTo, Ranks};
@@ -7,7 +7,7 @@ use crate::run::write;
 use sqlite::types::{ToSql, ValueRef};
 use sqlite::{Alter, Error, Transaction};
 
-/// Writes the phase, 0 to 3, into the row of `portal`.
+/// Writes the first round's phase, 0 to 3, into the row of `portal`.
 pub fn set_phase<S: Alter>(tx: &mut Transaction<'_, S>, phase: u32) -> Result<(), Error>
     ensures { Does S.Store (Made (MovesTo phase)) result tx.old tx.new }
 {
@@ -29,7 +29,7 @@ pub(crate) fn set_version<S: Alter>(tx: &mut Transaction<'_, S>, version: u32) -
     )
 }
 
-/// Records that a lecturer has a ranking in the first round.
+/// Sets the flag that a lecturer has a ranking in the first round.
 pub fn set_ranked<S: Alter>(tx: &mut Transaction<'_, S>, lecturer: &[u8]) -> Result<(), Error>
     ensures { Does S.Store (Made (Ranks lecturer.now)) result tx.old tx.new }
 {

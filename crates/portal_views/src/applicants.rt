@@ -1,4 +1,4 @@
-//! Finds each project's applicants and placed students, as far as the phase shows them.
+//! Reads each project's applicants and placed students by queries, as far as the phase shows them.
 
 ghost use Rattle.std.specs.Prelude.{◌≡◌, ◌∷◌, ◌++◌};
 ghost use Rattle.portal_views.specs.inner.Base.{[], IfOk, OnOk, map, is_at, is_from_ranking};
@@ -35,7 +35,7 @@ fn lines_in<S: Alter>(
     Ok(Vec::new(alloc))
 }
 
-/// Returns whether a placement is at this project.
+/// Returns whether the placement on an applicant's line is at this project.
 fn is_placed_at(placed: &Option<Key>, project: &Key) -> bool
     ensures { result ≡ is_at project.now placed.now }
 {
@@ -45,7 +45,7 @@ fn is_placed_at(placed: &Option<Key>, project: &Key) -> bool
     }
 }
 
-/// Returns the students on the lines who are placed at the project.
+/// Returns the students on the applicants' lines who are placed at the project.
 fn placed_at(
     alloc: Global,
     lines: &[ApplicantLine],
@@ -62,7 +62,8 @@ fn placed_at(
     Ok(found)
 }
 
-/// Returns what `placed_at` returns if the result is published, and otherwise no students.
+/// Returns what `placed_at` returns from the applicants' lines if the result is published, and
+/// otherwise nobody.
 fn placed_if_published(
     alloc: Global,
     phase: Phase,

@@ -1,4 +1,4 @@
-//! Makes the catalogue; in the second round it shows the remaining room.
+//! Makes the catalogue by queries; in the second round it shows the remaining room.
 
 ghost use Rattle.std.specs.Prelude.{◌≡◌};
 ghost use Rattle.portal_core.specs.inner.Room as left_by;
@@ -23,7 +23,8 @@ use sqlite::{Alter, Connection, Row};
 use std::alloc::{AllocError, Global};
 use std::rc::Rc;
 
-/// Returns the lecturers with room after the first round, each with the remaining capacity.
+/// Returns the lecturers with room left, for the second round's catalogue. Each has the remaining
+/// capacity.
 fn lecturers_left(
     alloc: Global,
     lecturers: &[LecturerRow],
@@ -42,7 +43,8 @@ fn lecturers_left(
     Ok(found)
 }
 
-/// Returns the projects with room after the first round, each with the remaining capacity.
+/// Returns the projects with room left, for the second round's catalogue. Each has the remaining
+/// capacity.
 fn projects_left(
     alloc: Global,
     projects: &[ProjectRow],
@@ -60,8 +62,8 @@ fn projects_left(
     Ok(found)
 }
 
-/// Returns the second round's catalogue. It lists the projects with room after the first round
-/// whose lecturers also have room.
+/// Makes the second round's catalogue of the rows that queries read. It lists the projects with
+/// room after the first round whose lecturers also have room.
 fn listings_left(
     alloc: Global,
     lecturers: &[LecturerRow],
@@ -76,7 +78,8 @@ fn listings_left(
     listings_of(alloc, &teaching, &vacant)
 }
 
-/// Makes a round's catalogue of these rows. The second round reads the first round's result.
+/// Makes a round's catalogue of these rows, in the second round with a query. The query reads the
+/// first round's result.
 fn listings_in<S: Alter>(
     alloc: Global,
     conn: &mut Connection<S>,
@@ -99,7 +102,7 @@ fn listings_in<S: Alter>(
     }
 }
 
-/// Decodes rows of the rolls of lecturers and projects.
+/// Decodes rows of lecturers and projects, to make the catalogue of them.
 fn offers_from(
     alloc: Global,
     lecturers: &[Row],
@@ -116,7 +119,8 @@ fn offers_from(
     Ok((lecturers, projects))
 }
 
-/// Reads the lecturers and the projects of the rolls, sorted by key.
+/// Reads the rolls of lecturers and projects, to make the catalogue of them. Both are sorted by
+/// key.
 fn offers_in<S: Alter>(
     alloc: Global,
     conn: &mut Connection<S>,
@@ -131,10 +135,10 @@ fn offers_in<S: Alter>(
     offers_from(alloc, &lecturers, &projects)
 }
 
-/// Reads a round's catalogue, sorted by project key. For the second round it also reads the keys
-/// and assigned projects of the students. Fails with `Damaged` if a roll's keys are not strictly
-/// ascending or a cell holds an invalid value. Fails with `Store` if the store reports an error,
-/// and with `Memory` if memory runs out.
+/// Makes a round's catalogue by queries, sorted by project key. For the second round it also reads
+/// the keys and assigned projects of the students. Fails with `Damaged` if a roll's keys are not
+/// strictly ascending or a cell holds an invalid value. Fails with `Store` if the store reports an
+/// error, and with `Memory` if memory runs out.
 pub fn catalogue_in<S: Alter>(
     alloc: Global,
     conn: &mut Connection<S>,

@@ -1,4 +1,4 @@
-//! Makes a lecturer's view by queries of projects, applicants and ranking.
+//! Makes a lecturer's view by queries for projects, applicants and ranking.
 
 ghost use Rattle.std.specs.Prelude.{◌≡◌, ◌≤◌};
 ghost use Rattle.portal_views.specs.inner.Base.{Err, IfOk, AllByRecursion, option_map, map, column};
@@ -26,7 +26,8 @@ use sqlite::{Alter, Connection, Row};
 use std::alloc::{AllocError, Global};
 use std::rc::Rc;
 
-/// Returns the keys of the lecturer's projects in the catalogue, in its order.
+/// Finds the lecturer's projects in the catalogue, for the lecturer's view. Returns their keys in
+/// its order.
 fn keys_listed(
     alloc: Global,
     catalogue: &[Listing],
@@ -43,7 +44,7 @@ fn keys_listed(
     Ok(own)
 }
 
-/// Decodes the keys in column 0 of the rows.
+/// Decodes the keys of the lecturer's projects, in column 0 of the rows.
 fn keys_of(alloc: Global, rows: &[Row]) -> Result<Vec<Key>, TableFault>
     ensures ok { IfOk result (λ v. v.items ≡ map first_cell rows.now) }
     ensures damaged { result ≡ Err TableFault.Damaged → AllByRecursion HasKey rows.now → ⊥ }
@@ -69,8 +70,8 @@ fn keys_asked<S: Alter>(
     keys_of(alloc, &rows)
 }
 
-/// Returns the keys of the lecturer's projects. In the first round the catalogue has all of them,
-/// and the second round needs a query.
+/// Returns the keys of the lecturer's projects, from the catalogue or by a query. In the first
+/// round the catalogue has all of them, and the second round needs a query.
 fn own_projects<S: Alter>(
     alloc: Global,
     conn: &mut Connection<S>,
@@ -89,6 +90,7 @@ fn own_projects<S: Alter>(
     }
 }
 
+/// Returns the ranking that was read, without the lecturer's key.
 fn list_of(entry: Option<(Key, Vec<Key>)>) -> Option<Vec<Key>>
     ensures { option_map (λ v. v.items) result
         ≡ option_map (λ e. e.1) (option_map with_list entry) }
@@ -99,7 +101,7 @@ fn list_of(entry: Option<(Key, Vec<Key>)>) -> Option<Vec<Key>>
     }
 }
 
-/// Reads the ranking of the lecturer in this row, if there is one.
+/// Reads the ranking of the lecturer in this row, if there is one, for the lecturer's view.
 fn ranking_in<S: Alter>(
     alloc: Global,
     conn: &mut Connection<S>,
@@ -144,10 +146,10 @@ fn lecturer_view_from(
     })
 }
 
-/// Makes the view of the lecturer in this row, for this round and phase. In the first round the
-/// lecturer's projects come from the catalogue, which must be that of the tables. Fails with
-/// `Damaged` if rows are not as the portal writes them. Fails with `Store` if the store reports an
-/// error, and with `Memory` if memory runs out.
+/// Makes by queries the view of the lecturer in this row, for this round and phase. In the first
+/// round the lecturer's projects come from the catalogue, which must be that of the tables. Fails
+/// with `Damaged` if rows are not as the portal writes them. Fails with `Store` if the store
+/// reports an error, and with `Memory` if memory runs out.
 pub fn lecturer_view<S: Alter>(
     alloc: Global,
     conn: &mut Connection<S>,

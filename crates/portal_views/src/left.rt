@@ -1,4 +1,4 @@
-//! Finds the students of a round who are missing from given rows.
+//! Finds the students who take part in a round and are missing from given rows.
 
 ghost use Rattle.std.specs.Prelude.{◌≡◌, ◌&&◌, is_none};
 ghost use Rattle.portal_views.specs.inner.Base.{Err, IfOk, not, map, filter, has, Rise};
@@ -15,7 +15,7 @@ use spa_rows::Key;
 use sqlite::Row;
 use std::alloc::Global;
 
-/// Returns the keys of the students who take part, without those of `others`, which is sorted.
+/// Returns the keys of the students who take part and are missing from `others`, which is sorted.
 fn keys_but(
     alloc: Global,
     round: Round,
@@ -38,9 +38,10 @@ fn keys_but(
     Ok(keys)
 }
 
-/// Returns the keys of the students who take part in the round, in order, without those in column 0
-/// of `others`. Fails with `Damaged` if the keys of `others` are not strictly ascending, or a
-/// returned key is invalid. Fails with `Memory` if memory runs out.
+/// Returns the keys of the students who take part in the round and are missing from `others`. The
+/// keys keep their order; those of `others` are in column 0. Fails with `Damaged` if the keys of
+/// `others` are not strictly ascending, or a returned key is invalid. Fails with `Memory` if memory
+/// runs out.
 pub(crate) fn keys_not_among(
     alloc: Global,
     round: Round,

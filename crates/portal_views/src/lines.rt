@@ -56,7 +56,8 @@ impl FromCells for ApplicantLine {
     }
 }
 
-/// Returns the only line. Fails with `Damaged` unless there is exactly one.
+/// Returns the only line that was read of a student. Fails with `Damaged` unless there is exactly
+/// one.
 fn only_line(lines: Vec<ApplicantLine>) -> Result<ApplicantLine, TableFault>
     ensures ok { IfOk result (λ l. lines.items ≡ l ∷ []) }
     ensures damaged { result ≡ Err TableFault.Damaged → length lines.items ≡ 1 → ⊥ }
@@ -67,7 +68,7 @@ fn only_line(lines: Vec<ApplicantLine>) -> Result<ApplicantLine, TableFault>
     }
 }
 
-/// Replaces the assigned project in the line by the placement in the round.
+/// Replaces the assigned project in a student's line by the placement in the round.
 fn line_of_round<S: Alter>(
     alloc: Global,
     conn: &mut Connection<S>,
@@ -91,7 +92,7 @@ fn line_of_round<S: Alter>(
     }
 }
 
-/// Reads the line of the student with this key.
+/// Reads key, name and placement of the student with this key, as a line.
 fn line_in<S: Alter>(
     alloc: Global,
     conn: &mut Connection<S>,

@@ -1,4 +1,4 @@
-//! Makes the office's view by queries; finds missing lists and who is still to rank.
+//! Makes the office's view by queries; finds students without a list and lecturers still to rank.
 
 ghost use Rattle.std.specs.Prelude.{◌≡◌, ◌&&◌, if◌then◌else◌};
 ghost use Rattle.portal_core.specs.World.{is_from_ranking};
@@ -26,7 +26,7 @@ use sqlite::{Alter, Connection, Row};
 use std::alloc::Global;
 use std::rc::Rc;
 
-/// Finds the students who take part in the round and have no list.
+/// Finds by a query the students who take part in the round and have no list.
 fn without_list<S: Alter>(
     alloc: Global,
     conn: &mut Connection<S>,
@@ -42,7 +42,8 @@ fn without_list<S: Alter>(
     keys_not_among(alloc, round, students, &listed)
 }
 
-/// Returns whether the project is this lecturer's and is on a student's list.
+/// Finds by a query whether a student lists the project, if it is this lecturer's. Returns `false`
+/// for another lecturer's project.
 fn is_chosen_in<S: Alter>(
     conn: &mut Connection<S>,
     round: Round,
@@ -62,7 +63,7 @@ fn is_chosen_in<S: Alter>(
     Ok(finds_any(conn, Query::Choosers(round, bytes_at(project, 0)))?)
 }
 
-/// Returns whether a project of the lecturer is on a student's list.
+/// Finds by queries whether a project of the lecturer is on a student's list.
 fn has_applicant<S: Alter>(
     conn: &mut Connection<S>,
     round: Round,
@@ -83,7 +84,7 @@ fn has_applicant<S: Alter>(
     Ok(false)
 }
 
-/// Returns the lecturer's key if a project of the lecturer is on a student's list.
+/// Returns the lecturer's key if queries find a project of the lecturer on a student's list.
 fn wanted_in<S: Alter>(
     alloc: Global,
     conn: &mut Connection<S>,
@@ -104,7 +105,8 @@ fn wanted_in<S: Alter>(
     Ok(Some(key_at(alloc, lecturer, 0)?))
 }
 
-/// Returns the lecturer's key if the lecturer has an applicant and no ranking.
+/// Finds by queries whether the lecturer has an applicant and no ranking. If so, it returns the
+/// lecturer's key.
 fn waiting_in<S: Alter>(
     alloc: Global,
     conn: &mut Connection<S>,
@@ -124,7 +126,7 @@ fn waiting_in<S: Alter>(
     wanted_in(alloc, conn, round, projects, lecturer)
 }
 
-/// Finds the lecturers who have an applicant and no ranking.
+/// Finds by queries the lecturers who have an applicant and no ranking.
 fn all_waiting<S: Alter>(
     alloc: Global,
     conn: &mut Connection<S>,
@@ -147,7 +149,7 @@ fn all_waiting<S: Alter>(
     Ok(keys)
 }
 
-/// Finds the lecturers who are still to rank, or none before the ranking phase.
+/// Finds by queries the lecturers still to rank, or none before the ranking phase.
 fn still_to_rank<S: Alter>(
     alloc: Global,
     conn: &mut Connection<S>,
@@ -238,9 +240,9 @@ fn view_of_rolls<S: Alter>(
     )
 }
 
-/// Makes the office's view for this round from the office's row and the catalogue. Fails with
-/// `Damaged` if rows are not as the portal writes them. Fails with `Store` if the store reports an
-/// error, and with `Memory` if memory runs out.
+/// Makes by queries the office's view for this round, from the office's row and the catalogue.
+/// Fails with `Damaged` if rows are not as the portal writes them. Fails with `Store` if the store
+/// reports an error, and with `Memory` if memory runs out.
 pub fn office_view<S: Alter>(
     alloc: Global,
     conn: &mut Connection<S>,

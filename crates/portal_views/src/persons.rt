@@ -8,7 +8,7 @@ use portal_core::Person;
 use spa_rows::Key;
 use std::alloc::AllocError;
 
-/// Finds the index at which to insert a person with this key.
+/// Finds the index at which to insert a person with this key into a sorted list.
 fn place_for(persons: &[Person], key: &Key) -> usize
     ensures low { result ≤ length persons.now }
     ensures place { (person : ThatPerson) → person.key ≡ key.now

@@ -1,4 +1,4 @@
-//! Makes a student's view by queries of the list and the placement.
+//! Makes a student's view by queries for list and placement.
 
 ghost use Rattle.std.specs.Prelude.{◌≡◌};
 ghost use Rattle.portal_views.specs.inner.Base.{Err, IfOk, IsDatabase};
@@ -40,8 +40,8 @@ fn student_view_from(
     })
 }
 
-/// Makes the view of the student in this row, for this round and phase, with the catalogue. Fails
-/// with `Damaged` if a key or the name is invalid, the list has a gap or the second round gives two
+/// Makes by queries the view of the student in this row, with the given catalogue. Fails with
+/// `Damaged` if a key or the name is invalid, the list has a gap or the second round gives two
 /// placements. Fails with `Store` if the store reports an error, and with `Memory` if memory runs
 /// out.
 pub fn student_view<S: Alter>(

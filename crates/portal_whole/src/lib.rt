@@ -1,4 +1,4 @@
-//! `replies_in_memory` serves streams over a new store in memory; its contract is the headline.
+//! `replies_in_memory` serves streams over a new store in memory; proves PROMISES.md's headline.
 #![tactic(auto)]
 
 ghost use Rattle.std.specs.Prelude.{IfSome, map};
@@ -12,8 +12,8 @@ use portal_store::Store;
 use portal_store::laws::disk_in_memory;
 use std::alloc::Global;
 
-/// Serves streams one after another over a new portal in memory, and returns what was written for
-/// each. Returns `None` if making the portal or serving a stream fails, or memory runs out.
+/// Serves streams one after another over a new store in memory, and returns what was written for
+/// each. Returns `None` if making the store or serving a stream fails, or memory runs out.
 pub fn replies_in_memory(alloc: Global, office: Code, streams: &[&[u8]]) -> Option<Vec<Vec<u8>>>
     ensures promised { IfSome result (λ texts. KeepsPromise (first_world office)
         (map (λ stream. stream.now) streams.now) (map (λ text. text.items) texts.items)) }

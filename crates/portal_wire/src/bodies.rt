@@ -38,7 +38,7 @@ impl<T: Drop> From<AllocFailed<T>> for BodyFault {
     }
 }
 
-/// Parses a body as JSON.
+/// Parses a request's body as JSON.
 fn json_of(alloc: Global, body: &[u8]) -> Result<Value, BodyFault>
     ensures { GivesBody view result (json_in body.now) }
 {
@@ -56,7 +56,7 @@ fn json_of(alloc: Global, body: &[u8]) -> Result<Value, BodyFault>
     }
 }
 
-/// Returns the value of this member if the object has exactly `count` members.
+/// Returns the value of this member if a JSON object has exactly `count` members.
 fn member_among<'a>(value: &'a Value, count: usize, name: &str) -> Option<&'a Value>
     ensures { option_map (λ v. view v.now) result
         ≡ member_among count name.now (view value.now) }
@@ -70,7 +70,7 @@ fn member_among<'a>(value: &'a Value, count: usize, name: &str) -> Option<&'a Va
     value.get(name)
 }
 
-/// Copies the text of each value, which has to be a string.
+/// Copies the text of each JSON value in a request's body; each has to be a string.
 fn texts_of(alloc: Global, values: &[Value]) -> Result<Vec<Vec<u8>>, BodyFault>
     ensures { GivesBody (λ ts. map (λ t. t.items) ts.items) result
         (item_texts (items_view values.now)) }
@@ -85,7 +85,7 @@ fn texts_of(alloc: Global, values: &[Value]) -> Result<Vec<Vec<u8>>, BodyFault>
     Ok(texts)
 }
 
-/// Copies the texts of an array, whose items have to be strings.
+/// Copies the texts of a JSON array in a request's body, whose items have to be strings.
 fn array_texts(alloc: Global, value: &Value) -> Result<Vec<Vec<u8>>, BodyFault>
     ensures { GivesBody (λ ts. map (λ t. t.items) ts.items) result (texts_in (view value.now)) }
 {
@@ -95,7 +95,7 @@ fn array_texts(alloc: Global, value: &Value) -> Result<Vec<Vec<u8>>, BodyFault>
     texts_of(alloc, values.as_slice())
 }
 
-/// Reads a body whose only member has this name and is an array of texts.
+/// Reads a JSON body whose only member has this name and is an array of texts.
 pub(crate) fn read_list(alloc: Global, body: &[u8], name: &str) -> Result<Vec<Vec<u8>>, BodyFault>
     ensures { GivesBody (λ ts. map (λ t. t.items) ts.items) result (listed_in name.now body.now) }
 {
@@ -106,14 +106,14 @@ pub(crate) fn read_list(alloc: Global, body: &[u8], name: &str) -> Result<Vec<Ve
     }
 }
 
-/// Returns the phase that a word names.
+/// Returns the phase that a word in a request's body names.
 fn phase_in_word(word: &[u8]) -> Option<Phase>
     ensures { result ≡ phase_of word.now }
 {
     Phase::parse(word)
 }
 
-/// Returns the phase that a string value names.
+/// Returns the phase that a JSON string names.
 fn named_phase(value: &Value) -> Option<Phase>
     ensures { result ≡ phase_named (view value.now) }
 {
@@ -123,7 +123,7 @@ fn named_phase(value: &Value) -> Option<Phase>
     phase_in_word(word.as_bytes())
 }
 
-/// Returns the round whose number a value holds.
+/// Returns the round whose number a JSON value holds.
 fn named_round(value: &Value) -> Option<Round>
     ensures { result ≡ round_named (view value.now) }
 {
@@ -134,14 +134,14 @@ fn named_round(value: &Value) -> Option<Round>
     }
 }
 
-/// Returns the member `phase` of an object with exactly `count` members.
+/// Returns the member `phase` of a JSON object with exactly `count` members.
 fn phase_among(value: &Value, count: usize) -> Option<Phase>
     ensures { result ≡ phase_among count (view value.now) }
 {
     named_phase(member_among(value, count, "phase")?)
 }
 
-/// Returns the phase and the round of an object that has exactly these two members.
+/// Returns the phase and the round of a JSON object that has exactly these two members.
 fn phase_and_round(value: &Value) -> Option<(Phase, Option<Round>)>
     ensures { result ≡ phase_and_round (view value.now) }
 {
@@ -150,7 +150,7 @@ fn phase_and_round(value: &Value) -> Option<(Phase, Option<Round>)>
     Some((phase, Some(round)))
 }
 
-/// Returns the phase, and the round if it is named, of an object without other members.
+/// Returns the phase, and the round if it is named, of a JSON object without other members.
 fn named_move(value: &Value) -> Option<(Phase, Option<Round>)>
     ensures { result ≡ move_named (view value.now) }
 {
@@ -160,7 +160,7 @@ fn named_move(value: &Value) -> Option<(Phase, Option<Round>)>
     }
 }
 
-/// Reads the phase, and the round if it is named, of a body without other members.
+/// Reads the phase, and the round if it is named, of a JSON body without other members.
 pub(crate) fn read_move(alloc: Global, body: &[u8]) -> Result<(Phase, Option<Round>), BodyFault>
     ensures { GivesBody (λ m. m) result (move_in body.now) }
 {
@@ -171,7 +171,7 @@ pub(crate) fn read_move(alloc: Global, body: &[u8]) -> Result<(Phase, Option<Rou
     }
 }
 
-/// Checks that a value is an object without members.
+/// Checks that a JSON value is an object without members.
 fn no_member(value: &Value) -> Result<(), BodyFault>
     ensures { GivesBody (λ u. u) result (empty_object (view value.now)) }
 {
@@ -184,7 +184,7 @@ fn no_member(value: &Value) -> Result<(), BodyFault>
     Err(BodyFault::Bad)
 }
 
-/// Checks that a body is an object without members.
+/// Checks that a request's body is a JSON object without members.
 pub(crate) fn read_empty(alloc: Global, body: &[u8]) -> Result<(), BodyFault>
     ensures { GivesBody (λ u. u) result (nothing_in body.now) }
 {

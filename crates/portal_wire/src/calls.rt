@@ -113,7 +113,8 @@ fn put_call(alloc: Global, route: Route, body: &[u8]) -> Result<Call, CallFault>
     }
 }
 
-/// Returns the move to the phase that a body names, in the round that it names or the current one.
+/// Returns the call that moves to the phase in a request's body. The body may also name the round,
+/// which is otherwise the current one.
 fn move_call(alloc: Global, body: &[u8]) -> Result<Call, CallFault>
     ensures wish { IsCallOf (by_body to_move (move_in body.now)) result }
     ensures form { IfOk result (λ call. HasForm (call_model call)) }
@@ -132,7 +133,7 @@ fn fill_call(alloc: Global, body: &[u8]) -> Result<Call, CallFault>
     Ok(Call::FillRankings)
 }
 
-/// Returns the call that adds the lecturers of a roll.
+/// Returns the call that adds the lecturers of the roll in a request's body.
 fn add_lecturers(alloc: Global, body: &[u8]) -> Result<Call, CallFault>
     ensures wish { IsCallOf (by_roll AbstractCall.AddLecturers (roll.lecturers body.now)) result }
     ensures form { IfOk result (λ call. HasForm (call_model call)) }
@@ -140,7 +141,7 @@ fn add_lecturers(alloc: Global, body: &[u8]) -> Result<Call, CallFault>
     Ok(Call::AddLecturers(read_lecturers(alloc, body)?))
 }
 
-/// Returns the call that adds the projects of a roll.
+/// Returns the call that adds the projects of the roll in a request's body.
 fn add_projects(alloc: Global, body: &[u8]) -> Result<Call, CallFault>
     ensures wish { IsCallOf (by_roll AbstractCall.AddProjects (roll.projects body.now)) result }
     ensures form { IfOk result (λ call. HasForm (call_model call)) }
@@ -148,7 +149,7 @@ fn add_projects(alloc: Global, body: &[u8]) -> Result<Call, CallFault>
     Ok(Call::AddProjects(read_projects(alloc, body)?))
 }
 
-/// Returns the call that adds the students of a roll.
+/// Returns the call that adds the students of the roll in a request's body.
 fn add_students(alloc: Global, body: &[u8]) -> Result<Call, CallFault>
     ensures wish { IsCallOf (by_roll AbstractCall.AddStudents (roll.students body.now)) result }
     ensures form { IfOk result (λ call. HasForm (call_model call)) }
@@ -196,7 +197,7 @@ fn routed_call(alloc: Global, request: &Request) -> Result<Call, CallFault>
     call_at(alloc, method, route, request.body.as_slice())
 }
 
-/// Makes a refusal that has only a status and an error word.
+/// Makes the refusal for a request that makes no call: only a status and an error word.
 fn plain(status: u16, word: &'static str) -> Refusal
     ensures { refused result ≡ stream.plain status word.now }
 {
@@ -208,7 +209,7 @@ fn plain(status: u16, word: &'static str) -> Refusal
     }
 }
 
-/// Returns the refusal for a request that makes no call.
+/// Refuses a request that cannot be turned into a call. Returns the reason, not yet a reply.
 fn refusal_of(fault: CallFault) -> Refusal
     ensures { refused result ≡ told_by fault }
 {

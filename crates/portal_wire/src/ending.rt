@@ -1,4 +1,4 @@
-//! The ways in which a stream of requests ends.
+//! The type `Ending`: the ways in which a stream of requests ends.
 
 /// How the requests of a stream end.
 #[derive(Clone, Copy, Debug, PartialEq, Eq, Drop)]

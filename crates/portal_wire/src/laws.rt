@@ -1,4 +1,4 @@
-//! Laws: a stream has exactly one list of requests and one ending.
+//! Laws: each stream has exactly one sequence of requests and one ending.
 
 ghost use Rattle.std.specs.Prelude.{◌≡◌, ℕ, List};
 ghost use Rattle.portal_core.specs.Run.{Request};

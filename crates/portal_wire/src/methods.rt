@@ -29,7 +29,7 @@ fn method_named(method: &str) -> Method
     }
 }
 
-/// Parses a method.
+/// Parses the method of a request.
 pub(crate) fn method_in(alloc: Global, bytes: &[u8]) -> Result<Method, AllocError>
     ensures { IfOk result (λ method. method ≡ method_of bytes.now) }
 {

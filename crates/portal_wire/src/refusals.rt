@@ -1,4 +1,4 @@
-//! Turns a refusal into a reply.
+//! Makes the reply that refuses a stream, or a request that makes no call.
 
 ghost use Rattle.std.specs.Prelude.{◌≡◌, IfOk};
 ghost use Rattle.serde_json.specs.View.{view};
@@ -12,7 +12,7 @@ use portal_frame::Refusal;
 use serde_json::{Value, json};
 use std::alloc::{AllocError, Global};
 
-/// Makes the JSON body for a refusal.
+/// Makes the JSON body for the refusal of a stream or of a request that makes no call.
 fn told_fault(alloc: Global, word: &str, row: Option<u32>) -> Result<Value, AllocError>
     ensures { IfOk result (λ body. view body ≡ fault_body word.now row) }
 {
@@ -22,7 +22,7 @@ fn told_fault(alloc: Global, word: &str, row: Option<u32>) -> Result<Value, Allo
     }
 }
 
-/// Makes the reply for a refusal.
+/// Makes the reply for the refusal of a stream or of a request that makes no call.
 ///
 /// # Errors
 ///

@@ -9,7 +9,7 @@ ghost use Rattle.portal_wire.specs.Conversation.{reply_lines, common_lines, allo
 use portal_core::{Body, Reply};
 use std::alloc::{AllocError, Global};
 
-/// Returns the reason phrase of a status.
+/// Returns the reason phrase of a status, for the status line of a reply.
 fn phrase(status: u16) -> &'static str
     ensures { result.now ≡ phrase_of status }
 {
@@ -27,7 +27,7 @@ fn phrase(status: u16) -> &'static str
     }
 }
 
-/// Returns the content type of a body.
+/// Returns the content type of a body, for the headers of a reply.
 fn content_type(body: &Body) -> &'static str
     ensures { result.now ≡ type_of (body_model body.now) }
 {
@@ -39,14 +39,14 @@ fn content_type(body: &Body) -> &'static str
     }
 }
 
-/// Makes the body of a 503 reply.
+/// Writes the body of a 503 reply as bytes.
 fn unavailable_bytes(alloc: Global) -> Result<Vec<u8>, AllocError>
     ensures { IfOk result (λ bytes. bytes.items ≡ body_bytes (body_model Body.Unavailable)) }
 {
     Vec::from_slice(alloc, b"{\"error\":\"unavailable\"}")
 }
 
-/// Writes a body as bytes.
+/// Writes the body of a reply as bytes.
 fn bytes_of(alloc: Global, body: &Body) -> Result<Vec<u8>, AllocError>
     ensures { IfOk result (λ bytes. HasWholeNumbers (body_model body.now)
         → bytes.items ≡ body_bytes (body_model body.now)) }
@@ -72,7 +72,7 @@ fn first_lines(alloc: Global, reply: &Reply, length: usize) -> Result<String, Al
     )
 }
 
-/// Appends the header `allow`, unless no methods are given.
+/// Appends the header `allow` to a reply's headers, unless no methods are given.
 fn push_allow(text: &mut String, allow: &str) -> Result<(), AllocError>
     ensures { OnOk result (string_bytes text.new ≡ string_bytes text.old ++ allow_line allow.now) }
 {
@@ -84,7 +84,7 @@ fn push_allow(text: &mut String, allow: &str) -> Result<(), AllocError>
     text.push_str("\r\n")
 }
 
-/// Appends the header `connection: close` if the connection closes.
+/// Appends `connection: close` to a reply's headers if the connection closes.
 fn push_close(text: &mut String, close: bool) -> Result<(), AllocError>
     ensures { OnOk result (string_bytes text.new ≡ string_bytes text.old ++ close_line close) }
 {

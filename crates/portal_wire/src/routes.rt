@@ -44,7 +44,7 @@ fn own_routes(alloc: Global) -> Result<Router<Route>, InsertError>
     Ok(router)
 }
 
-/// Makes a router for the same routes and those of the rolls and the phase.
+/// Makes a router for the routes of `own_routes`, of the rolls and of the phase.
 fn roll_routes(alloc: Global) -> Result<Router<Route>, InsertError>
     ensures { IfOk result (λ router. router ≡ roll_route_rows) }
 {

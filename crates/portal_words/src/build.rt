@@ -37,7 +37,8 @@ Exit status: 0 printed, 2 the database is refused, 3 a device or memory failed."
 const UPGRADE_PRINTS: &str = "Prints `upgraded`.
 Exit status: 0 upgraded, 2 the database is refused, 3 a device or memory failed.";
 
-// Creates a command with one optional file; `prints` describes its output and exit status.
+// Builds the parser of a command with one optional file; `prints` describes its output and exit
+// status.
 fn of_file<'a>(
     alloc: Global,
     name: &'a str,
@@ -52,7 +53,7 @@ fn of_file<'a>(
         .arg(Arg::new(alloc, "FILE").help("The instance file; standard input without it"))
 }
 
-// Creates a command on one database; `prints` describes its output and exit status.
+// Builds the parser of a command on one database; `prints` describes its output and exit status.
 fn of_database<'a>(
     alloc: Global,
     name: &'a str,
@@ -97,7 +98,7 @@ fn connections<'a>(alloc: Global) -> Arg<'a>
         .help("End after so many connections, 1 to 1000000")
 }
 
-// Creates the command that listens on a port.
+// Builds the parser of the command that listens on a port.
 fn serve<'a>(alloc: Global) -> Result<Command<'a>, AllocError>
     ensures { IfOk result (λ c. Reads c serve_app) }
 {
@@ -111,7 +112,7 @@ fn serve<'a>(alloc: Global) -> Result<Command<'a>, AllocError>
     .arg(connections(alloc))
 }
 
-// Adds a command on one optional file.
+// Adds a command on one optional file to the parser.
 fn with_file<'a>(
     commands: Command<'a>,
     alloc: Global,
@@ -125,7 +126,7 @@ fn with_file<'a>(
     commands.subcommand(of_file(alloc, name, about, prints)?)
 }
 
-// Adds a command on one database.
+// Adds a command on one database to the parser.
 fn with_database<'a>(
     commands: Command<'a>,
     alloc: Global,
@@ -139,7 +140,7 @@ fn with_database<'a>(
     commands.subcommand(of_database(alloc, name, about, prints)?)
 }
 
-// Adds the command that listens on a port.
+// Adds the command that listens on a port to the parser.
 fn with_serve<'a>(commands: Command<'a>, alloc: Global) -> Result<Command<'a>, AllocError>
     ensures { (app : App) → Reads commands.entry app
         → IfOk result (λ c. Reads c (with_subcommand app serve_app.top)) }

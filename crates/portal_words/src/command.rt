@@ -43,7 +43,7 @@ pub enum Asked<'a> {
     Show { text: String, status: u8 },
 }
 
-// Returns the command `serve` with its arguments.
+// Returns the command `serve` with the arguments that the parser matched.
 fn listening<'a>(matches: &ArgMatches<'a>) -> Option<Command<'a>> {
     Some(Command::Serve {
         database: matches.get_str("DB")?,
@@ -93,7 +93,7 @@ fn chosen<'a>(matches: &ArgMatches<'a>) -> Option<Command<'a>>
     }
 }
 
-// Parses the words into matches.
+// Parses the words of a command line into matches.
 fn parsed<'a, S: AsStr>(alloc: Global, words: &'a [S]) -> Result<ArgMatches<'a>, Error>
     ensures matches { (name : Text) (file : Option Text)
         → AsksFile (map S.text words.entry.now) name file

@@ -7,7 +7,7 @@ ghost use Rattle.spa_check.specs.Listed.{IsBetterOff, IsFirstBetterOff};
 use crate::wants::wanted;
 use spa_model::{Instance, Matching};
 
-/// Returns whether `other` gives the student a better project, or one instead of none.
+/// Returns whether the matching `other` gives the student a better project, or one instead of none.
 fn is_better_off(instance: &Instance, matching: &Matching, other: &Matching, s: usize) -> bool
     requires fits { IsMatching instance.now matching.now }
     requires other_fits { IsMatching instance.now other.now }
@@ -20,7 +20,8 @@ fn is_better_off(instance: &Instance, matching: &Matching, other: &Matching, s: 
     }
 }
 
-/// Finds the first student to whom `other` gives a better project, or one instead of none.
+/// Finds the first student to whom the matching `other` gives a better project, or one instead of
+/// none.
 pub fn better_off(instance: &Instance, matching: &Matching, other: &Matching) -> Option<usize>
     requires fits { IsMatching instance.now matching.now }
     requires other_fits { IsMatching instance.now other.now }

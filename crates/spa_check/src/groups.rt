@@ -1,4 +1,4 @@
-//! Counts the students of each project and lecturer, and finds the worst rank of these students.
+//! Counts each project's and lecturer's students, and finds their worst rank.
 
 ghost use Rattle.std.specs.Prelude.{◌≡◌, ◌+◌, ◌<◌, ◌^◌, IfOk, length, max};
 ghost use Rattle.spa_model.specs.Spa.{IsMatching, IsOn, place, ranking_of};
@@ -29,7 +29,7 @@ fn joined(group: Group, depth: usize) -> Group
     }
 }
 
-/// Returns the student's position on the lecturer's list, counted from 1.
+/// Returns the student's rank as a group counts it: the position on the lecturer's list, from 1.
 pub(crate) fn depth_of(instance: &Instance, l: usize, s: usize) -> usize
     requires lecturer { l < length instance.now.rankings }
     requires student { s < length instance.now.choices }
@@ -42,7 +42,7 @@ pub(crate) fn depth_of(instance: &Instance, l: usize, s: usize) -> usize
     }
 }
 
-/// Returns the group of students at each project.
+/// Returns each project's group: the count of its students, and their worst rank.
 pub(crate) fn project_groups(
     alloc: Global,
     instance: &Instance,
@@ -61,7 +61,7 @@ pub(crate) fn project_groups(
     Ok(groups)
 }
 
-/// Returns the group of students of each lecturer.
+/// Returns each lecturer's group: the count of the lecturer's students, and their worst rank.
 pub(crate) fn lecturer_groups(
     alloc: Global,
     instance: &Instance,

@@ -14,7 +14,8 @@ use crate::wants::{least_from, wanted};
 use spa_model::{Instance, Letter, Matching};
 use std::alloc::{AllocError, Global};
 
-/// Returns the letter of the pair if it blocks the matching. The student has to want the project.
+/// Returns the letter of the pair if it blocks the matching, using the groups' counts and worst
+/// ranks. The student has to want the project.
 fn letter_of(
     instance: &Instance,
     matching: &Matching,
@@ -50,7 +51,7 @@ fn letter_of(
     }
 }
 
-/// Appends the blocking pairs of this student, sorted by project.
+/// Appends this student's blocking pairs to the list of all, sorted by project.
 fn add_blocks(
     instance: &Instance,
     matching: &Matching,

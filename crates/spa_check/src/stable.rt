@@ -8,7 +8,8 @@ ghost use Rattle.spa_model.specs.Spa.{IsWith, IsStable, is_lecturer, project_of,
 use crate::wants::wanted;
 use spa_model::{Instance, Letter, Matching};
 
-/// Returns whether the student is at a project of the lecturer.
+/// Returns whether the student has a project of the lecturer, to test whether the matching is
+/// stable.
 pub(crate) fn is_with(instance: &Instance, matching: &Matching, l: usize, s: usize) -> bool
     requires fits { IsMatching instance.now matching.now }
     requires in_range { s < length instance.now.choices }
@@ -21,7 +22,7 @@ pub(crate) fn is_with(instance: &Instance, matching: &Matching, l: usize, s: usi
     }
 }
 
-/// Returns whether a student at the project comes after `s` on its lecturer's list.
+/// Returns whether a student at the project is ranked below `s`, without allocating memory.
 fn has_worse_at(instance: &Instance, matching: &Matching, p: usize, s: usize) -> bool
     requires fits { IsMatching instance.now matching.now }
     requires project { p < length instance.now.lecturers }
@@ -39,7 +40,7 @@ fn has_worse_at(instance: &Instance, matching: &Matching, p: usize, s: usize) ->
     false
 }
 
-/// Returns whether a student of the lecturer comes after `s` on the lecturer's list.
+/// Returns whether a student of the lecturer is ranked below `s`, without allocating memory.
 fn has_worse_with(instance: &Instance, matching: &Matching, l: usize, s: usize) -> bool
     requires fits { IsMatching instance.now matching.now }
     requires lecturer { l < length instance.now.rankings }
@@ -54,7 +55,7 @@ fn has_worse_with(instance: &Instance, matching: &Matching, l: usize, s: usize) 
     false
 }
 
-/// Returns whether the lecturer has `s`, or a student who comes after `s` on the list.
+/// Returns whether the lecturer has `s`, or a student ranked below `s`, without allocating memory.
 fn may_replace(instance: &Instance, matching: &Matching, l: usize, s: usize) -> bool
     requires fits { IsMatching instance.now matching.now }
     requires lecturer { l < length instance.now.rankings }
@@ -68,7 +69,8 @@ fn may_replace(instance: &Instance, matching: &Matching, l: usize, s: usize) -> 
     has_worse_with(instance, matching, l, s)
 }
 
-/// Returns the letter of the pair if it blocks the matching. The student has to want the project.
+/// Returns the letter of the pair if it blocks the matching, without allocating memory. The student
+/// has to want the project.
 pub(crate) fn letter_of(
     instance: &Instance,
     matching: &Matching,
@@ -98,7 +100,7 @@ pub(crate) fn letter_of(
     }
 }
 
-/// Returns whether the student is in no blocking pair.
+/// Returns whether the student is in no blocking pair, to test whether the matching is stable.
 fn is_content(instance: &Instance, matching: &Matching, s: usize) -> bool
     requires fits { IsMatching instance.now matching.now }
     requires in_range { s < length instance.now.choices }

@@ -6,7 +6,7 @@ ghost use Rattle.spa_check.specs.inner.Groups.{not_below, IsLeastIn};
 
 use spa_model::{Instance, Matching};
 
-/// Returns the position of `x` on the list, or the list's length if `x` is not on it.
+/// Returns how many projects on the list the student prefers to `x`: all if `x` is not on it.
 pub(crate) fn place_in(list: &[usize], x: usize) -> usize
     ensures { result ≡ place list.now x }
 {
@@ -29,7 +29,8 @@ pub(crate) fn wanted<'a>(instance: &'a Instance, matching: &Matching, s: usize) 
     }
 }
 
-/// Returns the smallest number on the list that is at least `from`, if any.
+/// Returns the smallest index, at least `from`, among the projects that the student prefers, if
+/// any.
 pub(crate) fn least_from(list: &[usize], from: usize) -> Option<usize>
     ensures { MatchOption result (length (not_below from list.now)
         ≡ 0) (IsLeastIn (not_below from list.now)) }

@@ -1,4 +1,4 @@
-//! Laws for students: best matchings exist, honest lists are best, waiting never pays.
+//! Laws of stable matchings: best ones exist, honest lists are best, waiting never pays.
 
 ghost use Rattle.std.specs.Prelude.{◌≡◌, ◌↔◌, ℕ, ◌∷◌, [], Some, None};
 ghost use Rattle.spa_model.specs.Spa.{IsBest, IsLawful};
@@ -20,8 +20,8 @@ pub fn best_there_is()
     ensures { BestThereIs }
 {}
 
-/// Law: judged by the honest list, no other list gives a student a better project, whatever the
-/// other students list. Each lecturer has to order the same students alike.
+/// Law: in an instance, judged by the honest list, no other list gives a student a better project.
+/// This holds whatever the other students list. Each lecturer has to order the same students alike.
 pub fn honest_is_best()
     ensures { HonestIsBest }
 {}
@@ -32,21 +32,22 @@ pub fn left_finds_none()
     ensures { LeftFindsNone }
 {}
 
-/// Law: waiting gains nothing. Suppose that a stable matching gives a student no project, whatever
-/// the student listed. Judged by the honest list, no project that still has room is better than
-/// what the honest list gives.
+/// Law: a student of an instance gains nothing by waiting. Suppose that a stable matching gives the
+/// student no project, whatever the student listed. Judged by the honest list, no project that
+/// still has room is better than what the honest list gives.
 pub fn waiting_never_pays()
     ensures { WaitingNeverPays }
 {}
 
-/// Law: whatever lists a group submits, at least one member gets nothing better than with honest
-/// lists, judged by that member's honest list. Each lecturer has to order the same students alike.
+/// Law: in an instance, no lists that a group submits give every member a better project. At least
+/// one member gets nothing better than with honest lists, judged by that member's honest list. Each
+/// lecturer has to order the same students alike.
 pub fn no_group_gains()
     ensures { NoGroupGains }
 {}
 
-/// Law: one member of a group may gain. In the example, Ann puts Bells first and gets it, although
-/// it is her last choice. Cem then gets Kites.
+/// Law: one member of a group may gain by dishonest lists. In the example, Ann puts Bells first and
+/// gets it, although it is her last choice. Cem then gets Kites.
 pub fn one_may_gain()
     ensures { NobodyGains → ⊥ }
 {}

@@ -7,14 +7,14 @@ ghost use Rattle.spa_model.specs.inner.Fitting.{AreAcceptable};
 
 use crate::instance::Instance;
 
-/// Returns whether `x` is on the list.
+/// Returns whether the project `x` is acceptable: on the student's list.
 pub(crate) fn is_on(list: &[usize], x: usize) -> bool
     ensures { IsTrue result ↔ IsOn list.now x }
 {
     list.contains(&x)
 }
 
-/// Returns whether each student's project is on the student's list.
+/// Returns whether the assigned projects are acceptable: each on its student's list.
 pub(crate) fn are_acceptable(instance: &Instance, projects: &[Option<usize>]) -> bool
     requires { length projects.now ≡ length instance.now.choices }
     ensures { IsTrue result ↔ AreAcceptable instance.now projects.now }
@@ -29,14 +29,14 @@ pub(crate) fn are_acceptable(instance: &Instance, projects: &[Option<usize>]) ->
     true
 }
 
-/// Returns how many students the project has.
+/// Returns how many students have this assigned project, to test its capacity.
 pub(crate) fn count_at(projects: &[Option<usize>], p: usize) -> usize
     ensures { result ≡ at_project projects.now p }
 {
     projects.iter().filter(|q| **q == Some(p)).count()
 }
 
-/// Returns whether no project has more students than its capacity.
+/// Returns whether the assigned projects keep within the projects' capacities.
 pub(crate) fn projects_fit(instance: &Instance, projects: &[Option<usize>]) -> bool
     requires { AreAcceptable instance.now projects.now }
     ensures { IsTrue result ↔ ((p : ℕ) → at_project projects.now p ≤ capacity_of instance.now p) }
@@ -50,7 +50,7 @@ pub(crate) fn projects_fit(instance: &Instance, projects: &[Option<usize>]) -> b
     true
 }
 
-/// Returns whether the student is at a project of the lecturer.
+/// Returns whether the student's assigned project is one of the lecturer's.
 fn is_with(instance: &Instance, projects: &[Option<usize>], l: usize, s: usize) -> bool
     requires acceptable { AreAcceptable instance.now projects.now }
     requires in_range { s < length projects.now }
@@ -63,7 +63,7 @@ fn is_with(instance: &Instance, projects: &[Option<usize>], l: usize, s: usize) 
     }
 }
 
-/// Returns how many students the lecturer has.
+/// Returns how many students have an assigned project of the lecturer, to test the capacity.
 pub(crate) fn count_with(instance: &Instance, projects: &[Option<usize>], l: usize) -> usize
     requires { AreAcceptable instance.now projects.now }
     ensures { result ≡ at_lecturer instance.now projects.now l }
@@ -77,7 +77,7 @@ pub(crate) fn count_with(instance: &Instance, projects: &[Option<usize>], l: usi
     count
 }
 
-/// Returns whether no lecturer has more students than the capacity.
+/// Returns whether the assigned projects keep within the lecturers' capacities.
 pub(crate) fn lecturers_fit(instance: &Instance, projects: &[Option<usize>]) -> bool
     requires { AreAcceptable instance.now projects.now }
     ensures { IsTrue result

@@ -1,4 +1,4 @@
-//! Instances: access to keys, lists, ranks and capacities, and to a matching's placements.
+//! Instances: methods for keys, lists, ranks, capacities and placements; `fits` tests a matching.
 
 ghost use Rattle.std.specs.Prelude.{◌≡◌, ◌<◌, ◌↔◌, [], IsTrue, IfSome, length, slice_index_or};
 ghost use Rattle.std.specs.Ordering.{nat_cmp};

@@ -1,4 +1,4 @@
-//! Matchings, built from pairs, with the faults that pairs can have.
+//! Builds matchings from pairs; names the faults that pairs can have.
 
 ghost use Rattle.std.specs.Prelude.{◌≡◌, ◌<◌, IfErr, IfOk, OnOk, length};
 
@@ -101,6 +101,7 @@ impl Matching {
         &self.projects
     }
 
+    /// Returns the project of a student, if any.
     pub(crate) fn project(&self, student: usize) -> Option<usize>
         requires { student < length self.now }
         ensures { result ≡ project_of self.now student }

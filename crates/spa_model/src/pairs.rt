@@ -42,7 +42,7 @@ pub(crate) fn project_numbers(
         .collect(alloc)
 }
 
-/// Returns the smaller of `row` and `best`, or `row` if there is no `best`.
+/// Returns the smaller of a pair's `row` and `best`, or `row` if there is no `best`.
 fn least(best: Option<u32>, row: u32) -> u32
     ensures { result ≡ least_row best row }
 {
@@ -52,7 +52,7 @@ fn least(best: Option<u32>, row: u32) -> u32
     }
 }
 
-/// Finds the lowest-numbered row with an unknown student.
+/// Finds the lowest-numbered row of a pair with an unknown student.
 fn no_such_student(instance: &Instance, lines: &[PairLine], students: &[usize]) -> Option<u32>
     requires { students.now ≡ map (student_in instance.now) lines.now }
     ensures { IsLeastOf (HasPairFault instance.now lines.now MatchingFault.NoSuchStudent) result }
@@ -66,7 +66,7 @@ fn no_such_student(instance: &Instance, lines: &[PairLine], students: &[usize]) 
     best
 }
 
-/// Finds the lowest-numbered row with an unknown project.
+/// Finds the lowest-numbered row of a pair with an unknown project.
 fn no_such_project(instance: &Instance, lines: &[PairLine], projects: &[usize]) -> Option<u32>
     requires { projects.now ≡ map (project_in instance.now) lines.now }
     ensures { IsLeastOf (HasPairFault instance.now lines.now MatchingFault.NoSuchProject) result }
@@ -81,7 +81,7 @@ fn no_such_project(instance: &Instance, lines: &[PairLine], projects: &[usize]) 
     best
 }
 
-/// Finds the lowest-numbered row whose project is not on the student's list.
+/// Finds the lowest-numbered row of a pair whose project is not on the student's list.
 fn not_acceptable(
     instance: &Instance,
     lines: &[PairLine],
@@ -103,7 +103,7 @@ fn not_acceptable(
     best
 }
 
-/// Finds the lowest-numbered row whose student is in an earlier pair.
+/// Finds the lowest-numbered row of a pair whose student is in an earlier pair.
 fn student_twice(
     alloc: Global,
     instance: &Instance,
@@ -127,7 +127,7 @@ fn student_twice(
     Ok(best)
 }
 
-/// Finds the lowest-numbered row at which a project exceeds its capacity.
+/// Finds the lowest-numbered row of a pair at which a project exceeds its capacity.
 fn project_over(
     alloc: Global,
     instance: &Instance,
@@ -152,7 +152,7 @@ fn project_over(
     Ok(best)
 }
 
-/// Finds the lowest-numbered row at which a lecturer exceeds the capacity.
+/// Finds the lowest-numbered row of a pair at which a lecturer exceeds the capacity.
 fn lecturer_over(
     alloc: Global,
     instance: &Instance,
@@ -177,7 +177,7 @@ fn lecturer_over(
     Ok(best)
 }
 
-/// Returns an error with this fault at `row`, or `Ok` if `row` is `None`.
+/// Refuses the pairs with this fault at `row`, or returns `Ok` if `row` is `None`.
 fn refused(fault: MatchingFault, row: Option<u32>) -> Result<(), BadMatching>
     ensures ok { OnOk result (row ≡ None) }
     ensures err { IfErr result (λ e. (e.fault ≡ fault) × (row ≡ Some e.row)) }

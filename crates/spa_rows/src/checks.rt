@@ -1,4 +1,4 @@
-//! Runs the tests of `least` on lines of every kind, but does not check rankings.
+//! Finds faults, such as bad keys and overlong lists, in lines of every kind.
 
 ghost use Rattle.std.specs.Prelude.{◌≡◌, Err, IfErr, IfOk, IsOk, MatchOption, OnOk};
 ghost use Rattle.spa_rows.specs.Faults.{HasFault, HasNoneBefore, IsRefusal};
@@ -14,7 +14,7 @@ use crate::limits::{MOST_LECTURERS, MOST_PROJECTS, MOST_STUDENTS};
 use crate::lines::InstanceRows;
 use std::alloc::{AllocError, Global};
 
-/// Returns the smaller of two optional rows, or the only one present.
+/// Returns the smaller of the faulty rows of two kinds of lines, or the only one present.
 fn lesser(a: Option<u32>, b: Option<u32>) -> Option<u32>
     ensures { result ≡ lesser_row a b }
 {
@@ -24,6 +24,7 @@ fn lesser(a: Option<u32>, b: Option<u32>) -> Option<u32>
     }
 }
 
+/// Returns row 0 if there are too many lines of any kind, and otherwise `None`.
 fn too_many(rows: &InstanceRows) -> Option<u32>
     ensures { IsLeastOf (HasFault rows.now InstanceFault.TooMany) result }
 {
@@ -36,6 +37,7 @@ fn too_many(rows: &InstanceRows) -> Option<u32>
     None
 }
 
+/// Finds, in lines of every kind, the lowest-numbered row with a malformed key.
 fn bad_keys(rows: &InstanceRows) -> Option<u32>
     ensures { IsLeastOf (HasFault rows.now InstanceFault.BadKey) result }
 {
@@ -45,6 +47,7 @@ fn bad_keys(rows: &InstanceRows) -> Option<u32>
     lesser(lecturer, lesser(project, student))
 }
 
+/// Finds, in lines of every kind, the lowest-numbered row that repeats a key of its kind.
 fn keys_twice(alloc: Global, rows: &InstanceRows) -> Result<Option<u32>, AllocError>
     ensures { IfOk result (IsLeastOf (HasFault rows.now InstanceFault.KeyTwice)) }
 {
@@ -54,6 +57,7 @@ fn keys_twice(alloc: Global, rows: &InstanceRows) -> Result<Option<u32>, AllocEr
     Ok(lesser(lecturer, lesser(project, student)))
 }
 
+/// Finds, in lines of every kind, the lowest-numbered row with a bad capacity.
 fn bad_capacities(rows: &InstanceRows) -> Option<u32>
     ensures { IsLeastOf (HasFault rows.now InstanceFault.BadCapacity) result }
 {
@@ -62,6 +66,7 @@ fn bad_capacities(rows: &InstanceRows) -> Option<u32>
     lesser(lecturer, project)
 }
 
+/// Finds, in lines of every kind, the lowest-numbered row of a project whose lecturer is unknown.
 fn lecturers_missing(alloc: Global, rows: &InstanceRows) -> Result<Option<u32>, AllocError>
     ensures { IfOk result (IsLeastOf (HasFault rows.now InstanceFault.NoSuchLecturer)) }
 {
@@ -69,6 +74,8 @@ fn lecturers_missing(alloc: Global, rows: &InstanceRows) -> Result<Option<u32>, 
     Ok(no_such_lecturer(&lecturers, &rows.projects))
 }
 
+/// Finds, in lines of every kind, the lowest-numbered row of a student who lists an unknown
+/// project.
 fn projects_missing(alloc: Global, rows: &InstanceRows) -> Result<Option<u32>, AllocError>
     ensures { IfOk result (IsLeastOf (HasFault rows.now InstanceFault.NoSuchProject)) }
 {
@@ -76,6 +83,7 @@ fn projects_missing(alloc: Global, rows: &InstanceRows) -> Result<Option<u32>, A
     Ok(no_such_project(&projects, &rows.students))
 }
 
+/// Finds, in lines of every kind, the lowest-numbered row whose list contains a text twice.
 fn repeats_in_lists(alloc: Global, rows: &InstanceRows) -> Result<Option<u32>, AllocError>
     ensures { IfOk result (IsLeastOf (HasFault rows.now InstanceFault.RepeatInList)) }
 {
@@ -84,13 +92,14 @@ fn repeats_in_lists(alloc: Global, rows: &InstanceRows) -> Result<Option<u32>, A
     Ok(lesser(lecturer, student))
 }
 
+/// Finds, in lines of every kind, the lowest-numbered row of a student whose list is too long.
 fn lists_too_long(rows: &InstanceRows) -> Option<u32>
     ensures { IsLeastOf (HasFault rows.now InstanceFault.ListTooLong) result }
 {
     list_too_long(&rows.students)
 }
 
-/// Returns an error with this fault at `row`, or `Ok` if `row` is `None`.
+/// Refuses an instance's lines with this fault at `row`, or returns `Ok` if `row` is `None`.
 pub fn refuse(fault: InstanceFault, row: Option<u32>) -> Result<(), BadInstance>
     ensures { MatchOption row (IsOk result) (λ r. result
         ≡ Err (record { fault = fault; row = r })) }

@@ -11,7 +11,7 @@ use std::alloc::{AllocError, Global};
 use std::collections::HashMap;
 use std::marker::Model;
 
-/// Returns the index that the map holds for a key.
+/// Returns the index of the line that the hash table holds for a key, if any.
 fn place_of(places: &HashMap<&[u8], usize>, key: &[u8]) -> Option<usize>
     ensures { result ≡ get text_eq places.now key.entry }
 {

@@ -43,12 +43,14 @@ impl Model for Key {
     ghost invariant = { λ k. IsTrue (is_key (string_bytes k.text)) };
 }
 
+/// Returns whether a key may contain this byte.
 fn is_key_byte_of(byte: u8) -> bool
     ensures { result ≡ is_key_byte byte }
 {
     byte.is_ascii_alphanumeric() || byte == b'-' || byte == b'_' || byte == b'.'
 }
 
+/// Returns whether a key may contain each of these bytes.
 fn are_key_bytes(bytes: &[u8]) -> bool
     ensures { result ≡ list_all is_key_byte bytes.now }
 {

@@ -1,4 +1,4 @@
-//! Traits of lines: row number and key, capacity, list.
+//! Traits for reading a line's row number, key, capacity or list.
 
 ghost use Rattle.std.specs.Prelude.{◌≡◌, ℕ, List, map};
 
@@ -10,9 +10,11 @@ pub trait Line {
 
     ghost key_of: { Self → List ℕ };
 
+    /// Returns the line's row number.
     fn row(&self) -> u32
         ensures { result ≡ row_of self.now };
 
+    /// Returns the line's key.
     fn key(&self) -> &[u8]
         ensures { result.now ≡ key_of self.now };
 }
@@ -21,6 +23,7 @@ pub trait Line {
 pub(crate) trait Limited: Line {
     ghost capacity_of: { Self → ℕ };
 
+    /// Returns the capacity of a line of a kind with capacities.
     fn capacity(&self) -> u32
         ensures { result ≡ capacity_of self.now };
 }
@@ -29,6 +32,7 @@ pub(crate) trait Limited: Line {
 pub(crate) trait Listing: Line {
     ghost list_of: { Self → List (List ℕ) };
 
+    /// Returns the list of a line of a kind with lists.
     fn list(&self) -> &[Vec<u8>]
         ensures { map (λ text. text.items) result.now ≡ list_of self.now };
 }

@@ -1,4 +1,4 @@
-//! Finds the lowest-numbered row with a given fault, such as a bad or repeated key.
+//! Finds the lowest-numbered row with a given fault, such as a bad key, in lines of one kind.
 
 ghost use Rattle.std.specs.Prelude.{◌≡◌, ◌<◌, ◌↔◌, false, if◌then◌else◌, IfOk, IsSortedByKey};
 ghost use Rattle.std.specs.Prelude.{IsTrue, Some, length, map};
@@ -17,7 +17,7 @@ use crate::lines::{LecturerLine, ProjectLine, StudentLine};
 use std::alloc::{AllocError, Global};
 use std::collections::{BTreeSet, HashSet};
 
-/// Returns the smaller of `row` and `best`, or `row` if there is no `best`.
+/// Returns the smaller of a line's `row` and `best`, or `row` if there is no `best`.
 pub(crate) fn least(best: Option<u32>, row: u32) -> u32
     ensures { result ≡ least_row best row }
 {
@@ -27,20 +27,21 @@ pub(crate) fn least(best: Option<u32>, row: u32) -> u32
     }
 }
 
-/// Returns the least bad row so far, given the previous one and whether `row` is bad.
+/// Returns the lowest-numbered faulty row so far, given the previous one and whether `row` is bad.
 pub fn least_with(best: Option<u32>, row: u32, is_bad: bool) -> Option<u32>
     ensures { result ≡ (if is_bad then Some (least_row best row) else best) }
 {
     if is_bad { Some(least(best, row)) } else { best }
 }
 
+/// Returns whether a line's capacity has the fault that it is not 1 to 200.
 fn is_bad_capacity(capacity: u32) -> bool
     ensures { IsTrue result ↔ IsBadCapacity capacity }
 {
     !is_capacity(capacity)
 }
 
-/// Finds the lowest-numbered row with a malformed key.
+/// Finds the lowest-numbered row with a malformed key, in lines of one kind.
 pub(crate) fn bad_key<L: Line>(lines: &[L]) -> Option<u32>
     ensures { IsLeastOf (BadAt lines.now L.row_of (λ _ x. is_key (L.key_of x) ≡ false)) result }
 {
@@ -51,7 +52,7 @@ pub(crate) fn bad_key<L: Line>(lines: &[L]) -> Option<u32>
     best
 }
 
-/// Finds the lowest-numbered row that repeats the key of an earlier line.
+/// Finds the lowest-numbered row that repeats the key of an earlier line, in lines of one kind.
 pub(crate) fn key_twice<L: Line>(alloc: Global, lines: &[L]) -> Result<Option<u32>, AllocError>
     ensures { IfOk result (IsLeastOf (BadAt lines.now L.row_of
         (λ j x. IsEarlierKey lines.now L.key_of j (L.key_of x)))) }
@@ -65,7 +66,7 @@ pub(crate) fn key_twice<L: Line>(alloc: Global, lines: &[L]) -> Result<Option<u3
     Ok(best)
 }
 
-/// Finds the lowest-numbered row whose capacity is not 1 to 200.
+/// Finds the lowest-numbered row whose capacity is not 1 to 200, in lines of one kind.
 pub(crate) fn bad_capacity<L: Limited>(lines: &[L]) -> Option<u32>
     ensures { IsLeastOf (BadAt lines.now L.Line.row_of
         (λ _ x. IsBadCapacity (L.capacity_of x))) result }
@@ -77,7 +78,7 @@ pub(crate) fn bad_capacity<L: Limited>(lines: &[L]) -> Option<u32>
     best
 }
 
-/// Finds the lowest-numbered row of a project whose lecturer has no line.
+/// Finds the lowest-numbered row of a project whose lecturer has no line, in the lines of projects.
 pub(crate) fn no_such_lecturer(
     lecturers: &Places<LecturerLine>,
     projects: &[ProjectLine],
@@ -93,7 +94,7 @@ pub(crate) fn no_such_lecturer(
     best
 }
 
-/// Returns whether a text on the list is not the key of a project.
+/// Returns whether a student's list has the fault that it names an unknown project.
 fn names_none(projects: &Places<ProjectLine>, list: &[Vec<u8>]) -> bool
     ensures { IsTrue result ↔ NamesNone projects.now (λ x. x.key)
         (map (λ text. text.items) list.now) }
@@ -121,7 +122,7 @@ pub(crate) fn no_such_project(
     best
 }
 
-/// Returns whether a text occurs twice in a short list.
+/// Returns whether a line's short list has the fault that a text occurs twice.
 fn repeats_in_few(alloc: Global, list: &[Vec<u8>]) -> Result<bool, AllocError>
     ensures { IfOk result (λ yes. IsTrue yes ↔ Repeats (map (λ text. text.items) list.now)) }
 {
@@ -134,8 +135,8 @@ fn repeats_in_few(alloc: Global, list: &[Vec<u8>]) -> Result<bool, AllocError>
     Ok(false)
 }
 
-/// Returns whether a text occurs twice in a long list. Crafted texts can collide in a hash set and
-/// make it slow. A tree stays fast.
+/// Returns whether a line's long list has the fault that a text occurs twice. Crafted texts can
+/// collide in a hash set and make it slow. A tree stays fast.
 fn repeats_in_many(alloc: Global, list: &[Vec<u8>]) -> Result<bool, AllocError>
     ensures { IfOk result (λ yes. IsTrue yes ↔ Repeats (map (λ text. text.items) list.now)) }
 {
@@ -148,7 +149,7 @@ fn repeats_in_many(alloc: Global, list: &[Vec<u8>]) -> Result<bool, AllocError>
     Ok(false)
 }
 
-/// Returns whether a text occurs twice in the list.
+/// Returns whether a line's list has the fault that a text occurs twice.
 fn repeats(alloc: Global, list: &[Vec<u8>]) -> Result<bool, AllocError>
     ensures { IfOk result (λ yes. IsTrue yes ↔ Repeats (map (λ text. text.items) list.now)) }
 {
@@ -159,7 +160,7 @@ fn repeats(alloc: Global, list: &[Vec<u8>]) -> Result<bool, AllocError>
     }
 }
 
-/// Finds the lowest-numbered row whose list contains a text twice.
+/// Finds the lowest-numbered row whose list contains a text twice, in lines of one kind.
 pub(crate) fn repeat_in_list<L: Listing>(
     alloc: Global,
     lines: &[L],

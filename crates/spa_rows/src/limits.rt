@@ -17,7 +17,7 @@ pub const LONGEST_CHOICE: usize = 20;
 /// The greatest capacity, in students.
 pub const MOST_PLACES: u32 = 200;
 
-/// Returns whether a project or a lecturer may have this capacity.
+/// Returns whether the limits allow this capacity for a project or a lecturer.
 pub fn is_capacity(students: u32) -> bool
     ensures { IsTrue result ↔ ((1 ≤ students) × (students ≤ 200)) }
 {

@@ -9,7 +9,7 @@ use crate::lines::InstanceRows;
 use std::alloc::AllocError;
 use std::cmp::Ordering;
 
-/// Sorts the lines by key.
+/// Sorts the lines of one kind by key.
 fn sort_lines<L: Line>(lines: &mut Vec<L>) -> Result<(), AllocError>
     ensures same { IsPermutation lines.old.items lines.new.items }
     ensures sorted { OnOk result (IsSortedByKey L.key_of (slice_cmp nat_cmp) lines.new.items) }

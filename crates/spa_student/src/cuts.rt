@@ -1,4 +1,4 @@
-//! `solve`: the SPA-student algorithm, with cursors into lists and cuts in rankings.
+//! `solve`: the SPA-student algorithm. Cursors point into lists; cuts shorten rankings.
 
 ghost use Rattle.std.specs.Prelude.{◌≡◌, ◌≢◌, ◌<◌, ◌≤◌, ◌+◌, ◌↔◌, ◌⊎◌, ℕ, IfOk, IfSome};
 ghost use Rattle.std.specs.Prelude.{MatchOption, IsTrue, Some, None, length, slice_set};
@@ -71,6 +71,7 @@ impl Progress {
         list.len()
     }
 
+    /// Returns whether the student's provisional project is `p`.
     fn is_at(&self, s: usize, p: usize) -> bool
         requires { s < length self.now.projects.items }
         ensures { IsTrue result ↔ (project_of self.now.projects.items s ≡ Some p) }
@@ -252,8 +253,8 @@ impl Progress {
         None
     }
 
-    /// Moves a free student's cursor to the first entry that is not cut, and assigns the student to
-    /// it if there is one. Returns the student who is then removed, if any.
+    /// Moves a free student's cursor to the first entry that is not cut. Assigns the student to
+    /// that project, if there is one. Returns the student who is then removed, if any.
     fn turn(&mut self, instance: &Instance, s: usize) -> Option<usize>
         requires state { IsUnderWay instance.now self.old }
         requires in_range { s < length instance.now.choices }
@@ -319,7 +320,7 @@ impl Progress {
     }
 }
 
-/// Returns, for each project, the length of its lecturer's ranking.
+/// Returns the first cut of each project: the length of its lecturer's ranking.
 fn first_project_cuts(alloc: Global, instance: &Instance) -> Result<Vec<usize>, AllocError>
     ensures { IfOk result (λ cuts. cuts.items ≡ map
         (λ l. length (ranking_of instance.now l)) instance.now.lecturers) }
@@ -331,7 +332,7 @@ fn first_project_cuts(alloc: Global, instance: &Instance) -> Result<Vec<usize>, 
     Ok(cuts)
 }
 
-/// Returns, for each lecturer, the length of the ranking.
+/// Returns the first cut of each lecturer: the length of the ranking.
 fn first_lecturer_cuts(alloc: Global, instance: &Instance) -> Result<Vec<usize>, AllocError>
     ensures { IfOk result (λ cuts. cuts.items ≡ map length instance.now.rankings) }
 {

@@ -1,4 +1,4 @@
-//! Looks up a lecturer's applicants by key, to check a ranking.
+//! Looks up a lecturer's applicants by key, to check a submitted ranking.
 
 ghost use Rattle.std.specs.Prelude.{◌≡◌, ◌||◌, Bool, true, false, not, OnOk, IfOk, IfSome, IfNone};
 ghost use Rattle.std.specs.List.{list_any};
@@ -38,7 +38,7 @@ impl<'a> Model for Applicants<'a> {
     ghost invariant = { λ a. HasKeys (is_applicant (by_project a.projects.now)) a.keys };
 }
 
-/// Adds the keys of these persons.
+/// Adds the keys of a project's applicants to the index.
 fn add_persons<'a>(
     keys: &mut HashMap<&'a [u8], &'a Key>,
     persons: &'a [Person],
@@ -52,7 +52,7 @@ fn add_persons<'a>(
     Ok(())
 }
 
-/// Returns whether `keys` lacks the key of some person.
+/// Returns whether a submitted ranking's `keys` lack an applicant to a project.
 fn leaves_out(keys: &HashSet<&[u8]>, persons: &[Person]) -> bool
     ensures { result ≡ list_any
         (λ s. not (contains_by (λ k. equals s.key k.now) keys.now)) persons.now }
@@ -87,7 +87,7 @@ impl<'a> Applicants<'a> {
     }
 }
 
-/// Collects the texts of these keys.
+/// Collects the texts of a submitted ranking's keys, to find a missing applicant.
 fn texts_of<'a>(alloc: Global, keys: &'a [Key]) -> Result<HashSet<&'a [u8]>, AllocError>
     ensures { IfOk result (HasTexts keys.now) }
 {
@@ -98,7 +98,7 @@ fn texts_of<'a>(alloc: Global, keys: &'a [Key]) -> Result<HashSet<&'a [u8]>, All
     Ok(texts)
 }
 
-/// Returns whether `keys` lacks some applicant.
+/// Returns whether a submitted ranking's `keys` lack an applicant of the lecturer.
 pub(crate) fn lacks_one(
     alloc: Global,
     applicants: &[(Key, Vec<Person>)],

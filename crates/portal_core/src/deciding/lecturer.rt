@@ -25,7 +25,7 @@ use serde_json::{Value, json};
 use spa_rows::Key;
 use std::alloc::{AllocError, Global};
 
-/// Makes the body that replies to `Call::Me`.
+/// Makes the body that replies to a lecturer's `Call::Me`.
 fn me_body(alloc: Global, view: &LecturerView) -> Result<Value, AllocError>
     ensures { IfOk result (λ body. json.view body ≡ shown.lecturer_me view.now) }
 {
@@ -48,7 +48,7 @@ fn me_body(alloc: Global, view: &LecturerView) -> Result<Value, AllocError>
     }
 }
 
-/// Makes a JSON object of a project and its applicants.
+/// Makes a JSON object of a lecturer's project and its applicants.
 fn applicants_value(
     alloc: Global,
     project: &Key,
@@ -62,7 +62,7 @@ fn applicants_value(
     json!(in alloc; {"applicants": applicants, "id": project.as_str()})
 }
 
-/// Makes the body that shows the applicants to each project.
+/// Makes the body that shows a lecturer the applicants to each project.
 fn applicants_body(alloc: Global, projects: &[(Key, Vec<Person>)]) -> Result<Value, AllocError>
     ensures { IfOk result (λ body. json.view body
         ≡ shown.applicants_body (by_project projects.now)) }
@@ -75,7 +75,7 @@ fn applicants_body(alloc: Global, projects: &[(Key, Vec<Person>)]) -> Result<Val
     json!(in alloc; {"projects": projects})
 }
 
-/// Makes a JSON object of a project and the students whom the result places there.
+/// Makes a JSON object of a lecturer's project and the students whom the result places there.
 fn placed_value(alloc: Global, project: &Key, students: &[Person]) -> Result<Value, AllocError>
     ensures { IfOk result (λ value. json.view value ≡ dictionary (
         (codes "id", string project.now)
@@ -85,7 +85,7 @@ fn placed_value(alloc: Global, project: &Key, students: &[Person]) -> Result<Val
     json!(in alloc; {"id": project.as_str(), "students": students})
 }
 
-/// Makes the body that shows the students whom the result places at each project.
+/// Makes the body that shows a lecturer the students whom the result places at each project.
 fn placed_body(alloc: Global, projects: &[(Key, Vec<Person>)]) -> Result<Value, AllocError>
     ensures { IfOk result (λ body. json.view body ≡ shown.placed_body (by_project projects.now)) }
 {
@@ -97,7 +97,7 @@ fn placed_body(alloc: Global, projects: &[(Key, Vec<Person>)]) -> Result<Value, 
     json!(in alloc; {"projects": projects})
 }
 
-/// Makes a JSON array of the ranked students, or null if there is no ranking.
+/// Makes a JSON array of the students whom a lecturer ranked, or null if there is no ranking.
 fn ranking_value(alloc: Global, ranking: &Option<Vec<Key>>) -> Result<Value, AllocError>
     ensures { IfOk result (λ value. json.view value
         ≡ texts_or_null (option_map (λ r. r.items) ranking.now)) }
@@ -108,7 +108,7 @@ fn ranking_value(alloc: Global, ranking: &Option<Vec<Key>>) -> Result<Value, All
     }
 }
 
-/// Makes the body that shows a ranking.
+/// Makes the body that shows a lecturer's ranking.
 fn ranking_body(alloc: Global, students: Value) -> Result<Value, AllocError>
     ensures { IfOk result (λ body. json.view body
         ≡ dictionary ((codes "students", json.view students) ∷ [])) }
@@ -116,7 +116,7 @@ fn ranking_body(alloc: Global, students: Value) -> Result<Value, AllocError>
     json!(in alloc; {"students": students})
 }
 
-/// Shows the applicants, once the students' lists are closed.
+/// Decides a lecturer's call to show the applicants: allowed once the students' lists are closed.
 fn show_applicants(alloc: Global, view: &LecturerView) -> Result<Decision, AllocError>
     ensures { IfOk result (λ decision. decision_model decision
         ≡ to_lecturer view.now AbstractCall.Applicants) }
@@ -128,7 +128,7 @@ fn show_applicants(alloc: Global, view: &LecturerView) -> Result<Decision, Alloc
     }
 }
 
-/// Shows the lecturer's ranking, once the students' lists are closed.
+/// Decides a lecturer's call to show the ranking: allowed once the students' lists are closed.
 fn show_ranking(alloc: Global, view: &LecturerView) -> Result<Decision, AllocError>
     ensures { IfOk result (λ decision. decision_model decision
         ≡ to_lecturer view.now AbstractCall.ShowRanking) }
@@ -141,7 +141,7 @@ fn show_ranking(alloc: Global, view: &LecturerView) -> Result<Decision, AllocErr
     }
 }
 
-/// Replaces the lecturer's ranking by this one, which has no fault.
+/// Decides to replace the lecturer's ranking by this one, which has no fault.
 fn replace_ranking(
     alloc: Global,
     view: &LecturerView,
@@ -157,7 +157,7 @@ fn replace_ranking(
     Ok(applies(body, Change::Ranking { lecturer, students }))
 }
 
-/// Accepts the ranking if it has no fault.
+/// Decides to accept the lecturer's ranking if it has no fault, and otherwise to refuse it.
 fn take_ranking(
     alloc: Global,
     view: &LecturerView,
@@ -174,7 +174,7 @@ fn take_ranking(
     }
 }
 
-/// Accepts a ranking without a fault, in the phase ranking.
+/// Decides a lecturer's call to set the ranking: accepted without a fault, in the phase ranking.
 fn set_ranking(alloc: Global, view: &LecturerView, list: &[Vec<u8>]) -> Result<Decision, AllocError>
     ensures { IfOk result (λ decision. decision_model decision
         ≡ to_lecturer view.now (AbstractCall.SetRanking (texts_of list.now))) }
@@ -185,7 +185,7 @@ fn set_ranking(alloc: Global, view: &LecturerView, list: &[Vec<u8>]) -> Result<D
     }
 }
 
-/// Shows the result to the lecturer, once there is one.
+/// Decides a lecturer's call to show the result: allowed once there is one.
 fn show_result(alloc: Global, view: &LecturerView) -> Result<Decision, AllocError>
     ensures { IfOk result (λ decision. decision_model decision
         ≡ to_lecturer view.now AbstractCall.Result) }

@@ -45,7 +45,7 @@ pub(crate) fn conflict_at(row: u64) -> RollRefusal
     }
 }
 
-/// Returns the refusal of a row whose lecturer is not on the roll.
+/// Returns the refusal of a project to be added whose lecturer is not on the roll.
 pub(crate) fn bad_row_at(row: u64) -> RollRefusal
     ensures { result ≡ rolls.bad_row_at row }
 {
@@ -56,7 +56,7 @@ pub(crate) fn bad_row_at(row: u64) -> RollRefusal
     }
 }
 
-/// Returns the refusal of more rows than the roll may have.
+/// Returns the refusal of rows to be added that exceed the limit of the roll.
 fn roll_full() -> RollRefusal
     ensures { result ≡ rolls.roll_full }
 {
@@ -78,15 +78,15 @@ pub(crate) trait Roll<X> {
     /// The codes or keys against which a new row is checked, given the rows already present.
     ghost texts_beside: { Self → List X → List words.Key };
 
-    /// Returns the greatest number of rows that the roll may have.
+    /// Returns the greatest number of rows that a roll may have, with the rows to be added.
     fn limit(&self) -> usize
         ensures { result ≡ (rules self.now).limit };
 
-    /// Returns the row's key.
+    /// Returns the key of a row to be added to a roll.
     fn key<'a>(&self, row: &'a X) -> &'a Key
         ensures { result.now ≡ (rules self.now).key row.now };
 
-    /// Returns whether the two rows are equal in all fields.
+    /// Returns whether a row to be added equals a row on the roll in all fields.
     fn is_same(&self, old: &X, row: &X) -> bool
         ensures { result ≡ (rules self.now).same old.now row.now };
 
@@ -99,16 +99,16 @@ pub(crate) trait Roll<X> {
         ensures { OnOk result ((there : List X) → HasTexts (texts_beside self.now there) texts.old
             → HasTexts (texts_beside self.now (row.now ∷ there)) texts.new) };
 
-    /// Returns whether a new row is bad, given these texts.
+    /// Returns whether a row to be added is bad, given these texts.
     fn is_bad(&self, texts: &HashSet<&[u8]>, row: &X) -> bool
         ensures { (there : List X) → HasTexts (texts_beside self.now there) texts.now
             → result ≡ (rules self.now).is_bad there row.now };
 
-    /// Returns the refusal of a bad row.
+    /// Returns the refusal of a bad row among the rows to be added.
     fn fault(&self, row: u64) -> RollRefusal
         ensures { result ≡ (rules self.now).fault row };
 
-    /// Copies the row.
+    /// Copies a row to be added to a roll.
     fn copy(&self, alloc: Global, row: &X) -> Result<X, AllocError>
         ensures { IfOk result (λ copy. copy ≡ row.now) };
 
@@ -141,7 +141,8 @@ fn enter<'a, X, R: Roll<X>>(
     roll.add_text(&mut register.texts, row)
 }
 
-/// Indexes the rows on the roll. If several rows have the same key, the first one counts.
+/// Indexes the rows on the roll by key, in a register. If several rows have the same key, the first
+/// one counts.
 fn register_of<'a, X, R: Roll<X>>(
     alloc: Global,
     roll: &'a R,
@@ -210,7 +211,8 @@ pub(crate) struct Added<X: Drop> {
     pub(crate) same: u64,
 }
 
-/// Checks the rows one after the other. Returns what they add, or the first refusal.
+/// Checks the rows to be added to a roll, one after the other. Returns what they add, or the first
+/// refusal.
 pub(crate) fn take_rows<'a, X: Drop, R: Roll<X>>(
     alloc: Global,
     roll: &'a R,

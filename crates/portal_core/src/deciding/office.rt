@@ -33,7 +33,7 @@ use serde_json::{Map, Value, json, put};
 use spa_rows::Key;
 use std::alloc::{AllocError, Global};
 
-/// Makes the body that replies to `Call::Me`.
+/// Makes the body that replies to the office's `Call::Me`.
 fn me_body(alloc: Global, view: &OfficeView) -> Result<Value, AllocError>
     ensures { IfOk result (λ body. json.view body ≡ form.office_me view.now) }
 {
@@ -50,7 +50,7 @@ fn me_body(alloc: Global, view: &OfficeView) -> Result<Value, AllocError>
     }
 }
 
-/// Makes a JSON string of the key of each of `students` who has no project in the result.
+/// Makes a JSON string of the key of each of `students` without a project, for the office's status.
 fn unplaced_values(
     alloc: Global,
     placings: &Placings,
@@ -69,7 +69,7 @@ fn unplaced_values(
     Ok(values)
 }
 
-/// Makes a JSON string of the key of each student who has no project in the result.
+/// Makes a JSON string of the key of each student without a project, for the office's status.
 fn unassigned_values(alloc: Global, view: &OfficeView) -> Result<Vec<Value>, AllocError>
     ensures { IfOk result (λ values. map json.view values.items
         ≡ map string (form.unassigned view.now)) }
@@ -78,7 +78,7 @@ fn unassigned_values(alloc: Global, view: &OfficeView) -> Result<Vec<Value>, All
     unplaced_values(alloc, &placings, &view.students)
 }
 
-/// Makes the members that the status has in every phase.
+/// Makes the JSON members that the office's status has in every phase.
 fn status_members(alloc: Global, view: &OfficeView) -> Result<Map<String, Value>, AllocError>
     ensures { IfOk result (λ status. json.members_view status.entries ≡ members (
         (codes "lecturers", count (length view.now.lecturers))
@@ -128,7 +128,7 @@ fn status_members(alloc: Global, view: &OfficeView) -> Result<Map<String, Value>
     Ok(status)
 }
 
-/// Makes the members of the status once there is a result.
+/// Makes the JSON members of the office's status once there is a result.
 fn status_with_result(alloc: Global, view: &OfficeView) -> Result<Map<String, Value>, AllocError>
     ensures { IfOk result (λ status. json.members_view status.entries ≡ members (
         (codes "assigned", count (length view.now.pairs))
@@ -152,7 +152,7 @@ fn status_with_result(alloc: Global, view: &OfficeView) -> Result<Map<String, Va
     Ok(status)
 }
 
-/// Makes the body that shows the status.
+/// Makes the body that shows the office the status.
 fn status_body(alloc: Global, view: &OfficeView) -> Result<Value, AllocError>
     ensures { IfOk result (λ body. json.view body ≡ form.status_body view.now) }
 {
@@ -167,7 +167,7 @@ fn status_body(alloc: Global, view: &OfficeView) -> Result<Value, AllocError>
     }
 }
 
-/// Makes a JSON object of a pair of a student and a project.
+/// Makes a JSON object of a pair of the result, for the office.
 fn pair_value(alloc: Global, pair: &(Key, Key)) -> Result<Value, AllocError>
     ensures { IfOk result (λ value. json.view value
         ≡ dictionary ((codes "project", string pair.now.1) ∷ (codes "student", string pair.now.0)
@@ -177,7 +177,7 @@ fn pair_value(alloc: Global, pair: &(Key, Key)) -> Result<Value, AllocError>
     json!(in alloc; {"project": project.as_str(), "student": student.as_str()})
 }
 
-/// Makes a JSON object of each pair of a student and a project.
+/// Makes a JSON object of each pair of the result, for the office.
 fn pair_values(alloc: Global, pairs: &[(Key, Key)]) -> Result<Vec<Value>, AllocError>
     ensures { IfOk result (λ values. map json.view values.items
         ≡ map (λ (x : Key × Key). dictionary
@@ -190,7 +190,7 @@ fn pair_values(alloc: Global, pairs: &[(Key, Key)]) -> Result<Vec<Value>, AllocE
     Ok(values)
 }
 
-/// Makes the body that shows the result.
+/// Makes the body that shows the office the result.
 fn allocation_body(alloc: Global, pairs: &[(Key, Key)]) -> Result<Value, AllocError>
     ensures { IfOk result (λ body. json.view body ≡ form.allocation_body pairs.now) }
 {
@@ -198,7 +198,7 @@ fn allocation_body(alloc: Global, pairs: &[(Key, Key)]) -> Result<Value, AllocEr
     json!(in alloc; {"pairs": pairs})
 }
 
-/// Makes the reply that refuses new rows.
+/// Makes the reply that refuses the office's new rows.
 fn row_refusal(alloc: Global, fault: &RollRefusal) -> Result<Reply, AllocError>
     ensures { IfOk result (λ reply. reply_model reply
         ≡ row_fault fault.now.status fault.now.word fault.now.row) }
@@ -212,14 +212,14 @@ fn row_refusal(alloc: Global, fault: &RollRefusal) -> Result<Reply, AllocError>
     }
 }
 
-/// Makes the body with the numbers of new rows and of rows already present.
+/// Makes the body that tells the office how many rows are new and how many already present.
 fn roll_body(alloc: Global, new: usize, same: u64) -> Result<Value, AllocError>
     ensures { IfOk result (λ body. json.view body ≡ form.roll_body new same) }
 {
     json!(in alloc; {"added": new, "same": same})
 }
 
-/// Returns the act that adds the new rows, or `Nothing` if there are none.
+/// Returns the act that adds the office's new rows, or `Nothing` if there are none.
 fn adds<X: Drop, R: Roll<X>>(roll: &R, new: Vec<X>) -> Act
     ensures { act_model result ≡
         (if is_empty new.items then Nothing else Apply (R.changes roll.now new.items)) }
@@ -230,7 +230,7 @@ fn adds<X: Drop, R: Roll<X>>(roll: &R, new: Vec<X>) -> Act
     Act::Apply(roll.change(new))
 }
 
-/// Accepts the rows and adds the new ones.
+/// Decides to accept the office's rows and to add the new ones.
 fn accepts<X: Drop, R: Roll<X>>(
     alloc: Global,
     roll: &R,
@@ -246,7 +246,7 @@ fn accepts<X: Drop, R: Roll<X>>(
     })
 }
 
-/// Returns whether rolls are open: in the first round, before ranking.
+/// Returns whether the office may add rows to rolls: in the first round, before ranking.
 fn is_open_to_rolls(round: Round, phase: Phase) -> bool
     ensures { result ≡ answer.is_open_to_rolls round phase }
 {
@@ -256,7 +256,7 @@ fn is_open_to_rolls(round: Round, phase: Phase) -> bool
     }
 }
 
-/// Adds rows to a roll if rolls are open.
+/// Decides the office's call to add rows to a roll: accepted without a fault, if rolls are open.
 fn add_rows<X: Drop, R: Roll<X>>(
     alloc: Global,
     is_open: bool,
@@ -278,7 +278,7 @@ fn add_rows<X: Drop, R: Roll<X>>(
     }
 }
 
-/// Makes the body that names the lecturers who are still to rank.
+/// Makes the body that tells the office which lecturers are still to rank.
 fn still_to_rank_body(alloc: Global, keys: &[Key]) -> Result<Value, AllocError>
     ensures { IfOk result (λ body. json.view body
         ≡ dictionary ((codes "error", string (codes "still_to_rank"))
@@ -288,14 +288,14 @@ fn still_to_rank_body(alloc: Global, keys: &[Key]) -> Result<Value, AllocError>
     json!(in alloc; {"error": "still_to_rank", "lecturers": lecturers})
 }
 
-/// Refuses to publish while lecturers are still to rank.
+/// Makes the reply that refuses to publish while lecturers are still to rank.
 fn still_to_rank(alloc: Global, keys: &[Key]) -> Result<Reply, AllocError>
     ensures { IfOk result (λ reply. reply_model reply ≡ answer.still_to_rank keys.now) }
 {
     Ok(json_reply(409, still_to_rank_body(alloc, keys)?))
 }
 
-/// Publishes, unless lecturers are still to rank. The reply does not contain the result.
+/// Decides to publish, unless lecturers are still to rank. The reply does not contain the result.
 fn publish(alloc: Global, view: &OfficeView) -> Result<Decision, AllocError>
     ensures { IfOk result (λ decision. decision_model decision ≡ publishes view.now) }
 {
@@ -309,7 +309,7 @@ fn publish(alloc: Global, view: &OfficeView) -> Result<Decision, AllocError>
     })
 }
 
-/// Moves to the round's next phase, or to the current one, which changes nothing.
+/// Decides to move to the round's next phase, or to the current one, which changes nothing.
 fn move_on(alloc: Global, view: &OfficeView, phase: Phase) -> Result<Decision, AllocError>
     ensures { IfOk result (λ decision. decision_model decision
         ≡ moves_on view.now view.now.phase phase) }
@@ -327,7 +327,7 @@ fn move_on(alloc: Global, view: &OfficeView, phase: Phase) -> Result<Decision, A
     }
 }
 
-/// Opens the second round in choosing, once the first is published.
+/// Decides to open the second round in choosing, once the first is published.
 fn open_second(alloc: Global, view: &OfficeView, phase: Phase) -> Result<Decision, AllocError>
     ensures { IfOk result (λ decision. decision_model decision ≡ opens view.now.phase phase) }
 {
@@ -340,8 +340,8 @@ fn open_second(alloc: Global, view: &OfficeView, phase: Phase) -> Result<Decisio
     }
 }
 
-/// Moves to a phase of the named round: the current one, or the second, which opens only if a move
-/// names it.
+/// Decides to move to a phase of the named round: the current one, or the second. The second round
+/// opens only if a move names it.
 fn move_in(
     alloc: Global,
     view: &OfficeView,
@@ -360,7 +360,7 @@ fn move_in(
     }
 }
 
-/// Moves to a phase of the named round, or of the current one if none is named.
+/// Decides the office's move to a phase of the named round, or of the current one if none is named.
 fn move_to(
     alloc: Global,
     view: &OfficeView,
@@ -375,7 +375,7 @@ fn move_to(
     }
 }
 
-/// Shows the result, once there is one.
+/// Decides the office's call to show the result: allowed once there is one.
 fn allocation(alloc: Global, view: &OfficeView) -> Result<Decision, AllocError>
     ensures { IfOk result (λ decision. decision_model decision
         ≡ open_where (world.has_result view.now.round view.now.phase)
@@ -387,7 +387,8 @@ fn allocation(alloc: Global, view: &OfficeView) -> Result<Decision, AllocError>
     Ok(shows(allocation_body(alloc, &view.pairs)?))
 }
 
-/// Shows the result as a sheet, once there is one. The sheet's text is still empty.
+/// Decides the office's call to show the result as a sheet: allowed once there is one. The sheet's
+/// text is still empty.
 fn sheet(alloc: Global, view: &OfficeView, sheet: Sheet) -> Result<Decision, AllocError>
     ensures { IfOk result (λ decision. decision_model decision
         ≡ open_where (world.has_result view.now.round view.now.phase)
@@ -399,7 +400,7 @@ fn sheet(alloc: Global, view: &OfficeView, sheet: Sheet) -> Result<Decision, All
     Ok(renders(alloc, sheet))
 }
 
-/// Makes the body that names the lecturers who get a ranking.
+/// Makes the body that tells the office which lecturers get a ranking by the fill.
 fn filled_body(alloc: Global, keys: &[Key]) -> Result<Value, AllocError>
     ensures { IfOk result (λ body. json.view body ≡ form.filled_body keys.now) }
 {
@@ -407,7 +408,7 @@ fn filled_body(alloc: Global, keys: &[Key]) -> Result<Value, AllocError>
     json!(in alloc; {"filled": filled})
 }
 
-/// Returns the act that fills the missing rankings, or `Nothing` if none is missing.
+/// Returns the act of the office's fill, or `Nothing` if no ranking is missing.
 fn fill_act(view: &OfficeView) -> Act
     ensures { act_model result ≡ (if is_empty view.now.still_to_rank then Nothing else Apply Fill) }
 {
@@ -417,7 +418,7 @@ fn fill_act(view: &OfficeView) -> Act
     Act::Apply(Change::Fill)
 }
 
-/// Fills the missing rankings, in the phase ranking.
+/// Decides the office's call to fill the missing rankings: accepted in the phase ranking.
 fn fill_rankings(alloc: Global, view: &OfficeView) -> Result<Decision, AllocError>
     ensures { IfOk result (λ decision. decision_model decision
         ≡ open_where (is_ranking view.now.phase) (answer.fills view.now)) }

@@ -1,4 +1,4 @@
-//! Builds decisions, and the refusals that several calls share.
+//! Builds replies and decisions, such as refusals that several calls share.
 
 ghost use Rattle.std.specs.Prelude.{◌≡◌, codes, IfOk};
 ghost use Rattle.serde_json.specs.View as json;
@@ -70,7 +70,7 @@ pub(crate) fn refuses(reply: Reply) -> Decision
     }
 }
 
-/// Makes a refusal whose body is only an error word.
+/// Makes a reply that refuses a call and whose body is only an error word.
 pub(crate) fn refused(alloc: Global, status: u16, word: &str) -> Result<Reply, AllocError>
     ensures { IfOk result (λ reply. reply_model reply ≡ by_word status word.now) }
 {
@@ -78,28 +78,28 @@ pub(crate) fn refused(alloc: Global, status: u16, word: &str) -> Result<Reply, A
     Ok(json_reply(status, body))
 }
 
-/// Refuses a call whose code identifies nobody.
+/// Makes the decision that refuses a call whose code identifies nobody.
 pub(crate) fn no_caller(alloc: Global) -> Result<Decision, AllocError>
     ensures { IfOk result (λ decision. decision_model decision ≡ answer.no_caller) }
 {
     Ok(refuses(refused(alloc, 403, "no_caller")?))
 }
 
-/// Refuses a call that belongs to another role.
+/// Makes the decision that refuses a call of another role.
 pub(crate) fn not_yours(alloc: Global) -> Result<Decision, AllocError>
     ensures { IfOk result (λ decision. decision_model decision ≡ answer.not_yours) }
 {
     Ok(refuses(refused(alloc, 403, "not_yours")?))
 }
 
-/// Refuses a call that this phase does not allow.
+/// Makes the decision that refuses a call that this phase does not allow.
 pub(crate) fn wrong_phase(alloc: Global) -> Result<Decision, AllocError>
     ensures { IfOk result (λ decision. decision_model decision ≡ answer.wrong_phase) }
 {
     Ok(refuses(refused(alloc, 409, "wrong_phase")?))
 }
 
-/// Refuses the list of a student who has a project of the first round.
+/// Makes the decision that refuses the list of a student who has a project of the first round.
 pub(crate) fn already_placed(alloc: Global) -> Result<Decision, AllocError>
     ensures { IfOk result (λ decision. decision_model decision ≡ answer.already_placed) }
 {

@@ -22,7 +22,7 @@ use serde_json::{Value, json};
 use spa_rows::Key;
 use std::alloc::{AllocError, Global};
 
-/// Makes the body that replies to `Call::Me`.
+/// Makes the body that replies to a student's `Call::Me`.
 fn me_body(alloc: Global, view: &StudentView) -> Result<Value, AllocError>
     ensures { IfOk result (λ body. json.view body ≡ shown.student_me view.now) }
 {
@@ -43,7 +43,7 @@ fn me_body(alloc: Global, view: &StudentView) -> Result<Value, AllocError>
     }
 }
 
-/// Makes the body that shows a student's list.
+/// Makes the body that shows a student the list.
 fn choices_body(alloc: Global, choices: &[Key]) -> Result<Value, AllocError>
     ensures { IfOk result (λ body. json.view body ≡ shown.projects_body choices.now) }
 {
@@ -51,7 +51,7 @@ fn choices_body(alloc: Global, choices: &[Key]) -> Result<Value, AllocError>
     json!(in alloc; {"projects": projects})
 }
 
-/// Makes a JSON string of the project's key, or null if there is no project.
+/// Makes a JSON string of the key of the student's project, or null if there is none.
 fn project_value(alloc: Global, project: &Option<Key>) -> Result<Value, AllocError>
     ensures { IfOk result (λ value. json.view value ≡ text_or_null project.now) }
 {
@@ -61,7 +61,7 @@ fn project_value(alloc: Global, project: &Option<Key>) -> Result<Value, AllocErr
     }
 }
 
-/// Makes the body that shows the project that the result gives to the student.
+/// Makes the body that shows a student the project that the result gives.
 fn result_body(alloc: Global, project: &Option<Key>) -> Result<Value, AllocError>
     ensures { IfOk result (λ body. json.view body ≡ shown.project_body project.now) }
 {
@@ -69,7 +69,7 @@ fn result_body(alloc: Global, project: &Option<Key>) -> Result<Value, AllocError
     json!(in alloc; {"project": project})
 }
 
-/// Replaces the student's list by this one, which has no fault.
+/// Decides to replace the student's list by this one, which has no fault.
 fn replace_choices(
     alloc: Global,
     view: &StudentView,
@@ -84,7 +84,7 @@ fn replace_choices(
     Ok(applies(body, Change::Choices { student, projects }))
 }
 
-/// Accepts the list if it has no fault.
+/// Decides to accept the student's list if it has no fault, and otherwise to refuse it.
 fn take_choices(alloc: Global, view: &StudentView, list: &[Vec<u8>]) -> Result<Decision, AllocError>
     ensures { let texts = texts_of list.now in
         IfOk result (λ decision. decision_model decision
@@ -97,7 +97,8 @@ fn take_choices(alloc: Global, view: &StudentView, list: &[Vec<u8>]) -> Result<D
     }
 }
 
-/// Accepts a list without a fault, in choosing, unless the student has a project already.
+/// Decides a student's call to set the list: accepted without a fault, in choosing, unless already
+/// placed.
 fn set_choices(alloc: Global, view: &StudentView, list: &[Vec<u8>]) -> Result<Decision, AllocError>
     ensures { IfOk result (λ decision. decision_model decision
         ≡ to_student view.now (AbstractCall.SetChoices (texts_of list.now))) }
@@ -111,7 +112,7 @@ fn set_choices(alloc: Global, view: &StudentView, list: &[Vec<u8>]) -> Result<De
     }
 }
 
-/// Shows the result to the student, once there is one.
+/// Decides a student's call to show the result: allowed once there is one.
 fn show_result(alloc: Global, view: &StudentView) -> Result<Decision, AllocError>
     ensures { IfOk result (λ decision. decision_model decision
         ≡ to_student view.now AbstractCall.Result) }

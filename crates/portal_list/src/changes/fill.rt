@@ -1,4 +1,4 @@
-//! Fills missing rankings with the lecturers' applicants in key order.
+//! Fills missing rankings in the entries with the lecturers' applicants in key order.
 
 ghost use Rattle.std.specs.Prelude.{◌≡◌, IfOk, OnOk, OnErr, map};
 ghost use Rattle.portal_list.specs.inner.Parts.{applicant_keys};
@@ -27,7 +27,7 @@ impl Model for Ranking {
     ghost view = { λ r. r.keys.items };
 }
 
-/// Copies the keys.
+/// Copies the applicants' keys, for a ranking that a fill adds.
 fn copies(alloc: Global, keys: &[&Key]) -> Result<Vec<Key>, AllocError>
     ensures { IfOk result (λ v. v.items ≡ map (λ k. k.now) keys.now) }
 {
@@ -38,7 +38,7 @@ fn copies(alloc: Global, keys: &[&Key]) -> Result<Vec<Key>, AllocError>
     Ok(copies)
 }
 
-/// Returns the keys of the lecturer's applicants, in key order.
+/// Returns the keys of the lecturer's applicants in key order, as a fill ranks them.
 pub(crate) fn applicants_by_key(
     alloc: Global,
     projects: &[ProjectRow],
@@ -51,7 +51,7 @@ pub(crate) fn applicants_by_key(
     copies(alloc, &applicants)
 }
 
-/// Returns a ranking of these applicants, or `None` if there are none.
+/// Returns the ranking that a fill makes of these applicants, or `None` if there are none.
 fn filled_ranking(keys: Vec<Key>) -> Option<Ranking>
     ensures { result ≡ unless_empty keys.items }
 {
@@ -94,7 +94,7 @@ fn missing_rankings(
     Ok(rankings)
 }
 
-/// Gives the lecturer the ranking, if there is one.
+/// Gives the lecturer the ranking that the fill adds, if there is one.
 fn settle(lecturer: &mut LecturerEntry, ranking: Option<Ranking>)
     ensures { lecturer.new ≡ with_missing lecturer.old ranking }
 {
@@ -103,7 +103,7 @@ fn settle(lecturer: &mut LecturerEntry, ranking: Option<Ranking>)
     }
 }
 
-/// Gives each lecturer who is still to rank a ranking of the applicants in key order.
+/// Fills the missing rankings in the entries with the lecturers' applicants in key order.
 pub(crate) fn fill_rankings(
     alloc: Global,
     lecturers: &mut [LecturerEntry],

@@ -1,4 +1,4 @@
-//! Adds rows to the rolls in key order; makes entries without a list or ranking.
+//! Adds rows to a roll, keeping key order; makes entries without a list or ranking.
 
 ghost use Rattle.std.specs.Prelude.{◌≡◌, IfOk, OnOk, OnErr, map};
 ghost use Rattle.portal_core.specs.Words.{put_all};
@@ -47,7 +47,7 @@ pub(crate) fn new_students(
     Ok(fresh)
 }
 
-/// Inserts rows in key order. If an allocation fails, nothing changes.
+/// Adds rows to a roll in memory, in key order. If an allocation fails, nothing changes.
 pub(crate) fn add_rows<T: Keyed + Drop>(rows: &mut Vec<T>, fresh: Vec<T>) -> Result<(), AllocError>
     ensures made { OnOk result (rows.new.items ≡ put_all T.key_of fresh.items rows.old.items) }
     ensures same { OnErr result (rows.new.items ≡ rows.old.items) }

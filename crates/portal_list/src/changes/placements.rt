@@ -1,4 +1,4 @@
-//! Stores a result: gives the students who take part their projects.
+//! Stores a result in the entries: sets the project of each student who takes part.
 
 ghost use Rattle.std.specs.Prelude.{◌≡◌, IfOk, OnOk, OnErr, map};
 ghost use Rattle.portal_core.specs.World.{placement_in, with_place};
@@ -10,7 +10,7 @@ use portal_core::Pairs;
 use spa_rows::Key;
 use std::alloc::{AllocError, Global};
 
-/// Returns the project that the pairs give to each student, or `None`.
+/// Returns the project that the result gives to each student of the entries, or `None`.
 fn places_of(
     alloc: Global,
     students: &[StudentEntry],
@@ -28,7 +28,7 @@ fn places_of(
     Ok(places)
 }
 
-/// Sets the student's project, unless the student has a project of the first round.
+/// Sets the project in the student's entry, unless the student has a project of the first round.
 fn place(student: &mut StudentEntry, project: Option<Key>)
     ensures { student.new ≡ placed_now student.old project }
 {
@@ -37,7 +37,8 @@ fn place(student: &mut StudentEntry, project: Option<Key>)
     }
 }
 
-/// Gives each student who takes part the project that the pairs assign, or none.
+/// Stores a result in the entries: gives each student who takes part the project of the pairs, or
+/// none.
 pub(crate) fn place_all(
     alloc: Global,
     students: &mut [StudentEntry],

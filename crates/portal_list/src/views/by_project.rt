@@ -1,4 +1,4 @@
-//! Finds a lecturer's applicants and placed students, project by project.
+//! Finds a lecturer's applicants and placed students in the entries, project by project.
 
 ghost use Rattle.std.specs.Prelude.{◌≡◌, IfOk, map, option_map, filter, [], if◌then◌else◌};
 ghost use Rattle.portal_core.specs.Words.{has};
@@ -13,7 +13,7 @@ use portal_core::{Person, Phase, ProjectRow};
 use spa_rows::Key;
 use std::alloc::{AllocError, Global};
 
-/// Returns the students whose list contains the project.
+/// Finds the project's applicants in the entries: the students whose list contains it.
 fn applicants_to(
     alloc: Global,
     students: &[StudentEntry],
@@ -31,7 +31,7 @@ fn applicants_to(
     Ok(applicants)
 }
 
-/// Returns whether the placement is this project.
+/// Returns whether the shown placement of an entry's student is this project.
 fn is_given(place: Option<&Key>, project: &Key) -> bool
     ensures { result ≡ is_at project.now (option_map (λ k. k.now) place.entry) }
 {
@@ -41,7 +41,7 @@ fn is_given(place: Option<&Key>, project: &Key) -> bool
     }
 }
 
-/// Returns the students whose shown placement is the project.
+/// Finds the project's placed students in the entries: those whose shown placement it is.
 fn placed_at(
     alloc: Global,
     phase: Phase,
@@ -60,7 +60,7 @@ fn placed_at(
     Ok(found)
 }
 
-/// Returns the applicants of a project if the lists are closed, and otherwise nobody.
+/// Finds the project's applicants in the entries if lists are closed, and otherwise nobody.
 fn shown_applicants(
     alloc: Global,
     closed: bool,

@@ -1,4 +1,4 @@
-//! Makes the catalogue: each project with its lecturer's name.
+//! Makes the catalogue from the entries: each project with its lecturer's name.
 
 ghost use Rattle.std.specs.Prelude.{◌≡◌, IfOk, map, option_map};
 ghost use Rattle.portal_core.specs.View.{listing_with};
@@ -37,7 +37,7 @@ impl HasLecturerRow for LecturerEntry {
     }
 }
 
-/// Finds the name of the lecturer with this key.
+/// Finds the name of the lecturer with this key, for a listing of the catalogue.
 fn name_among<'a, L: HasLecturerRow>(lecturers: &'a [L], key: &Key) -> Option<&'a Name>
     ensures { option_map (λ n. n.now) result ≡ name_of (map L.row_of lecturers.now) key.now }
 {
@@ -50,6 +50,8 @@ fn name_among<'a, L: HasLecturerRow>(lecturers: &'a [L], key: &Key) -> Option<&'
     None
 }
 
+/// Makes a project's listing with its lecturer's name. Returns `None` if the lecturer is not among
+/// these.
 fn listing_among<L: HasLecturerRow>(
     alloc: Global,
     lecturers: &[L],
@@ -65,7 +67,8 @@ fn listing_among<L: HasLecturerRow>(
     }
 }
 
-/// Lists each project with its lecturer's name, and omits projects of other lecturers.
+/// Makes listings for a catalogue: each project with its lecturer's name. It omits projects of
+/// other lecturers.
 ///
 /// # Errors
 ///
@@ -86,7 +89,7 @@ pub fn listings_of<L: HasLecturerRow>(
     Ok(found)
 }
 
-/// Makes the catalogue of the round.
+/// Makes the catalogue of the round from the entries.
 pub(crate) fn catalogue_of(alloc: Global, entries: &Entries) -> Result<Vec<Listing>, AllocError>
     ensures { IfOk result (λ v. v.items ≡ catalogue_in entries.now) }
 {

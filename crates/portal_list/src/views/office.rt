@@ -1,4 +1,4 @@
-//! Collects what only the office sees: rolls, missing lists and missing rankings.
+//! Collects from the entries what only the office sees: rolls, and who lacks a list or ranking.
 
 ghost use Rattle.std.specs.Prelude.{◌≡◌, IfOk, map, filter, ◌&&◌, [], if◌then◌else◌};
 ghost use Rattle.std.specs.List.{list_any};
@@ -14,7 +14,7 @@ use spa_rows::Key;
 use std::alloc::{AllocError, Global};
 use std::rc::Rc;
 
-/// Copies the roll of lecturers.
+/// Copies the roll of lecturers for the office's view.
 pub(super) fn lecturer_rows(
     alloc: Global,
     lecturers: &[LecturerEntry],
@@ -28,7 +28,7 @@ pub(super) fn lecturer_rows(
     Ok(Rc::new(alloc, rows)?)
 }
 
-/// Copies the roll of projects.
+/// Copies the roll of projects for the office's view.
 pub(super) fn project_rows(
     alloc: Global,
     projects: &[ProjectRow],
@@ -39,7 +39,7 @@ pub(super) fn project_rows(
     Ok(Rc::new(alloc, rows)?)
 }
 
-/// Copies the roll of students.
+/// Copies the roll of students for the office's view.
 pub(super) fn student_rows(
     alloc: Global,
     students: &[StudentEntry],
@@ -53,7 +53,7 @@ pub(super) fn student_rows(
     Ok(Rc::new(alloc, rows)?)
 }
 
-/// Returns the keys of the students who take part and have an empty list.
+/// Finds in the entries the students who take part and have an empty list.
 pub(super) fn without_list(
     alloc: Global,
     round: Round,
@@ -72,14 +72,14 @@ pub(super) fn without_list(
     Ok(found)
 }
 
-/// Returns whether some list contains the project.
+/// Returns whether some list in the entries contains the project.
 fn is_listed(students: &[StudentEntry], project: &Key) -> bool
     ensures { result ≡ list_any (λ s. has s.choice project.now) students.now }
 {
     students.iter().any(|s| holds(&s.choice, project))
 }
 
-/// Returns whether some list contains a project of the lecturer.
+/// Returns whether some list in the entries contains a project of the lecturer.
 fn has_applicant(students: &[StudentEntry], projects: &[ProjectRow], lecturer: &Key) -> bool
     ensures { result ≡ is_wanted students.now projects.now lecturer.now }
 {
@@ -88,7 +88,7 @@ fn has_applicant(students: &[StudentEntry], projects: &[ProjectRow], lecturer: &
         .any(|p| p.lecturer == *lecturer && is_listed(students, &p.key))
 }
 
-/// Returns the keys of the lecturers who have an applicant and no ranking.
+/// Finds in the entries the lecturers who have an applicant and no ranking.
 pub(crate) fn waiting(
     alloc: Global,
     lecturers: &[LecturerEntry],
@@ -107,7 +107,7 @@ pub(crate) fn waiting(
     Ok(found)
 }
 
-/// Returns the keys of the lecturers still to rank, or none while lists are open.
+/// Finds in the entries the lecturers still to rank, or none while lists are open.
 pub(super) fn still_to_rank(
     alloc: Global,
     closed: bool,

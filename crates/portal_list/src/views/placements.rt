@@ -1,4 +1,4 @@
-//! Finds the placements that a phase shows.
+//! Finds in the entries the placements that a phase shows.
 
 ghost use Rattle.std.specs.Prelude.{◌≡◌, IfOk, option_map};
 ghost use Rattle.portal_core.specs.World.{shown_placement, pairs_with};
@@ -8,7 +8,8 @@ use portal_core::Phase;
 use spa_rows::Key;
 use std::alloc::{AllocError, Global};
 
-/// Returns the student's project of the first round, or else this round's once it is published.
+/// Returns the placement in a student's entry that the phase shows. It is that of the first round,
+/// or else this round's once it is published.
 pub(super) fn placement_shown(phase: Phase, student: &StudentEntry) -> Option<&Key>
     ensures { option_map (λ k. k.now) result ≡ shown_placement phase student.now }
 {
@@ -21,7 +22,7 @@ pub(super) fn placement_shown(phase: Phase, student: &StudentEntry) -> Option<&K
     }
 }
 
-/// Returns the student's pair, if a placement is shown.
+/// Returns the pair of an entry's student and project, if the phase shows a placement.
 fn pair_of(
     alloc: Global,
     phase: Phase,
@@ -36,7 +37,7 @@ fn pair_of(
     }
 }
 
-/// Returns the shown placements as pairs of a student and a project.
+/// Returns the placements in the entries that the phase shows, as pairs of student and project.
 pub(super) fn pairs_of(
     alloc: Global,
     phase: Phase,

@@ -1,4 +1,4 @@
-//! Finds the lecturer or student with a code.
+//! Finds the lecturer or student with a code, by queries.
 
 ghost use Rattle.std.specs.Prelude.{◌≡◌, option_map};
 ghost use Rattle.portal_core.specs.View.{lecturer_with, student_with};
@@ -14,7 +14,7 @@ use portal_tables::select::{Query, read_rows};
 use sqlite::{Alter, Connection, Row};
 use std::alloc::Global;
 
-/// Finds the row of the lecturer with the code.
+/// Finds by a query the row of the lecturer with the code.
 pub(super) fn lecturer_by_code<S: Alter>(
     alloc: Global,
     conn: &mut Connection<S>,
@@ -29,7 +29,7 @@ pub(super) fn lecturer_by_code<S: Alter>(
     at_most_one(rows)
 }
 
-/// Finds the row of the student with the code.
+/// Finds by a query the row of the student with the code.
 pub(super) fn student_by_code<S: Alter>(
     alloc: Global,
     conn: &mut Connection<S>,

@@ -1,4 +1,4 @@
-//! Makes the catalogue once, and shares it from the cache.
+//! Returns the cached catalogue, or makes and caches it.
 
 ghost use Rattle.std.specs.Prelude.{◌≡◌};
 ghost use Rattle.portal_core.specs.View as seen;

@@ -1,4 +1,4 @@
-//! Defines the INSERT statements of the rolls.
+//! Defines the INSERT statements for the rolls.
 
 ghost use Rattle.portal_tables.specs.Tables.{lecturer_tree, project_tree, student_tree};
 ghost use Rattle.portal_tables.specs.inner.RowChanges.{lecturer_new, lecturer_values, project_new};

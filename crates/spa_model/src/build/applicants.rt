@@ -1,4 +1,4 @@
-//! Checks that each ranking lists exactly the lecturer's applicants.
+//! Checks that the ranking in a lecturer's line has exactly the lecturer's applicants.
 
 ghost use Rattle.std.specs.Prelude.{◌≡◌, ◌<◌, ◌↔◌, All, Any, IfOk, IsTrue, None, length, map};
 ghost use Rattle.spa_rows.specs.inner.Least.{IsLeastOf};
@@ -12,7 +12,7 @@ use crate::instance::{Lecturer, Project, Student};
 use spa_rows::{LecturerLine, Places, StudentLine, least_with};
 use std::alloc::{AllocError, Global};
 
-/// Returns whether one of the choices is a project of the lecturer.
+/// Returns whether a student with these choices is an applicant of the lecturer.
 fn finds(projects: &[Project], choices: &[usize], lecturer: usize) -> bool
     requires { All (λ p. p < length projects.now) choices.now }
     ensures { IsTrue result ↔ Finds projects.now choices.now lecturer }
@@ -26,7 +26,7 @@ fn finds(projects: &[Project], choices: &[usize], lecturer: usize) -> bool
     false
 }
 
-/// Returns whether the text is the key of a student who lists a project of the lecturer.
+/// Returns whether the text, from a ranking in a line, is the key of an applicant of the lecturer.
 fn is_applicant(
     lines: &Places<StudentLine>,
     students: &[Student],
@@ -48,7 +48,7 @@ fn is_applicant(
     }
 }
 
-/// Returns whether a text on the list is not the key of an applicant of the lecturer.
+/// Returns whether the ranking in a lecturer's line lists a text that is no applicant's key.
 fn lists_other(
     lines: &Places<StudentLine>,
     students: &[Student],
@@ -71,7 +71,7 @@ fn lists_other(
     false
 }
 
-/// Finds the lowest-numbered row of a lecturer whose list names a non-applicant.
+/// Finds the lowest-numbered row of a lecturer whose ranking lists a non-applicant.
 pub(crate) fn not_applicant(
     alloc: Global,
     lecturers: &[LecturerLine],
@@ -95,7 +95,8 @@ pub(crate) fn not_applicant(
     Ok(best)
 }
 
-/// Finds the lowest-numbered row of a lecturer who offers a choice but does not rank `student`.
+/// Finds the lowest-numbered row of a lecturer whose ranking lacks the applicant with these
+/// choices.
 fn misses(
     lines: &[LecturerLine],
     lecturers: &[Lecturer],
@@ -119,7 +120,7 @@ fn misses(
     best
 }
 
-/// Finds the lowest-numbered row of a lecturer whose list lacks an applicant.
+/// Finds the lowest-numbered row of a lecturer whose ranking lacks an applicant.
 pub(crate) fn applicant_missing(
     lines: &[LecturerLine],
     lecturers: &[Lecturer],

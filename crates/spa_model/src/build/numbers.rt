@@ -13,7 +13,7 @@ use crate::instance::{Lecturer, Project, Student};
 use spa_rows::{Key, KeyFault, LecturerLine, Places, ProjectLine, StudentLine};
 use std::alloc::{AllocError, Global};
 
-/// Creates a key from bytes that have the form of a key.
+/// Converts the bytes of a line's key, known to be well formed, into a key.
 fn key_of(alloc: Global, bytes: &[u8]) -> Result<Key, AllocError>
     requires { is_key bytes.now ≡ true }
     ensures { IfOk result (λ key. key ≡ bytes.now) }
@@ -25,7 +25,7 @@ fn key_of(alloc: Global, bytes: &[u8]) -> Result<Key, AllocError>
     }
 }
 
-/// Returns the index of each project on a list.
+/// Returns the indices that replace the keys of projects on the list of a student's line.
 fn project_numbers(
     alloc: Global,
     lines: &Places<ProjectLine>,
@@ -45,7 +45,7 @@ fn project_numbers(
     Ok(choices)
 }
 
-/// Returns the index of each student on a list.
+/// Returns the indices that replace the keys of students on the ranking of a lecturer's line.
 fn student_numbers(
     alloc: Global,
     lines: &Places<StudentLine>,
@@ -65,7 +65,7 @@ fn student_numbers(
     Ok(ranking)
 }
 
-/// Returns the position of each student on a ranking, or none.
+/// Converts a lecturer's ranking into each student's position on it, or none.
 fn ranks_of(alloc: Global, count: usize, ranking: &[usize]) -> Result<Vec<Option<u32>>, AllocError>
     requires count { count ≤ 2000 }
     requires below { All (λ s. s < count) ranking.now }
@@ -79,7 +79,7 @@ fn ranks_of(alloc: Global, count: usize, ranking: &[usize]) -> Result<Vec<Option
     Ok(ranks)
 }
 
-/// Converts a student's line. Indices replace the keys on the list.
+/// Converts a student's line, replacing the keys on the list by indices.
 fn numbered_student(
     alloc: Global,
     line: &StudentLine,
@@ -95,7 +95,7 @@ fn numbered_student(
     })
 }
 
-/// Converts a project's line. An index replaces the lecturer's key.
+/// Converts a project's line, replacing the lecturer's key by an index.
 fn numbered_project(
     alloc: Global,
     line: &ProjectLine,
@@ -115,7 +115,7 @@ fn numbered_project(
     })
 }
 
-/// Converts a lecturer's line. Indices replace the keys on the list.
+/// Converts a lecturer's line, replacing the keys on the ranking by indices.
 fn numbered_lecturer(
     alloc: Global,
     line: &LecturerLine,
@@ -137,7 +137,7 @@ fn numbered_lecturer(
     })
 }
 
-/// Converts the lines of all students, in order.
+/// Converts the lines of all students, in order, replacing keys by indices.
 pub(crate) fn number_students(
     alloc: Global,
     lines: &[StudentLine],
@@ -156,7 +156,7 @@ pub(crate) fn number_students(
     Ok(students)
 }
 
-/// Converts the lines of all projects, in order.
+/// Converts the lines of all projects, in order, replacing keys by indices.
 pub(crate) fn number_projects(
     alloc: Global,
     lines: &[ProjectLine],
