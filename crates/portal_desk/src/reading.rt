@@ -1,4 +1,4 @@
-//! Reads a stream into a buffer up to its next request; removes answered requests.
+//! Buffers a stream until its next request is complete; removes answered requests.
 
 ghost use Rattle.std.specs.Prelude.{◌≡◌, ◌≢◌, ℕ, ◌+◌, ◌-◌, ◌<◌, ◌≤◌, List, length, drop, IfOk};
 ghost use Rattle.std.specs.Prelude.{OnErr, IfErr, OnOk, if◌then◌else◌};

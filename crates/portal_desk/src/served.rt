@@ -1,4 +1,4 @@
-//! Types for how serving a stream ended, and why it stopped early.
+//! Types for how a stream ended, and why serving stopped early.
 
 use portal_wire::Ending;
 

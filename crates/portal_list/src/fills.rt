@@ -1,4 +1,4 @@
-//! `Entries::fills` finds the lecturers still to rank, and their applicants, for the store's fill.
+//! `Entries::fills` finds lecturers yet to rank, and their applicants, for the store's fill.
 
 ghost use Rattle.std.specs.Prelude.{◌≡◌, IfOk, List, map};
 ghost use Rattle.portal_core.specs.Words as words;

@@ -1,4 +1,4 @@
-//! Loads the world from the tables into a keeper in lists.
+//! Loads the world from the tables into a `ListKeeper`.
 
 ghost use Rattle.std.specs.Prelude.{IfOk};
 ghost use Rattle.sqlite.specs.Effect.{IsDatabase};

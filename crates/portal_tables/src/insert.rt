@@ -1,4 +1,4 @@
-//! Inserts rows, first eight at a time, then singly; inserts the rows of `portal` and `second`.
+//! Inserts eight rows at a time, the rest singly; inserts the rows of `portal` and `second`.
 
 ghost use Rattle.std.specs.Prelude.{◌≡◌, ◌<◌, ◌≤◌, ◌++◌, ◌∷◌};
 ghost use Rattle.portal_tables.specs.inner.Base.{ℕ, [], pos, map, OnOk, flat_map, Row, bound};

@@ -1,4 +1,4 @@
-//! Makes the office's view by queries; finds students without a list and lecturers still to rank.
+//! Makes the office's view by queries; finds students without lists, and lecturers yet to rank.
 
 ghost use Rattle.std.specs.Prelude.{◌≡◌, ◌&&◌, if◌then◌else◌};
 ghost use Rattle.portal_core.specs.World.{is_from_ranking};

@@ -1,4 +1,4 @@
-//! Makes the reply that refuses a stream, or a request that makes no call.
+//! Makes the reply to a refused stream, or to a request without a call.
 
 ghost use Rattle.std.specs.Prelude.{◌≡◌, IfOk};
 ghost use Rattle.serde_json.specs.View.{view};

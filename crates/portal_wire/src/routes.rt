@@ -1,4 +1,4 @@
-//! Finds the route of a path, and its allowed methods.
+//! Finds a path's route, and the route's allowed methods.
 
 ghost use Rattle.std.specs.Prelude.{◌≡◌, IfOk, option_map};
 ghost use Rattle.matchit.specs.Seek.{first};

@@ -1,4 +1,4 @@
-//! Fills missing rankings in the entries with the lecturers' applicants in key order.
+//! Adds the missing rankings to the entries: each lecturer's applicants in key order.
 
 ghost use Rattle.std.specs.Prelude.{◌≡◌, IfOk, OnOk, OnErr, map};
 ghost use Rattle.portal_list.specs.inner.Parts.{applicant_keys};

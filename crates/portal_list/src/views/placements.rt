@@ -1,4 +1,4 @@
-//! Finds in the entries the placements that a phase shows.
+//! Finds the entries' placements that a phase shows.
 
 ghost use Rattle.std.specs.Prelude.{◌≡◌, IfOk, option_map};
 ghost use Rattle.portal_core.specs.World.{shown_placement, pairs_with};
