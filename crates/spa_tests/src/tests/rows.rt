@@ -9,6 +9,11 @@ use std::process::Abort;
 /// The records of an instance with one lecturer, one project and one student.
 const THREE_LINES: &str = "L,L1,1,S1\nP,P1,1,L1\nS,S1,,P1\n";
 
+/// Checks whether the records are refused, and why.
+fn is_refused(rt: &impl Abort, alloc: Global, records: &str, wanted: Option<BadInstance>) {
+    assert_eq!(rt; refusal(rt, alloc, records), wanted, "{records}");
+}
+
 /// Returns why the records are refused, if they are.
 pub(crate) fn refusal(rt: &impl Abort, alloc: Global, records: &str) -> Option<BadInstance> {
     let (rows, _) = lines_of(rt, alloc, records);
@@ -37,18 +42,17 @@ fn each_fault_is_told_at_its_least_row(rt: HostRuntime) {
         ("S,S2,,P1\n", InstanceFault::ApplicantMissing, 1),
     ] {
         let records = format!(in alloc; "{THREE_LINES}{more}").expect(&rt, "memory");
-        let found = refusal(&rt, alloc, records.as_str());
-        assert_eq!(rt; found, bad(fault, row), "{more}");
+        is_refused(&rt, alloc, records.as_str(), bad(fault, row));
     }
 }
 
 #[test]
 fn no_lines_and_three_lines_pass(rt: HostRuntime) {
     let alloc = rt.alloc();
-    assert_eq!(rt; refusal(&rt, alloc, ""), None);
-    assert_eq!(rt; refusal(&rt, alloc, THREE_LINES), None);
+    is_refused(&rt, alloc, "", None);
+    is_refused(&rt, alloc, THREE_LINES, None);
     let more = format!(in alloc; "{THREE_LINES}P,P2,1,L1\nP,P3,200,L1\n").expect(&rt, "memory");
-    assert_eq!(rt; refusal(&rt, alloc, more.as_str()), None);
+    is_refused(&rt, alloc, more.as_str(), None);
 }
 
 #[test]
@@ -58,10 +62,9 @@ fn there_are_at_most_300_lecturers(rt: HostRuntime) {
     for number in 2..301 {
         put(&rt, &mut records, format!(in alloc; "L,L{number},1,\n"));
     }
-    assert_eq!(rt; refusal(&rt, alloc, records.as_str()), None);
+    is_refused(&rt, alloc, records.as_str(), None);
     records.push_str("L,L301,1,\n").expect(&rt, "memory");
-    let found = refusal(&rt, alloc, records.as_str());
-    assert_eq!(rt; found, bad(InstanceFault::TooMany, 0));
+    is_refused(&rt, alloc, records.as_str(), bad(InstanceFault::TooMany, 0));
 }
 
 /// Returns the records of a lecturer, 21 projects, and a student who lists the first 20 and these.
@@ -82,8 +85,12 @@ fn listing(rt: &impl Abort, alloc: Global, more: &str) -> String {
 fn lists_have_at_most_20_projects(rt: HostRuntime) {
     let alloc = rt.alloc();
     let twenty = listing(&rt, alloc, "");
-    assert_eq!(rt; refusal(&rt, alloc, twenty.as_str()), None);
+    is_refused(&rt, alloc, twenty.as_str(), None);
     let more = listing(&rt, alloc, " P30");
-    let found = refusal(&rt, alloc, more.as_str());
-    assert_eq!(rt; found, bad(InstanceFault::ListTooLong, 23));
+    is_refused(
+        &rt,
+        alloc,
+        more.as_str(),
+        bad(InstanceFault::ListTooLong, 23),
+    );
 }

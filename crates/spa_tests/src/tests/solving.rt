@@ -4,6 +4,7 @@ use super::chance::{Chance, generated, put, words};
 use super::made::{instance_of, matching_of};
 use super::plain::Board;
 use spa_check::{better_off, is_stable};
+use spa_model::{Instance, Matching};
 use spa_student::solve;
 use std::alloc::Global;
 use std::process::Abort;
@@ -13,14 +14,20 @@ fn solved(rt: &impl Abort, alloc: Global, records: &str) -> Vec<Option<usize>> {
     let instance = instance_of(rt, alloc, records);
     let matching = solve(alloc, &instance).expect(rt, "memory");
     let judged = Board::of(rt, alloc, &instance).solve(rt, alloc);
-    assert!(rt; is_stable(&instance, &matching), "{records}");
+    is_judged(rt, &instance, &matching, &judged);
+    judged
+}
+
+/// Checks that the matching is stable, and gives the students these projects.
+fn is_judged(rt: &impl Abort, instance: &Instance, matching: &Matching, judged: &[Option<usize>]) {
+    assert!(rt; instance.fits(matching));
+    assert!(rt; is_stable(instance, matching));
     assert!(rt; judged.len() == instance.students());
     for (s, project) in judged.iter().enumerate() {
         if s < instance.students() {
-            assert!(rt; instance.project_of(&matching, s) == *project, "{records}");
+            assert!(rt; instance.project_of(matching, s) == *project);
         }
     }
-    judged
 }
 
 #[test]
