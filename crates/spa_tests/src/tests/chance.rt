@@ -11,10 +11,8 @@ pub(crate) struct Chance {
 
 impl Chance {
     fn below(&mut self, n: u64) -> u64 {
-        self.state = self
-            .state
-            .wrapping_mul(6_364_136_223_846_793_005)
-            .wrapping_add(1_442_695_040_888_963_407);
+        let state = self.state.wrapping_mul(6_364_136_223_846_793_005);
+        self.state = state.wrapping_add(1_442_695_040_888_963_407);
         (self.state >> 33) % n.max(1)
     }
 
@@ -28,7 +26,7 @@ impl Chance {
         for _ in 0..turns {
             let number = self.below(n);
             if !list.contains(&number) {
-                list.push(number).expect(rt, "memory");
+                add(rt, &mut list, number);
             }
         }
         list
@@ -52,6 +50,11 @@ pub(crate) fn put<E: Debug>(rt: &impl Abort, text: &mut String, more: Result<Str
     text.push_str(more.as_str()).expect(rt, "memory");
 }
 
+/// Appends the item to the list.
+pub(crate) fn add<X: Drop>(rt: &impl Abort, list: &mut Vec<X>, item: X) {
+    list.push(item).expect(rt, "memory");
+}
+
 /// Returns whether the lecturer offers one of these projects.
 fn finds(owners: &[u64], list: &[u64], lecturer: u64) -> bool {
     list.iter()
@@ -63,7 +66,7 @@ fn shuffled(rt: &impl Abort, alloc: Global, chance: &mut Chance, n: u64) -> Vec<
     let mut order = chance.some(rt, alloc, n, 4 * n.min(100));
     for s in 0..n {
         if !order.contains(&s) {
-            order.push(s).expect(rt, "memory");
+            add(rt, &mut order, s);
         }
     }
     order
@@ -81,7 +84,7 @@ fn ranking(
     let mut list = Vec::new(alloc);
     for s in order {
         match choices.get(*s as usize) {
-            Some(own) if finds(owners, own, lecturer) => list.push(*s).expect(rt, "memory"),
+            Some(own) if finds(owners, own, lecturer) => add(rt, &mut list, *s),
             _ => {}
         }
     }
@@ -102,7 +105,7 @@ fn lists(
         let keys = words(rt, alloc, "P", &list);
         let line = format!(in alloc; "S,S{},,{keys}\n", s.wrapping_add(10));
         put(rt, records, line);
-        choices.push(list).expect(rt, "memory");
+        add(rt, &mut choices, list);
     }
     choices
 }
@@ -122,7 +125,7 @@ fn owners(
         let owner = chance.below(lecturers);
         let (capacity, key) = (chance.capacity(), owner.wrapping_add(10));
         put(rt, records, format!(in alloc; "P,P{p},{capacity},L{key}\n"));
-        owners.push(owner).expect(rt, "memory");
+        add(rt, &mut owners, owner);
     }
     owners
 }

@@ -2,10 +2,10 @@
 
 ghost use Rattle.std.specs.Prelude.{◌<◌};
 
+use super::blocking::are_blocks;
 use super::chance::put;
-use super::made::{instance_of, pairs_of};
+use super::made::{instance_of, pairs_of, projects_of};
 use super::plain::Board;
-use spa_check::{blocking_pairs, is_stable};
 use spa_model::{Instance, Matching};
 use std::alloc::Global;
 use std::process::Abort;
@@ -65,25 +65,23 @@ fn pairs_by(rt: &impl Abort, alloc: Global, code: u32) -> String {
 
 /// Returns whether both ways list the same blocking pairs.
 fn do_agree(rt: &impl Abort, alloc: Global, instance: &Instance, matching: &Matching) -> bool {
-    assert!(rt; instance.fits(matching));
-    let mut projects = Vec::new(alloc);
-    for s in 0..instance.students() {
-        let project = instance.project_of(matching, s);
-        projects.push(project).expect(rt, "memory");
-    }
+    let projects = projects_of(rt, alloc, instance, matching);
     let judged = Board::of(rt, alloc, instance).blocks(rt, alloc, &projects);
-    let listed = blocking_pairs(alloc, instance, matching).expect(rt, "memory");
-    listed.as_slice() == judged.as_slice() && is_stable(instance, matching) == judged.is_empty()
+    are_blocks(rt, alloc, instance, matching, &judged)
+}
+
+/// Checks what must be so, and shows the number if it is not.
+fn holds(rt: &impl Abort, so: bool, number: u32) {
+    assert!(rt; so, "{number}");
 }
 
 /// Checks that both ways agree on the pairs of the code, and returns whether they are a matching.
 fn is_agreed(rt: &impl Abort, alloc: Global, instance: &Instance, code: u32) -> bool {
-    let records = pairs_by(rt, alloc, code);
-    let lines = pairs_of(rt, alloc, records.as_str());
+    let lines = pairs_of(rt, alloc, &pairs_by(rt, alloc, code));
     let Ok(matching) = Matching::build(alloc, instance, lines) else {
         return false;
     };
-    assert!(rt; do_agree(rt, alloc, instance, &matching), "{code}");
+    holds(rt, do_agree(rt, alloc, instance, &matching), code);
     true
 }
 
@@ -103,6 +101,6 @@ fn both_ways_agree(rt: HostRuntime) {
     let alloc = rt.alloc();
     for number in 0..64 {
         let instance = member(&rt, alloc, number);
-        assert!(rt; agreeing(&rt, alloc, &instance) > 9, "{number}");
+        holds(&rt, agreeing(&rt, alloc, &instance) > 9, number);
     }
 }

@@ -1,6 +1,8 @@
 //! Tests each fault of pairs, and which matchings fit an instance.
 
-use super::made::{ONE_LECTURER, TWO_LECTURERS, instance_of, matching_of, pairs_of};
+use super::made::{
+    ONE_LECTURER, TWO_LECTURERS, instance_of, is_so, matching_of, pairs_of, projects_of,
+};
 use spa_model::{BadMatching, Instance, Matching, MatchingFault};
 use std::alloc::Global;
 use std::process::Abort;
@@ -10,6 +12,11 @@ fn refusal(rt: &impl Abort, alloc: Global, records: &str, pairs: &str) -> Option
     let instance = instance_of(rt, alloc, records);
     let lines = pairs_of(rt, alloc, pairs);
     Matching::build(alloc, &instance, lines).err()
+}
+
+/// Checks that the pairs are refused for the instance of the records, and why.
+fn is_refused(rt: &impl Abort, alloc: Global, records: &str, pairs: &str, wanted: BadMatching) {
+    assert_eq!(rt; refusal(rt, alloc, records, pairs), Some(wanted), "{pairs}");
 }
 
 #[test]
@@ -25,8 +32,8 @@ fn each_fault_is_told_at_its_least_row(rt: HostRuntime) {
         (two, "M,S1,P1,\nM,S2,P1,\n", MatchingFault::ProjectOver, 2),
         (one, "M,S1,P1,\nM,S2,P2,\n", MatchingFault::LecturerOver, 2),
     ] {
-        let wanted = Some(BadMatching { fault, row });
-        assert_eq!(rt; refusal(&rt, rt.alloc(), records, pairs), wanted, "{pairs}");
+        let wanted = BadMatching { fault, row };
+        is_refused(&rt, rt.alloc(), records, pairs, wanted);
     }
 }
 
@@ -34,13 +41,11 @@ fn each_fault_is_told_at_its_least_row(rt: HostRuntime) {
 fn pairs_are_a_matching(rt: HostRuntime) {
     let alloc = rt.alloc();
     let instance = instance_of(&rt, alloc, TWO_LECTURERS);
-    let matching = matching_of(&rt, alloc, &instance, "M,S2,P1,\n");
-    assert!(rt; instance.students() == 2 && instance.fits(&matching));
-    let projects = [
-        instance.project_of(&matching, 0),
-        instance.project_of(&matching, 1),
-    ];
-    assert_eq!(rt; projects, [None, Some(0)]);
+    let pairs = "M,S2,P1,\n";
+    let matching = matching_of(&rt, alloc, &instance, pairs);
+    let projects = projects_of(&rt, alloc, &instance, &matching);
+    let found = projects.as_slice() == [None, Some(0)].as_slice();
+    is_so(&rt, found, pairs);
 }
 
 #[test]
@@ -53,13 +58,13 @@ fn a_matching_may_fit_another_instance(rt: HostRuntime) {
         ("M,S2,P1,\n", false),
         ("M,S1,P1,\nM,S2,P2,\n", false),
     ] {
-        assert!(rt; fits_too(&rt, alloc, &two, &one, pairs) == fits, "{pairs}");
+        is_so(&rt, fits_too(&rt, alloc, &two, &one, pairs) == fits, pairs);
     }
 }
 
 /// Checks that the pairs fit the first instance, and returns whether they fit the other one.
 fn fits_too(rt: &impl Abort, alloc: Global, two: &Instance, one: &Instance, pairs: &str) -> bool {
     let matching = matching_of(rt, alloc, two, pairs);
-    assert!(rt; two.fits(&matching), "{pairs}");
+    is_so(rt, two.fits(&matching), pairs);
     one.fits(&matching)
 }

@@ -2,6 +2,7 @@
 //! shortening lists.
 
 use super::blocking::block;
+use super::chance::add;
 use spa_check::Block;
 use spa_model::{Instance, Letter};
 use std::alloc::Global;
@@ -31,23 +32,15 @@ fn number(numbers: &[usize], at: usize) -> usize {
 }
 
 fn project(projects: &[Option<usize>], s: usize) -> Option<usize> {
-    match projects.get(s) {
-        Some(own) => *own,
-        None => None,
-    }
+    projects.get(s).copied().unwrap_or(None)
 }
 
 fn place(list: &[usize], wanted: usize) -> usize {
     list.iter().position(|x| *x == wanted).unwrap_or(list.len())
 }
 
-fn put(rt: &impl Abort, list: &mut Vec<usize>, number: usize) {
-    list.push(number).expect(rt, "memory");
-}
-
 fn put_list(rt: &impl Abort, alloc: Global, lists: &mut Vec<Vec<usize>>, list: &[usize]) {
-    let list = Vec::from_slice(alloc, list).expect(rt, "memory");
-    lists.push(list).expect(rt, "memory");
+    add(rt, lists, Vec::from_slice(alloc, list).expect(rt, "memory"));
 }
 
 /// The project of each student.
@@ -66,12 +59,12 @@ impl Board {
             put_list(rt, alloc, &mut board.choices, instance.choices(s));
         }
         for p in 0..instance.projects() {
-            put(rt, &mut board.owners, instance.lecturer_of(p));
-            put(rt, &mut board.places, instance.project_capacity(p) as usize);
+            add(rt, &mut board.owners, instance.lecturer_of(p));
+            add(rt, &mut board.places, instance.project_capacity(p) as usize);
         }
         for l in 0..instance.lecturers() {
             put_list(rt, alloc, &mut board.rankings, instance.ranking(l));
-            put(rt, &mut board.rooms, instance.lecturer_capacity(l) as usize);
+            add(rt, &mut board.rooms, instance.lecturer_capacity(l) as usize);
         }
         board
     }
@@ -94,21 +87,15 @@ impl Board {
     /// Returns the lowest-ranked student at the project.
     fn worst_at(&self, projects: &[Option<usize>], p: usize) -> Option<usize> {
         let ranking = row(&self.rankings, number(&self.owners, p));
-        ranking
-            .iter()
-            .copied()
-            .rev()
-            .find(|t| project(projects, *t) == Some(p))
+        let mut students = ranking.iter().copied().rev();
+        students.find(|t| project(projects, *t) == Some(p))
     }
 
     /// Returns the lowest-ranked student at any project of the lecturer.
     fn worst_with(&self, projects: &[Option<usize>], l: usize) -> Option<usize> {
         let ranking = row(&self.rankings, l);
-        ranking
-            .iter()
-            .copied()
-            .rev()
-            .find(|t| self.is_with(project(projects, *t), l))
+        let mut students = ranking.iter().copied().rev();
+        students.find(|t| self.is_with(project(projects, *t), l))
     }
 
     /// Returns whether `w` is a student who comes after `s` on the lecturer's ranking.
@@ -132,10 +119,8 @@ impl Board {
         }
         let l = number(&self.owners, p);
         if self.count_at(projects, p) >= number(&self.places, p) {
-            return match self.is_worse(l, self.worst_at(projects, p), s) {
-                true => Some(Letter::C),
-                false => None,
-            };
+            let is_better = self.is_worse(l, self.worst_at(projects, p), s);
+            return is_better.then_some(Letter::C);
         }
         if self.count_with(projects, l) < number(&self.rooms, l) {
             return Some(Letter::A);
@@ -152,8 +137,7 @@ impl Board {
         for student in 0..self.choices.len() {
             for project in 0..self.owners.len() {
                 if let Some(letter) = self.letter(projects, student, project) {
-                    let block = block(student, project, letter);
-                    blocks.push(block).expect(rt, "memory");
+                    add(rt, &mut blocks, block(student, project, letter));
                 }
             }
         }
@@ -200,7 +184,7 @@ impl Board {
         let mut offered = Vec::new(alloc);
         for q in 0..self.owners.len() {
             if number(&self.owners, q) == l {
-                put(rt, &mut offered, q);
+                add(rt, &mut offered, q);
             }
         }
         offered
@@ -231,10 +215,10 @@ impl Board {
     }
 
     /// Computes the student-optimal matching by the method that shortens lists.
-    pub(crate) fn solve(mut self, rt: &impl Abort, alloc: Global) -> Places {
+    pub(crate) fn solve(&mut self, rt: &impl Abort, alloc: Global) -> Places {
         let mut projects = Vec::new(alloc);
         for _ in 0..self.choices.len() {
-            projects.push(None).expect(rt, "memory");
+            add(rt, &mut projects, None);
         }
         for _ in 0..10_000 {
             let Some((s, p)) = self.next(&projects) else {

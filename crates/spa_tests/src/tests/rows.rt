@@ -1,7 +1,7 @@
 //! Tests each fault of an instance, with few records.
 
 use super::chance::put;
-use super::made::lines_of;
+use super::made::read;
 use spa_model::{BadInstance, Instance, InstanceFault};
 use std::alloc::Global;
 use std::process::Abort;
@@ -16,7 +16,7 @@ fn is_refused(rt: &impl Abort, alloc: Global, records: &str, wanted: Option<BadI
 
 /// Returns why the records are refused, if they are.
 pub(crate) fn refusal(rt: &impl Abort, alloc: Global, records: &str) -> Option<BadInstance> {
-    let (rows, _) = lines_of(rt, alloc, records);
+    let (rows, _) = read(rt, alloc, records);
     Instance::build(alloc, rows).err()
 }
 
@@ -24,9 +24,14 @@ pub(crate) fn bad(fault: InstanceFault, row: u32) -> Option<BadInstance> {
     Some(BadInstance { fault, row })
 }
 
+/// Checks whether the three lines and these are refused, and why.
+fn are_refused(rt: &impl Abort, alloc: Global, more: &str, wanted: Option<BadInstance>) {
+    let records = format!(in alloc; "{THREE_LINES}{more}").expect(rt, "memory");
+    is_refused(rt, alloc, &records, wanted);
+}
+
 #[test]
 fn each_fault_is_told_at_its_least_row(rt: HostRuntime) {
-    let alloc = rt.alloc();
     for (more, fault, row) in [
         ("P,P1,1,L1\n", InstanceFault::KeyTwice, 4),
         ("P,P1,1,L1\nS,S 2,,P1\n", InstanceFault::BadKey, 5),
@@ -41,8 +46,7 @@ fn each_fault_is_told_at_its_least_row(rt: HostRuntime) {
         ("L,L2,1,S1\n", InstanceFault::NotApplicant, 4),
         ("S,S2,,P1\n", InstanceFault::ApplicantMissing, 1),
     ] {
-        let records = format!(in alloc; "{THREE_LINES}{more}").expect(&rt, "memory");
-        is_refused(&rt, alloc, records.as_str(), bad(fault, row));
+        are_refused(&rt, rt.alloc(), more, bad(fault, row));
     }
 }
 
@@ -51,20 +55,20 @@ fn no_lines_and_three_lines_pass(rt: HostRuntime) {
     let alloc = rt.alloc();
     is_refused(&rt, alloc, "", None);
     is_refused(&rt, alloc, THREE_LINES, None);
-    let more = format!(in alloc; "{THREE_LINES}P,P2,1,L1\nP,P3,200,L1\n").expect(&rt, "memory");
-    is_refused(&rt, alloc, more.as_str(), None);
+    are_refused(&rt, alloc, "P,P2,1,L1\nP,P3,200,L1\n", None);
 }
 
 #[test]
 fn there_are_at_most_300_lecturers(rt: HostRuntime) {
     let alloc = rt.alloc();
-    let mut records = format!(in alloc; "{THREE_LINES}").expect(&rt, "memory");
+    let mut records = String::new(alloc);
+    put(&rt, &mut records, format!(in alloc; "{THREE_LINES}"));
     for number in 2..301 {
         put(&rt, &mut records, format!(in alloc; "L,L{number},1,\n"));
     }
-    is_refused(&rt, alloc, records.as_str(), None);
-    records.push_str("L,L301,1,\n").expect(&rt, "memory");
-    is_refused(&rt, alloc, records.as_str(), bad(InstanceFault::TooMany, 0));
+    is_refused(&rt, alloc, &records, None);
+    put(&rt, &mut records, format!(in alloc; "L,L301,1,\n"));
+    is_refused(&rt, alloc, &records, bad(InstanceFault::TooMany, 0));
 }
 
 /// Returns the records of a lecturer, 21 projects, and a student who lists the first 20 and these.
@@ -84,13 +88,7 @@ fn listing(rt: &impl Abort, alloc: Global, more: &str) -> String {
 #[test]
 fn lists_have_at_most_20_projects(rt: HostRuntime) {
     let alloc = rt.alloc();
-    let twenty = listing(&rt, alloc, "");
-    is_refused(&rt, alloc, twenty.as_str(), None);
-    let more = listing(&rt, alloc, " P30");
-    is_refused(
-        &rt,
-        alloc,
-        more.as_str(),
-        bad(InstanceFault::ListTooLong, 23),
-    );
+    is_refused(&rt, alloc, &listing(&rt, alloc, ""), None);
+    let wanted = bad(InstanceFault::ListTooLong, 23);
+    is_refused(&rt, alloc, &listing(&rt, alloc, " P30"), wanted);
 }

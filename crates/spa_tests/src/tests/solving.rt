@@ -1,8 +1,8 @@
 //! Compares the solver with the method that shortens lists, on worked and generated instances.
 
-use super::chance::{Chance, generated, put, words};
-use super::made::{instance_of, matching_of};
-use super::plain::Board;
+use super::chance::{Chance, add, generated, put, words};
+use super::made::{FULL_LECTURER, TWO_STABLE, instance_of, is_so, matching_of, projects_of};
+use super::plain::{Board, Places};
 use spa_check::{better_off, is_stable};
 use spa_model::{Instance, Matching};
 use spa_student::solve;
@@ -10,24 +10,23 @@ use std::alloc::Global;
 use std::process::Abort;
 
 /// Checks that both methods give the same stable matching, and returns the students' projects.
-fn solved(rt: &impl Abort, alloc: Global, records: &str) -> Vec<Option<usize>> {
-    let instance = instance_of(rt, alloc, records);
-    let matching = solve(alloc, &instance).expect(rt, "memory");
-    let judged = Board::of(rt, alloc, &instance).solve(rt, alloc);
-    is_judged(rt, &instance, &matching, &judged);
+fn solved(rt: &impl Abort, alloc: Global, records: &str) -> Places {
+    judged(rt, alloc, &instance_of(rt, alloc, records), records)
+}
+
+/// Checks the same for the instance of the records.
+fn judged(rt: &impl Abort, alloc: Global, instance: &Instance, records: &str) -> Places {
+    let matching = solve(alloc, instance).expect(rt, "memory");
+    is_so(rt, is_stable(instance, &matching), records);
+    let projects = projects_of(rt, alloc, instance, &matching);
+    let judged = Board::of(rt, alloc, instance).solve(rt, alloc);
+    is_so(rt, projects.as_slice() == judged.as_slice(), records);
     judged
 }
 
-/// Checks that the matching is stable, and gives the students these projects.
-fn is_judged(rt: &impl Abort, instance: &Instance, matching: &Matching, judged: &[Option<usize>]) {
-    assert!(rt; instance.fits(matching));
-    assert!(rt; is_stable(instance, matching));
-    assert!(rt; judged.len() == instance.students());
-    for (s, project) in judged.iter().enumerate() {
-        if s < instance.students() {
-            assert!(rt; instance.project_of(matching, s) == *project);
-        }
-    }
+/// Checks that both methods give the students these projects.
+fn gives(rt: &impl Abort, alloc: Global, records: &str, wanted: &[Option<usize>]) {
+    assert!(rt; solved(rt, alloc, records).as_slice() == wanted);
 }
 
 #[test]
@@ -39,32 +38,32 @@ fn seven_students(rt: HostRuntime) {
         "S,S1,,P1 P7\nS,S2,,P1 P2 P3 P4 P5 P6\nS,S3,,P2 P1 P4\nS,S4,,P2\nS,S5,,P1 P2 P3 P4\nS,S6,,P2 P3 P4 P5 P6\nS,S7,,P5 P3 P8\n";
     let alloc = rt.alloc();
     let records = format!(in alloc; "{lecturers}{projects}{students}").expect(&rt, "memory");
-    let projects = solved(&rt, alloc, records.as_str());
     let wanted = [Some(0), Some(4), Some(3), Some(1), None, None, Some(2)];
-    assert!(rt; projects.as_slice() == wanted.as_slice());
+    gives(&rt, alloc, &records, &wanted);
 }
 
 #[test]
 fn two_stable_matchings_and_a_full_lecturer(rt: HostRuntime) {
-    let alloc = rt.alloc();
-    let two = "L,L1,1,S2 S1\nL,L2,1,S1 S2\nP,P1,1,L1\nP,P2,1,L2\nS,S1,,P1 P2\nS,S2,,P2 P1\n";
-    assert!(rt; solved(&rt, alloc, two).as_slice() == [Some(0), Some(1)].as_slice());
-    let full = "L,L1,2,S3 S1 S2\nP,P1,5,L1\nS,S1,,P1\nS,S2,,P1\nS,S3,,P1\n";
-    assert!(rt; solved(&rt, alloc, full).as_slice() == [Some(0), None, Some(0)].as_slice());
+    gives(&rt, rt.alloc(), TWO_STABLE, &[Some(0), Some(1)]);
+    let wanted = [Some(0), None, Some(0)];
+    gives(&rt, rt.alloc(), FULL_LECTURER, &wanted);
 }
 
-/// Nobody is better off in the other stable matching. The first student is better off in the solved
+/// Checks that nobody is better off in the other matching, and the first student is in the solved
 /// one.
+fn is_better(rt: &impl Abort, instance: &Instance, matching: &Matching, other: &Matching) {
+    assert!(rt; instance.fits(matching) && instance.fits(other));
+    assert!(rt; better_off(instance, matching, other) == None);
+    assert!(rt; better_off(instance, other, matching) == Some(0));
+}
+
 #[test]
 fn better_off_in_the_solved_matching(rt: HostRuntime) {
     let alloc = rt.alloc();
-    let records = "L,L1,1,S2 S1\nL,L2,1,S1 S2\nP,P1,1,L1\nP,P2,1,L2\nS,S1,,P1 P2\nS,S2,,P2 P1\n";
-    let instance = instance_of(&rt, alloc, records);
+    let instance = instance_of(&rt, alloc, TWO_STABLE);
     let matching = solve(alloc, &instance).expect(&rt, "memory");
     let other = matching_of(&rt, alloc, &instance, "M,S1,P2,\nM,S2,P1,\n");
-    assert!(rt; instance.fits(&other));
-    assert!(rt; better_off(&instance, &matching, &other) == None);
-    assert!(rt; better_off(&instance, &other, &matching) == Some(0));
+    is_better(&rt, &instance, &matching, &other);
 }
 
 /// If all lists have the same order, each student gets the first project that is still free.
@@ -74,10 +73,9 @@ fn one_order_for_all(rt: HostRuntime) {
     let mut all = Vec::new(alloc);
     let mut wanted = Vec::new(alloc);
     for n in 0..20u64 {
-        all.push(n).expect(&rt, "memory");
-        wanted.push(Some(n as usize)).expect(&rt, "memory");
-        let records = records_of(&rt, alloc, &all);
-        assert!(rt; solved(&rt, alloc, records.as_str()).as_slice() == wanted.as_slice());
+        add(&rt, &mut all, n);
+        add(&rt, &mut wanted, Some(n as usize));
+        gives(&rt, alloc, &records_of(&rt, alloc, &all), &wanted);
     }
 }
 
