@@ -1,5 +1,6 @@
 //! Tests the reading of instance files.
 
+use crate::tests::readers::is_fault;
 use portal_rolls::{RollFault, read_instance};
 use spa_rows::{InstanceRows, PairLine};
 use std::process::Abort;
@@ -12,6 +13,7 @@ fn has_lines(rt: &impl Abort, rows: &InstanceRows) {
     assert!(rt; rows.students[0].list.len() == 2);
 }
 
+/// Checks that there is one pair, of the fifth row.
 fn has_pair(rt: &impl Abort, pairs: &[PairLine]) {
     assert!(rt; pairs.len() == 1);
     let pair = &pairs[0];
@@ -28,7 +30,13 @@ fn rows_of_a_file(rt: HostRuntime) {
 
 /// Checks the fault of the file, if it has one.
 fn has(rt: &(impl Abort + AllocGlobal), text: &[u8], fault: Option<RollFault>) {
-    assert_eq!(rt; read_instance(rt.alloc(), text).err(), fault);
+    is_fault(rt, read_instance(rt.alloc(), text).err(), fault);
+}
+
+/// Checks that a file with these records has this fault.
+fn has_fault(rt: &(impl Abort + AllocGlobal), records: &[u8], fault: RollFault) {
+    let text = [b"kind,key,value,list\n", records].concat(rt.alloc());
+    has(rt, &text.expect(rt, "memory"), Some(fault));
 }
 
 #[test]
@@ -36,14 +44,10 @@ fn faults(rt: HostRuntime) {
     has(&rt, b"", Some(RollFault::NoHeader));
     has(&rt, b"kind,key\n", Some(RollFault::BadHeader));
     has(&rt, b"kind,key,value,list\nL,L1,1,\n", None);
-    let text = b"kind,key,value,list\nL,L1,1\n";
-    has(&rt, text, Some(RollFault::FieldCount(1)));
-    let text = b"kind,key,value,list\nL,L1,1,\nX,\xff,1,\n";
-    has(&rt, text, Some(RollFault::NotText(2)));
-    let text = b"kind,key,value,list\nX,L1,1,\n";
-    has(&rt, text, Some(RollFault::BadField(1, 1)));
-    let text = b"kind,key,value,list\nL,L1,x,\n";
-    has(&rt, text, Some(RollFault::BadField(1, 3)));
+    has_fault(&rt, b"L,L1,1\n", RollFault::FieldCount(1));
+    has_fault(&rt, b"L,L1,1,\nX,\xff,1,\n", RollFault::NotText(2));
+    has_fault(&rt, b"X,L1,1,\n", RollFault::BadField(1, 1));
+    has_fault(&rt, b"L,L1,x,\n", RollFault::BadField(1, 3));
     let text = b"\xef\xbb\xbfkind,key,value,list\r\nM,S1,P1,x\r\n";
     has(&rt, text, Some(RollFault::BadField(1, 4)));
 }

@@ -1,7 +1,7 @@
 //! Plays a department at every limit from setup to published.
 
 use crate::tests::portal::{OFFICE, Portal};
-use crate::tests::rows::add;
+use crate::tests::rows::{add, put};
 use portal_core::{Call, Phase};
 use portal_rolls::{read_lecturers, read_projects, read_students};
 use std::process::Abort;
@@ -29,35 +29,35 @@ fn is_applicant(student: u64, lecturer: u64) -> bool {
     false
 }
 
+/// Returns this line.
+fn headed(rt: &(impl Abort + AllocGlobal), line: &str) -> String {
+    line.to_string(rt.alloc()).expect(rt, "memory")
+}
+
 fn lecturers(rt: &(impl Abort + AllocGlobal)) -> String {
-    let mut text = String::new(rt.alloc());
-    text.push_str("id,name,code,capacity\n")
-        .expect(rt, "memory");
+    let mut text = headed(rt, "id,name,code,capacity\n");
     for i in 0..LECTURERS {
-        let row = format!(in rt.alloc(); "L{i},Lee,lect-code-{i},7\n").expect(rt, "memory");
-        text.push_str(&row).expect(rt, "memory");
+        let row = format!(in rt.alloc(); "L{i},Lee,lect-code-{i},7\n");
+        put(rt, &mut text, row);
     }
     text
 }
 
 fn projects(rt: &(impl Abort + AllocGlobal)) -> String {
-    let mut text = String::new(rt.alloc());
-    text.push_str("id,lecturer,title,capacity\n")
-        .expect(rt, "memory");
+    let mut text = headed(rt, "id,lecturer,title,capacity\n");
     for i in 0..PROJECTS {
         let l = i % LECTURERS;
-        let row = format!(in rt.alloc(); "P{i},L{l},Tides,2\n").expect(rt, "memory");
-        text.push_str(&row).expect(rt, "memory");
+        let row = format!(in rt.alloc(); "P{i},L{l},Tides,2\n");
+        put(rt, &mut text, row);
     }
     text
 }
 
 fn students(rt: &(impl Abort + AllocGlobal)) -> String {
-    let mut text = String::new(rt.alloc());
-    text.push_str("id,name,code\n").expect(rt, "memory");
+    let mut text = headed(rt, "id,name,code\n");
     for i in 0..STUDENTS {
-        let row = format!(in rt.alloc(); "S{i},Ann,stud-code-{i}\n").expect(rt, "memory");
-        text.push_str(&row).expect(rt, "memory");
+        let row = format!(in rt.alloc(); "S{i},Ann,stud-code-{i}\n");
+        put(rt, &mut text, row);
     }
     text
 }

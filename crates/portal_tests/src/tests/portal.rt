@@ -3,6 +3,7 @@
 ghost use Rattle.portal_core.specs.Meaning.{call_model};
 ghost use Rattle.portal_core.specs.Run.{HasForm};
 
+use crate::tests::readers::same;
 use portal_core::{Body, Call, Code, Reply};
 use portal_desk::play;
 use portal_list::{ListKeeper, WorldRows};
@@ -28,12 +29,18 @@ impl Model for Portal {
 
 pub(crate) const OFFICE: &str = "office-code-0";
 
+/// Checks that the reply has this status and this body.
+fn is_reply(rt: &(impl Abort + AllocGlobal), reply: &Reply, status: u16, body: &str) {
+    assert_eq!(rt; reply.status, status);
+    is_json(rt, &reply.body, body);
+}
+
 /// Checks that the body is this JSON.
 fn is_json(rt: &(impl Abort + AllocGlobal), body: &Body, wanted: &str) {
     match body {
         Body::Json(value) => {
             let text = value.to_string(rt.alloc()).expect(rt, "memory");
-            assert_eq!(rt; text.as_str(), wanted);
+            same(rt, text.as_str(), wanted);
         }
         _ => assert!(rt; false, "no JSON"),
     }
@@ -73,9 +80,7 @@ impl Portal {
     )
         requires { HasForm (call_model call) }
     {
-        let reply = self.reply(rt, code, &call);
-        assert_eq!(rt; reply.status, status);
-        is_json(rt, &reply.body, body);
+        is_reply(rt, &self.reply(rt, code, &call), status, body);
     }
 
     /// Checks that a call of the caller with this code is accepted.

@@ -2,7 +2,7 @@
 
 use crate::tests::portal::{OFFICE, Portal};
 use crate::tests::rows::{
-    Sketch, after_first, are_refused, in_choosing, in_ranking, opened, rows_of,
+    Sketch, add, after_first, are_refused, in_choosing, in_ranking, opened, rows_of,
 };
 use portal_core::{Call, Phase, Round};
 use portal_list::ListKeeper;
@@ -55,8 +55,8 @@ fn portal(rt: &(impl Abort + AllocGlobal), sketch: &Sketch) -> Portal {
 fn list(rt: &(impl Abort + AllocGlobal), keys: &[&str]) -> Vec<Vec<u8>> {
     let mut texts = Vec::new(rt.alloc());
     for key in keys {
-        let text = key.as_bytes().to_vec(rt.alloc()).expect(rt, "memory");
-        texts.push(text).expect(rt, "memory");
+        let text = key.as_bytes().to_vec(rt.alloc());
+        add(rt, &mut texts, text.expect(rt, "memory"));
     }
     texts
 }
@@ -86,13 +86,8 @@ fn moves(
 }
 
 /// Checks that the office may not move to this phase of this round.
-fn is_refused(
-    rt: &(impl Abort + AllocGlobal),
-    portal: &mut Portal,
-    phase: Phase,
-    round: Option<Round>,
-) {
-    moves(rt, portal, phase, round, 409, WRONG_PHASE);
+fn is_refused(rt: &(impl Abort + AllocGlobal), portal: &mut Portal, to: (Phase, Option<Round>)) {
+    moves(rt, portal, to.0, to.1, 409, WRONG_PHASE);
 }
 
 /// Opens the second round as the office.
@@ -129,20 +124,21 @@ fn what_is_left_is_offered(rt: HostRuntime) {
 #[test]
 fn the_office_opens_the_second_round(rt: HostRuntime) {
     let mut portal = portal(&rt, &after_first());
-    is_refused(&rt, &mut portal, Phase::Choosing, None);
-    is_refused(&rt, &mut portal, Phase::Choosing, Some(Round::First));
-    is_refused(&rt, &mut portal, Phase::Ranking, Some(Round::Second));
-    is_refused(&rt, &mut portal, Phase::Published, Some(Round::Second));
+    is_refused(&rt, &mut portal, (Phase::Choosing, None));
+    is_refused(&rt, &mut portal, (Phase::Choosing, Some(Round::First)));
+    is_refused(&rt, &mut portal, (Phase::Ranking, Some(Round::Second)));
+    is_refused(&rt, &mut portal, (Phase::Published, Some(Round::Second)));
     opens(&rt, &mut portal);
     is_offered(&rt, &mut portal);
-    is_refused(&rt, &mut portal, Phase::Published, None);
-    is_refused(&rt, &mut portal, Phase::Published, Some(Round::First));
+    is_refused(&rt, &mut portal, (Phase::Published, None));
+    is_refused(&rt, &mut portal, (Phase::Published, Some(Round::First)));
     opens(&rt, &mut portal);
 }
 
 /// Checks that no second round follows the unpublished round of these rows.
 fn has_no_second(rt: &(impl Abort + AllocGlobal), sketch: &Sketch, phase: Phase) {
-    is_refused(rt, &mut portal(rt, sketch), phase, Some(Round::Second));
+    let to = (phase, Some(Round::Second));
+    is_refused(rt, &mut portal(rt, sketch), to);
 }
 
 #[test]
@@ -197,12 +193,11 @@ fn rows_of_no_second_round_are_refused(rt: HostRuntime) {
     let mut in_setup = opened();
     in_setup.phase = Phase::Setup;
     are_refused(&rt, &in_setup);
-    let mut full = opened();
-    full.choices = &[("S1", &[]), ("S2", &[]), ("S3", &["P1"])];
-    are_refused(&rt, &full);
-    let mut placed = opened();
-    placed.choices = &[("S1", &["P3"]), ("S2", &[]), ("S3", &[])];
-    are_refused(&rt, &placed);
+    let mut sketch = opened();
+    sketch.choices = &[("S1", &[]), ("S2", &[]), ("S3", &["P1"])];
+    are_refused(&rt, &sketch);
+    sketch.choices = &[("S1", &["P3"]), ("S2", &[]), ("S3", &[])];
+    are_refused(&rt, &sketch);
     let mut left_out = opened();
     left_out.earlier_choices = &[("S1", &["P1", "P2"]), ("S2", &["P1", "P3"])];
     are_refused(&rt, &left_out);
@@ -213,19 +208,23 @@ fn rows_of_no_second_round_are_refused(rt: HostRuntime) {
 
 /// Checks that a keeper of the sketch's rows tells whether its world is good.
 fn is_told(rt: &(impl Abort + AllocGlobal), sketch: &Sketch, good: bool) {
+    assert_eq!(rt; is_good(rt, sketch), good);
+}
+
+/// Returns whether a keeper of the sketch's rows has a good world.
+fn is_good(rt: &(impl Abort + AllocGlobal), sketch: &Sketch) -> bool {
     let keeper = ListKeeper::from_rows(rt.alloc(), rows_of(rt, sketch)).expect(rt, "a keeper");
-    assert_eq!(rt; keeper.is_good(rt.alloc()).expect(rt, "memory"), good);
+    keeper.is_good(rt.alloc()).expect(rt, "memory")
 }
 
 #[test]
 fn a_first_round_that_is_not_good_is_told(rt: HostRuntime) {
     is_told(&rt, &opened(), true);
-    let mut blocked = opened();
-    blocked.earlier_pairs = &[("S1", "P1"), ("S2", "P3")];
-    is_told(&rt, &blocked, false);
-    let mut unlisted = opened();
-    unlisted.earlier_pairs = &[("S1", "P3"), ("S2", "P1")];
-    is_told(&rt, &unlisted, false);
+    let mut sketch = opened();
+    sketch.earlier_pairs = &[("S1", "P1"), ("S2", "P3")];
+    is_told(&rt, &sketch, false);
+    sketch.earlier_pairs = &[("S1", "P3"), ("S2", "P1")];
+    is_told(&rt, &sketch, false);
     let mut unranked = opened();
     unranked.earlier_rankings = &[("L1", &["S2", "S1"])];
     is_told(&rt, &unranked, false);

@@ -1,8 +1,11 @@
 //! Tests keepers in lists that are made from good and bad rows of a database.
 
+use crate::tests::readers::same;
 use portal_core::{Code, LecturerRow, Listing, Name, Phase, ProjectRow, Round, StudentRow};
 use portal_list::{ListKeeper, RowsFault, WorldRows, listings_of};
+use portal_rolls::{read_lecturers, read_students};
 use spa_rows::Key;
+use std::fmt::Debug;
 use std::process::Abort;
 
 /// Appends the item to the list.
@@ -10,32 +13,25 @@ pub(crate) fn add<X: Drop>(rt: &impl Abort, list: &mut Vec<X>, item: X) {
     list.push(item).expect(rt, "memory");
 }
 
+/// Appends a text that was made.
+pub(crate) fn put<E: Debug>(rt: &impl Abort, text: &mut String, more: Result<String, E>) {
+    let more = more.expect(rt, "memory");
+    text.push_str(&more).expect(rt, "memory");
+}
+
 /// Parses a key.
 pub(crate) fn key(rt: &(impl Abort + AllocGlobal), text: &str) -> Key {
     Key::parse(rt.alloc(), text.as_bytes()).expect(rt, "a key")
 }
 
-fn name(rt: &(impl Abort + AllocGlobal), text: &str) -> Name {
+/// Parses a name.
+pub(crate) fn name(rt: &(impl Abort + AllocGlobal), text: &str) -> Name {
     Name::parse(rt.alloc(), text.as_bytes()).expect(rt, "a name")
 }
 
-fn code(rt: &(impl Abort + AllocGlobal), text: &str) -> Code {
+/// Parses a code.
+pub(crate) fn code(rt: &(impl Abort + AllocGlobal), text: &str) -> Code {
     Code::parse(rt.alloc(), text.as_bytes()).expect(rt, "a code")
-}
-
-fn lecturer(
-    rt: &(impl Abort + AllocGlobal),
-    text: &str,
-    called: &str,
-    word: &str,
-    capacity: u32,
-) -> LecturerRow {
-    LecturerRow {
-        key: key(rt, text),
-        name: name(rt, called),
-        code: code(rt, word),
-        capacity,
-    }
 }
 
 fn project(rt: &(impl Abort + AllocGlobal), text: &str, lecturer: &str, title: &str) -> ProjectRow {
@@ -47,22 +43,13 @@ fn project(rt: &(impl Abort + AllocGlobal), text: &str, lecturer: &str, title: &
     }
 }
 
-fn student(rt: &(impl Abort + AllocGlobal), text: &str, called: &str, word: &str) -> StudentRow {
-    StudentRow {
-        key: key(rt, text),
-        name: name(rt, called),
-        code: code(rt, word),
+/// Returns the two lecturers, the second of them with this capacity.
+pub(crate) fn lecturers(rt: &(impl Abort + AllocGlobal), capacity: u32) -> Vec<LecturerRow> {
+    let text = b"id,name,code,capacity\nL1,Lee,lee-code-01,2\nL2,Moe,moe-code-02,1\n";
+    let mut rows = read_lecturers(rt.alloc(), text).expect(rt, "a roll");
+    if let Some(second) = rows.get_mut(1) {
+        second.capacity = capacity;
     }
-}
-
-fn lecturers(rt: &(impl Abort + AllocGlobal), capacity: u32) -> Vec<LecturerRow> {
-    let mut rows = Vec::new(rt.alloc());
-    add(rt, &mut rows, lecturer(rt, "L1", "Lee", "lee-code-01", 2));
-    add(
-        rt,
-        &mut rows,
-        lecturer(rt, "L2", "Moe", "moe-code-02", capacity),
-    );
     rows
 }
 
@@ -75,12 +62,11 @@ fn projects(rt: &(impl Abort + AllocGlobal), keys: &[&str]) -> Vec<ProjectRow> {
     rows
 }
 
-fn students(rt: &(impl Abort + AllocGlobal), word: &str) -> Vec<StudentRow> {
-    let mut rows = Vec::new(rt.alloc());
-    add(rt, &mut rows, student(rt, "S1", "Ann", word));
-    add(rt, &mut rows, student(rt, "S2", "Roe, Bea", "bea-code-2"));
-    add(rt, &mut rows, student(rt, "S3", "Cyr", "cyr-code-3"));
-    rows
+/// Returns the three students, the first of them with this code.
+pub(crate) fn students(rt: &(impl Abort + AllocGlobal), word: &str) -> Vec<StudentRow> {
+    let rows = "S2,\"Roe, Bea\",bea-code-2\nS3,Cyr,cyr-code-3\n";
+    let text = format!(in rt.alloc(); "id,name,code\nS1,Ann,{word}\n{rows}").expect(rt, "memory");
+    read_students(rt.alloc(), text.as_bytes()).expect(rt, "a roll")
 }
 
 fn keys(rt: &(impl Abort + AllocGlobal), texts: &[&str]) -> Vec<Key> {
@@ -112,12 +98,13 @@ pub(crate) fn pairs(rt: &(impl Abort + AllocGlobal), places: Pairs) -> Vec<(Key,
 
 type Pairs<'a> = &'a [(&'a str, &'a str)];
 
-/// Returns the listing's key, its title and its lecturer's name.
-fn line_of(rt: &(impl Abort + AllocGlobal), listing: &Listing) -> String {
+/// Appends the listing's key, its title and its lecturer's name.
+fn put_line(rt: &(impl Abort + AllocGlobal), text: &mut String, listing: &Listing) {
     let key = listing.key.as_str();
     let title = listing.title.as_str();
     let lecturer = listing.lecturer_name.as_str();
-    format!(in rt.alloc(); "{key} {title} {lecturer}/").expect(rt, "memory")
+    let line = format!(in rt.alloc(); "{key} {title} {lecturer}/");
+    put(rt, text, line);
 }
 
 /// Returns the catalogue of the two lecturers and these projects as a text.
@@ -125,7 +112,7 @@ fn catalogue(rt: &(impl Abort + AllocGlobal), projects: &[ProjectRow]) -> String
     let mut text = String::new(rt.alloc());
     let listings = listings_of(rt.alloc(), &lecturers(rt, 1), projects).expect(rt, "memory");
     for listing in &listings {
-        text.push_str(&line_of(rt, listing)).expect(rt, "memory");
+        put_line(rt, &mut text, listing);
     }
     text
 }
@@ -135,7 +122,7 @@ fn the_catalogue_of_rows(rt: HostRuntime) {
     let mut offered = projects(&rt, &["P1"]);
     add(&rt, &mut offered, project(&rt, "P4", "L9", "Gales"));
     let text = catalogue(&rt, &offered);
-    assert_eq!(&rt; text.as_str(), "P1 Tides Lee/P3 Bells Moe/");
+    same(&rt, text.as_str(), "P1 Tides Lee/P3 Bells Moe/");
 }
 
 /// The rows of a world with two lecturers and three students, which tests may spoil.
@@ -231,11 +218,6 @@ fn fault_of(rt: &(impl Abort + AllocGlobal), sketch: &Sketch) -> Option<RowsFaul
     ListKeeper::from_rows(rt.alloc(), rows_of(rt, sketch)).err()
 }
 
-/// Checks that the rows of the sketch make a keeper.
-fn are_taken(rt: &(impl Abort + AllocGlobal), sketch: &Sketch) {
-    assert_eq!(rt; fault_of(rt, sketch), None);
-}
-
 /// Checks that the rows of the sketch are refused as `NotGood`.
 pub(crate) fn are_refused(rt: &(impl Abort + AllocGlobal), sketch: &Sketch) {
     assert_eq!(rt; fault_of(rt, sketch), Some(RowsFault::NotGood));
@@ -243,10 +225,9 @@ pub(crate) fn are_refused(rt: &(impl Abort + AllocGlobal), sketch: &Sketch) {
 
 #[test]
 fn each_phase_is_taken(rt: HostRuntime) {
-    are_taken(&rt, &in_setup());
-    are_taken(&rt, &in_choosing());
-    are_taken(&rt, &in_ranking());
-    are_taken(&rt, &after_first());
+    for sketch in [in_setup(), in_choosing(), in_ranking(), after_first()] {
+        assert_eq!(rt; fault_of(&rt, &sketch), None);
+    }
 }
 
 #[test]
@@ -264,30 +245,26 @@ fn too_early_is_refused(rt: HostRuntime) {
 
 #[test]
 fn bad_lists_are_refused(rt: HostRuntime) {
-    let mut unknown = in_choosing();
-    unknown.choices = &[("S1", &["P1", "P9x"]), ("S2", &[]), ("S3", &[])];
-    let mut repeated = in_choosing();
-    repeated.choices = &[("S1", &["P1", "P1"]), ("S2", &[]), ("S3", &[])];
-    let mut left_out = in_choosing();
-    left_out.choices = &[("S1", &["P1"]), ("S2", &[])];
-    let mut nobody = in_choosing();
-    nobody.choices = &[("S1", &[]), ("S2", &[]), ("S3", &[]), ("S9", &[])];
-    are_refused(&rt, &unknown);
-    are_refused(&rt, &repeated);
-    are_refused(&rt, &left_out);
-    are_refused(&rt, &nobody);
+    let mut sketch = in_choosing();
+    sketch.choices = &[("S1", &["P1", "P9x"]), ("S2", &[]), ("S3", &[])];
+    are_refused(&rt, &sketch);
+    sketch.choices = &[("S1", &["P1", "P1"]), ("S2", &[]), ("S3", &[])];
+    are_refused(&rt, &sketch);
+    sketch.choices = &[("S1", &["P1"]), ("S2", &[])];
+    are_refused(&rt, &sketch);
+    sketch.choices = &[("S1", &[]), ("S2", &[]), ("S3", &[]), ("S9", &[])];
+    are_refused(&rt, &sketch);
 }
 
 #[test]
 fn bad_rankings_are_refused(rt: HostRuntime) {
-    let mut missing = in_ranking();
-    missing.rankings = &[("L1", &["S2"])];
-    let mut stranger = in_ranking();
-    stranger.rankings = &[("L2", &["S1"])];
+    let mut sketch = in_ranking();
+    sketch.rankings = &[("L1", &["S2"])];
+    are_refused(&rt, &sketch);
+    sketch.rankings = &[("L2", &["S1"])];
+    are_refused(&rt, &sketch);
     let mut still_to_rank = after_first();
     still_to_rank.rankings = &[("L1", &["S2", "S1"])];
-    are_refused(&rt, &missing);
-    are_refused(&rt, &stranger);
     are_refused(&rt, &still_to_rank);
 }
 

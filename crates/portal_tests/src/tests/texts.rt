@@ -1,9 +1,9 @@
 //! Tests the text of the status of the worked world.
 
-use crate::tests::rows::{add, key, pairs};
-use portal_core::{Code, LecturerRow, OfficeView, Phase, ProjectRow, Round, StudentRow};
+use crate::tests::rows::{add, code, key, lecturers, pairs, students};
+use portal_core::{OfficeView, Phase, ProjectRow, Round};
 use portal_reports::status_text;
-use portal_rolls::{read_lecturers, read_projects, read_students};
+use portal_rolls::read_projects;
 use std::process::Abort;
 use std::rc::Rc;
 
@@ -12,19 +12,9 @@ fn shared<X: Drop>(rt: &(impl Abort + AllocGlobal), rows: Vec<X>) -> Rc<Vec<X>> 
     Rc::new(rt.alloc(), rows).expect(rt, "memory")
 }
 
-fn lecturers(rt: &(impl Abort + AllocGlobal)) -> Rc<Vec<LecturerRow>> {
-    let text = b"id,name,code,capacity\nL1,Lee,lee-code-01,2\nL2,Moe,moe-code-02,1\n";
-    shared(rt, read_lecturers(rt.alloc(), text).expect(rt, "a roll"))
-}
-
 fn projects(rt: &(impl Abort + AllocGlobal)) -> Rc<Vec<ProjectRow>> {
     let text = b"id,lecturer,title,capacity\nP1,L1,Tides,1\nP2,L1,Kites,1\nP3,L2,Bells,1\n";
     shared(rt, read_projects(rt.alloc(), text).expect(rt, "a roll"))
-}
-
-fn students(rt: &(impl Abort + AllocGlobal)) -> Rc<Vec<StudentRow>> {
-    let text = b"id,name,code\nS1,Ann,ann-code-1\nS2,\"Roe, Bea\",bea-code-2\nS3,Cyr,cyr-code-3\n";
-    shared(rt, read_students(rt.alloc(), text).expect(rt, "a roll"))
 }
 
 /// Returns the office's view of the published worked world, with this round in it.
@@ -34,10 +24,10 @@ fn worked(rt: &(impl Abort + AllocGlobal), round: Round) -> OfficeView {
     OfficeView {
         round,
         phase: Phase::Published,
-        office_code: Code::parse(rt.alloc(), b"office-code-0").expect(rt, "a code"),
-        lecturers: lecturers(rt),
+        office_code: code(rt, "office-code-0"),
+        lecturers: shared(rt, lecturers(rt, 1)),
         projects: projects(rt),
-        students: students(rt),
+        students: shared(rt, students(rt, "ann-code-1")),
         catalogue: shared(rt, Vec::new(rt.alloc())),
         without_list,
         still_to_rank: Vec::new(rt.alloc()),
@@ -52,14 +42,10 @@ fn has_text(rt: &(impl Abort + AllocGlobal), round: Round, wanted: &str) {
 }
 
 #[test]
-fn the_state_as_text(rt: HostRuntime) {
+fn the_state_of_each_round_as_text(rt: HostRuntime) {
     let wanted =
         "phase           published\nlecturers            2\nprojects             3\nstudents             3\nwithout list         1\nstill to rank        0\nassigned             2\n";
     has_text(&rt, Round::First, wanted);
-}
-
-#[test]
-fn the_state_of_the_second_round_as_text(rt: HostRuntime) {
     let wanted =
         "phase           published\nround                2\nlecturers            2\nprojects             3\nstudents             3\nwithout list         1\nstill to rank        0\nassigned             2\n";
     has_text(&rt, Round::Second, wanted);

@@ -1,15 +1,18 @@
 //! Tests codes, names and phases.
 
+use crate::tests::readers::same;
+use crate::tests::rows::{code, name};
 use portal_core::{Code, CodeFault, Name, NameFault, Phase};
 use std::process::Abort;
 
 /// Checks that the text is a code, and that its copy is the same code.
 fn is_code(rt: &(impl Abort + AllocGlobal), text: &str) {
-    let code = Code::parse(rt.alloc(), text.as_bytes()).expect(rt, "a code");
-    assert_eq!(rt; code.as_str(), text);
-    assert_eq!(rt; code.copy(rt.alloc()).expect(rt, "memory"), code);
+    let parsed = code(rt, text);
+    same(rt, parsed.as_str(), text);
+    assert_eq!(rt; parsed.copy(rt.alloc()).expect(rt, "memory"), parsed);
 }
 
+/// Checks that the text is no code.
 fn is_no_code(rt: &(impl Abort + AllocGlobal), text: &str) {
     let fault = Code::parse(rt.alloc(), text.as_bytes()).err();
     assert_eq!(rt; fault, Some(CodeFault::BadCode));
@@ -27,11 +30,12 @@ fn codes_have_their_form(rt: HostRuntime) {
 
 /// Checks that the text is a name, and that its copy is the same name.
 fn is_name(rt: &(impl Abort + AllocGlobal), text: &str) {
-    let name = Name::parse(rt.alloc(), text.as_bytes()).expect(rt, "a name");
-    assert_eq!(rt; name.as_str(), text);
-    assert_eq!(rt; name.copy(rt.alloc()).expect(rt, "memory"), name);
+    let parsed = name(rt, text);
+    same(rt, parsed.as_str(), text);
+    assert_eq!(rt; parsed.copy(rt.alloc()).expect(rt, "memory"), parsed);
 }
 
+/// Checks that the text is no name.
 fn is_no_name(rt: &(impl Abort + AllocGlobal), text: &str) {
     let fault = Name::parse(rt.alloc(), text.as_bytes()).err();
     assert_eq!(rt; fault, Some(NameFault::BadName));
