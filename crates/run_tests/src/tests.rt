@@ -11,21 +11,42 @@ mod words;
 use portal_fixtures::{cut, unescaped};
 use portal_run::run;
 use std::alloc::AllocError;
+use std::process::Abort;
+
+/// The status and the output of a command.
+type Told = (u8, Vec<u8>);
 
 /// Runs a command with a text as its input, and returns the status and the output.
-fn told(
-    rt: &HostRuntime,
-    command: &str,
-    header: &[u8],
-    records: &[u8],
-) -> Result<(u8, Vec<u8>), AllocError> {
-    let alloc = rt.alloc();
-    let mut text = Vec::from_slice(alloc, header)?;
+fn told(rt: &HostRuntime, command: &str, head: &[u8], records: &[u8]) -> Result<Told, AllocError> {
+    let mut text = Vec::from_slice(rt.alloc(), head)?;
     text.extend_from_slice(records)?;
-    let mut out = Vec::new(alloc);
-    let mut input = text.as_slice();
-    let status = run(rt, &["portal", command], &mut input, &mut out);
-    Ok((status, out))
+    Ok(ran(rt, &["portal", command], &text))
+}
+
+/// Runs the command of these words on an input, and returns the status and the output.
+fn ran(rt: &HostRuntime, words: &[&str], input: &[u8]) -> Told {
+    let mut out = Vec::new(rt.alloc());
+    let mut input = input;
+    let status = run(rt, words, &mut input, &mut out);
+    (status, out)
+}
+
+/// Checks the status and the output of a command. `what` is told if the check fails.
+fn has_told(rt: &impl Abort, what: &str, found: &Told, status: u8, output: &[u8]) {
+    assert!(rt; found.0 == status, "{what}");
+    assert!(rt; found.1.as_slice() == output, "{what}");
+}
+
+/// Checks the status and the output of a command. `at` is told if the check fails.
+fn is_told(rt: &impl Abort, found: &Told, status: u8, output: &[u8], at: usize) {
+    assert!(rt; found.0 == status, "{at}");
+    assert!(rt; found.1.as_slice() == output, "{at}");
+}
+
+/// Appends a part to a text.
+fn put(text: &mut Vec<u8>, part: Result<String, AllocError>) -> Result<(), AllocError> {
+    let part = part?;
+    text.extend_from_slice(part.as_bytes())
 }
 
 /// The header line of an instance file.
@@ -51,6 +72,11 @@ fn wrong(rt: &HostRuntime, command: &str, before: &str, rows: &str) -> Result<St
         }
     }
     Ok(wrong)
+}
+
+/// Checks that no rows are wrong.
+fn are_right(rt: &impl Abort, wrong: &str) {
+    assert_eq!(rt; wrong, "");
 }
 
 /// Returns whether the text begins with `found`, followed by a gap or by nothing.

@@ -22,36 +22,27 @@ pub(crate) struct Feeder<'b> {
 impl<'b> Feeder<'b> {
     /// Makes a reader that returns up to `step` bytes a call.
     pub(crate) fn new(bytes: &'b [u8], step: usize) -> Feeder<'b> {
-        Feeder {
-            rest: bytes,
-            step,
-            later: step,
-            last: step,
-            fails: false,
-            failures: 0,
-        }
+        Feeder::of(bytes, step, step, step, false)
     }
 
     /// Makes a reader that returns up to `first` bytes, then `second`, and then 4,096 a call.
     pub(crate) fn cut(bytes: &'b [u8], first: usize, second: usize) -> Feeder<'b> {
-        Feeder {
-            rest: bytes,
-            step: first,
-            later: second,
-            last: 4_096,
-            fails: false,
-            failures: 0,
-        }
+        Feeder::of(bytes, first, second, 4_096, false)
     }
 
     /// Makes a reader that returns up to `step` bytes a call, and fails after the last byte.
     pub(crate) fn failing(bytes: &'b [u8], step: usize) -> Feeder<'b> {
+        Feeder::of(bytes, step, step, step, true)
+    }
+
+    /// Makes a reader of pieces of these lengths, the last of which repeats.
+    fn of(rest: &'b [u8], step: usize, later: usize, last: usize, fails: bool) -> Feeder<'b> {
         Feeder {
-            rest: bytes,
+            rest,
             step,
-            later: step,
-            last: step,
-            fails: true,
+            later,
+            last,
+            fails,
             failures: 0,
         }
     }
@@ -151,10 +142,12 @@ pub(crate) fn stopped(cause: Cause, requests: usize) -> Outcome {
     Err(ServeFault { cause, requests })
 }
 
+/// Checks an outcome. `at` is told if the check fails.
 pub(crate) fn is_outcome(rt: &impl Abort, found: Outcome, wanted: Outcome, at: usize) {
     assert_eq!(rt; found, wanted, "at {at}");
 }
 
+/// Checks bytes.
 pub(crate) fn is_text(rt: &impl Abort, found: &[u8], wanted: &[u8]) {
     assert_eq!(rt; found, wanted);
 }
@@ -163,6 +156,11 @@ pub(crate) fn is_text(rt: &impl Abort, found: &[u8], wanted: &[u8]) {
 pub(crate) fn is_first(rt: &impl Abort, found: &[u8], wanted: &[u8], many: usize) {
     is_text(rt, found, &wanted[..many.min(wanted.len())]);
     assert_eq!(rt; found.len(), many);
+}
+
+/// Checks how many times a device failed.
+fn has_failed(rt: &impl Abort, failures: u64, wanted: u64) {
+    assert_eq!(rt; failures, wanted);
 }
 
 /// Serves a source, checks the outcome, and returns the output. `at` is told if the check fails.
@@ -190,7 +188,7 @@ pub(crate) fn served_failing<K: Keeper>(
 ) -> Vec<u8> {
     let mut source = Feeder::failing(bytes, step);
     let output = served_by(rt, desk, &mut source, wanted, bytes.len());
-    assert_eq!(rt; Source::failures(&source), wanted.is_err() as u64);
+    has_failed(rt, Source::failures(&source), wanted.is_err() as u64);
     output
 }
 
@@ -208,6 +206,6 @@ pub(crate) fn taken<K: Keeper>(
     let mut sink = Basin::new(rt.alloc(), step, many);
     let outcome = desk.serve(rt.alloc(), &mut source, &mut sink);
     is_outcome(rt, outcome, stopped(Cause::Write, requests), many);
-    assert_eq!(rt; Sink::failures(&sink), 1);
+    has_failed(rt, Sink::failures(&sink), 1);
     sink.into_held()
 }

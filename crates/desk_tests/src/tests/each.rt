@@ -23,6 +23,11 @@ fn each_stream_finds_what_the_one_before_left(rt: HostRuntime) {
 fn gets(rt: &(impl Abort + AllocGlobal), streams: &[&[u8]], wanted: &[&[u8]; 3]) {
     let mut desk = fresh(rt);
     let texts = serve_each(rt.alloc(), &mut desk, streams).expect(rt, "served");
+    are_texts(rt, &texts, wanted);
+}
+
+/// Checks three texts.
+fn are_texts(rt: &impl Abort, texts: &[Vec<u8>], wanted: &[&[u8]; 3]) {
     assert_eq!(rt; texts.len(), 3);
     is_text(rt, texts[0].as_slice(), wanted[0]);
     is_text(rt, texts[1].as_slice(), wanted[1]);

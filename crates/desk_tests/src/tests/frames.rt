@@ -1,17 +1,28 @@
 //! Tests framing by examples.
 
+use crate::tests::portal::says;
 use portal_fixtures::{cut, unescaped};
 use portal_frame::{Frame, Refusal, Request, frame};
 use std::process::Abort;
 
-/// Describes in short what framing finds in the bytes.
-fn told(rt: &(impl Abort + AllocGlobal), bytes: &[u8], ended: bool) -> String {
-    match frame(rt.alloc(), bytes, ended).expect(rt, "memory") {
-        Frame::Need => "need".to_string(rt.alloc()).expect(rt, "memory"),
-        Frame::End => "end".to_string(rt.alloc()).expect(rt, "memory"),
-        Frame::Request(request, used) => told_request(rt, &request, used),
-        Frame::Bad { refusal, head_only } => told_refusal(rt, &refusal, head_only),
+/// Returns what framing finds in the bytes. `ended` says whether the input ends after them.
+pub(crate) fn framed(rt: &(impl Abort + AllocGlobal), bytes: &[u8], ended: bool) -> Frame {
+    frame(rt.alloc(), bytes, ended).expect(rt, "memory")
+}
+
+/// Describes a frame in short.
+fn told(rt: &(impl Abort + AllocGlobal), found: &Frame) -> String {
+    match found {
+        Frame::Need => owned(rt, "need"),
+        Frame::End => owned(rt, "end"),
+        Frame::Request(request, used) => told_request(rt, request, *used),
+        Frame::Bad { refusal, head_only } => told_refusal(rt, refusal, *head_only),
     }
+}
+
+/// Copies a word.
+pub(crate) fn owned(rt: &(impl Abort + AllocGlobal), word: &str) -> String {
+    word.to_string(rt.alloc()).expect(rt, "memory")
 }
 
 fn told_request(rt: &(impl Abort + AllocGlobal), request: &Request, used: usize) -> String {
@@ -27,8 +38,7 @@ fn told_refusal(rt: &(impl Abort + AllocGlobal), refusal: &Refusal, head_only: b
 
 /// Checks what framing finds in the bytes. `ended` says whether the input ends after them.
 pub(crate) fn finds(rt: &(impl Abort + AllocGlobal), bytes: &[u8], ended: bool, wanted: &str) {
-    let text = told(rt, bytes, ended);
-    assert_eq!(rt; text.as_str(), wanted);
+    says(rt, told(rt, &framed(rt, bytes, ended)).as_str(), wanted);
 }
 
 pub(crate) fn is(rt: &(impl Abort + AllocGlobal), bytes: &str, ended: bool, wanted: &str) {
@@ -60,6 +70,11 @@ open   400 bad_length false    PUT /me HTTP/1.1\r\nHost: a\r\ncontent-length: 1\
 ended  400 bad_length false    PUT /me HTTP/1.1\r\nHost: a\r\ncontent-length: 10\r\n\r\nabcd
 open   need                    GET /me HTTP/1.1\na:\na:\na:\na:\na:\na:\na:\na:\na:\na:\na:\na:\na:\na:\na:\na:\na:\na:\na:\na:\na:\na:\na:\na:\na:\na:\na:\na:\na:\na:\na:\na:\na:
 open   400 bad_head false      GET /me HTTP/1.1\na:\na:\na:\na:\na:\na:\na:\na:\na:\na:\na:\na:\na:\na:\na:\na:\na:\na:\na:\na:\na:\na:\na:\na:\na:\na:\na:\na:\na:\na:\na:\na:\na:\n
+open   400 bad_length false    PUT /choices HTTP/1.1\r\nHost: h\r\nContent-Length: +5\r\n\r\n
+open   413 too_large false     PUT /choices HTTP/1.1\r\nHost: h\r\nContent-Length: 999999999999999999\r\n\r\n
+ended  400 bad_length false    PUT /choices HTTP/1.1\r\nHost: h\r\nContent-Length: 10\r\n\r\n{"pr
+open   400 bad_host false      GET /me HTTP/1.1\r\nHost: h\r\nHost: h\r\n\r\n
+open   501 coded_body false    PUT /choices HTTP/1.1\r\nHost: h\r\nTransfer-Encoding: chunked\r\n\r\n
 "#;
 
 /// Checks that framing finds what each row says.
@@ -77,11 +92,7 @@ fn is_row(rt: &(impl Abort + AllocGlobal), row: &str) {
 }
 
 #[test]
-fn requests(rt: HostRuntime) {
+fn requests_and_refusals(rt: HostRuntime) {
     are(&rt, REQUESTS);
-}
-
-#[test]
-fn refusals(rt: HostRuntime) {
     are(&rt, REFUSALS);
 }

@@ -1,30 +1,20 @@
 //! Tests request heads at their limits.
 
 use super::frames::is;
-use crate::tests::portal::{BAD_HEAD, NO_CALLER, fresh, gives};
+use crate::tests::portal::{BAD_HEAD, NO_CALLER, filled, fresh, gives};
 use portal_desk::Ending;
 use std::process::Abort;
 
 /// Returns a head with a request line, a Host line and `more` further lines.
-fn with_lines(rt: &(impl Abort + AllocGlobal), more: u32) -> String {
+fn with_lines(rt: &(impl Abort + AllocGlobal), more: usize) -> String {
     let opening = "GET /me HTTP/1.1\r\nHost: h\r\n";
-    let mut head = opening.to_string(rt.alloc()).expect(rt, "memory");
-    for _ in 0..more {
-        head.push_str("a: b\r\n").expect(rt, "memory");
-    }
-    head.push_str("\r\n").expect(rt, "memory");
-    head
+    filled(rt, opening, "a: b\r\n", more, "\r\n")
 }
 
 /// Returns a head with a header value of `length` bytes, followed by `end`.
-fn with_value(rt: &(impl Abort + AllocGlobal), length: u32, end: &str) -> String {
+fn with_value(rt: &(impl Abort + AllocGlobal), length: usize, end: &str) -> String {
     let opening = "GET /me HTTP/1.1\r\nHost: h\r\na: ";
-    let mut head = opening.to_string(rt.alloc()).expect(rt, "memory");
-    for _ in 0..length {
-        head.push('b').expect(rt, "memory");
-    }
-    head.push_str(end).expect(rt, "memory");
-    head
+    filled(rt, opening, "b", length, end)
 }
 
 #[test]

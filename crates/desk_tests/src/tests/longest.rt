@@ -1,16 +1,14 @@
 //! Tests the longest body, on devices that fail.
 
-use crate::tests::conversation::put;
 use crate::tests::devices::{is_first, is_text, served_failing, stopped, taken};
-use crate::tests::portal::{choosing, plays, reopened, written};
+use crate::tests::portal::{choosing, filled, plays, reopened, written};
 use portal_core::Keeper;
 use portal_desk::{Cause, Desk, Ending};
 use std::process::Abort;
 
-const HEAD: &str =
-    "PUT /choices HTTP/1.1\r\nHost: h\r\nportal-code: ann-code-1\r\nContent-Length: 1048576\r\n\r\n";
-
-const EMPTY: &str = r#"{"projects":[]}"#;
+/// A request with an empty list, up to the spaces at its end.
+const ASKED: &str =
+    "PUT /choices HTTP/1.1\r\nHost: h\r\nportal-code: ann-code-1\r\nContent-Length: 1048576\r\n\r\n{\"projects\":[]}";
 
 /// Lines in which a student is shown an empty list or the old one, or submits the old one.
 const SHOWS_NONE: &str = r#"ann  GET /choices  200 {"projects":[]}"#;
@@ -28,13 +26,7 @@ const HAS_ONE: &str =
 
 /// Returns a request with an empty list, padded with spaces to the longest body.
 fn longest(rt: &(impl Abort + AllocGlobal)) -> Vec<u8> {
-    let mut bytes = Vec::new(rt.alloc());
-    put(rt, &mut bytes, HEAD);
-    put(rt, &mut bytes, EMPTY);
-    bytes
-        .resize(HEAD.len() + 1_048_576, b' ')
-        .expect(rt, "memory");
-    bytes
+    filled(rt, ASKED, " ", 1_048_561, "").into_bytes()
 }
 
 /// Checks the reply to the longest body, and that the student is then shown an empty list.
@@ -68,7 +60,7 @@ fn fails_reading<K: Keeper>(
 ) {
     let bytes = &bytes[..many.min(bytes.len())];
     let output = served_failing(rt, desk, bytes, step, stopped(Cause::Read, 0));
-    assert!(rt; output.is_empty());
+    is_text(rt, output.as_slice(), b"");
     plays(rt, desk, SHOWS_OLD);
 }
 

@@ -122,7 +122,6 @@ fn a_request_is_answered_before_more_is_read(rt: HostRuntime) {
         done: &done,
     });
     is_in_turn(&rt, &mut desk, &done);
-    assert_eq!(rt; done.bytes.get(), 5 * REPLY);
 }
 
 /// Checks that a desk answers each of five requests before more is read.
@@ -136,5 +135,11 @@ fn is_in_turn(rt: &(impl Abort + AllocGlobal), desk: &mut Desk<Noting<'_>>, done
     let mut sink = Tallying { done };
     let outcome = desk.serve(rt.alloc(), &mut source, &mut sink);
     is_outcome(rt, outcome, ended(Ending::End, 5), 0);
+    has_answered(rt, &source);
+}
+
+/// Checks that five requests were answered in turn.
+fn has_answered(rt: &impl Abort, source: &Watching) {
     assert!(rt; source.in_turn);
+    assert_eq!(rt; source.done.bytes.get(), 5 * REPLY);
 }

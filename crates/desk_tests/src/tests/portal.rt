@@ -70,14 +70,37 @@ pub(crate) fn reply(rt: &(impl Abort + AllocGlobal), line: &str) -> String {
     Line::new(line).reply(rt.alloc()).expect(rt, "memory")
 }
 
+/// Returns the opening, then the text this many times, and then the end.
+pub(crate) fn filled(
+    rt: &(impl Abort + AllocGlobal),
+    opening: &str,
+    text: &str,
+    times: usize,
+    end: &str,
+) -> String {
+    let middle = text.repeat(rt.alloc(), times).expect(rt, "memory");
+    format!(in rt.alloc(); "{opening}{middle}{end}").expect(rt, "memory")
+}
+
+/// Checks a text.
+pub(crate) fn says(rt: &impl Abort, found: &str, wanted: &str) {
+    assert_eq!(rt; found, wanted);
+}
+
+/// Checks how many bytes there are.
+pub(crate) fn has_length(rt: &impl Abort, bytes: &[u8], length: usize) {
+    assert_eq!(rt; bytes.len(), length);
+}
+
 /// Checks that each line of the script gets its reply, each on a new connection.
 pub(crate) fn plays<K: Keeper>(rt: &(impl Abort + AllocGlobal), desk: &mut Desk<K>, script: &str) {
     play_all(rt, desk, &[script]);
 }
 
+/// Checks that each line of the scripts gets its reply, each on a new connection.
 fn play_all<K: Keeper>(rt: &(impl Abort + AllocGlobal), desk: &mut Desk<K>, scripts: &[&str]) {
     let wrong = play(rt.alloc(), desk, scripts).expect(rt, "memory");
-    assert_eq!(rt; wrong.as_str(), "");
+    says(rt, wrong.as_str(), "");
 }
 
 /// Makes a desk, and plays these scripts on it.

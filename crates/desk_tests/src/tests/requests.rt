@@ -1,12 +1,13 @@
 //! Tests how bytes become requests and calls, and how replies become bytes.
 
 use crate::tests::devices::is_text;
-use crate::tests::frames::finds;
-use crate::tests::portal::{BAD_HEAD, reply};
+use crate::tests::frames::{finds, framed, owned};
+use crate::tests::portal::{BAD_HEAD, filled, has_length, reply, says};
 use portal_core::{Body, Call, Reply, Round, StudentRow};
-use portal_fixtures::{Line, lines, unescaped};
-use portal_wire::{Frame, Refusal, Request, call_of, frame, reply_bytes, reply_of};
+use portal_fixtures::{Line, unescaped};
+use portal_wire::{Frame, Refusal, Request, call_of, reply_bytes, reply_of};
 use serde_json::{Value, json};
+use std::alloc::AllocError;
 use std::process::Abort;
 
 /// A request of 29 bytes.
@@ -14,9 +15,9 @@ const ME: &[u8] = b"GET /me HTTP/1.1\r\nHost: h\r\n\r\n";
 
 /// Returns the request that these bytes are.
 fn request(rt: &(impl Abort + AllocGlobal), bytes: &[u8]) -> Request {
-    match frame(rt.alloc(), bytes, false).expect(rt, "memory") {
+    match framed(rt, bytes, false) {
         Frame::Request(request, used) => {
-            assert!(rt; used == bytes.len());
+            has_length(rt, bytes, used);
             request
         }
         _ => panic!(rt; "no request"),
@@ -25,7 +26,7 @@ fn request(rt: &(impl Abort + AllocGlobal), bytes: &[u8]) -> Request {
 
 /// Returns the refusal of these bytes. `ended` says whether the input ends after them.
 fn refusal(rt: &(impl Abort + AllocGlobal), bytes: &[u8], ended: bool) -> Refusal {
-    match frame(rt.alloc(), bytes, ended).expect(rt, "memory") {
+    match framed(rt, bytes, ended) {
         Frame::Bad { refusal, .. } => refusal,
         _ => panic!(rt; "no refusal"),
     }
@@ -34,7 +35,7 @@ fn refusal(rt: &(impl Abort + AllocGlobal), bytes: &[u8], ended: bool) -> Refusa
 /// Checks the status and the word of a refusal.
 fn is_refused(rt: &impl Abort, refusal: &Refusal, status: u16, word: &str) {
     assert!(rt; refusal.status == status);
-    assert_eq!(rt; refusal.word, word);
+    says(rt, refusal.word, word);
 }
 
 /// Builds the request of a line.
@@ -49,18 +50,15 @@ fn asked(rt: &(impl Abort + AllocGlobal), line: &Line) -> Request {
     }
 }
 
+/// Copies the bytes of a text.
 fn bytes_of(rt: &(impl Abort + AllocGlobal), text: &str) -> Vec<u8> {
     Vec::from_slice(rt.alloc(), text.as_bytes()).expect(rt, "memory")
 }
 
-/// Returns the call that the request of a line makes.
-fn call(rt: &(impl Abort + AllocGlobal), line: &Line) -> Call {
-    made_by(rt, &asked(rt, line))
-}
-
-fn made_by(rt: &(impl Abort + AllocGlobal), request: &Request) -> Call {
+/// Returns the code and the call of a request.
+fn called(rt: &(impl Abort + AllocGlobal), request: &Request) -> (Vec<u8>, Call) {
     match call_of(rt.alloc(), request) {
-        Ok((_, call)) => call,
+        Ok(found) => found,
         Err(_) => panic!(rt; "no call"),
     }
 }
@@ -105,15 +103,19 @@ fn refuses(rt: &(impl Abort + AllocGlobal), refusal: &Refusal, close: bool, text
     writes(rt, &reply, false, close, text);
 }
 
+/// Checks that a request is GET /me without a body, with this code, and whether it closes.
+fn is_me(rt: &impl Abort, found: &Request, code: &[u8], close: bool) {
+    is_text(rt, found.method.as_slice(), b"GET");
+    is_text(rt, found.path.as_slice(), b"/me");
+    is_text(rt, found.code.as_slice(), code);
+    assert_eq!(rt; found.close, close);
+    is_text(rt, found.body.as_slice(), b"");
+}
+
 #[test]
 fn a_request_and_its_beginnings(rt: HostRuntime) {
     assert!(rt; ME.len() == 29);
-    let found = request(&rt, ME);
-    is_text(&rt, found.method.as_slice(), b"GET");
-    is_text(&rt, found.path.as_slice(), b"/me");
-    assert!(rt; found.code.is_empty());
-    assert!(rt; !found.close);
-    assert!(rt; found.body.is_empty());
+    is_me(&rt, &request(&rt, ME), b"", false);
     for length in 0..29usize {
         finds(&rt, &ME[..length], false, "need");
     }
@@ -123,55 +125,36 @@ fn a_request_and_its_beginnings(rt: HostRuntime) {
 fn the_end_of_the_input(rt: HostRuntime) {
     finds(&rt, b"", true, "end");
     for length in 1..29usize {
-        is_refused(&rt, &refusal(&rt, &ME[..length], true), 400, "bad_head");
+        finds(&rt, &ME[..length], true, "400 bad_head false");
     }
 }
 
 #[test]
 fn what_a_head_says(rt: HostRuntime) {
-    let query = request(&rt, b"GET /me?x=1 HTTP/1.1\r\nHost: h\r\n\r\n");
-    is_text(&rt, query.path.as_slice(), b"/me");
+    let query = b"GET /me?x=1 HTTP/1.1\r\nHost: h\r\n\r\n";
+    is_me(&rt, &request(&rt, query), b"", false);
     let closes = b"GET /me HTTP/1.1\r\nHost: h\r\nConnection: keep-alive, Close\r\n\r\n";
-    assert!(rt; request(&rt, closes).close);
+    is_me(&rt, &request(&rt, closes), b"", true);
     let by_ann = b"GET /me HTTP/1.1\r\nHost: h\r\nPortal-Code: ann-code-1\r\n\r\n";
-    is_text(&rt, request(&rt, by_ann).code.as_slice(), b"ann-code-1");
-}
-
-#[test]
-fn faults_of_framing(rt: HostRuntime) {
-    let signed = b"PUT /choices HTTP/1.1\r\nHost: h\r\nContent-Length: +5\r\n\r\n";
-    is_refused(&rt, &refusal(&rt, signed, false), 400, "bad_length");
-    let huge = b"PUT /choices HTTP/1.1\r\nHost: h\r\nContent-Length: 999999999999999999\r\n\r\n";
-    is_refused(&rt, &refusal(&rt, huge, false), 413, "too_large");
-    let short = b"PUT /choices HTTP/1.1\r\nHost: h\r\nContent-Length: 10\r\n\r\n{\"pr";
-    is_refused(&rt, &refusal(&rt, short, true), 400, "bad_length");
-    let hosts = b"GET /me HTTP/1.1\r\nHost: h\r\nHost: h\r\n\r\n";
-    is_refused(&rt, &refusal(&rt, hosts, false), 400, "bad_host");
-    let coded = b"PUT /choices HTTP/1.1\r\nHost: h\r\nTransfer-Encoding: chunked\r\n\r\n";
-    is_refused(&rt, &refusal(&rt, coded, false), 501, "coded_body");
+    is_me(&rt, &request(&rt, by_ann), b"ann-code-1", false);
 }
 
 #[test]
 fn closing_refusals(rt: HostRuntime) {
-    let bad_head = refusal(&rt, b"GET /me HTTP/1.1\r\nHost: h\r\n", true);
-    refuses(&rt, &bad_head, true, BAD_HEAD);
+    let half = b"GET /me HTTP/1.1\r\nHost: h\r\n";
+    refuses(&rt, &refusal(&rt, half, true), true, BAD_HEAD);
     let long = b"PUT /choices HTTP/1.1\r\nHost: h\r\nContent-Length: 1048577\r\n\r\n";
-    let too_large = refusal(&rt, long, false);
     let wanted =
         "HTTP/1.1 413 Content Too Large\r\ncontent-type: application/json\r\ncontent-length: 21\r\nconnection: close\r\n\r\n{\"error\":\"too_large\"}";
-    refuses(&rt, &too_large, true, wanted);
+    refuses(&rt, &refusal(&rt, long, false), true, wanted);
 }
 
 #[test]
 fn the_longest_body(rt: HostRuntime) {
     let text =
         "PUT /choices HTTP/1.1\r\nHost: h\r\nContent-Length: 1048576\r\n\r\n{\"projects\":[]}";
-    let mut bytes = bytes_of(&rt, text);
-    bytes
-        .resize(text.len() + 1_048_561, b' ')
-        .expect(&rt, "memory");
-    let made = made_by(&rt, &request(&rt, bytes.as_slice()));
-    assert_eq!(rt; told(&rt, &made).as_str(), "set choices");
+    let bytes = filled(&rt, text, " ", 1_048_561, "");
+    makes(&rt, &request(&rt, bytes.as_bytes()), "set choices");
 }
 
 /// Returns the word for a call.
@@ -218,7 +201,7 @@ fn put_names(rt: &impl Abort, text: &mut String, rows: &[StudentRow]) {
 
 /// Returns a call as a text.
 fn told(rt: &(impl Abort + AllocGlobal), call: &Call) -> String {
-    let mut text = word_of(call).to_string(rt.alloc()).expect(rt, "memory");
+    let mut text = owned(rt, word_of(call));
     match call {
         Call::SetChoices(list) => put_keys(rt, &mut text, list.as_slice()),
         Call::SetRanking(list) => put_keys(rt, &mut text, list.as_slice()),
@@ -258,36 +241,31 @@ ann  POST /rolls/students id,name,code\nS1,Ann,ann-code-1\n  200 add students An
 
 /// Checks that the requests of these lines make the calls that the lines name.
 fn make_calls(rt: &(impl Abort + AllocGlobal), rows: &str) {
-    for row in &lines(rt.alloc(), rows).expect(rt, "memory") {
-        makes(rt, row, row.answer);
+    for row in rows.lines().skip(1) {
+        let line = Line::new(row);
+        makes(rt, &asked(rt, &line), line.answer);
     }
 }
 
-fn makes(rt: &(impl Abort + AllocGlobal), row: &Line, wanted: &str) {
-    let found = told(rt, &call(rt, row));
-    assert_eq!(rt; found.as_str(), wanted);
+/// Checks which call a request makes.
+fn makes(rt: &(impl Abort + AllocGlobal), request: &Request, wanted: &str) {
+    let (_, call) = called(rt, request);
+    says(rt, told(rt, &call).as_str(), wanted);
 }
 
 #[test]
-fn calls_that_show(rt: HostRuntime) {
+fn calls_that_show_and_calls_with_bodies(rt: HostRuntime) {
     make_calls(&rt, CALLS);
-}
-
-#[test]
-fn calls_with_bodies(rt: HostRuntime) {
     make_calls(&rt, CALLS_WITH_BODIES);
     let mut blanks = Line::new("ann  PUT /ranking");
     blanks.body = r#" { "students" : [] } "#;
-    makes(&rt, &blanks, "set ranking");
+    makes(&rt, &asked(&rt, &blanks), "set ranking");
 }
 
 #[test]
 fn the_code_goes_with_the_call(rt: HostRuntime) {
-    let request = asked(&rt, &Line::new("ann  GET /me"));
-    match call_of(rt.alloc(), &request) {
-        Ok((code, _)) => assert!(rt; code.as_slice() == b"ann-code-1".as_slice()),
-        Err(_) => panic!(rt; "no call"),
-    }
+    let (code, _) = called(&rt, &asked(&rt, &Line::new("ann  GET /me")));
+    is_text(&rt, code.as_slice(), b"ann-code-1");
 }
 
 /// Requests that are refused with 400 `bad_body`.
@@ -320,18 +298,14 @@ ann  POST /phase {}
 
 /// Checks that the bodies of these lines' requests are refused.
 fn are_bad_bodies(rt: &(impl Abort + AllocGlobal), rows: &str) {
-    for row in &lines(rt.alloc(), rows).expect(rt, "memory") {
-        is_refused(rt, &no_call(rt, row.text), 400, "bad_body");
+    for row in rows.lines().skip(1) {
+        is_refused(rt, &no_call(rt, row), 400, "bad_body");
     }
 }
 
 #[test]
-fn bodies_that_are_refused(rt: HostRuntime) {
+fn bodies_and_moves_that_are_refused(rt: HostRuntime) {
     are_bad_bodies(&rt, BAD_BODIES);
-}
-
-#[test]
-fn moves_that_are_refused(rt: HostRuntime) {
     are_bad_bodies(&rt, BAD_MOVES);
 }
 
@@ -347,10 +321,8 @@ fn rolls_that_are_refused(rt: HostRuntime) {
 
 #[test]
 fn a_roll_too_long(rt: HostRuntime) {
-    let rows = r"S1,Ann,ann-code-1\n".repeat(rt.alloc(), 2001);
-    let rows = rows.expect(&rt, "memory");
-    let line = format!(in rt.alloc(); "ann  POST /rolls/students id,name,code\\n{rows}");
-    let line = line.expect(&rt, "memory");
+    let opening = r"ann  POST /rolls/students id,name,code\n";
+    let line = filled(&rt, opening, r"S1,Ann,ann-code-1\n", 2001, "");
     is_refused(&rt, &no_call(&rt, line.as_str()), 422, "roll_full");
 }
 
@@ -372,7 +344,12 @@ fn is_told(rt: &(impl Abort + AllocGlobal), line: &str) {
 
 /// Checks the methods that a refusal allows.
 fn allows(rt: &(impl Abort + AllocGlobal), line: &str, methods: &str) {
-    assert_eq!(rt; no_call(rt, line).allow, methods);
+    says(rt, no_call(rt, line).allow, methods);
+}
+
+/// Returns a body of this JSON.
+fn json_body(rt: &impl Abort, made: Result<Value, AllocError>) -> Body {
+    Body::Json(made.expect(rt, "memory"))
 }
 
 #[test]
@@ -380,19 +357,20 @@ fn replies_of_the_wire(rt: HostRuntime) {
     let ann =
         json!(in rt.alloc(); {"key": "S1", "name": "Ann", "phase": "setup", "role": "student"});
     let line = r#"ann  GET /me  200 {"key":"S1","name":"Ann","phase":"setup","role":"student"}"#;
-    is_reply(&rt, Body::Json(ann.expect(&rt, "memory")), line);
-    let nobody = json!(in rt.alloc(); {"error": "no_caller"}).expect(&rt, "memory");
+    is_reply(&rt, json_body(&rt, ann), line);
+    let nobody = json!(in rt.alloc(); {"error": "no_caller"});
     let wanted =
         "HTTP/1.1 403 Forbidden\r\ncontent-type: application/json\r\ncontent-length: 21\r\nconnection: close\r\n\r\n{\"error\":\"no_caller\"}";
-    writes(&rt, &replied(403, Body::Json(nobody)), false, true, wanted);
+    let body = json_body(&rt, nobody);
+    writes(&rt, &replied(403, body), false, true, wanted);
 }
 
 #[test]
 fn a_reply_to_head(rt: HostRuntime) {
     let none = Value::Array(Vec::new(rt.alloc()));
-    let catalogue = json!(in rt.alloc(); {"projects": none}).expect(&rt, "memory");
+    let catalogue = json!(in rt.alloc(); {"projects": none});
     let wanted = "HTTP/1.1 200 OK\r\ncontent-type: application/json\r\ncontent-length: 15\r\n\r\n";
-    let body = Body::Json(catalogue);
+    let body = json_body(&rt, catalogue);
     writes(&rt, &replied(200, body), true, false, wanted);
 }
 

@@ -1,10 +1,11 @@
 //! Tests a repeated short request, on devices that end or fail after each number of bytes.
 
-use crate::tests::conversation::put;
 use crate::tests::devices::{
     Feeder, ended, is_first, is_text, served_by, served_failing, stopped, taken,
 };
-use crate::tests::portal::{BAD_HEAD, NO_CALLER, fresh, plays, published, reply, request, written};
+use crate::tests::portal::{
+    BAD_HEAD, NO_CALLER, filled, fresh, has_length, plays, published, reply, request, written,
+};
 use portal_core::Keeper;
 use portal_desk::{Cause, Desk, Ending};
 use std::process::Abort;
@@ -17,33 +18,36 @@ const LAST_REPLY: &str =
 const LAST_OPENING: &str =
     "HTTP/1.1 200 OK\r\ncontent-type: application/json\r\ncontent-length: 30\r\nconnection: close\r\n\r\n{\"phase\":\"choosing\",\"round\":2}";
 
-fn repeated(rt: &(impl Abort + AllocGlobal), text: &str, times: usize) -> Vec<u8> {
-    let text = text.repeat(rt.alloc(), times).expect(rt, "memory");
-    text.into_bytes()
-}
-
 /// Returns one request more than a connection serves.
 fn requests(rt: &(impl Abort + AllocGlobal)) -> Vec<u8> {
-    let bytes = repeated(rt, SHORT, 257);
-    assert_eq!(rt; bytes.len(), 7_453);
+    let bytes = filled(rt, "", SHORT, 257, "").into_bytes();
+    has_length(rt, bytes.as_slice(), 7_453);
     bytes
 }
 
 /// Returns the replies to all requests that a connection serves. The last reply closes it.
 fn replies(rt: &(impl Abort + AllocGlobal)) -> Vec<u8> {
-    let mut text = repeated(rt, NO_CALLER, 255);
-    put(rt, &mut text, LAST_REPLY);
-    assert_eq!(rt; text.len(), 25_363);
+    let text = filled(rt, "", NO_CALLER, 255, LAST_REPLY).into_bytes();
+    has_length(rt, text.as_slice(), 25_363);
     text
+}
+
+/// Checks the output of a connection whose bytes are one request more than it serves.
+fn is_limited<K: Keeper>(
+    rt: &(impl Abort + AllocGlobal),
+    desk: &mut Desk<K>,
+    bytes: &[u8],
+    wanted: &[u8],
+) {
+    let output = written(rt, desk, bytes, Ending::Limit, 256);
+    is_text(rt, output.as_slice(), wanted);
 }
 
 #[test]
 fn no_more_than_256_requests(rt: HostRuntime) {
     let mut desk = fresh(&rt);
-    let bytes = requests(&rt);
-    let output = written(&rt, &mut desk, bytes.as_slice(), Ending::Limit, 256);
-    let wanted = replies(&rt);
-    is_text(&rt, output.as_slice(), wanted.as_slice());
+    let (bytes, wanted) = (requests(&rt), replies(&rt));
+    is_limited(&rt, &mut desk, bytes.as_slice(), wanted.as_slice());
 }
 
 /// The first request opens the second round, and the others change nothing.
@@ -52,11 +56,9 @@ fn no_more_than_256_openings(rt: HostRuntime) {
     let mut desk = published(&rt);
     let opening =
         r#"office  POST /phase {"phase":"choosing","round":2}  200 {"phase":"choosing","round":2}"#;
-    let bytes = repeated(&rt, request(&rt, opening).as_str(), 257);
-    let output = written(&rt, &mut desk, bytes.as_slice(), Ending::Limit, 256);
-    let mut wanted = repeated(&rt, reply(&rt, opening).as_str(), 255);
-    put(&rt, &mut wanted, LAST_OPENING);
-    is_text(&rt, output.as_slice(), wanted.as_slice());
+    let bytes = filled(&rt, "", request(&rt, opening).as_str(), 257, "");
+    let wanted = filled(&rt, "", reply(&rt, opening).as_str(), 255, LAST_OPENING);
+    is_limited(&rt, &mut desk, bytes.as_bytes(), wanted.as_bytes());
     let me = r#"office  GET /me  200 {"phase":"choosing","role":"office","round":2}"#;
     plays(&rt, &mut desk, me);
 }

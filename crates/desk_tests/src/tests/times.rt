@@ -49,18 +49,14 @@ pub(crate) fn fault(cause: Cause, requests: u32) -> End {
 
 /// Returns the result of a connection whose input ends after this many requests.
 pub(crate) fn end(requests: u32) -> End {
-    Ok(Served {
-        requests,
-        ending: Ending::End,
-    })
+    let ending = Ending::End;
+    Ok(Served { requests, ending })
 }
 
 /// Returns the result of a connection that the last of this many requests closes.
 fn closed(requests: u32) -> End {
-    Ok(Served {
-        requests,
-        ending: Ending::Closed,
-    })
+    let ending = Ending::Closed;
+    Ok(Served { requests, ending })
 }
 
 #[test]

@@ -172,6 +172,12 @@ fn is_served_on_any_device<K: Keeper>(
     writers_fail(rt, desk, stream);
 }
 
+/// Checks the stream so on a fresh desk.
+fn is_served_afresh(rt: &(impl Abort + AllocGlobal), stream: &Stream) {
+    let mut desk = fresh(rt);
+    is_served_on_any_device(rt, &mut desk, stream);
+}
+
 #[test]
 fn four_callers(rt: HostRuntime) {
     let mut desk = with_rolls(&rt);
@@ -180,42 +186,35 @@ fn four_callers(rt: HostRuntime) {
 
 #[test]
 fn no_method_and_no_route(rt: HostRuntime) {
-    let mut desk = fresh(&rt);
-    is_served_on_any_device(&rt, &mut desk, &NO_METHOD_NO_ROUTE);
+    is_served_afresh(&rt, &NO_METHOD_NO_ROUTE);
 }
 
 #[test]
 fn half_a_head(rt: HostRuntime) {
-    let mut desk = fresh(&rt);
-    is_served_on_any_device(&rt, &mut desk, &HALF_A_HEAD);
+    is_served_afresh(&rt, &HALF_A_HEAD);
 }
 
 #[test]
 fn a_body_too_long(rt: HostRuntime) {
-    let mut desk = fresh(&rt);
-    is_served_on_any_device(&rt, &mut desk, &LONG_BODY);
+    is_served_afresh(&rt, &LONG_BODY);
 }
 
 #[test]
 fn a_body_that_ends(rt: HostRuntime) {
-    let mut desk = fresh(&rt);
-    is_served_on_any_device(&rt, &mut desk, &SHORT_BODY);
+    is_served_afresh(&rt, &SHORT_BODY);
 }
 
 #[test]
 fn two_hosts(rt: HostRuntime) {
-    let mut desk = fresh(&rt);
-    is_served_on_any_device(&rt, &mut desk, &TWO_HOSTS);
+    is_served_afresh(&rt, &TWO_HOSTS);
 }
 
 #[test]
 fn a_coded_body(rt: HostRuntime) {
-    let mut desk = fresh(&rt);
-    is_served_on_any_device(&rt, &mut desk, &CODED_BODY);
+    is_served_afresh(&rt, &CODED_BODY);
 }
 
 #[test]
 fn a_refusal_behind_a_request(rt: HostRuntime) {
-    let mut desk = fresh(&rt);
-    is_served_on_any_device(&rt, &mut desk, &REFUSED_SECOND);
+    is_served_afresh(&rt, &REFUSED_SECOND);
 }

@@ -1,8 +1,10 @@
 //! Tests commands over readers and writers that fail, and bad command lines.
 
+use super::{Told, has_told, ran};
 use portal_run::run;
 use std::alloc::AllocError;
 use std::io::{Read, Write};
+use std::process::Abort;
 use std::test::Fail;
 use std::{fs, io};
 
@@ -120,14 +122,18 @@ fn what_is_printed_is_flushed(rt: HostRuntime) -> Result<(), Fail> {
     let header = super::HEADER;
     let office = b"office-code-0\n".as_slice();
     let asks = b"GET /me HTTP/1.1\r\nHost: h\r\nConnection: close\r\n\r\n".as_slice();
-    assert!(rt; flushes(&rt, "p check", header, 0, "blocking 0\n"));
-    assert!(rt; flushes(&rt, "p solve", header, 0, "assigned 0 unassigned 0\n"));
-    assert!(rt; flushes(&rt, "p check", none, 2, "refused no_header\n"));
-    assert!(rt; flushes(&rt, "p check no-file", none, 3, "fault read\n"));
-    assert!(rt; flushes(&rt, "p upgrade no-file", none, 2, "refused not_portal\n"));
-    assert!(rt; flushes(&rt, "p init flushed.db", office, 0, "made\n"));
-    assert!(rt; flushes(&rt, "p pipe flushed.db", asks, 0, "HTTP/1.1 403 Forbidden"));
-    assert!(rt; flushes(&rt, "p report flushed.db", none, 0, "phase           setup"));
+    for (words, input, status, said) in [
+        ("p check", header, 0, "blocking 0\n"),
+        ("p solve", header, 0, "assigned 0 unassigned 0\n"),
+        ("p check", none, 2, "refused no_header\n"),
+        ("p check no-file", none, 3, "fault read\n"),
+        ("p upgrade no-file", none, 2, "refused not_portal\n"),
+        ("p init flushed.db", office, 0, "made\n"),
+        ("p pipe flushed.db", asks, 0, "HTTP/1.1 403 Forbidden"),
+        ("p report flushed.db", none, 0, "phase           setup"),
+    ] {
+        assert!(rt; flushes(&rt, words, input, status, said), "{words}");
+    }
     fs::remove_file(&rt, "flushed.db")?;
     Ok(())
 }
@@ -153,13 +159,17 @@ fn an_interrupted_read_of_input_is_asked_again(rt: HostRuntime) -> Result<(), Fa
     Ok(())
 }
 
+/// Checks that a command ended with a fault, and what it printed.
+fn is_fault(rt: &impl Abort, status: u8, printed: &[u8], said: &[u8]) {
+    assert!(rt; status == 3);
+    assert!(rt; printed == said);
+}
+
 #[test]
-fn reader_fails(rt: HostRuntime) -> Result<(), Fail> {
+fn reader_fails(rt: HostRuntime) {
     let mut out = Vec::new(rt.alloc());
     let status = run(&rt, &["portal", "check"], &mut Broken { at: 0 }, &mut out);
-    assert!(rt; status == 3);
-    assert!(rt; out.as_slice() == b"fault read\n".as_slice());
-    Ok(())
+    is_fault(&rt, status, &out, b"fault read\n");
 }
 
 #[test]
@@ -176,40 +186,30 @@ fn flush_fails(rt: HostRuntime) {
         taken: Vec::new(rt.alloc()),
     };
     let status = run(&rt, &["portal", "check"], &mut input, &mut out);
-    assert!(rt; status == 3);
-    assert!(rt; out.taken.as_slice() == b"blocking 0\nfault write\n".as_slice());
-}
-
-/// Returns whether `check` reports that it cannot read the file.
-fn is_unread(rt: &HostRuntime, file: &str) -> bool {
-    let mut out = Vec::new(rt.alloc());
-    let mut input = b"".as_slice();
-    let is_fault = run(rt, &["portal", "check", file], &mut input, &mut out) == 3;
-    is_fault && out.as_slice() == b"fault read\n".as_slice()
+    is_fault(&rt, status, &out.taken, b"blocking 0\nfault write\n");
 }
 
 #[test]
-fn file_is_missing(rt: HostRuntime) {
-    assert!(rt; is_unread(&rt, "no-such-folder/no-such-file"));
+fn file_is_missing_or_a_folder(rt: HostRuntime) {
+    for file in ["no-such-folder/no-such-file", "/"] {
+        let found = ran(&rt, &["portal", "check", file], b"");
+        has_told(&rt, file, &found, 3, b"fault read\n");
+    }
+}
+
+/// Checks the status that the words gave, and that something was printed.
+fn has_answered(rt: &impl Abort, words: &[&str], found: &Told, status: u8) {
+    assert!(rt; found.0 == status, "{words:?}");
+    assert!(rt; !found.1.is_empty(), "{words:?}");
 }
 
 #[test]
-fn file_is_a_folder(rt: HostRuntime) {
-    assert!(rt; is_unread(&rt, "/"));
-}
-
-#[test]
-fn words_are_refused(rt: HostRuntime) -> Result<(), Fail> {
+fn words_are_refused(rt: HostRuntime) {
     for (words, want) in [
         (["portal", "bake"].as_slice(), 2),
         (["portal", "check", "a", "b"].as_slice(), 2),
         (["portal", "--help"].as_slice(), 0),
     ] {
-        let mut out = Vec::new(rt.alloc());
-        let mut input = b"".as_slice();
-        let status = run(&rt, words, &mut input, &mut out);
-        assert!(rt; status == want, "{words:?}");
-        assert!(rt; !out.is_empty(), "{words:?}");
+        has_answered(&rt, words, &ran(&rt, words, b""), want);
     }
-    Ok(())
 }

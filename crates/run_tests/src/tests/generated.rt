@@ -1,7 +1,8 @@
 //! Tests by `check` what `solve` prints for generated files.
 
-use super::{HEADER, told};
+use super::{HEADER, Told, is_told, put, told};
 use std::alloc::{AllocError, Global};
+use std::process::Abort;
 use std::test::Fail;
 
 /// A generator of pseudorandom numbers, the same in each run.
@@ -41,8 +42,7 @@ fn put_keys(
 ) -> Result<(), AllocError> {
     let mut gap = "";
     for number in list {
-        let key = format!(in alloc; "{gap}{letter}{number}")?;
-        text.extend_from_slice(key.as_bytes())?;
+        put(text, format!(in alloc; "{gap}{letter}{number}"))?;
         gap = " ";
     }
     text.extend_from_slice(b"\n")?;
@@ -56,21 +56,19 @@ fn file(alloc: Global, chance: &mut Chance) -> Result<Vec<u8>, AllocError> {
     let mut choices = Vec::new(alloc);
     for student in 0..6 {
         let list = chance.some(alloc, 6, 5)?;
-        let line = format!(in alloc; "S,S{student},,")?;
-        text.extend_from_slice(line.as_bytes())?;
+        put(&mut text, format!(in alloc; "S,S{student},,"))?;
         put_keys(alloc, &mut text, "P", &list)?;
         choices.push(list)?;
     }
     for project in 0..6u64 {
         let capacity = chance.below(3).wrapping_add(1);
         let lecturer = project % 3;
-        let line = format!(in alloc; "P,P{project},{capacity},L{lecturer}\n")?;
-        text.extend_from_slice(line.as_bytes())?;
+        let line = format!(in alloc; "P,P{project},{capacity},L{lecturer}\n");
+        put(&mut text, line)?;
     }
     for lecturer in 0..3u64 {
         let capacity = chance.below(3).wrapping_add(1);
-        let line = format!(in alloc; "L,L{lecturer},{capacity},")?;
-        text.extend_from_slice(line.as_bytes())?;
+        put(&mut text, format!(in alloc; "L,L{lecturer},{capacity},"))?;
         let order = chance.some(alloc, 6, 90)?;
         let list = applicants(alloc, &choices, &order, lecturer)?;
         put_keys(alloc, &mut text, "S", &list)?;
@@ -103,12 +101,20 @@ fn pairs(alloc: Global, solution: &str) -> Result<Vec<u8>, AllocError> {
         let mut words = line.split_whitespace();
         if words.next() == Some("assign") {
             if let (Some(student), Some(project)) = (words.next(), words.next()) {
-                let pair = format!(in alloc; "M,{student},{project},\n")?;
-                text.extend_from_slice(pair.as_bytes())?;
+                put(&mut text, format!(in alloc; "M,{student},{project},\n"))?;
             }
         }
     }
     Ok(text)
+}
+
+/// Checks that `solve` succeeded at this turn, and returns its output.
+fn solution<'t>(rt: &impl Abort, found: &'t Told, turn: usize) -> &'t str {
+    assert!(rt; found.0 == 0, "{turn}");
+    match str::from_utf8(&found.1) {
+        Ok(text) => text,
+        Err(_) => panic!(rt; "{turn}"),
+    }
 }
 
 #[test]
@@ -117,15 +123,10 @@ fn solutions_are_stable(rt: HostRuntime) -> Result<(), Fail> {
     let mut chance = Chance { state: 4 };
     for turn in 0..200 {
         let mut records = file(alloc, &mut chance)?;
-        let (status, solution) = told(&rt, "solve", HEADER, &records)?;
-        assert!(rt; status == 0, "{turn}");
-        match str::from_utf8(&solution) {
-            Ok(text) => records.extend_from_slice(&pairs(alloc, text)?)?,
-            Err(_) => assert!(rt; false, "{turn}"),
-        }
-        let (status, blocks) = told(&rt, "check", HEADER, &records)?;
-        assert!(rt; status == 0, "{turn}");
-        assert!(rt; blocks.as_slice() == b"blocking 0\n".as_slice(), "{turn}");
+        let solved = told(&rt, "solve", HEADER, &records)?;
+        records.extend_from_slice(&pairs(alloc, solution(&rt, &solved, turn))?)?;
+        let checked = told(&rt, "check", HEADER, &records)?;
+        is_told(&rt, &checked, 0, b"blocking 0\n", turn);
     }
     Ok(())
 }

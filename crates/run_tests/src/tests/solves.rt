@@ -1,6 +1,6 @@
 //! Tests the command `solve`.
 
-use super::wrong;
+use super::{are_right, wrong};
 use std::test::Fail;
 
 const WORKED: &str = r#"
@@ -12,6 +12,6 @@ const WORKED: &str = r#"
 
 #[test]
 fn worked_examples(rt: HostRuntime) -> Result<(), Fail> {
-    assert_eq!(rt; wrong(&rt, "solve", "", WORKED)?.as_str(), "");
+    are_right(&rt, wrong(&rt, "solve", "", WORKED)?.as_str());
     Ok(())
 }

@@ -27,6 +27,11 @@ fn asked(rt: &(impl Abort + AllocGlobal), words: &[&str]) -> String {
     told.expect(rt, "memory")
 }
 
+/// Checks how the words of a row are parsed.
+fn is_asked(rt: &impl Abort, found: &str, wanted: &str, row: &str) {
+    assert_eq!(rt; found, wanted, "{row}");
+}
+
 /// Checks that the words of each row are parsed as the row says.
 fn are_asked(rt: &(impl Abort + AllocGlobal), rows: &str) {
     for row in rows.lines().skip(1) {
@@ -34,25 +39,17 @@ fn are_asked(rt: &(impl Abort + AllocGlobal), rows: &str) {
         let words = words.split_whitespace().collect(rt.alloc());
         let words: Vec<&str> = words.expect(rt, "memory");
         let found = asked(rt, words.as_slice());
-        assert_eq!(rt; found.as_str(), wanted.trim_start(), "{row}");
+        is_asked(rt, found.as_str(), wanted.trim_start(), row);
     }
 }
 
 const COMMANDS: &str = r#"
-portal check            check none
-portal solve a.csv      solve a.csv
-portal init year.db     init year.db
-portal pipe year.db     pipe year.db
-portal report year.db   report year.db
-portal upgrade year.db  upgrade year.db
-"#;
-
-#[test]
-fn commands(rt: HostRuntime) {
-    are_asked(&rt, COMMANDS);
-}
-
-const SERVES: &str = r#"
+portal check                                   check none
+portal solve a.csv                             solve a.csv
+portal init year.db                            init year.db
+portal pipe year.db                            pipe year.db
+portal report year.db                          report year.db
+portal upgrade year.db                         upgrade year.db
 portal serve a --port 80                       80 1000
 portal serve --port=65535 a                    65535 1000
 portal serve a --port 1 --connections 1000000  1 1000000
@@ -64,8 +61,19 @@ portal serve a --port 1 --connections 1000001  none
 "#;
 
 #[test]
-fn ports(rt: HostRuntime) {
-    are_asked(&rt, SERVES);
+fn commands_and_ports(rt: HostRuntime) {
+    are_asked(&rt, COMMANDS);
+}
+
+/// Checks that the words ask for a text with this status, and returns the text.
+fn shown<'t>(rt: &impl Abort, found: &'t Asked, words: &[&str], want: u8) -> &'t str {
+    match found {
+        Asked::Show { text, status } => {
+            assert!(rt; *status == want, "{words:?} {status}");
+            text.as_str()
+        }
+        Asked::Do(_) => panic!(rt; "{words:?}"),
+    }
 }
 
 #[test]
@@ -81,22 +89,15 @@ fn texts(rt: HostRuntime) -> Result<(), Fail> {
         (["portal", "serve", "a", "--port", "x"].as_slice(), 2),
         (["portal", "--help"].as_slice(), 0),
     ] {
-        match command_of(alloc, words)? {
-            Asked::Show { status, .. } => assert!(rt; status == want, "{words:?} {status}"),
-            Asked::Do(_) => assert!(rt; false, "{words:?}"),
-        }
+        shown(&rt, &command_of(alloc, words)?, words, want);
     }
     Ok(())
 }
 
 #[test]
 fn version(rt: HostRuntime) -> Result<(), Fail> {
-    match command_of(rt.alloc(), &["portal", "--version"])? {
-        Asked::Show { text, status } => {
-            assert!(rt; status == 0);
-            assert!(rt; text.as_bytes() == b"portal 1.0.0\n".as_slice(), "{text}");
-        }
-        Asked::Do(_) => assert!(rt; false),
-    }
+    let words = ["portal", "--version"].as_slice();
+    let found = command_of(rt.alloc(), words)?;
+    assert_eq!(rt; shown(&rt, &found, words, 0), "portal 1.0.0\n");
     Ok(())
 }
