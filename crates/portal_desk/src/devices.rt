@@ -1,4 +1,4 @@
-//! Traits of sources and sinks that count failures; `write_whole` writes all bytes to a sink.
+//! Traits for sources and sinks that count failures; `write_whole` writes all bytes to a sink.
 
 ghost use Rattle.std.specs.Prelude.{◌≡◌, ℕ, ◌<◌, List, Option, take, length, OnOk, OnErr, IfOk};
 ghost use Rattle.std.specs.Io.KnownBytes.{ReadConsumes, WriteAppends, Appends};

@@ -1,4 +1,4 @@
-//! Tests whether a request closes the connection, by its version or a `Connection` header.
+//! Tests whether a request's version or `Connection` header closes the connection.
 
 ghost use Rattle.std.specs.Prelude.{◌≡◌, length, map, All, codes};
 ghost use Rattle.httparse.specs.Grammar.{skip_ows};

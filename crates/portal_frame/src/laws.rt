@@ -1,4 +1,4 @@
-//! Laws: a stream begins with exactly one of these: a request, a fault or the end.
+//! Laws: a stream begins with exactly one of request, fault and end.
 
 ghost use Rattle.std.specs.Prelude.{◌≡◌, ℕ, List};
 ghost use Rattle.portal_frame.specs.Stream.{Item, Opens};

@@ -1,4 +1,4 @@
-//! `frame` recognises a request, the end or a fault at the front of a stream.
+//! `frame` recognises what a stream begins with: a request, a fault or its end.
 #![tactic(auto)]
 
 ghost use Rattle.std.specs.Prelude.{◌≡◌, ℕ, ◌<◌, ◌≤◌, ◌⊎◌, List, ◌++◌, length, IfOk};

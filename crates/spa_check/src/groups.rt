@@ -1,4 +1,4 @@
-//! Counts each project's and lecturer's students, and finds their worst rank.
+//! Counts the students of each project and of each lecturer; finds the worst student's rank.
 
 ghost use Rattle.std.specs.Prelude.{◌≡◌, ◌+◌, ◌<◌, ◌^◌, IfOk, length, max};
 ghost use Rattle.spa_model.specs.Spa.{IsMatching, IsOn, place, ranking_of};

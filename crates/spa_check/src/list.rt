@@ -1,4 +1,4 @@
-//! Lists all blocking pairs; finds a pair's letter from the counts and worst ranks of `groups`.
+//! Finds all blocking pairs and their letters, from the counts and worst ranks in `groups`.
 
 ghost use Rattle.std.specs.Prelude.{◌≡◌, ◌+◌, ◌<◌, IfOk, OnOk, MatchOption, length};
 ghost use Rattle.spa_model.specs.declared.letter.Letter.{Letter};

@@ -1,4 +1,4 @@
-//! Tests whether assigned projects form a matching: acceptable and within all capacities.
+//! Tests whether assigned projects form a matching: all acceptable, no capacity exceeded.
 
 ghost use Rattle.std.specs.Prelude.{◌≡◌, ◌<◌, ◌≤◌, ◌↔◌, ℕ, IsTrue, Some, length};
 ghost use Rattle.spa_model.specs.Spa.{IsOn, at_project, at_lecturer, project_of, is_project};

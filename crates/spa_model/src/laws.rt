@@ -1,4 +1,4 @@
-//! Laws: a blocking pair has one letter; an instance has one best matching; rows have one instance.
+//! Laws: a blocking pair has one letter, an instance one best matching; rows describe one instance.
 
 ghost use Rattle.std.specs.Prelude.{◌≡◌, ℕ, List, Option};
 ghost use Rattle.spa_rows.specs.Lines.{Rows};

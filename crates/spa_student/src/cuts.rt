@@ -1,4 +1,4 @@
-//! `solve`: the SPA-student algorithm. Cursors point into lists; cuts shorten rankings.
+//! `solve`: the SPA-student algorithm. A cursor is a position in a list; a cut shortens a ranking.
 
 ghost use Rattle.std.specs.Prelude.{◌≡◌, ◌≢◌, ◌<◌, ◌≤◌, ◌+◌, ◌↔◌, ◌⊎◌, ℕ, IfOk, IfSome};
 ghost use Rattle.std.specs.Prelude.{MatchOption, IsTrue, Some, None, length, slice_set};
