@@ -14,14 +14,14 @@ ghost use Rattle.portal_core.specs.Meaning.{call_model, texts_of, decision_model
 ghost use Rattle.portal_core.specs.inner.Room.{by_project};
 
 use crate::call::Call;
-use crate::deciding::bodies::{catalogue_body, persons_value, texts};
+use crate::deciding::bodies::{catalogue_body, me_members, persons_value, put_person, texts};
 use crate::deciding::lists::{bad_list, checked_ranking};
 use crate::deciding::replies::{applies, not_yours, shows, wrong_phase};
 use crate::decision::{Change, Decision};
-use crate::phase::{Phase, Round};
+use crate::phase::Phase;
 use crate::rows::Person;
 use crate::view::LecturerView;
-use serde_json::{Value, json};
+use serde_json::{Value, json, put};
 use spa_rows::Key;
 use std::alloc::{AllocError, Global};
 
@@ -29,23 +29,10 @@ use std::alloc::{AllocError, Global};
 fn me_body(alloc: Global, view: &LecturerView) -> Result<Value, AllocError>
     ensures { IfOk result (λ body. json.view body ≡ shown.lecturer_me view.now) }
 {
-    match view.round {
-        Round::First => json!(in alloc; {
-            "capacity": view.capacity,
-            "key": view.me.key.as_str(),
-            "name": view.me.name.as_str(),
-            "phase": view.phase.word(),
-            "role": "lecturer"
-        }),
-        Round::Second => json!(in alloc; {
-            "capacity": view.capacity,
-            "key": view.me.key.as_str(),
-            "name": view.me.name.as_str(),
-            "phase": view.phase.word(),
-            "role": "lecturer",
-            "round": 2u32
-        }),
-    }
+    let mut me = me_members(alloc, view.round, view.phase, "lecturer")?;
+    put_person(&mut me, alloc, &view.me)?;
+    put(&mut me, alloc, "capacity", Value::from(view.capacity))?;
+    Ok(Value::Object(me))
 }
 
 /// Makes a JSON object of a lecturer's project and its applicants.

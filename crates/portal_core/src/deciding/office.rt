@@ -18,7 +18,7 @@ ghost use Rattle.portal_core.specs.Answer.{emptied};
 ghost use Rattle.portal_core.specs.Meaning.{call_model, reply_model, act_model, decision_model};
 
 use crate::call::Call;
-use crate::deciding::bodies::{catalogue_body, key_value, phase_body, texts};
+use crate::deciding::bodies::{catalogue_body, key_value, me_members, phase_body, texts};
 use crate::deciding::kinds::{NewLecturers, NewProjects, NewStudents};
 use crate::deciding::new_rows::{Added, Roll, RollRefusal, take_rows};
 use crate::deciding::replies::{
@@ -37,17 +37,8 @@ use std::alloc::{AllocError, Global};
 fn me_body(alloc: Global, view: &OfficeView) -> Result<Value, AllocError>
     ensures { IfOk result (λ body. json.view body ≡ form.office_me view.now) }
 {
-    match view.round {
-        Round::First => json!(in alloc; {
-            "phase": view.phase.word(),
-            "role": "office"
-        }),
-        Round::Second => json!(in alloc; {
-            "phase": view.phase.word(),
-            "role": "office",
-            "round": 2u32
-        }),
-    }
+    let me = me_members(alloc, view.round, view.phase, "office")?;
+    Ok(Value::Object(me))
 }
 
 /// Makes a JSON string of the key of each of `students` without a project, for the office's status.

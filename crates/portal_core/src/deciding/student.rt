@@ -12,11 +12,11 @@ ghost use Rattle.portal_core.specs.Answer.{unless_faulty, to_student};
 ghost use Rattle.portal_core.specs.Meaning.{call_model, texts_of, decision_model};
 
 use crate::call::Call;
-use crate::deciding::bodies::{catalogue_body, key_value, texts};
+use crate::deciding::bodies::{catalogue_body, key_value, me_members, put_person, texts};
 use crate::deciding::lists::{bad_list, checked_choices};
 use crate::deciding::replies::{already_placed, applies, not_yours, shows, wrong_phase};
 use crate::decision::{Change, Decision};
-use crate::phase::{Phase, Round};
+use crate::phase::Phase;
 use crate::view::StudentView;
 use serde_json::{Value, json};
 use spa_rows::Key;
@@ -26,21 +26,9 @@ use std::alloc::{AllocError, Global};
 fn me_body(alloc: Global, view: &StudentView) -> Result<Value, AllocError>
     ensures { IfOk result (λ body. json.view body ≡ shown.student_me view.now) }
 {
-    match view.round {
-        Round::First => json!(in alloc; {
-            "key": view.me.key.as_str(),
-            "name": view.me.name.as_str(),
-            "phase": view.phase.word(),
-            "role": "student"
-        }),
-        Round::Second => json!(in alloc; {
-            "key": view.me.key.as_str(),
-            "name": view.me.name.as_str(),
-            "phase": view.phase.word(),
-            "role": "student",
-            "round": 2u32
-        }),
-    }
+    let mut me = me_members(alloc, view.round, view.phase, "student")?;
+    put_person(&mut me, alloc, &view.me)?;
+    Ok(Value::Object(me))
 }
 
 /// Makes the body that shows a student the list.
