@@ -1,4 +1,5 @@
-//! Inserts eight rows at a time, the rest singly; inserts the rows of `portal` and `second`.
+//! Inserts rows into a table, eight per statement while eight remain, then one by one; also inserts
+//! the single rows of the tables `portal` and `second`.
 
 ghost use Rattle.std.specs.Prelude.{◌≡◌, ◌<◌, ◌≤◌, ◌++◌, ◌∷◌};
 ghost use Rattle.portal_tables.specs.inner.Base.{ℕ, [], pos, map, OnOk, flat_map, Row, bound};

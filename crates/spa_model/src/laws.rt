@@ -1,4 +1,5 @@
-//! Laws: a blocking pair has one letter, an instance one best matching; rows describe one instance.
+//! Laws: a blocking pair has at most one letter; an instance has at most one best matching; rows
+//! without a fault describe at most one instance.
 
 ghost use Rattle.std.specs.Prelude.{◌≡◌, ℕ, List, Option};
 ghost use Rattle.spa_rows.specs.Lines.{Rows};
