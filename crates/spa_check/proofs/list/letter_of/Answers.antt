@@ -1,3 +1,4 @@
+use Rattle.std.proofs.Common.{rules}
 use Rattle.spa_check.proofs.Base.{◌≡◌, ◌⊎◌, arith, get_or, IsWith, SomeWorseWith, ranking_of, at_lecturer, Group, IsGroup, ltb-true, limit_of}
 use Rattle.spa_check.proofs.Grouping.{worse_with}
 use Rattle.spa_check.proofs.list.letter_of.Goals as goal
@@ -13,3 +14,6 @@ returns-then-depth-lecturers c =
     let full : at_lecturer c.args.instance.now c.args.matching.now c.lecturer_of-l.result ≡ limit_of c.args.instance.now c.lecturer_of-l.result = omega (arith, with.count, c.requires.fits.lecturers c.lecturer_of-l.result) in
     let either : IsWith c.args.instance.now c.args.matching.now c.lecturer_of-l.result c.args.s ⊎ SomeWorseWith c.args.instance.now c.args.matching.now c.lecturer_of-l.result c.args.s = grind (arith, then-is_with, else-is_with, ltb-true) in
     (c.requires.wants, omega (arith, at.count), rw c.lecturer_of-l.ensures.gives at full, rw c.lecturer_of-l.ensures.gives at either)
+
+pub returns-else-depth-lecturers : goal.returns-else-depth-lecturers
+returns-else-depth-lecturers c = search rules

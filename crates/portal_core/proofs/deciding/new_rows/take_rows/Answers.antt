@@ -1,3 +1,4 @@
+use Rattle.std.proofs.lemmas.Grind.{common_steps}
 use Rattle.portal_core.proofs.Base.{◌≡◌, ◌+◌, Vec, Global, [], ◌∷◌, ◌++◌, reverse, arith, sym, ◌∙◌, ap, subst, HasRows, HasTexts}
 use Rattle.portal_core.specs.declared.deciding.new_rows.Register.{Register}
 use Rattle.portal_core.proofs.Scan.{row_faulty, row_same, row_new, there_new}
@@ -41,3 +42,6 @@ loop-row-preserved g c =
                 c.deref.ensures.value c.loop-row.invariant.rest c.in-Ok.added w.if-added.false c.in-Ok.ensures _ _ items w.same-is;
           }
     ]
+
+pub returns-clause-ok : goal.returns-clause-ok
+returns-clause-ok g c = grind (arith, common_steps)

@@ -7,3 +7,6 @@ shown_placed e pairs = catalogue_placed (world_with Setup [] e) pairs
 
 pub invariant_of-self-2 : goal.invariant_of-self-2
 invariant_of-self-2 c = search (rules, shown_placed)
+
+pub returns-in_err-place-clause-same : goal.returns-in_err-place-clause-same
+returns-in_err-place-clause-same c = search rules

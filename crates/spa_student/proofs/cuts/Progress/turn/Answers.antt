@@ -1,3 +1,4 @@
+use Rattle.std.proofs.Common.{rules}
 use Rattle.spa_student.proofs.Base.{◌≡◌, ℕ, ◌<◌, ◌≤◌, length, get_or, set, sum, Option, Some, None, refl, sym, ◌∙◌, ap, arith, choices_of, Progress, Puts, IfSome, MatchOption, Exchanges}
 use Rattle.spa_student.proofs.CutSteps.{moved_state, moved_next, sum_moved}
 use Rattle.spa_student.proofs.cuts.Progress.turn.Goals as goal
@@ -21,3 +22,6 @@ returns-then-k-list-clause-moves c = grown c.args.self.now _ c.put.new.self c.ar
 
 pub returns-else-k-list-clause-state : goal.returns-else-k-list-clause-state
 returns-else-k-list-clause-state c = moved_state c.args.instance.now c.args.self.now c.requires.state c.args.s c.next-k.result c.requires.in_range c.requires.free c.next-k.ensures.from c.next-k.ensures.to c.next-k.ensures.cut _ refl
+
+pub returns-else-k-list-clause-settled : goal.returns-else-k-list-clause-settled
+returns-else-k-list-clause-settled c = search rules
