@@ -1,4 +1,4 @@
-//! Runs `serve`, `pipe` and `report` on a database.
+//! Runs `serve`, `pipe` and `report` on a database; for `report`, gets the office's code from it.
 
 ghost use Rattle.std.specs.Prelude.{◌≡◌, ◌*◌, ◌≤◌, false, IfOk};
 ghost use Rattle.portal_desk.specs.Kept.{TakesAtMost as TakesFew};
@@ -183,7 +183,7 @@ pub(crate) fn pipe_database<R: Read, W: Write>(
     }
 }
 
-/// Returns the office's report on a store.
+/// Gets the office's code from the store, and returns the office's report.
 fn report_of<S: Alter + Drop>(alloc: Global, store: &mut Store<S>) -> Result<Vec<u8>, Unreported> {
     match store.office_code(alloc) {
         Ok(office) => report(alloc, store, &office),
