@@ -1,4 +1,4 @@
-//! Writes the office's report on any keeper: the status, then the result if there is one.
+//! Writes the office's report from any keeper: the status, then the result if there is one.
 
 ghost use Rattle.std.specs.Prelude.{◌≡◌, ◌+◌, Err, IfOk};
 ghost use Rattle.portal_core.specs.Good.{Good};
