@@ -1,4 +1,4 @@
-//! States for proofs what holds of a connection outside a transaction.
+//! Tells proofs what is true of a connection outside a transaction.
 
 ghost use Rattle.std.specs.Prelude.{◌≡◌, false, IsTrue};
 ghost use Rattle.sqlite.specs.Held.{state};
