@@ -1,4 +1,4 @@
-//! Tests framing, calls, replies and connections over a keeper in lists, and the timeouts of connections.
+//! Tests framing, calls, replies, connections and timeouts, over a keeper in lists.
 
 mod callers;
 mod conversation;

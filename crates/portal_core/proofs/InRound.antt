@@ -1,4 +1,4 @@
--- What holds of those who take part in a round of a sound world, and that the catalogue shows each project.
+-- What holds of those who take part in a round of a sound world. The catalogue shows each project.
 use Rattle.portal_core.proofs.Base.{◌≡◌, Bool, true, false, List, [], ◌∷◌, refl, sym, ap, subst, map, filter, nat_lt, ◌&&◌, is_none, AllByRecursion, has, Rise, World, in_play, lecturer_key, project_key, student_key, is_left, is_second, lowered_project, lecturers_left, students_left, projects_in, students_in, project_keys, student_keys, Round, First, Second, ProjectRow, Sound, IsChoice, arith, cond, ◌∙◌, ◌||◌, Some, list_any, find, Key, equals, lecturers_in, Listing, listings, catalogue}
 use Rattle.portal_core.specs.World as rows
 use Rattle.portal_core.proofs.Fills.{rise_kept}

@@ -1,4 +1,4 @@
-//! Finds a student's project, as a row, in the result that the office sees.
+//! Finds the project row of a placed student, by the result that the office sees.
 
 ghost use Rattle.std.specs.Prelude.{◌≡◌, IfOk, option_map};
 ghost use Rattle.portal_core.specs.Bodies.{is_assigned};

@@ -1,4 +1,4 @@
-//! The types of frames, requests, refusals and framing faults.
+//! The types of frames, requests, refusals and framing faults. Turns a fault into its refusal.
 
 ghost use Rattle.std.specs.Prelude.{◌≡◌};
 ghost use Rattle.portal_frame.specs.Stream.{refused, told, plain};

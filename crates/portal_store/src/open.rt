@@ -1,4 +1,5 @@
-//! Opens a store over tables. Checks the second round's tables, and the world of both rounds.
+//! Opens a store over tables. Checks the second round's tables (`seeing` checks the first's), and
+//! the world of both rounds.
 
 ghost use Rattle.std.specs.Prelude.{◌≡◌, ◌≢◌, ◌↔◌, false, [], Err, IfOk, IfErr, IsTrue};
 ghost use Rattle.sqlite.specs.Effect.{IsDatabase};

@@ -70,7 +70,8 @@ pub record IsPlace (r : Row) : Type 0 where
   pub item : List ℕ
   pub is : r ≡ Int number ∷ place_cells owner place item
 
--- A row whose next cell is a text, or a number: what is so at each such cell, and whatever columns follow it, is so of the row.
+-- A row whose next cell is a text or a number has what holds at each such cell, whatever columns
+-- follow it.
 next : {X : Type 0} {of : X → Value} (kind : Kind) → ((v : Value) → is_of kind v ≡ true → not (is_null v) ≡ true → (x : X) × (v ≡ of x)) → (P : Row → Type 0) (row : Row → Row) (name : List ℕ) (at : ℕ) (cs : List Column)
     → ((x : Row) → are_present None at (column_of name kind true ∷ cs) (row x) ≡ (not (is_null (column x 0)) && are_present None (at + 1) cs (row x)))
     → ((x : X) (rest : Row) → are_typed None (at + 1) cs rest ≡ true → are_present None (at + 1) cs (row (of x ∷ rest)) ≡ true → P (row (of x ∷ rest)))

@@ -1,4 +1,4 @@
-//! Tests whether the rowids of a table are distinct, as updates and deletions require.
+//! Reads rowids, and tests whether a table's are distinct, as updates and deletions require.
 
 ghost use Rattle.std.specs.Prelude.{◌≡◌};
 ghost use Rattle.portal_tables.specs.inner.Base.{true, IfSome, IsTrue, None, Int, column};

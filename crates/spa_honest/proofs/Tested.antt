@@ -160,7 +160,8 @@ is_same (Some p ∷ m) (Some q ∷ n) h =
     cc (eqb-true p q both.0)
 is_same m n h = absurd (cc)
 
--- a project has too many, or a student wants a project that has room, or has or could take the place of one who stands later
+-- A project has too many students, or a student wants a project that has room or whose lecturer
+-- ranks an assigned student lower.
 abbrev goes_before : List ℕ → ℕ → ℕ → Bool
 goes_before list a b = ltb (place list a) (place list b) && ltb (place list b) (length list)
 

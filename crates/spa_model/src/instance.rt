@@ -67,7 +67,7 @@ impl Instance {
         self.students.len()
     }
 
-    /// Makes `IsLawful` available to a proof, and does nothing else.
+    /// Gives a proof the fact that the instance is lawful (`IsLawful`), and does nothing else.
     pub fn lawful(&self)
         ensures { IsLawful self.now }
     {

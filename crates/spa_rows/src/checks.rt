@@ -1,4 +1,4 @@
-//! Finds faults, such as bad keys and overlong lists, in lines of every kind.
+//! Finds the lowest-numbered faulty row among the rows of all kinds, fault by fault.
 
 ghost use Rattle.std.specs.Prelude.{◌≡◌, Err, IfErr, IfOk, IsOk, MatchOption, OnOk};
 ghost use Rattle.spa_rows.specs.Faults.{HasFault, HasNoneBefore, IsRefusal};

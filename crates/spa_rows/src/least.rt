@@ -1,4 +1,4 @@
-//! Finds the lowest-numbered row with a given fault, such as a bad key, in lines of one kind.
+//! Finds the lowest-numbered row of one kind that has a given fault, such as a bad key.
 
 ghost use Rattle.std.specs.Prelude.{◌≡◌, ◌<◌, ◌↔◌, false, if◌then◌else◌, IfOk, IsSortedByKey};
 ghost use Rattle.std.specs.Prelude.{IsTrue, Some, length, map};

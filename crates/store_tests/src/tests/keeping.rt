@@ -8,8 +8,8 @@ use portal_store::{CreateFault, NotOpened, Store};
 use sqlite::{Alter, Connection};
 use std::process::Abort;
 
-/// Opens the same database again, and returns a desk over it. Generic, because proofs over `MemStore`
-/// are slow.
+/// Opens the same database again, and returns a desk over it. Generic, because proofs over
+/// `MemStore` are slow.
 fn again<S: Alter + Drop>(rt: &(impl Abort + AllocGlobal), desk: Desk<Store<S>>) -> Desk<Store<S>> {
     let conn = desk.into_keeper().into_connection();
     match Store::open(rt.alloc(), conn) {

@@ -147,8 +147,8 @@ const PHASES: &[&str] = &[
     ALWAYS,
 ];
 
-/// Plays the first round on both desks, and checks all rows. Generic, because proofs over `MemStore`
-/// are slow.
+/// Plays the first round on both desks, and checks all rows. Generic, because proofs over
+/// `MemStore` are slow.
 fn all_are_answered<K: Keeper + Drop, L: Keeper + Drop>(
     rt: &(impl Abort + AllocGlobal),
     desk: Desk<K>,
