@@ -8,10 +8,10 @@ ghost use Rattle.portal_run.specs.Run.{WritesAnswer, AnswersSome, IsOfFile, IsUp
 ghost use Rattle.portal_run.specs.Run.{ConsumesAtMost, SaysUpgrade};
 ghost use Rattle.portal_desk.specs.Kept.{TakesAtMost as TakesFew};
 
-use crate::init::{init, upgrade_database};
+use crate::init::init;
 use crate::input::{InputFault, bytes_of};
+use crate::job::{Job, do_job};
 use crate::output::{say, say_memory, say_read};
-use crate::serve::{pipe_database, report_database, serve_database};
 use portal_answer::{Task, answer_to};
 use portal_words::{Asked, Command, command_of};
 use sqlite::{File, FileStore};
@@ -123,10 +123,16 @@ pub fn perform<R: Read, W: Write>(
             database,
             port,
             connections,
-        } => serve_database(rt, database, port, connections, writer),
-        Command::Pipe(database) => pipe_database(rt, database, reader, writer),
-        Command::Report(database) => report_database(rt, database, writer),
-        Command::Upgrade(database) => upgrade_database(rt, database, writer),
+        } => do_job(
+            rt,
+            database,
+            Job::Serve { port, connections },
+            reader,
+            writer,
+        ),
+        Command::Pipe(database) => do_job(rt, database, Job::Pipe, reader, writer),
+        Command::Report(database) => do_job(rt, database, Job::Report, reader, writer),
+        Command::Upgrade(database) => do_job(rt, database, Job::Upgrade, reader, writer),
     }
 }
 

@@ -1,17 +1,15 @@
-//! Runs `init` and `upgrade`: creates or upgrades a database.
+//! Creates a database for `init`; upgrades one for `upgrade`.
 
 ghost use Rattle.std.specs.Prelude.{◌<◌, ◌≡◌, ◌≤◌, false};
-ghost use Rattle.sqlite.specs.Files.{over_files};
-ghost use Rattle.portal_run.specs.Run.{Answers, ConsumesAtMost, SaysUpgrade};
+ghost use Rattle.portal_run.specs.Run.{Answers, ConsumesAtMost, SaysAnswer};
 
-use crate::database::{FileConnection, close, connect, connect_there};
+use crate::database::{close, connect};
 use crate::input::{InputFault, first_bytes};
 use crate::output::{say, say_memory, say_read};
-use crate::refusal::{Refusal, not_made, refuse, say_done, say_upgrade};
+use crate::refusal::{Refusal, not_made, say_done, say_upgrade};
 use portal_core::{Code, CodeFault};
 use portal_store::{NotOpened, Store, UpgradeFault};
-use sqlite::{Alter, Connection, File, FileStore};
-use sqlite_trees::store::Store as Tables;
+use sqlite::{Alter, Connection};
 use std::alloc::Global;
 use std::io::{Read, Write};
 
@@ -107,7 +105,7 @@ pub(crate) fn init<R: Read, W: Write>(
 }
 
 /// Upgrades the database of a connection. Returns the fault, if there is one, and the connection.
-fn upgrade_over<S: Alter + Drop>(
+fn upgraded<S: Alter + Drop>(
     alloc: Global,
     conn: Connection<S>,
 ) -> (Option<UpgradeFault>, Connection<S>)
@@ -120,28 +118,18 @@ fn upgrade_over<S: Alter + Drop>(
     }
 }
 
-/// Upgrades the database of a connection to a file, and closes it. Returns the fault, if there is
-/// one.
-fn upgrade_closing(alloc: Global, conn: FileConnection) -> Option<UpgradeFault>
+/// Upgrades the database of a connection from version 1 to version 2, and reports the outcome.
+/// Returns the exit status, and the connection.
+pub(crate) fn upgrade_over<S: Alter + Drop, W: Write>(
+    alloc: Global,
+    conn: Connection<S>,
+    writer: &mut W,
+) -> (u8, Connection<S>)
     requires { conn.in_transaction ≡ false }
-    ensures { (left : _) × Answers over_files result conn left }
+    ensures bound { result.0 ≤ 3 }
+    ensures says { result.0 < 3 → SaysAnswer S.Store conn result.0 (W.contents writer.old)
+        (W.contents writer.new) }
 {
-    let (refused, conn) = upgrade_over(alloc, conn);
-    close(conn);
-    refused
-}
-
-/// Upgrades the database in an existing file from version 1 to version 2, and reports the outcome.
-pub(crate) fn upgrade_database<W: Write>(rt: &HostRuntime, path: &str, writer: &mut W) -> u8
-    ensures bound { result ≤ 3 }
-    ensures says { result < 3 → SaysUpgrade ⟦<FileStore<File> as Tables>⟧ result
-        (W.contents writer.old) (W.contents writer.new) }
-{
-    match connect_there(rt, path) {
-        Ok(conn) => {
-            let refused = upgrade_closing(rt.alloc(), conn);
-            say_upgrade(writer, refused)
-        }
-        Err(why) => refuse(writer, why),
-    }
+    let (refused, conn) = upgraded(alloc, conn);
+    (say_upgrade(writer, refused), conn)
 }

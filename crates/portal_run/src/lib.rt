@@ -5,6 +5,7 @@ mod commands;
 mod database;
 mod init;
 mod input;
+mod job;
 mod output;
 mod refusal;
 mod serve;

@@ -1,11 +1,11 @@
-//! Runs `serve`, `pipe` and `report` on a database; for `report`, gets the office's code from it.
+//! Runs `serve`, `pipe` and `report` over the connection to a database.
 
-ghost use Rattle.std.specs.Prelude.{◌≡◌, ◌*◌, ◌≤◌, false, IfOk};
+ghost use Rattle.std.specs.Prelude.{◌≡◌, ◌*◌, ◌≤◌, false};
 ghost use Rattle.portal_desk.specs.Kept.{TakesAtMost as TakesFew};
 
-use crate::database::{close, connect_there, desk_over};
+use crate::database::desk_over;
 use crate::output::{say, say_memory, say_read, say_store, say_write};
-use crate::refusal::{Refusal, refuse};
+use crate::refusal::refuse;
 use portal_core::KeepFault;
 use portal_desk::{Cause, Desk, ServeFault, Served};
 use portal_serve::{Ended, Hall, Unreported, pipe, report, serve_on};
@@ -63,51 +63,23 @@ fn listen<S: Alter + Drop, W: Write>(
 }
 
 /// Serves up to `connections` connections on a port, over the database of a connection. Returns the
-/// exit status, and the database's connection.
-fn serve_over<S: Alter + Drop, W: Write>(
+/// exit status, and the connection unless the database is refused.
+pub(crate) fn serve_over<S: Alter + Drop, W: Write>(
     rt: &HostRuntime,
     conn: Connection<S>,
     port: u16,
     connections: u32,
     writer: &mut W,
-) -> Result<(u8, Connection<S>), Refusal>
+) -> (u8, Option<Connection<S>>)
     requires { conn.in_transaction ≡ false }
-    ensures { IfOk result (λ r. r.0 ≤ 3) }
+    ensures { result.0 ≤ 3 }
 {
-    let mut desk = desk_over(rt.alloc(), conn)?;
-    let status = listen(rt, &mut desk, port, connections, writer);
-    Ok((status, desk.into_keeper().into_connection()))
-}
-
-/// Serves the database in a file, and closes it. Returns the exit status.
-fn serve_file<W: Write>(
-    rt: &HostRuntime,
-    path: &str,
-    port: u16,
-    connections: u32,
-    writer: &mut W,
-) -> Result<u8, Refusal>
-    ensures { IfOk result (λ status. status ≤ 3) }
-{
-    let conn = connect_there(rt, path)?;
-    let (status, conn) = serve_over(rt, conn, port, connections, writer)?;
-    close(conn);
-    Ok(status)
-}
-
-/// Serves up to `connections` connections on a port, over the database in a file.
-pub(crate) fn serve_database<W: Write>(
-    rt: &HostRuntime,
-    path: &str,
-    port: u16,
-    connections: u32,
-    writer: &mut W,
-) -> u8
-    ensures { result ≤ 3 }
-{
-    match serve_file(rt, path, port, connections, writer) {
-        Ok(status) => status,
-        Err(fault) => refuse(writer, fault),
+    match desk_over(rt.alloc(), conn) {
+        Ok(mut desk) => {
+            let status = listen(rt, &mut desk, port, connections, writer);
+            (status, Some(desk.into_keeper().into_connection()))
+        }
+        Err(why) => (refuse(writer, why), None),
     }
 }
 
@@ -133,53 +105,36 @@ fn flush<W: Write>(writer: &mut W) -> u8
     }
 }
 
+/// Flushes the output, or reports why the connection ended early. Returns the exit status.
+fn say_ended<W: Write>(writer: &mut W, ended: Result<Served, ServeFault>) -> u8
+    ensures { result ≤ 3 }
+{
+    match ended {
+        Ok(_) => flush(writer),
+        Err(fault) => say_cause(writer, fault.cause),
+    }
+}
+
 /// Serves the input and the output as one connection, over the database of another. Returns the
-/// outcome, and the database's connection.
+/// exit status, and the database's connection unless the database is refused.
 #[tactic(auto, using(crate::proofs::Taken::same_left))]
-fn pipe_over<S: Alter + Drop, R: Read, W: Write>(
+pub(crate) fn pipe_over<S: Alter + Drop, R: Read, W: Write>(
     alloc: Global,
     conn: Connection<S>,
     reader: &mut R,
     writer: &mut W,
-) -> Result<(Result<Served, ServeFault>, Connection<S>), Refusal>
+) -> (u8, Option<Connection<S>>)
     requires { conn.in_transaction ≡ false }
-    ensures { TakesFew (256 * 1064960) (R.remaining reader.old) (R.remaining reader.new) }
-{
-    let mut desk = desk_over(alloc, conn)?;
-    let ended = pipe(alloc, &mut desk, reader, writer);
-    Ok((ended, desk.into_keeper().into_connection()))
-}
-
-/// Serves the input and the output over the database in a file, and closes it.
-#[tactic(auto, using(crate::proofs::Taken::same_left))]
-fn pipe_file<R: Read, W: Write>(
-    rt: &HostRuntime,
-    path: &str,
-    reader: &mut R,
-    writer: &mut W,
-) -> Result<Result<Served, ServeFault>, Refusal>
-    ensures { TakesFew (256 * 1064960) (R.remaining reader.old) (R.remaining reader.new) }
-{
-    let conn = connect_there(rt, path)?;
-    let (ended, conn) = pipe_over(rt.alloc(), conn, reader, writer)?;
-    close(conn);
-    Ok(ended)
-}
-
-/// Serves the input and the output as one connection.
-pub(crate) fn pipe_database<R: Read, W: Write>(
-    rt: &HostRuntime,
-    path: &str,
-    reader: &mut R,
-    writer: &mut W,
-) -> u8
-    ensures bound { result ≤ 3 }
+    ensures bound { result.0 ≤ 3 }
     ensures takes { TakesFew (256 * 1064960) (R.remaining reader.old) (R.remaining reader.new) }
 {
-    match pipe_file(rt, path, reader, writer) {
-        Ok(Ok(_)) => flush(writer),
-        Ok(Err(fault)) => say_cause(writer, fault.cause),
-        Err(fault) => refuse(writer, fault),
+    match desk_over(alloc, conn) {
+        Ok(mut desk) => {
+            let ended = pipe(alloc, &mut desk, reader, writer);
+            let status = say_ended(writer, ended);
+            (status, Some(desk.into_keeper().into_connection()))
+        }
+        Err(why) => (refuse(writer, why), None),
     }
 }
 
@@ -192,34 +147,34 @@ fn report_of<S: Alter + Drop>(alloc: Global, store: &mut Store<S>) -> Result<Vec
     }
 }
 
-/// Returns the office's report on the database of a connection, and the connection.
-fn report_over<S: Alter + Drop>(
-    alloc: Global,
-    conn: Connection<S>,
-) -> Result<(Result<Vec<u8>, Unreported>, Connection<S>), Refusal>
-    requires { conn.in_transaction ≡ false }
-{
-    let mut store = desk_over(alloc, conn)?.into_keeper();
-    let told = report_of(alloc, &mut store);
-    Ok((told, store.into_connection()))
-}
-
-/// Returns the office's report on the database in a file, and closes it.
-fn report_file(rt: &HostRuntime, path: &str) -> Result<Result<Vec<u8>, Unreported>, Refusal> {
-    let conn = connect_there(rt, path)?;
-    let (told, conn) = report_over(rt.alloc(), conn)?;
-    close(conn);
-    Ok(told)
-}
-
-/// Prints the office's report: the status of the round, then the result if there is one.
-pub(crate) fn report_database<W: Write>(rt: &HostRuntime, path: &str, writer: &mut W) -> u8
+/// Prints the office's report, or reports why there is none. Returns the exit status.
+fn say_report<W: Write>(writer: &mut W, told: Result<Vec<u8>, Unreported>) -> u8
     ensures { result ≤ 3 }
 {
-    match report_file(rt, path) {
-        Ok(Ok(text)) => say(writer, text.as_slice(), 0),
-        Ok(Err(Unreported::Store)) => say_store(writer),
-        Ok(Err(Unreported::Memory)) => say_memory(writer),
-        Err(fault) => refuse(writer, fault),
+    match told {
+        Ok(text) => say(writer, text.as_slice(), 0),
+        Err(Unreported::Store) => say_store(writer),
+        Err(Unreported::Memory) => say_memory(writer),
+    }
+}
+
+/// Prints the office's report on the database of a connection: the status of the round, then the
+/// result if there is one. Returns the exit status, and the connection unless the database is
+/// refused.
+pub(crate) fn report_over<S: Alter + Drop, W: Write>(
+    alloc: Global,
+    conn: Connection<S>,
+    writer: &mut W,
+) -> (u8, Option<Connection<S>>)
+    requires { conn.in_transaction ≡ false }
+    ensures { result.0 ≤ 3 }
+{
+    match desk_over(alloc, conn) {
+        Ok(desk) => {
+            let mut store = desk.into_keeper();
+            let told = report_of(alloc, &mut store);
+            (say_report(writer, told), Some(store.into_connection()))
+        }
+        Err(why) => (refuse(writer, why), None),
     }
 }

@@ -10,7 +10,7 @@ mod words;
 
 use portal_fixtures::{cut, unescaped};
 use portal_run::run;
-use std::alloc::AllocError;
+use std::alloc::{AllocError, Global};
 use std::process::Abort;
 
 /// The status and the output of a command.
@@ -52,22 +52,31 @@ fn put(text: &mut Vec<u8>, part: Result<String, AllocError>) -> Result<(), Alloc
 /// The header line of an instance file.
 const HEADER: &[u8] = b"kind,key,value,list\n";
 
+/// Returns a status and an output, with `\n` for each line end.
+fn outcome(alloc: Global, status: u8, output: &[u8]) -> Result<String, AllocError> {
+    let text = str::from_utf8(output).unwrap_or("no text");
+    let text = text.replace(alloc, "\n", "\\n")?;
+    format!(in alloc; "{status}  {text}")
+}
+
+/// Runs a command on `before` and the records of a row. Returns what was found.
+fn found(rt: &HostRuntime, command: &str, before: &str, row: &str) -> Result<String, AllocError> {
+    let alloc = rt.alloc();
+    let (_, own) = cut(cut(row, "  ").1, "  ");
+    let own = unescaped(alloc, own.trim_start())?;
+    let records = [before, own.as_str()].concat(alloc)?;
+    let (status, output) = told(rt, command, HEADER, records.as_bytes())?;
+    outcome(alloc, status, &output)
+}
+
 /// Runs a command for each row of a status, an output and records. The input is `before` and these
 /// records. Returns the rows whose status or output was another, with what was found.
 fn wrong(rt: &HostRuntime, command: &str, before: &str, rows: &str) -> Result<String, AllocError> {
-    let alloc = rt.alloc();
-    let mut wrong = String::new(alloc);
+    let mut wrong = String::new(rt.alloc());
     for row in rows.lines().skip(1) {
-        let (_, rest) = cut(row, "  ");
-        let (_, own) = cut(rest, "  ");
-        let own = unescaped(alloc, own.trim_start())?;
-        let records = [before, own.as_str()].concat(alloc)?;
-        let (status, got) = told(rt, command, HEADER, records.as_bytes())?;
-        let got = str::from_utf8(&got).unwrap_or("no text");
-        let got = got.replace(alloc, "\n", "\\n")?;
-        let found = format!(in alloc; "{status}  {got}")?;
+        let found = found(rt, command, before, row)?;
         if !begins_with(row, found.as_str()) {
-            let told = format!(in alloc; "{row}\nfound {found}\n")?;
+            let told = format!(in rt.alloc(); "{row}\nfound {found}\n")?;
             wrong.push_str(told.as_str())?;
         }
     }

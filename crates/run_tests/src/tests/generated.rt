@@ -53,13 +53,7 @@ fn put_keys(
 /// 3. The lecturer of project `p` is `p % 3`.
 fn file(alloc: Global, chance: &mut Chance) -> Result<Vec<u8>, AllocError> {
     let mut text = Vec::new(alloc);
-    let mut choices = Vec::new(alloc);
-    for student in 0..6 {
-        let list = chance.some(alloc, 6, 5)?;
-        put(&mut text, format!(in alloc; "S,S{student},,"))?;
-        put_keys(alloc, &mut text, "P", &list)?;
-        choices.push(list)?;
-    }
+    let choices = put_students(alloc, chance, &mut text)?;
     for project in 0..6u64 {
         let capacity = chance.below(3).wrapping_add(1);
         let lecturer = project % 3;
@@ -74,6 +68,22 @@ fn file(alloc: Global, chance: &mut Chance) -> Result<Vec<u8>, AllocError> {
         put_keys(alloc, &mut text, "S", &list)?;
     }
     Ok(text)
+}
+
+/// Appends six students, and returns their lists.
+fn put_students(
+    alloc: Global,
+    chance: &mut Chance,
+    text: &mut Vec<u8>,
+) -> Result<Vec<Vec<u64>>, AllocError> {
+    let mut choices = Vec::new(alloc);
+    for student in 0..6 {
+        let list = chance.some(alloc, 6, 5)?;
+        put(text, format!(in alloc; "S,S{student},,"))?;
+        put_keys(alloc, text, "P", &list)?;
+        choices.push(list)?;
+    }
+    Ok(choices)
 }
 
 /// Returns the students of `order` who list a project of the lecturer.

@@ -196,12 +196,7 @@ fn makes<S: Alter + Drop>(
     assert!(rt; conn.is_autocommit());
     match Store::create(rt.alloc(), conn, new_office_code(rt)) {
         Ok(store) => (true, store.into_connection()),
-        Err(
-            NotOpened {
-                fault: _,
-                connection,
-            },
-        ) => (false, connection),
+        Err(NotOpened { connection, .. }) => (false, connection),
     }
 }
 

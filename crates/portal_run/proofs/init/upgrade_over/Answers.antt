@@ -1,10 +1,11 @@
-use Rattle.portal_run.proofs.Base.{sym, subst}
-use Rattle.portal_run.specs.Run.{IsUpgraded}
+use Rattle.portal_run.proofs.Known.{said_status}
 use Rattle.portal_run.proofs.init.upgrade_over.Goals as goal
 
-pub returns-in-Ok : goal.returns-in-Ok
-returns-in-Ok g c =
-    subst (IsUpgraded g.S.Store c.args.conn) (sym c.into_connection.ensures.same) (record { made = c.in-Ok.ensures.made; free = c.in-Ok.ensures.free })
-
-pub returns-in-Err : goal.returns-in-Err
-returns-in-Err g c = record { barred = c.in-Err.ensures.refused; taken = c.in-Err.ensures.exists; stays = c.in-Err.ensures.err }
+pub returns-clause-says : goal.returns-clause-says
+returns-clause-says g c small = (
+  c.upgraded-refused.result.1,
+  c.upgraded-refused.result.0,
+  c.upgraded-refused.ensures,
+  said_status _ _ c.say_upgrade.ensures.given small,
+  c.say_upgrade.ensures.written small,
+)

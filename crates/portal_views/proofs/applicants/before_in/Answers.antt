@@ -1,3 +1,4 @@
+use Rattle.std.proofs.Common.{rules}
 use Rattle.portal_views.proofs.Base.{◌∙◌, Second, ap, persons_at, reads_both, reads_handed, reads_more, reads_open, reads_short}
 use Rattle.portal_views.proofs.ToldLines.{of_first}
 use Rattle.portal_views.proofs.applicants.before_in.Goals as goal
@@ -14,3 +15,6 @@ returns-in_err-lines-in-Second g c =
 pub returns-in_err-placed_at-in-Second : goal.returns-in_err-placed_at-in-Second
 returns-in_err-placed_at-in-Second g c =
     rw c.in-Second.is (reads_short c.from_residual-in_err-placed_at-in-Second.ensures.1 (reads_open (reads_both c.in_ok-lines-in-Second.ensures)) (λ own tables told damaged. absurd (cc)))
+
+pub returns-in-First : goal.returns-in-First
+returns-in-First g c = search rules

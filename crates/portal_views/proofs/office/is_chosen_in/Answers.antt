@@ -13,3 +13,6 @@ returns-clause-reads g c =
     (λ _ lists found.
     let told = subst (λ (k : Key). FindsAny (ListsBy (1 ∷ []) (has_text 3 k) (columns (1 ∷ [])) (db.trees (tree_of (choice_table round)))) c.in_ok-finds_any.field-0) c.bytes_at-3.ensures found in
     told.told ∙ some_chooser round db lists project.key told.rows told.shown ∙ sym (ap (λ b. b && is_chosen_shown round db.trees project.key) own))
+
+pub returns-then-ne-clause-undamaged : goal.returns-then-ne-clause-undamaged
+returns-then-ne-clause-undamaged g c = search rules
