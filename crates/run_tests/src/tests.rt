@@ -24,9 +24,8 @@ fn told(rt: &HostRuntime, command: &str, head: &[u8], records: &[u8]) -> Result<
 }
 
 /// Runs the command of these words on an input, and returns the status and the output.
-fn ran(rt: &HostRuntime, words: &[&str], input: &[u8]) -> Told {
+fn ran(rt: &HostRuntime, words: &[&str], mut input: &[u8]) -> Told {
     let mut out = Vec::new(rt.alloc());
-    let mut input = input;
     let status = run(rt, words, &mut input, &mut out);
     (status, out)
 }
@@ -61,12 +60,11 @@ fn outcome(alloc: Global, status: u8, output: &[u8]) -> Result<String, AllocErro
 
 /// Runs a command on `before` and the records of a row. Returns what was found.
 fn found(rt: &HostRuntime, command: &str, before: &str, row: &str) -> Result<String, AllocError> {
-    let alloc = rt.alloc();
     let (_, own) = cut(cut(row, "  ").1, "  ");
-    let own = unescaped(alloc, own.trim_start())?;
-    let records = [before, own.as_str()].concat(alloc)?;
+    let own = unescaped(rt.alloc(), own.trim_start())?;
+    let records = [before, own.as_str()].concat(rt.alloc())?;
     let (status, output) = told(rt, command, HEADER, records.as_bytes())?;
-    outcome(alloc, status, &output)
+    outcome(rt.alloc(), status, &output)
 }
 
 /// Runs a command for each row of a status, an output and records. The input is `before` and these

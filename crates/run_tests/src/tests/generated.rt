@@ -13,10 +13,8 @@ struct Chance {
 
 impl Chance {
     fn below(&mut self, n: u64) -> u64 {
-        self.state = self
-            .state
-            .wrapping_mul(6_364_136_223_846_793_005)
-            .wrapping_add(1_442_695_040_888_963_407);
+        let multiple = self.state.wrapping_mul(6_364_136_223_846_793_005);
+        self.state = multiple.wrapping_add(1_442_695_040_888_963_407);
         (self.state >> 33) % n.max(1)
     }
 
@@ -129,12 +127,11 @@ fn solution<'t>(rt: &impl Abort, found: &'t Told, turn: usize) -> &'t str {
 
 #[test]
 fn solutions_are_stable(rt: HostRuntime) -> Result<(), Fail> {
-    let alloc = rt.alloc();
     let mut chance = Chance { state: 4 };
     for turn in 0..200 {
-        let mut records = file(alloc, &mut chance)?;
+        let mut records = file(rt.alloc(), &mut chance)?;
         let solved = told(&rt, "solve", HEADER, &records)?;
-        records.extend_from_slice(&pairs(alloc, solution(&rt, &solved, turn))?)?;
+        records.extend_from_slice(&pairs(rt.alloc(), solution(&rt, &solved, turn))?)?;
         let checked = told(&rt, "check", HEADER, &records)?;
         is_told(&rt, &checked, 0, b"blocking 0\n", turn);
     }

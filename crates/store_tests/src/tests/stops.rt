@@ -196,7 +196,12 @@ fn makes<S: Alter + Drop>(
     assert!(rt; conn.is_autocommit());
     match Store::create(rt.alloc(), conn, new_office_code(rt)) {
         Ok(store) => (true, store.into_connection()),
-        Err(NotOpened { connection, .. }) => (false, connection),
+        Err(
+            NotOpened {
+                fault: _,
+                connection,
+            },
+        ) => (false, connection),
     }
 }
 
