@@ -125,14 +125,14 @@ done (Stopped why failed left) es old new before after bytes count (rest, deals,
 
 pub session_done : {K : Type 0} (state : K → KeeperState) (s : Session K) → IsSession state s
     → Done s.finish s.exchanges (state s.old) (state s.new) s.before s.after s.bytes s.count
-session_done state s session = done s.finish s.exchanges (state s.old) (state s.new) s.before s.after s.bytes s.count session
+session_done state s serves = done s.finish s.exchanges (state s.old) (state s.new) s.before s.after s.bytes s.count serves
 
 -- what was told of streams that were served one after another
 pub are_visits : {K : Type 0} (state : K → KeeperState) (k : K) (ss : List (Session K)) → AreServed state k ss
     → (vs : List Visit) × AllTellOf ss vs × AreVisits (state k).world vs
 are_visits state k [] served = ([], tt, tt)
-are_visits state k (s ∷ ss) (same, is_clean, session, later) =
-    let d = session_done state s session in
+are_visits state k (s ∷ ss) (same, is_clean, serves, later) =
+    let d = session_done state s serves in
     let r = d.deals.reaches is_clean in
     let v : Visit = record { bytes = s.bytes; written = d.written; finish = s.finish; exchanges = s.exchanges; worlds = r.0 } in
     let more = are_visits state s.new ss later in (

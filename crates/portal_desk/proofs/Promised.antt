@@ -9,13 +9,13 @@ use Rattle.portal_desk.proofs.Steps.{answered_apart}
 pub stays_served : {K : Type 0} (state : K → KeeperState) (k : K) (ss : List (Session K)) → AreServedOn state k ss → AllAnswered (told_in (exchanges_in ss))
     → (state (left_by k ss)).disk → (state k).disk × ((state k).clean → AreServed state k ss)
 stays_served state k [] served all last = (last, λ on. tt)
-stays_served state k (s ∷ ss) (resumes, session, later) all last =
+stays_served state k (s ∷ ss) (resumes, serves, later) all last =
     let apart = answered_apart s.exchanges (exchanges_in ss) all in
     let next = stays_served state s.new ss later apart.1 last in
-    let own = (session_done state s session).deals.lasts apart.0 next.0 in
+    let own = (session_done state s serves).deals.lasts apart.0 next.0 in
     let before = resumes own.0 in (
       before.0,
-      λ on. let start = before.1 on in let now = own.1 start.0 in (start.1, now, session, next.1 now),
+      λ on. let start = before.1 on in let now = own.1 start.0 in (start.1, now, serves, next.1 now),
     )
 
 -- the visits have the streams' own requests and replies
