@@ -1,4 +1,4 @@
-//! Converts faults of tables, rows and queries into a store's faults; counts `Store` faults.
+//! Converts faults of tables, rows and queries into a store's faults; counts the store's faults.
 
 ghost use Rattle.std.specs.Prelude.{◌≡◌, ◌≢◌, ◌↔◌, ◌+◌, ◌-◌, ◌^◌};
 ghost use Rattle.sqlite.specs.Tree.{Trees};

@@ -1,4 +1,4 @@
-//! Reads the office's code by a query, for `Store::office_code`; counts `Store` faults.
+//! Reads the office's code by a query, for `Store::office_code`; counts the store's faults.
 
 ghost use Rattle.std.specs.Prelude.{◌≡◌};
 ghost use Rattle.sqlite.specs.Effect.{IsDatabase};
