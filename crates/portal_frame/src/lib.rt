@@ -1,4 +1,4 @@
-//! `frame` recognises what a stream begins with: a request, a fault or its end.
+//! `frame` recognises what comes next in a stream: a request, a fault or the stream's end.
 #![tactic(auto)]
 
 ghost use Rattle.std.specs.Prelude.{◌≡◌, ℕ, ◌<◌, ◌≤◌, ◌⊎◌, List, ◌++◌, length, IfOk};

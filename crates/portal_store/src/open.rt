@@ -1,5 +1,5 @@
 //! Opens a store over tables. Checks the second round's tables (`seeing` checks the first's), and
-//! the world of both rounds.
+//! the world that the tables of both rounds represent.
 
 ghost use Rattle.std.specs.Prelude.{◌≡◌, ◌≢◌, ◌↔◌, false, [], Err, IfOk, IfErr, IsTrue};
 ghost use Rattle.sqlite.specs.Effect.{IsDatabase};

@@ -1,4 +1,4 @@
-//! Reads rowids, and tests whether a table's are distinct, as updates and deletions require.
+//! Reads a table's rowids, and tests whether they are distinct, as updates and deletions require.
 
 ghost use Rattle.std.specs.Prelude.{◌≡◌};
 ghost use Rattle.portal_tables.specs.inner.Base.{true, IfSome, IsTrue, None, Int, column};

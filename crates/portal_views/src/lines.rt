@@ -1,4 +1,4 @@
-//! Reads key, name and placement of the students who list a project, in every phase.
+//! Reads key, name and placement of the students who list a project, whatever the phase.
 
 ghost use Rattle.std.specs.Prelude.{◌≡◌, ◌∷◌};
 ghost use Rattle.portal_views.specs.inner.Base.{[], Err, IfOk, Some, AllByRecursion, map, length};

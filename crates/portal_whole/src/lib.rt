@@ -1,4 +1,4 @@
-//! `replies_in_memory` serves streams over a new store in memory; proves PROMISES.md's headline.
+//! Proves PROMISES.md's headline for `replies_in_memory`, which serves over a store in memory.
 #![tactic(auto)]
 
 ghost use Rattle.std.specs.Prelude.{IfSome, map};

@@ -1,4 +1,4 @@
-//! Finds the lowest-numbered faulty row among the rows of all kinds, fault by fault.
+//! Finds, for each fault in turn, the lowest-numbered row of any kind that has this fault.
 
 ghost use Rattle.std.specs.Prelude.{◌≡◌, Err, IfErr, IfOk, IsOk, MatchOption, OnOk};
 ghost use Rattle.spa_rows.specs.Faults.{HasFault, HasNoneBefore, IsRefusal};

@@ -1,4 +1,4 @@
-//! Finds the entries' placements that a phase shows.
+//! Finds in the entries the placements that callers may see in a phase.
 
 ghost use Rattle.std.specs.Prelude.{◌≡◌, IfOk, option_map};
 ghost use Rattle.portal_core.specs.World.{shown_placement, pairs_with};
