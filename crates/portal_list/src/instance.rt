@@ -1,4 +1,4 @@
-//! Makes lines from the entries, and builds the allocation instance from these lines.
+//! Makes instance rows from the entries, and builds the instance from these rows.
 
 ghost use Rattle.std.specs.Prelude.{◌≡◌, false, Err, IfOk, map};
 ghost use Rattle.std.specs.List.{AllByRecursion};
