@@ -1,9 +1,11 @@
 //! Decides a lecturer's calls.
 
-ghost use Rattle.std.specs.Prelude.{◌≡◌, [], ◌∷◌, map, option_map, codes, Some, IfOk};
+ghost use Rattle.std.specs.Prelude.{◌≡◌, [], ◌∷◌, List, map, option_map, codes, Some, IfOk};
 ghost use Rattle.serde_json.specs.View as json;
 ghost use Rattle.serde_json.specs.Data.{string};
+ghost use Rattle.portal_core.specs.Words.{Key};
 ghost use Rattle.portal_core.specs.World as world;
+ghost use Rattle.portal_core.specs.World.{Person};
 ghost use Rattle.portal_core.specs.Bodies.{dictionary, several, texts_or_null};
 ghost use Rattle.portal_core.specs.Bodies as shown;
 ghost use Rattle.portal_core.specs.Faults.{ranking_fault};
@@ -14,14 +16,16 @@ ghost use Rattle.portal_core.specs.Meaning.{call_model, texts_of, decision_model
 ghost use Rattle.portal_core.specs.inner.Room.{by_project};
 
 use crate::call::Call;
-use crate::deciding::bodies::{catalogue_body, me_members, persons_value, put_person, texts};
+use crate::deciding::bodies::{
+    catalogue_body, me_members, object_of, persons_value, put_person, put_text, texts,
+};
 use crate::deciding::lists::{bad_list, checked_ranking};
 use crate::deciding::replies::{applies, not_yours, shows, wrong_phase};
 use crate::decision::{Change, Decision};
 use crate::phase::Phase;
 use crate::rows::Person;
 use crate::view::LecturerView;
-use serde_json::{Value, json, put};
+use serde_json::{Map, Value, put};
 use spa_rows::Key;
 use std::alloc::{AllocError, Global};
 
@@ -45,8 +49,28 @@ fn applicants_value(
         (codes "applicants", several (map shown.person applicants.now))
         ∷ (codes "id", string project.now) ∷ [])) }
 {
+    let mut members = Map::new(alloc);
+    put_text(&mut members, alloc, "id", project.as_str())?;
     let applicants = persons_value(alloc, applicants)?;
-    json!(in alloc; {"applicants": applicants, "id": project.as_str()})
+    put(&mut members, alloc, "applicants", applicants)?;
+    Ok(Value::Object(members))
+}
+
+/// Makes a JSON object of each of a lecturer's projects and its applicants.
+fn applicants_values(
+    alloc: Global,
+    projects: &[(Key, Vec<Person>)],
+) -> Result<Vec<Value>, AllocError>
+    ensures { IfOk result (λ values. map json.view values.items
+        ≡ map (λ (p : Key × List Person). dictionary (
+        (codes "applicants", several (map shown.person p.1))
+        ∷ (codes "id", string p.0) ∷ [])) (by_project projects.now)) }
+{
+    let mut values = Vec::new(alloc);
+    for (project, applicants) in projects {
+        values.push(applicants_value(alloc, project, applicants)?)?;
+    }
+    Ok(values)
 }
 
 /// Makes the body that shows a lecturer the applicants to each project.
@@ -54,12 +78,8 @@ fn applicants_body(alloc: Global, projects: &[(Key, Vec<Person>)]) -> Result<Val
     ensures { IfOk result (λ body. json.view body
         ≡ shown.applicants_body (by_project projects.now)) }
 {
-    let mut values = Vec::new(alloc);
-    for (project, applicants) in projects {
-        values.push(applicants_value(alloc, project, applicants)?)?;
-    }
-    let projects = Value::Array(values);
-    json!(in alloc; {"projects": projects})
+    let values = applicants_values(alloc, projects)?;
+    object_of(alloc, "projects", Value::Array(values))
 }
 
 /// Makes a JSON object of a lecturer's project and the students whom the result places there.
@@ -68,20 +88,32 @@ fn placed_value(alloc: Global, project: &Key, students: &[Person]) -> Result<Val
         (codes "id", string project.now)
         ∷ (codes "students", several (map shown.person students.now)) ∷ [])) }
 {
+    let mut members = Map::new(alloc);
+    put_text(&mut members, alloc, "id", project.as_str())?;
     let students = persons_value(alloc, students)?;
-    json!(in alloc; {"id": project.as_str(), "students": students})
+    put(&mut members, alloc, "students", students)?;
+    Ok(Value::Object(members))
+}
+
+/// Makes a JSON object of each of a lecturer's projects and the students placed there.
+fn placed_values(alloc: Global, projects: &[(Key, Vec<Person>)]) -> Result<Vec<Value>, AllocError>
+    ensures { IfOk result (λ values. map json.view values.items
+        ≡ map (λ (p : Key × List Person). dictionary ((codes "id", string p.0)
+        ∷ (codes "students", several (map shown.person p.1)) ∷ [])) (by_project projects.now)) }
+{
+    let mut values = Vec::new(alloc);
+    for (project, students) in projects {
+        values.push(placed_value(alloc, project, students)?)?;
+    }
+    Ok(values)
 }
 
 /// Makes the body that shows a lecturer the students whom the result places at each project.
 fn placed_body(alloc: Global, projects: &[(Key, Vec<Person>)]) -> Result<Value, AllocError>
     ensures { IfOk result (λ body. json.view body ≡ shown.placed_body (by_project projects.now)) }
 {
-    let mut values = Vec::new(alloc);
-    for (project, students) in projects {
-        values.push(placed_value(alloc, project, students)?)?;
-    }
-    let projects = Value::Array(values);
-    json!(in alloc; {"projects": projects})
+    let values = placed_values(alloc, projects)?;
+    object_of(alloc, "projects", Value::Array(values))
 }
 
 /// Makes a JSON array of the students whom a lecturer ranked, or null if there is no ranking.
@@ -93,14 +125,6 @@ fn ranking_value(alloc: Global, ranking: &Option<Vec<Key>>) -> Result<Value, All
         None => Ok(Value::Null),
         Some(students) => texts(alloc, students),
     }
-}
-
-/// Makes the body that shows a lecturer's ranking.
-fn ranking_body(alloc: Global, students: Value) -> Result<Value, AllocError>
-    ensures { IfOk result (λ body. json.view body
-        ≡ dictionary ((codes "students", json.view students) ∷ [])) }
-{
-    json!(in alloc; {"students": students})
 }
 
 /// Decides a lecturer's call to show the applicants: allowed once the students' lists are closed.
@@ -122,7 +146,7 @@ fn show_ranking(alloc: Global, view: &LecturerView) -> Result<Decision, AllocErr
 {
     if view.phase.is_from_ranking() {
         let students = ranking_value(alloc, &view.ranking)?;
-        Ok(shows(ranking_body(alloc, students)?))
+        Ok(shows(object_of(alloc, "students", students)?))
     } else {
         wrong_phase(alloc)
     }
@@ -139,7 +163,7 @@ fn replace_ranking(
         (world.Ranks view.now.me.key students.items)) }
 {
     let ranking = texts(alloc, &students)?;
-    let body = ranking_body(alloc, ranking)?;
+    let body = object_of(alloc, "students", ranking)?;
     let lecturer = view.me.key.copy(alloc)?;
     Ok(applies(body, Change::Ranking { lecturer, students }))
 }

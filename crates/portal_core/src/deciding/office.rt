@@ -1,9 +1,9 @@
 //! Decides the office's calls.
 
 ghost use Rattle.std.specs.Prelude.{◌≡◌, ◌∷◌, [], length, map, filter, not, codes, if◌then◌else◌};
-ghost use Rattle.std.specs.Prelude.{IfOk};
+ghost use Rattle.std.specs.Prelude.{IfOk, OnOk};
 ghost use Rattle.serde_json.specs.View as json;
-ghost use Rattle.serde_json.specs.Data.{string};
+ghost use Rattle.serde_json.specs.Data.{string, put as with_member};
 ghost use Rattle.portal_core.specs.Words.{Key, is_empty};
 ghost use Rattle.portal_core.specs.World as world;
 ghost use Rattle.portal_core.specs.World.{phase_word, is_ranking, Fill};
@@ -18,7 +18,9 @@ ghost use Rattle.portal_core.specs.Answer.{emptied};
 ghost use Rattle.portal_core.specs.Meaning.{call_model, reply_model, act_model, decision_model};
 
 use crate::call::Call;
-use crate::deciding::bodies::{catalogue_body, key_value, me_members, phase_body, texts};
+use crate::deciding::bodies::{
+    catalogue_body, key_value, me_members, object_of, phase_body, put_text, texts,
+};
 use crate::deciding::kinds::{NewLecturers, NewProjects, NewStudents};
 use crate::deciding::new_rows::{Added, Roll, RollRefusal, take_rows};
 use crate::deciding::replies::{
@@ -29,7 +31,7 @@ use crate::phase::{Phase, Round};
 use crate::placing::Placings;
 use crate::rows::StudentRow;
 use crate::view::OfficeView;
-use serde_json::{Map, Value, json, put};
+use serde_json::{Map, Value, put};
 use spa_rows::Key;
 use std::alloc::{AllocError, Global};
 
@@ -69,6 +71,28 @@ fn unassigned_values(alloc: Global, view: &OfficeView) -> Result<Vec<Value>, All
     unplaced_values(alloc, &placings, &view.students)
 }
 
+/// Adds the numbers of lecturers, projects and students to the JSON members.
+fn put_counts(
+    members: &mut Map<String, Value>,
+    alloc: Global,
+    view: &OfficeView,
+) -> Result<(), AllocError>
+    ensures { OnOk result (json.members_view members.new.entries
+        ≡ with_member (codes "students") (count (length view.now.students))
+        (with_member (codes "projects") (count (length view.now.projects))
+        (with_member (codes "lecturers") (count (length view.now.lecturers))
+        (json.members_view members.old.entries)))) }
+{
+    put(
+        members,
+        alloc,
+        "lecturers",
+        Value::from(view.lecturers.len()),
+    )?;
+    put(members, alloc, "projects", Value::from(view.projects.len()))?;
+    put(members, alloc, "students", Value::from(view.students.len()))
+}
+
 /// Makes the JSON members that the office's status has in every phase.
 fn status_members(alloc: Global, view: &OfficeView) -> Result<Map<String, Value>, AllocError>
     ensures { IfOk result (λ status. json.members_view status.entries ≡ members (
@@ -80,35 +104,13 @@ fn status_members(alloc: Global, view: &OfficeView) -> Result<Map<String, Value>
         ∷ (codes "without_list", form.texts view.now.without_list) ∷ [])) }
 {
     let mut status = Map::new(alloc);
-    put(
-        &mut status,
-        alloc,
-        "lecturers",
-        Value::from(view.lecturers.len()),
-    )?;
-    put(
-        &mut status,
-        alloc,
-        "phase",
-        Value::try_from_str(alloc, view.phase.word())?,
-    )?;
-    put(
-        &mut status,
-        alloc,
-        "projects",
-        Value::from(view.projects.len()),
-    )?;
+    put_counts(&mut status, alloc, view)?;
+    put_text(&mut status, alloc, "phase", view.phase.word())?;
     put(
         &mut status,
         alloc,
         "still_to_rank",
         texts(alloc, &view.still_to_rank)?,
-    )?;
-    put(
-        &mut status,
-        alloc,
-        "students",
-        Value::from(view.students.len()),
     )?;
     put(
         &mut status,
@@ -165,7 +167,10 @@ fn pair_value(alloc: Global, pair: &(Key, Key)) -> Result<Value, AllocError>
         ∷ [])) }
 {
     let (student, project) = pair;
-    json!(in alloc; {"project": project.as_str(), "student": student.as_str()})
+    let mut members = Map::new(alloc);
+    put_text(&mut members, alloc, "project", project.as_str())?;
+    put_text(&mut members, alloc, "student", student.as_str())?;
+    Ok(Value::Object(members))
 }
 
 /// Makes a JSON object of each pair of the result, for the office.
@@ -186,7 +191,18 @@ fn allocation_body(alloc: Global, pairs: &[(Key, Key)]) -> Result<Value, AllocEr
     ensures { IfOk result (λ body. json.view body ≡ form.allocation_body pairs.now) }
 {
     let pairs = Value::Array(pair_values(alloc, pairs)?);
-    json!(in alloc; {"pairs": pairs})
+    object_of(alloc, "pairs", pairs)
+}
+
+/// Makes the body that refuses the office's new rows and names the faulty one.
+fn row_body(alloc: Global, word: &str, row: u64) -> Result<Value, AllocError>
+    ensures { IfOk result (λ body. json.view body
+        ≡ dictionary ((codes "error", string word.now) ∷ (codes "row", count row) ∷ [])) }
+{
+    let mut body = Map::new(alloc);
+    put_text(&mut body, alloc, "error", word)?;
+    put(&mut body, alloc, "row", Value::from(row))?;
+    Ok(Value::Object(body))
 }
 
 /// Makes the reply that refuses the office's new rows.
@@ -196,10 +212,7 @@ fn row_refusal(alloc: Global, fault: &RollRefusal) -> Result<Reply, AllocError>
 {
     match fault.row {
         None => refused(alloc, fault.status, fault.word),
-        Some(row) => {
-            let body = json!(in alloc; {"error": fault.word, "row": row})?;
-            Ok(json_reply(fault.status, body))
-        }
+        Some(row) => Ok(json_reply(fault.status, row_body(alloc, fault.word, row)?)),
     }
 }
 
@@ -207,7 +220,10 @@ fn row_refusal(alloc: Global, fault: &RollRefusal) -> Result<Reply, AllocError>
 fn roll_body(alloc: Global, new: usize, same: u64) -> Result<Value, AllocError>
     ensures { IfOk result (λ body. json.view body ≡ form.roll_body new same) }
 {
-    json!(in alloc; {"added": new, "same": same})
+    let mut body = Map::new(alloc);
+    put(&mut body, alloc, "added", Value::from(new))?;
+    put(&mut body, alloc, "same", Value::from(same))?;
+    Ok(Value::Object(body))
 }
 
 /// Returns the act that adds the office's new rows, or `Nothing` if there are none.
@@ -275,8 +291,10 @@ fn still_to_rank_body(alloc: Global, keys: &[Key]) -> Result<Value, AllocError>
         ≡ dictionary ((codes "error", string (codes "still_to_rank"))
         ∷ (codes "lecturers", form.texts keys.now) ∷ [])) }
 {
-    let lecturers = texts(alloc, keys)?;
-    json!(in alloc; {"error": "still_to_rank", "lecturers": lecturers})
+    let mut body = Map::new(alloc);
+    put_text(&mut body, alloc, "error", "still_to_rank")?;
+    put(&mut body, alloc, "lecturers", texts(alloc, keys)?)?;
+    Ok(Value::Object(body))
 }
 
 /// Makes the reply that refuses to publish while lecturers are still to rank.
@@ -395,8 +413,7 @@ fn sheet(alloc: Global, view: &OfficeView, sheet: Sheet) -> Result<Decision, All
 fn filled_body(alloc: Global, keys: &[Key]) -> Result<Value, AllocError>
     ensures { IfOk result (λ body. json.view body ≡ form.filled_body keys.now) }
 {
-    let filled = texts(alloc, keys)?;
-    json!(in alloc; {"filled": filled})
+    object_of(alloc, "filled", texts(alloc, keys)?)
 }
 
 /// Returns the act of the office's fill, or `Nothing` if no ranking is missing.

@@ -6,8 +6,9 @@ ghost use Rattle.portal_core.specs.Answer as answer;
 ghost use Rattle.portal_core.specs.Answer.{answered, by_word, blank};
 ghost use Rattle.portal_core.specs.Meaning.{reply_model, change_model, decision_model};
 
+use crate::deciding::bodies::object_of;
 use crate::decision::{Act, Body, Change, Decision, Reply, Sheet};
-use serde_json::{Value, json};
+use serde_json::Value;
 use std::alloc::{AllocError, Global};
 
 /// Makes a reply with this status and this JSON body.
@@ -74,8 +75,8 @@ pub(crate) fn refuses(reply: Reply) -> Decision
 pub(crate) fn refused(alloc: Global, status: u16, word: &str) -> Result<Reply, AllocError>
     ensures { IfOk result (λ reply. reply_model reply ≡ by_word status word.now) }
 {
-    let body = json!(in alloc; {"error": word})?;
-    Ok(json_reply(status, body))
+    let word = Value::try_from_str(alloc, word)?;
+    Ok(json_reply(status, object_of(alloc, "error", word)?))
 }
 
 /// Makes the decision that refuses a call whose code identifies nobody.

@@ -12,13 +12,15 @@ ghost use Rattle.portal_core.specs.Answer.{unless_faulty, to_student};
 ghost use Rattle.portal_core.specs.Meaning.{call_model, texts_of, decision_model};
 
 use crate::call::Call;
-use crate::deciding::bodies::{catalogue_body, key_value, me_members, put_person, texts};
+use crate::deciding::bodies::{
+    catalogue_body, key_value, me_members, object_of, put_person, texts,
+};
 use crate::deciding::lists::{bad_list, checked_choices};
 use crate::deciding::replies::{already_placed, applies, not_yours, shows, wrong_phase};
 use crate::decision::{Change, Decision};
 use crate::phase::Phase;
 use crate::view::StudentView;
-use serde_json::{Value, json};
+use serde_json::Value;
 use spa_rows::Key;
 use std::alloc::{AllocError, Global};
 
@@ -35,8 +37,7 @@ fn me_body(alloc: Global, view: &StudentView) -> Result<Value, AllocError>
 fn choices_body(alloc: Global, choices: &[Key]) -> Result<Value, AllocError>
     ensures { IfOk result (λ body. json.view body ≡ shown.projects_body choices.now) }
 {
-    let projects = texts(alloc, choices)?;
-    json!(in alloc; {"projects": projects})
+    object_of(alloc, "projects", texts(alloc, choices)?)
 }
 
 /// Makes a JSON string of the key of the student's project, or null if there is none.
@@ -53,8 +54,7 @@ fn project_value(alloc: Global, project: &Option<Key>) -> Result<Value, AllocErr
 fn result_body(alloc: Global, project: &Option<Key>) -> Result<Value, AllocError>
     ensures { IfOk result (λ body. json.view body ≡ shown.project_body project.now) }
 {
-    let project = project_value(alloc, project)?;
-    json!(in alloc; {"project": project})
+    object_of(alloc, "project", project_value(alloc, project)?)
 }
 
 /// Decides to replace the student's list by this one, which has no fault.

@@ -1,5 +1,6 @@
+use Rattle.std.proofs.Common.{rules}
 use Rattle.std.proofs.lemmas.Grind.{common_steps}
-use Rattle.portal_core.proofs.Base.{◌≡◌, ◌+◌, Vec, Global, [], ◌∷◌, ◌++◌, reverse, arith, sym, ◌∙◌, ap, subst, HasRows, HasTexts}
+use Rattle.portal_core.proofs.Base.{◌≡◌, ◌+◌, Vec, Global, [], ◌∷◌, ◌++◌, reverse, refl, arith, sym, ◌∙◌, ap, subst, HasRows, HasTexts}
 use Rattle.portal_core.specs.declared.deciding.new_rows.Register.{Register}
 use Rattle.portal_core.proofs.Scan.{row_faulty, row_same, row_new, there_new}
 use Rattle.portal_core.proofs.deciding.new_rows.take_rows.Goals as goal
@@ -45,3 +46,36 @@ loop-row-preserved g c =
 
 pub returns-clause-ok : goal.returns-clause-ok
 returns-clause-ok g c = grind (arith, common_steps)
+
+pub loop-row-init : goal.loop-row-init
+loop-row-init g c = record {
+  place = refl;
+  few = omega arith;
+  rows = rw c.new-new.ensures.items c.in_ok-register.ensures.rows;
+  texts = rw c.new-new.ensures.items c.in_ok-register.ensures.texts;
+  rest = rw c.new-new.ensures.items grind (arith, common_steps);
+}
+
+pub returns-in_err-register-clause-ok : goal.returns-in_err-register-clause-ok
+returns-in_err-register-clause-ok g c = search rules
+
+pub returns-in_err-register-clause-err : goal.returns-in_err-register-clause-err
+returns-in_err-register-clause-err g c = search rules
+
+pub overflow_add-at : goal.overflow_add-at
+overflow_add-at g c = omega arith
+
+pub is_new-requires-clause-rows : goal.is_new-requires-clause-rows
+is_new-requires-clause-rows g c = rw c.deref.ensures.value c.loop-row.invariant.rows
+
+pub is_new-requires-clause-texts : goal.is_new-requires-clause-texts
+is_new-requires-clause-texts g c = rw c.deref.ensures.value c.loop-row.invariant.texts
+
+pub returns-in-Err-clause-ok : goal.returns-in-Err-clause-ok
+returns-in-Err-clause-ok g c = search rules
+
+pub overflow_add-same : goal.overflow_add-same
+overflow_add-same g c = omega arith
+
+pub returns-clause-err : goal.returns-clause-err
+returns-clause-err g c = search rules
