@@ -18,6 +18,7 @@ pub fn read_again<R: Read>(reader: &mut R, buf: &mut [u8]) -> io::Result<usize>
     ensures bytes { ReadConsumes (R.remaining reader.old) (R.remaining reader.new) result buf.new }
     ensures retried { IfErr result (λ e. error_kind e ≢ ErrorKind.Interrupted) }
 {
+    // a bound, so that the function is proved to return
     for _ in 0..u64::MAX {
         match reader.read(buf) {
             Ok(n) => return Ok(n),
@@ -41,6 +42,7 @@ pub fn write_again<W: Write>(writer: &mut W, buf: &[u8]) -> io::Result<usize>
     ensures bytes { WriteAppends (W.contents writer.old) (W.contents writer.new) result buf.now }
     ensures retried { IfErr result (λ e. error_kind e ≢ ErrorKind.Interrupted) }
 {
+    // a bound, so that the function is proved to return
     for _ in 0..u64::MAX {
         match writer.write(buf) {
             Ok(n) => return Ok(n),

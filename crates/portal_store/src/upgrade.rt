@@ -39,7 +39,8 @@ fn examine_first<S: Alter>(
     ensures reads { IsTrue own → Reads First S.Store (IsSoundIfOpen S.Store conn.old)
         (Answers (λ db e. AdmitsAs first_version db.trees
         × HasEntries e (world_in First db.trees))
-        (λ db fault. RefusalSays fault first_version (HasGoodFirst first_version db.trees) db.trees))
+        (λ db fault. RefusalSays fault first_version
+        (HasGoodFirst first_version db.trees) db.trees))
         result conn.old conn.new }
 {
     see_first(conn, own, FIRST_VERSION)?;

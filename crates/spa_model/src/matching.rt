@@ -90,6 +90,7 @@ impl Matching {
         requires { IsMatching instance.now projects.items }
         ensures { result ≡ projects.items }
     {
+        // only the contract needs the instance
         let _ = instance;
         Matching { projects }
     }

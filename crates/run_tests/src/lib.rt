@@ -1,5 +1,0 @@
-//! Tests the commands and the parsing of the command line.
-#![tactic(auto)]
-
-#[cfg(test)]
-mod tests;
