@@ -1,4 +1,4 @@
-//! Tests the tables and the store in both rounds, through public items and through a desk.
+//! Tests the tables, the store in both rounds, and the commands.
 #![tactic(auto)]
 
 #[cfg(test)]

@@ -1,5 +1,6 @@
-//! Tests the tables, and a desk over a database in memory or on a disk that fails.
+//! Tests the tables, a desk over a database in memory or on a disk that fails, and the commands.
 
+mod commands;
 mod crowds;
 mod damages;
 mod failed_reads;
