@@ -9,16 +9,21 @@ ghost use Rattle.portal_wire.specs.Wish.{answer_to, fault_body};
 
 use portal_core::{Body, Reply};
 use portal_frame::Refusal;
-use serde_json::{Value, json};
+use serde_json::{Map, Value, put};
 use std::alloc::{AllocError, Global};
 
 /// Makes the JSON body for the refusal of a stream or of a request that makes no call.
 fn told_fault(alloc: Global, word: &str, row: Option<u32>) -> Result<Value, AllocError>
     ensures { IfOk result (λ body. view body ≡ fault_body word.now row) }
 {
+    let mut body = Map::new(alloc);
+    put(&mut body, alloc, "error", Value::try_from_str(alloc, word)?)?;
     match row {
-        Some(row) => json!(in alloc; {"error": word, "row": row}),
-        None => json!(in alloc; {"error": word}),
+        Some(row) => {
+            put(&mut body, alloc, "row", Value::from(row))?;
+            Ok(Value::Object(body))
+        }
+        None => Ok(Value::Object(body)),
     }
 }
 
