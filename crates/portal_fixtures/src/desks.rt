@@ -1,16 +1,11 @@
-//! Makes desks over the empty world in setup, in a database or in lists.
+//! Makes a desk over the empty world in setup, in lists, and shows what a desk holds.
 
 use crate::callers::OFFICE;
 use crate::script::lines;
 use portal_core::{Code, Keeper};
 use portal_desk::{Counted, Desk};
 use portal_list::ListKeeper;
-use portal_store::Store;
-use sqlite::MemStore;
 use std::alloc::{AllocError, Global};
-
-/// A desk over a database in memory.
-pub type MemDesk = Desk<Store<MemStore>>;
 
 /// Returns the office's code.
 pub fn office_code(alloc: Global) -> Result<Code, AllocError> {
@@ -18,15 +13,6 @@ pub fn office_code(alloc: Global) -> Result<Code, AllocError> {
         return Err(AllocError);
     };
     Ok(code)
-}
-
-/// Makes a desk over the empty world in setup, in a database in memory.
-pub fn fresh(alloc: Global) -> Result<MemDesk, AllocError> {
-    let office = office_code(alloc)?;
-    let Ok(store) = Store::create_memory(alloc, office) else {
-        return Err(AllocError);
-    };
-    Ok(Desk::new(store))
 }
 
 /// Makes a desk over the empty world in setup, in lists.

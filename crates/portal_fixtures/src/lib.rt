@@ -1,4 +1,4 @@
-//! Provides the test crates with scripted years, their callers, and desks to play them on.
+//! Provides the test crates with scripted years, their callers, and a desk to play them on.
 #![tactic(auto)]
 
 mod callers;
@@ -16,5 +16,5 @@ pub mod worked;
 pub mod years;
 
 pub use callers::{ANN, CYR, LEE, MOE, OFFICE};
-pub use desks::{MemDesk, SEEN, fresh, fresh_lists, office_code, seen, written};
+pub use desks::{SEEN, fresh_lists, office_code, seen, written};
 pub use script::{Line, ask, cut, lines, play, unescaped};

@@ -1,7 +1,5 @@
 //! SQL texts that create databases of version 1.
 
-use sqlite::{Alter, Connection, Error};
-
 /// The six tables.
 const TABLES: &str = "\
 CREATE TABLE portal (id INTEGER NOT NULL PRIMARY KEY CHECK (id = 1), version INTEGER NOT NULL, \
@@ -77,11 +75,3 @@ pub const IN_PUBLISHED: &[&str] = &[TABLES, ROLLS, LISTS, TO_RANKING, PUBLICATIO
 
 /// A database in ranking, with the equivalent schema.
 pub const OTHERWISE: &[&str] = &[TABLES_OTHERWISE, ROLLS, LISTS, TO_RANKING];
-
-/// Runs these SQL texts in order, and stops at the first error.
-pub fn run_all<S: Alter>(conn: &mut Connection<S>, texts: &[&str]) -> Result<(), Error> {
-    for text in texts {
-        conn.execute_batch(text)?;
-    }
-    Ok(())
-}

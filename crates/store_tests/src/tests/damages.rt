@@ -1,8 +1,7 @@
 //! Tests the opening of databases that other programs have changed.
 
-use crate::tests::steps::{database, new_desk, plays};
+use crate::tests::steps::{database, new_desk, plays, run_all};
 use portal_core::{Phase, StudentView, View};
-use portal_fixtures::version1::run_all;
 use portal_fixtures::worked::{IN_CHOOSING, IN_PUBLISHED, IN_RANKING, IN_SETUP};
 use portal_fixtures::{ANN, cut, version1};
 use portal_store::queries::view;

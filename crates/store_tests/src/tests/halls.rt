@@ -1,7 +1,6 @@
 //! Tests a socket connection on this machine, served over a database in memory.
 
-use crate::tests::steps::{new_desk, plays};
-use portal_fixtures::MemDesk;
+use crate::tests::steps::{MemDesk, new_desk, plays};
 use portal_fixtures::worked::ROLLS;
 use portal_serve::{Ended, Hall, serve_on};
 use std::io;

@@ -2,11 +2,14 @@
 
 use portal_core::{Code, Keeper};
 use portal_desk::Desk;
-use portal_fixtures::version1::run_all;
-use portal_fixtures::{MemDesk, fresh, fresh_lists, office_code, play};
+use portal_fixtures::{fresh_lists, office_code, play};
 use portal_list::ListKeeper;
-use sqlite::{Connection, MemStore};
+use portal_store::Store;
+use sqlite::{Alter, Connection, Error, MemStore};
 use std::process::Abort;
+
+/// A desk over a database in memory.
+pub(crate) type MemDesk = Desk<Store<MemStore>>;
 
 /// Returns the office's code.
 pub(crate) fn new_office_code(rt: &(impl Abort + AllocGlobal)) -> Code {
@@ -15,7 +18,10 @@ pub(crate) fn new_office_code(rt: &(impl Abort + AllocGlobal)) -> Code {
 
 /// Makes a desk over the empty world in setup, in a database in memory.
 pub(crate) fn new_desk(rt: &(impl Abort + AllocGlobal)) -> MemDesk {
-    fresh(rt.alloc()).expect(rt, "a desk")
+    match Store::create_memory(rt.alloc(), new_office_code(rt)) {
+        Ok(store) => Desk::new(store),
+        Err(_) => panic!(rt; "a store"),
+    }
 }
 
 /// Makes a desk over the empty world in setup, in lists.
@@ -31,6 +37,14 @@ pub(crate) fn plays<K: Keeper>(
 ) {
     let wrong = play(rt.alloc(), desk, scripts).expect(rt, "memory");
     assert_eq!(rt; wrong.as_str(), "");
+}
+
+/// Runs these SQL texts in order, and stops at the first error.
+pub(crate) fn run_all<S: Alter>(conn: &mut Connection<S>, texts: &[&str]) -> Result<(), Error> {
+    for text in texts {
+        conn.execute_batch(text)?;
+    }
+    Ok(())
 }
 
 /// Makes a database in memory, and runs these statements in it.

@@ -2,12 +2,12 @@
 //! write or a read.
 
 use crate::tests::failed_reads::{code_fails, instance_fails, request_fails};
-use crate::tests::steps::new_office_code;
+use crate::tests::steps::{new_office_code, run_all};
 use crate::tests::trial::{Fault, Plan, Trial};
 use portal_core::Keeper;
 use portal_desk::{Cause, Counted, Desk};
 use portal_fixtures::changes::{CHOOSING, PUBLICATION, RANKING, SETUP};
-use portal_fixtures::version1::{IN_PUBLISHED, run_all};
+use portal_fixtures::version1::IN_PUBLISHED;
 use portal_fixtures::{Line, SEEN, ask, lines, seen};
 use portal_store::{NotOpened, OpenFault, Store, UpgradeFault};
 use sqlite::{Alter, Connection, FileStore, Files, Options};

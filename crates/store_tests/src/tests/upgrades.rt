@@ -1,6 +1,6 @@
 //! Tests the upgrade of databases from version 1 to version 2, which keeps their world.
 
-use crate::tests::steps::{database, new_desk, plays};
+use crate::tests::steps::{database, new_desk, plays, run_all};
 use portal_desk::Desk;
 use portal_fixtures::worked::{
     IN_CHOOSING, IN_PUBLISHED, IN_RANKING, IN_SETUP, LISTS, PUBLICATION, RESULT, SECOND_LISTS,
@@ -186,7 +186,7 @@ const NAMES: &[&str] = &[
 /// Makes a database of version 1 in ranking, and runs these texts on it.
 fn with(rt: &(impl Abort + AllocGlobal), texts: &[&str]) -> Connection<MemStore> {
     let mut conn = database(rt, version1::IN_RANKING);
-    version1::run_all(&mut conn, texts).expect(rt, "statements");
+    run_all(&mut conn, texts).expect(rt, "statements");
     conn
 }
 
