@@ -1,5 +1,18 @@
 -- The desk fails exactly where its keeper's faults rise, and calls in turn keep a keeper clean.
-use Rattle.portal_desk.proofs.Base.{◌≡◌, ℕ, ◌+◌, Bool, true, false, refl, sym, ◌∙◌, ap, FailsByCount, StaysClean}
+use Rattle.portal_desk.proofs.Base.{◌≡◌, ℕ, ◌+◌, Bool, true, false, refl, sym, ◌∙◌, ap, subst, FailsByCount, StaysClean, Result, Ok, Err, IfErr}
+use Rattle.std.specs.Prelude.{OnOk}
+use Rattle.portal_core.specs.Meaning.{CountsFaults}
+use Rattle.portal_core.specs.declared.keeper.KeepFault.{KeepFault}
+use Rattle.portal_core.specs.declared.keeper.KeepFault.TheVariants.{Memory}
+
+pub at_ok : {A E P : Type 0} (r : Result A E) → P → OnOk r P
+at_ok (Ok a) p = p
+at_ok (Err e) p = tt
+
+-- a lack of memory is not counted
+pub counts_none : {A : Type 0} (r : Result A KeepFault) (old new : ℕ) → IfErr r (λ fault. fault ≡ Memory) → new ≡ old → CountsFaults r old new
+counts_none (Ok a) old new memory same = same
+counts_none {A = A} (Err fault) old new memory same = subst (λ f. CountsFaults {A = A} (Err f) old new) (sym memory) same
 
 -- what keeps a keeper clean, over one call after another
 pub lasts_then : (a b c d e f : Type 0) → StaysClean a b d e → StaysClean b c e f → StaysClean a c d f

@@ -1,5 +1,6 @@
 -- What was decided in a good world may be done, and leaves a good world.
-use Rattle.portal_desk.proofs.Base.{◌≡◌, List, sym, ◌∙◌, ap, subst, Key, World, pairs_by, AbstractCall, Nothing, Apply, Decision, decision, Good, Step, view, is_setup, Placements, changed, instance, matching_of, CanPublish, Act, Publish, Render, HasForm, StepLeaves, CanDo, IsSolved}
+use Rattle.portal_desk.proofs.Base.{◌≡◌, List, sym, ◌∙◌, ap, subst, Key, World, pairs_by, AbstractCall, Nothing, Apply, Decision, decision, Good, Step, view, is_setup, Placements, changed, instance, matching_of, CanPublish, Act, Publish, Render, HasForm, StepLeaves, CanDo, IsSolved, Result, Ok, Err}
+use Rattle.std.specs.Prelude.{IfOk}
 use Rattle.spa_model.specs.Spa.{Spa, IsBest}
 use Rattle.portal_core.proofs.Kept.{to_published}
 use Rattle.portal_core.proofs.Play.{can_apply, can_publish}
@@ -16,6 +17,12 @@ solved_best w i pairs g is solved =
 
 pub solved_good : (w : World) (i : Spa) (pairs : List (Key × Key)) → Good w → CanPublish w → i ≡ instance w → IsSolved i pairs → Good (changed w (Placements pairs))
 solved_good w i pairs g ready is solved = to_published w pairs g (ap is_setup ready.phase) ready.all_ranked (solved_best w i pairs g is solved)
+
+-- what was decided of a view, where it is known which view that is
+pub of_shown : {T E V D A B : Type 0} (r : Result T E) (f : T → D) (h : V → D) (v u : V) → (A → B → v ≡ u) → IfOk r (λ d. f d ≡ h v)
+    → IfOk r (λ d. A → B → f d ≡ h u)
+of_shown (Ok d) f h v u shown decided = λ a b. decided ∙ ap h (shown a b)
+of_shown (Err e) f h v u shown decided = tt
 
 -- what was decided may be done
 pub can_do : (w : World) (code : Key) (ask : AbstractCall) (d : Decision) → Good w → HasForm ask → d ≡ decision (view w code) ask → CanDo w d.act

@@ -158,7 +158,7 @@ impl<K: Keeper> Desk<K> {
         let reply = self.respond(alloc, request);
         let lost = self.failed();
         let shut = closes || lost;
-        match send_reply(alloc, &reply, asks_head(request), shut, sink) {
+        match send_reply(alloc, reply, asks_head(request), shut, sink) {
             Ok(()) => {}
             Err(cause) => return Err(cause),
         }

@@ -1,6 +1,6 @@
 //! Plays a call over any keeper: gets the view, decides, writes any sheet, performs the act.
 
-ghost use Rattle.std.specs.Prelude.{◌≡◌, IfOk, OnOk, OnErr};
+ghost use Rattle.std.specs.Prelude.{◌≡◌, IfOk, OnOk, OnErr, IfErr};
 ghost use Rattle.spa_model.specs.Spa.{IsMatching};
 ghost use Rattle.portal_core.specs.Answer as answer;
 ghost use Rattle.portal_core.specs.Answer.{Publish, HasWholeNumbers};
@@ -54,13 +54,18 @@ fn written(alloc: Global, view: &View, act: &Act, reply: Reply) -> Result<Reply,
 }
 
 /// Decides a call for a caller with this view, and writes the sheet if there is one.
-fn decide_whole(alloc: Global, view: &View, call: &Call) -> Result<Decision, AllocError>
+fn decide_whole(alloc: Global, view: &View, call: &Call) -> Result<Decision, KeepFault>
     ensures decided { IfOk result (λ d. decision_model d
         ≡ answer.decision view.now (call_model call.now)) }
     ensures whole { IfOk result (λ d. IsTold (decision_model d).reply.body) }
+    ensures memory { IfErr result (λ fault. fault ≡ KeepFault.Memory) }
 {
-    let Decision { reply, act } = decide(alloc, view, call)?;
-    let reply = written(alloc, view, &act, reply)?;
+    let Ok(Decision { reply, act }) = decide(alloc, view, call) else {
+        return Err(KeepFault::Memory);
+    };
+    let Ok(reply) = written(alloc, view, &act, reply) else {
+        return Err(KeepFault::Memory);
+    };
     Ok(Decision { reply, act })
 }
 
@@ -82,10 +87,7 @@ fn ask<K: Keeper>(
     ensures counts { CountsFaults result (K.faults keeper.old) (K.faults keeper.new) }
 {
     let view = keeper.view(alloc, code)?;
-    match decide_whole(alloc, &view, call) {
-        Ok(decision) => Ok(decision),
-        Err(_) => Err(KeepFault::Memory),
-    }
+    decide_whole(alloc, &view, call)
 }
 
 /// Returns the pairs of the matching that a call publishes, in the order of the students.

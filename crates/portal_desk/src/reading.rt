@@ -16,7 +16,7 @@ use std::alloc::{AllocError, Global};
 const LONGEST: usize = 1_064_960;
 
 /// Why no frame was found.
-#[derive(Clone, Copy, Debug, PartialEq, Eq, Drop)]
+#[derive(Clone, Copy, Drop)]
 pub(crate) enum FrameFault {
     Read,
     Memory,

@@ -37,22 +37,22 @@ fn send<W: Sink>(bytes: &[u8], sink: &mut W) -> Result<(), Cause>
 /// Writes a whole reply to a sink.
 pub(crate) fn send_reply<W: Sink>(
     alloc: Global,
-    reply: &Reply,
+    reply: Reply,
     head_only: bool,
     close: bool,
     sink: &mut W,
 ) -> Result<(), Cause>
-    requires { HasWholeNumbers (body_model reply.now.body) }
+    requires { HasWholeNumbers (body_model reply.body) }
     ensures ok { OnOk result (Appends (W.contents sink.old) (W.contents sink.new)
-        (reply_text (reply_model reply.now) head_only close)) }
+        (reply_text (reply_model reply) head_only close)) }
     ensures err { IfErr result (λ cause. Partly cause (W.contents sink.old) (W.contents sink.new)
-        (reply_text (reply_model reply.now) head_only close)) }
+        (reply_text (reply_model reply) head_only close)) }
     ensures calm { OnOk result (W.failed sink.new ≡ W.failed sink.old) }
     ensures counts { IfErr result (λ cause. cause ≡ WriteFailed
         → FailsAfter (W.failed sink.old) (W.failed sink.new)) }
     ensures same_device { W.name sink.new ≡ W.name sink.old }
 {
-    match reply_bytes(alloc, reply, head_only, close) {
+    match reply_bytes(alloc, &reply, head_only, close) {
         Ok(bytes) => send(bytes.as_slice(), sink),
         Err(_) => Err(Cause::Memory),
     }
@@ -75,7 +75,7 @@ pub(crate) fn send_refusal<W: Sink>(
     ensures same_device { W.name sink.new ≡ W.name sink.old }
 {
     match reply_of(alloc, refusal) {
-        Ok(reply) => send_reply(alloc, &reply, head_only, true, sink),
+        Ok(reply) => send_reply(alloc, reply, head_only, true, sink),
         Err(_) => Err(Cause::Memory),
     }
 }

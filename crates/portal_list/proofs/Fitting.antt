@@ -164,3 +164,19 @@ students_rows round (r ∷ rs) cs ps es qs ss e =
           ap (earlier_choices_in round) (sym is_ss) ∙ earlier_back round made ts es m rest.3,
           ap (pairs_with (λ s. s.earlier_placement)) (sym is_ss) ∙ ap (cons_option (option_map (λ v. (r.key, v)) (next_for r.key qs))) rest.4 ∙ put_back r.key qs,
         )
+
+-- one more student is put together
+module _ (round : Round) (es more : List Student) (row : StudentRow) (items others : List StudentRow) (cs cs' : List (Key × List Key)) (ps ps' : List (Key × Key)) (ds ds' : List (Key × List Key)) (qs qs' : List (Key × Key)) (choice : List Key) (placed : Option Key) (earlier : List Key) (earlier_placement : Option Key) (all : Option (List Student)) where
+  abbrev made_student : Student
+  made_student = record { row = row; choice = choice; placed = placed; earlier_choice = earlier; earlier_placement = earlier_placement }
+
+  pub students_step : option_map (λ ss. es ++ ss) (students_fitting round items cs ps ds qs) ≡ all → items ≡ row ∷ others → cs' ≡ rest_for row.key cs → ps' ≡ rest_for row.key ps → ds' ≡ earlier_rest round row.key ds → qs' ≡ rest_for row.key qs
+      → Some choice ≡ next_for row.key cs → placed ≡ next_for row.key ps → Some earlier ≡ earlier_for round row.key ds → earlier_placement ≡ next_for row.key qs → more ≡ es ++ made_student ∷ []
+      → option_map (λ ss. more ++ ss) (students_fitting round others cs' ps' ds' qs') ≡ all
+  students_step so_far is_row is_cs is_ps is_ds is_qs is_choice is_placed is_earlier is_earlier_placement is_more =
+      let rest = students_fitting round others (rest_for row.key cs) (rest_for row.key ps) (earlier_rest round row.key ds) (rest_for row.key qs) in
+      (λ i. option_map (λ ss. is_more i ++ ss) (students_fitting round others (is_cs i) (is_ps i) (is_ds i) (is_qs i)))
+      ∙ moved es made_student rest
+      ∙ (λ i. option_map (λ ss. es ++ ss) (with_lists row (is_choice i) (is_placed i) (is_earlier i) (is_earlier_placement i) rest))
+      ∙ (λ i. option_map (λ ss. es ++ ss) (students_fitting round (sym is_row i) cs ps ds qs))
+      ∙ so_far

@@ -1,9 +1,10 @@
-//! Copies rankings, project keys and project rows; makes `Person` values; `holds` looks for a key.
+//! Copies rankings, project keys and rows; makes persons and entries; `holds` looks for a key.
 
-ghost use Rattle.std.specs.Prelude.{◌≡◌, IfOk, option_map};
+ghost use Rattle.std.specs.Prelude.{◌≡◌, [], None, IfOk, option_map};
 ghost use Rattle.portal_core.specs.Words.{has};
 
-use portal_core::{Name, Person, ProjectRow, copy_keys};
+use crate::entries::StudentEntry;
+use portal_core::{Name, Person, ProjectRow, StudentRow, copy_keys};
 use spa_rows::Key;
 use std::alloc::{AllocError, Global};
 
@@ -46,6 +47,31 @@ pub(crate) fn ranking_copy(
         Some(keys) => Ok(Some(copy_keys(alloc, keys)?)),
         None => Ok(None),
     }
+}
+
+/// Makes a student's entry from copies of the row, the list and the placement, without data of an
+/// earlier round.
+pub(crate) fn student_copy(
+    alloc: Global,
+    row: &StudentRow,
+    choice: &[Key],
+    placed: Option<&Key>,
+) -> Result<StudentEntry, AllocError>
+    ensures { IfOk result (λ s. s ≡ record {
+      row = row.now;
+      choice = choice.now;
+      placed = option_map (λ p. p.now) placed.entry;
+      earlier_choice = [];
+      earlier_placement = None;
+    }) }
+{
+    Ok(StudentEntry {
+        row: row.copy(alloc)?,
+        choice: copy_keys(alloc, choice)?,
+        placed: place_copy(alloc, placed)?,
+        earlier_choice: Vec::new(alloc),
+        earlier_placement: None,
+    })
 }
 
 /// Copies rows of projects.

@@ -15,6 +15,24 @@ use portal_core::ProjectRow;
 use spa_rows::Key;
 use std::alloc::{AllocError, Global};
 
+/// Returns each of these lecturers with the keys of the lecturer's applicants, found in the index.
+fn fills_from(
+    alloc: Global,
+    lecturers: &[Key],
+    projects: &[ProjectRow],
+    wanted: &ApplicantIndex<'_>,
+) -> Result<Vec<(Key, Vec<Key>)>, AllocError>
+    ensures { IfOk result (λ v. map {B = words.Key × List words.Key} (λ f. (f.0, f.1.items)) v.items
+        ≡ map (λ k. (k, applicant_keys projects.now wanted.now k)) lecturers.now) }
+{
+    let mut fills = Vec::with_capacity(alloc, lecturers.len())?;
+    for lecturer in lecturers {
+        let keys = applicants_by_key(alloc, projects, wanted, lecturer)?;
+        fills.push((lecturer.copy(alloc)?, keys))?;
+    }
+    Ok(fills)
+}
+
 /// Returns each of these lecturers with the keys of the lecturer's applicants, for the store's
 /// fill.
 fn with_applicants(
@@ -27,12 +45,7 @@ fn with_applicants(
         ≡ map (λ k. (k, applicant_keys projects.now students.now k)) lecturers.now) }
 {
     let wanted = ApplicantIndex::of(alloc, students)?;
-    let mut fills = Vec::with_capacity(alloc, lecturers.len())?;
-    for lecturer in lecturers {
-        let keys = applicants_by_key(alloc, projects, &wanted, lecturer)?;
-        fills.push((lecturer.copy(alloc)?, keys))?;
-    }
-    Ok(fills)
+    fills_from(alloc, lecturers, projects, &wanted)
 }
 
 impl Entries {

@@ -1,6 +1,6 @@
 //! Builds a keeper or entries from the rows of tables; turns a keeper into its entries.
 
-ghost use Rattle.std.specs.Prelude.{◌≡◌, ◌↔◌, Err, IfOk, IsTrue, MatchOption};
+ghost use Rattle.std.specs.Prelude.{◌≡◌, Err, IfOk};
 ghost use Rattle.portal_core.specs.World.{World};
 ghost use Rattle.portal_core.specs.Good.{Sound};
 ghost use Rattle.portal_list.specs.Rows.{HasEntries, world_rows};
@@ -80,25 +80,29 @@ impl From<AllocError> for RowsFault {
     }
 }
 
-/// Returns whether the rolls obey the rules of a sound world, before a keeper is built from rows.
-fn rolls_of_rows_fit(alloc: Global, rows: &WorldRows) -> Result<bool, AllocError>
-    ensures { IfOk result (λ yes. IsTrue yes
-        ↔ RollsFit rows.now.office rows.now.lecturers rows.now.projects rows.now.students) }
+/// Checks that the rolls obey the rules of a sound world, before a keeper is built from rows.
+fn check_rolls(alloc: Global, rows: &WorldRows) -> Result<(), RowsFault>
+    ensures fit { IfOk result (λ _. RollsFit rows.now.office rows.now.lecturers rows.now.projects
+        rows.now.students) }
+    ensures refused { result ≡ Err RowsFault.NotGood → RollsFit rows.now.office rows.now.lecturers
+        rows.now.projects rows.now.students
+        → ⊥ }
 {
-    rolls_fit(
+    let fit = rolls_fit(
         alloc,
         &rows.office,
         &rows.lecturers,
         &rows.projects,
         &rows.students,
-    )
+    )?;
+    if fit { Ok(()) } else { Err(RowsFault::NotGood) }
 }
 
-/// Builds the keeper that has these rows. Returns `None` only if no sound world has them.
-fn fitted(alloc: Global, rows: WorldRows) -> Result<Option<ListKeeper>, AllocError>
-    ensures { IfOk result (λ found. MatchOption found ((w : World) → rows ≡ world_rows w → Sound w
-        → ⊥)
-        (λ keeper. IsFitted rows keeper)) }
+/// Builds the keeper that has these rows. Returns `NotGood` only if no sound world has them.
+fn fitted(alloc: Global, rows: WorldRows) -> Result<ListKeeper, RowsFault>
+    ensures fitted { IfOk result (λ keeper. IsFitted rows keeper) }
+    ensures refused { result ≡ Err RowsFault.NotGood → (w : World) → rows ≡ world_rows w → Sound w
+        → ⊥ }
 {
     let WorldRows {
         round,
@@ -115,7 +119,7 @@ fn fitted(alloc: Global, rows: WorldRows) -> Result<Option<ListKeeper>, AllocErr
         earlier_pairs,
     } = rows;
     let Some(lecturers) = lecturer_entries(alloc, lecturers, rankings, earlier_rankings)? else {
-        return Ok(None);
+        return Err(RowsFault::NotGood);
     };
     let Some(students) = student_entries(
         alloc,
@@ -127,9 +131,9 @@ fn fitted(alloc: Global, rows: WorldRows) -> Result<Option<ListKeeper>, AllocErr
         earlier_pairs,
     )?
     else {
-        return Ok(None);
+        return Err(RowsFault::NotGood);
     };
-    Ok(Some(ListKeeper {
+    Ok(ListKeeper {
         phase,
         office,
         entries: Entries {
@@ -139,7 +143,7 @@ fn fitted(alloc: Global, rows: WorldRows) -> Result<Option<ListKeeper>, AllocErr
             students,
         },
         catalogue: None,
-    }))
+    })
 }
 
 impl ListKeeper {
@@ -150,16 +154,13 @@ impl ListKeeper {
         ensures err { result ≡ Err RowsFault.NotGood → (w : World) → rows ≡ world_rows w → Sound w
             → ⊥ }
     {
-        if !rolls_of_rows_fit(alloc, &rows)? {
-            return Err(RowsFault::NotGood);
+        check_rolls(alloc, &rows)?;
+        let keeper = fitted(alloc, rows)?;
+        if lists_fit(alloc, keeper.phase, &keeper.entries)? {
+            Ok(keeper)
+        } else {
+            Err(RowsFault::NotGood)
         }
-        let Some(keeper) = fitted(alloc, rows)? else {
-            return Err(RowsFault::NotGood);
-        };
-        if !lists_fit(alloc, keeper.phase, &keeper.entries)? {
-            return Err(RowsFault::NotGood);
-        }
-        Ok(keeper)
     }
 
     /// Turns a keeper, usually one built from the rows of tables, into the entries of its world.
@@ -180,9 +181,7 @@ impl Entries {
             → Sound w
             → ⊥ }
     {
-        match fitted(alloc, rows)? {
-            Some(keeper) => Ok(keeper.into_entries()),
-            None => Err(RowsFault::NotGood),
-        }
+        let keeper = fitted(alloc, rows)?;
+        Ok(keeper.into_entries())
     }
 }

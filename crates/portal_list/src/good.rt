@@ -8,13 +8,13 @@ ghost use Rattle.portal_core.specs.World.{first, first_published, first_placed, 
 ghost use Rattle.portal_list.specs.inner.Parts.{IsStableIfPublished, RollsOf};
 ghost use Rattle.portal_list.specs.inner.Played.{takes_part};
 
-use crate::copies::{place_copy, project_rows_of, ranking_copy};
+use crate::copies::{project_rows_of, ranking_copy, student_copy};
 use crate::entries::{Entries, LecturerEntry, StudentEntry};
 use crate::instance::instance_of;
 use crate::keeper::ListKeeper;
 use crate::lists::lists_fit;
 use crate::played::takes_part;
-use portal_core::{Phase, Round, copy_keys};
+use portal_core::{Phase, Round};
 use spa_check::is_stable;
 use spa_model::{Instance, Matching};
 use std::alloc::{AllocError, Global};
@@ -90,13 +90,12 @@ fn first_lecturers(
 fn first_student(alloc: Global, student: &StudentEntry) -> Result<StudentEntry, AllocError>
     ensures { IfOk result (λ s. s ≡ first_placed student.now) }
 {
-    Ok(StudentEntry {
-        row: student.row.copy(alloc)?,
-        choice: copy_keys(alloc, &student.earlier_choice)?,
-        placed: place_copy(alloc, student.earlier_placement.as_ref())?,
-        earlier_choice: Vec::new(alloc),
-        earlier_placement: None,
-    })
+    student_copy(
+        alloc,
+        &student.row,
+        &student.earlier_choice,
+        student.earlier_placement.as_ref(),
+    )
 }
 
 /// Copies the students as of the first round's publication, to test that round's result.

@@ -8,9 +8,9 @@ ghost use Rattle.portal_core.specs.inner.Alone.{alone_student};
 ghost use Rattle.portal_list.specs.inner.Played as meant;
 ghost use Rattle.portal_list.specs.inner.Played.{lecturer_played, project_played, all_played};
 
-use crate::copies::{place_copy, ranking_copy};
+use crate::copies::{ranking_copy, student_copy};
 use crate::entries::{Entries, LecturerEntry, StudentEntry};
-use portal_core::{ProjectRow, Round, copy_keys, lecturer_left, project_left};
+use portal_core::{ProjectRow, Round, lecturer_left, project_left};
 use spa_rows::Key;
 use std::alloc::{AllocError, Global};
 
@@ -134,13 +134,12 @@ fn projects_played(
 fn alone(alloc: Global, student: &StudentEntry) -> Result<StudentEntry, AllocError>
     ensures { IfOk result (λ s. s ≡ alone_student student.now) }
 {
-    Ok(StudentEntry {
-        row: student.row.copy(alloc)?,
-        choice: copy_keys(alloc, &student.choice)?,
-        placed: place_copy(alloc, student.placed.as_ref())?,
-        earlier_choice: Vec::new(alloc),
-        earlier_placement: None,
-    })
+    student_copy(
+        alloc,
+        &student.row,
+        &student.choice,
+        student.placed.as_ref(),
+    )
 }
 
 /// Selects the second round's students: copies those without a project of the first round. The

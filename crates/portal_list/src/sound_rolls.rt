@@ -1,8 +1,8 @@
 //! Tests whether the rolls are sound: valid rows, distinct codes, rising keys.
 
-ghost use Rattle.std.specs.Prelude.{◌≡◌, ◌↔◌, IfOk, IsTrue, true, map};
+ghost use Rattle.std.specs.Prelude.{◌≡◌, ◌↔◌, ◌++◌, IfOk, OnOk, IsTrue, true, map};
 ghost use Rattle.std.specs.List.{AllByRecursion};
-ghost use Rattle.portal_core.specs.Words.{has, Rise, AreDistinct};
+ghost use Rattle.portal_core.specs.Words.{Key as Text, has, Rise, AreDistinct};
 ghost use Rattle.portal_core.specs.Good.{IsLecturer, IsProject, IsStudent};
 ghost use Rattle.portal_list.specs.inner.Parts.{codes_in, lecturer_row_keys, KeysRise, AreFew};
 ghost use Rattle.portal_list.specs.inner.Parts.{RollsFit};
@@ -90,28 +90,41 @@ fn lecturers_are_known(lecturers: &[LecturerRow], projects: &[ProjectRow]) -> bo
         .all(|project| is_known(lecturers, &project.lecturer))
 }
 
-/// Returns the codes of the lecturers, to test whether all codes are distinct.
-fn lecturer_codes<'a>(alloc: Global, rows: &'a [LecturerRow]) -> Result<Vec<&'a [u8]>, AllocError>
-    ensures { IfOk result (λ codes. map (λ code. code.now) codes.items
-        ≡ map (λ r. r.code) rows.now) }
-{
-    let mut codes = Vec::new(alloc);
-    for row in rows {
-        codes.push(row.code.as_bytes())?;
-    }
-    Ok(codes)
+/// A row of a roll that has a code.
+trait Coded {
+    /// The row's code.
+    ghost code_of: { Self → Text };
+
+    /// Returns the bytes of the row's code.
+    fn code_bytes(&self) -> &[u8]
+        ensures { result.now ≡ code_of self.now };
 }
 
-/// Returns the codes of the students, to test whether all codes are distinct.
-fn student_codes<'a>(alloc: Global, rows: &'a [StudentRow]) -> Result<Vec<&'a [u8]>, AllocError>
-    ensures { IfOk result (λ codes. map (λ code. code.now) codes.items
-        ≡ map (λ r. r.code) rows.now) }
-{
-    let mut codes = Vec::new(alloc);
-    for row in rows {
-        codes.push(row.code.as_bytes())?;
+impl Coded for LecturerRow {
+    ghost code_of = { λ row. row.code };
+
+    fn code_bytes(&self) -> &[u8] {
+        self.code.as_bytes()
     }
-    Ok(codes)
+}
+
+impl Coded for StudentRow {
+    ghost code_of = { λ row. row.code };
+
+    fn code_bytes(&self) -> &[u8] {
+        self.code.as_bytes()
+    }
+}
+
+/// Adds the codes of the rows to the codes, to test whether all are distinct.
+fn push_codes<'a, T: Coded>(codes: &mut Vec<&'a [u8]>, rows: &'a [T]) -> Result<(), AllocError>
+    ensures { OnOk result (map (λ code. code.now) codes.new.items
+        ≡ map (λ code. code.now) codes.old.items ++ map T.code_of rows.now) }
+{
+    for row in rows {
+        codes.push(row.code_bytes())?;
+    }
+    Ok(())
 }
 
 /// Returns whether the office's code and the codes on the rolls are distinct.
@@ -124,12 +137,10 @@ fn codes_differ(
     ensures { IfOk result (λ yes. IsTrue yes
         ↔ AreDistinct (codes_in office.now lecturers.now students.now)) }
 {
-    let lecturer_codes = lecturer_codes(alloc, lecturers)?;
-    let student_codes = student_codes(alloc, students)?;
     let mut codes = Vec::new(alloc);
     codes.push(office.as_bytes())?;
-    codes.extend_from_slice(&lecturer_codes)?;
-    codes.extend_from_slice(&student_codes)?;
+    push_codes(&mut codes, lecturers)?;
+    push_codes(&mut codes, students)?;
     are_distinct(alloc, &codes)
 }
 

@@ -1,7 +1,7 @@
 //! Opens a store over tables. Checks the second round's tables (`seeing` checks the first's), and
 //! the world that the tables of both rounds represent.
 
-ghost use Rattle.std.specs.Prelude.{◌≡◌, ◌≢◌, ◌↔◌, false, [], Err, IfOk, IfErr, IsTrue};
+ghost use Rattle.std.specs.Prelude.{◌≡◌, ◌↔◌, false, [], IfOk, IfErr, IsTrue};
 ghost use Rattle.sqlite.specs.Effect.{IsDatabase};
 ghost use Rattle.sqlite.specs.State.{HasCleanDisk, IsUnchanged, Survives};
 ghost use Rattle.sqlite.specs.Held.{state};
@@ -23,7 +23,7 @@ ghost use Rattle.portal_store.specs.inner.Reading.{ReadsAll, IsSoundIfOpen, quer
 
 use crate::fault::{load_open_fault_of, open_fault_of};
 use crate::round::first_phase;
-use crate::seeing::{judge_world, see_first, see_first_numbers, see_row_numbers, see_table};
+use crate::seeing::{judge_world, see_first, see_first_numbers, see_row_numbers, see_tables};
 use crate::settled::settled;
 use crate::sound::load_keeper;
 use crate::store::{NotOpened, OpenFault, Store};
@@ -34,25 +34,6 @@ use portal_tables::select::{Query, Table, finds_any};
 use portal_tables::{PortalSchema, VERSION, second_in};
 use sqlite::{Alter, Connection};
 use std::alloc::Global;
-
-/// Checks that the second round's tables can be queried, unless they are the portal's own.
-fn see_second_tables<S: Alter>(conn: &mut Connection<S>, own: bool) -> Result<(), OpenFault>
-    ensures idle { conn.old.in_transaction ≡ false → conn.new.in_transaction ≡ false }
-    ensures disk { HasCleanDisk (state S.Store conn.new) → HasCleanDisk (state S.Store conn.old) }
-    ensures same { IsTrue own → conn.new ≡ conn.old }
-    ensures none { IsTrue own → IfErr result (λ _. ⊥) }
-    ensures damaged { result ≢ Err OpenFault.Damaged }
-    ensures version { result ≢ Err OpenFault.OtherVersion }
-{
-    if own {
-        return Ok(());
-    }
-    see_table(conn, Query::Second)?;
-    see_table(conn, Query::AllLists(Lists::SecondChoices))?;
-    see_table(conn, Query::SecondRanked)?;
-    see_table(conn, Query::AllLists(Lists::SecondRankings))?;
-    see_table(conn, Query::SecondPlacements)
-}
 
 /// Checks that a table of the second round is empty: a query of it returns no row.
 fn see_none<S: Alter>(conn: &mut Connection<S>, query: Query<'_>) -> Result<(), OpenFault>
@@ -180,7 +161,14 @@ fn examine<S: Alter>(
         result conn.old conn.new }
 {
     see_first(conn, own, VERSION)?;
-    see_second_tables(conn, own)?;
+    let queries = [
+        Query::Second,
+        Query::AllLists(Lists::SecondChoices),
+        Query::SecondRanked,
+        Query::AllLists(Lists::SecondRankings),
+        Query::SecondPlacements,
+    ];
+    see_tables(conn, own, &queries)?;
     judge_both(alloc, conn)
 }
 

@@ -34,10 +34,7 @@ use sqlite::{Alter, Connection, Row};
 use std::alloc::Global;
 
 /// Checks that a single table can be queried.
-pub(crate) fn see_table<S: Alter>(
-    conn: &mut Connection<S>,
-    query: Query<'_>,
-) -> Result<(), OpenFault>
+fn see_table<S: Alter>(conn: &mut Connection<S>, query: Query<'_>) -> Result<(), OpenFault>
     ensures idle { conn.old.in_transaction ≡ false → conn.new.in_transaction ≡ false }
     ensures disk { HasCleanDisk (state S.Store conn.new) → HasCleanDisk (state S.Store conn.old) }
     ensures damaged { result ≢ Err OpenFault.Damaged }
@@ -49,8 +46,12 @@ pub(crate) fn see_table<S: Alter>(
     }
 }
 
-/// Checks that the first round's tables can be queried, unless they are the portal's own.
-fn see_tables<S: Alter>(conn: &mut Connection<S>, own: bool) -> Result<(), OpenFault>
+/// Checks that tables can be queried, by these queries, unless they are the portal's own.
+pub(crate) fn see_tables<S: Alter>(
+    conn: &mut Connection<S>,
+    own: bool,
+    queries: &[Query<'_>],
+) -> Result<(), OpenFault>
     ensures idle { conn.old.in_transaction ≡ false → conn.new.in_transaction ≡ false }
     ensures disk { HasCleanDisk (state S.Store conn.new) → HasCleanDisk (state S.Store conn.old) }
     ensures same { IsTrue own → conn.new ≡ conn.old }
@@ -61,12 +62,10 @@ fn see_tables<S: Alter>(conn: &mut Connection<S>, own: bool) -> Result<(), OpenF
     if own {
         return Ok(());
     }
-    see_table(conn, Query::Office)?;
-    see_table(conn, Query::Whole(Roll::Lecturers))?;
-    see_table(conn, Query::Whole(Roll::Projects))?;
-    see_table(conn, Query::Whole(Roll::Students))?;
-    see_table(conn, Query::AllLists(Lists::Choices))?;
-    see_table(conn, Query::AllLists(Lists::Rankings))
+    for query in queries {
+        see_table(conn, *query)?;
+    }
+    Ok(())
 }
 
 /// Checks that there is a row of the office, and that it has this version.
@@ -118,7 +117,15 @@ pub(crate) fn see_first<S: Alter>(
         (λ db fault. RefusalSays fault version (Unit {0}) db.trees))
         result conn.old conn.new }
 {
-    see_tables(conn, own)?;
+    let queries = [
+        Query::Office,
+        Query::Whole(Roll::Lecturers),
+        Query::Whole(Roll::Projects),
+        Query::Whole(Roll::Students),
+        Query::AllLists(Lists::Choices),
+        Query::AllLists(Lists::Rankings),
+    ];
+    see_tables(conn, own, &queries)?;
     see_office(conn, version)
 }
 

@@ -23,7 +23,7 @@ pub use Rattle.std.specs.Cmp.{int_cmp_is, nat_cmp_is, Equal-is}
 pub use Rattle.std.specs.Cmp.Lexicographic.{texts_ties}
 pub use Rattle.std.specs.List.{cons_option, list_all}
 pub use Rattle.std.specs.Ordering.{is_gt, match_ordering, ordering_reverse, ordering_then}
-pub use Rattle.std.specs.Prelude.{IfErr, IfSome, if◌then◌else◌, option_copied, ◌&&◌, ◌++◌, ◌+◌, ◌<◌, ◌==◌, ◌||◌, ◌∷◌, ◌≡◌, ◌≢◌, ◌≤◌, ◌⊎◌, ◌<ℤ◌, MatchResult, ◌↔◌}
+pub use Rattle.std.specs.Prelude.{IfErr, IfSome, if◌then◌else◌, is_some, option_copied, ◌&&◌, ◌++◌, ◌+◌, ◌<◌, ◌==◌, ◌||◌, ◌∷◌, ◌≡◌, ◌≢◌, ◌≤◌, ◌⊎◌, ◌<ℤ◌, MatchResult, ◌↔◌}
 pub use Rattle.std.specs.Result.{IsErr, IsErrAnd}
 pub use Rattle.std.specs.declared.cmp.Ordering.{Ordering}
 pub use Rattle.std.specs.declared.cmp.Ordering.TheVariants.{Equal, Greater, Less}
@@ -48,7 +48,7 @@ pub use Rattle.portal_tables.specs.declared.select.Table.{Table as Named}
 pub use Rattle.portal_tables.specs.declared.select.Table.TheVariants.{OfLists, OfPlaces, OfRanked, OfRoll}
 pub use Rattle.portal_tables.specs.inner.Base.{Person, put, Key, Rise, has, equals, is_before, Phase, Round, First, Second, LecturerRow, Listing, ProjectRow, StudentRow, is_key, created, Binary, id_in, is_taken, next_rowid, Database, IsDatabase, Held, state, Integer, Cells, Row, bytes, column, Schema, Begins, HasCleanDisk, IsRolledBack, IsUnchanged, KeepsCommit, Shows, State, Survives, Ghosts, Table, Term, col, lit, op2, Trees, put_row, rowid, bound, Error, Transaction, Value, Blob, Int, Null, Real, Words, Column, Index, Reference, key_cmp, Compare, Eq, number_in, ascending, Order, Bool, Err, IfOk, IsTrue, List, None, Ok, OnErr, OnOk, Option, Result, Some, Vec, [], codes, false, filter, length, map, not, option_map, pos, slice_index_or, take, true, ℕ, ℤ, slice_cmp, AllByRecursion, AllZip, filter_map, find, flat_map, list_any, IsPermutation, IsSorted, is_eq, is_lt, nat_cmp, ⊤, Global, IsStudent}
 pub use Rattle.portal_tables.specs.inner.Changes.{AreNew, Becomes, Drops, ListsBy, InsertsRows, Sets, columns, every, has_number, with_rows}
-pub use Rattle.portal_tables.specs.inner.Decoding.{FindsAny, ShowsAs, Refuses}
+pub use Rattle.portal_tables.specs.inner.Decoding.{FindsAny, FindsRow, Leaves, ReadsEach, ShowsAs, Refuses}
 pub use Rattle.portal_tables.specs.inner.MakingSteps.{Grown, Grows, Makes, MakesFirst, MakesSecond, with_second}
 pub use Rattle.portal_tables.specs.inner.Owners.{IsRead, choice_shown, entry, has_list, with_list, AreEntriesOf, IsFine, IsListOf}
 pub use Rattle.portal_tables.specs.inner.Placements.{pair_shown, placement_asked, placement_shown, result_shown, pair_told, HasKeys, HasPlacementAsked}

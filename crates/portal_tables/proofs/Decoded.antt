@@ -1,7 +1,10 @@
 -- Rows that are decoded one at a time, as they are read.
-use Rattle.portal_tables.proofs.Base.{◌≡◌, ◌∷◌, ◌++◌, inl, all_has, has_left, has_right, IsPlain, Refuses, ℕ, Bool, true, false, refl, List, [], None, Some, Option, sym, ap, subst, ◌∙◌, map-append, map-id, timed, Error, EndsIn, begins_shown, Compiled, Database, HasGiven, Advances, Held, state, understood, reads_listing, IsSourceOf, Row, State, Begins, Shown, ShowsRows, IsUnchanged, IsUnchangedOrUndone, HasCleanDisk, FailsToQuery, Survives, survives_weaker, never_commits, unchanged, unchanged_then, Ok, Err, Result, IfOk, OnOk, OnErr, option_copied, Bor, AllByRecursion, ShowsAs, FindsAny, IsRefused, IfErr-at_err}
+use Rattle.portal_tables.proofs.Base.{◌≡◌, ◌∷◌, ◌++◌, ◌⊎◌, inl, inr, all_has, has_left, has_right, IsPlain, Refuses, Leaves, ReadsEach, FindsRow, ℕ, Bool, true, false, refl, List, [], None, Some, Option, sym, ap, subst, ◌∙◌, map-append, map-id, timed, Error, EndsIn, begins_shown, Compiled, Database, HasGiven, Advances, Held, state, understood, reads_listing, IsSourceOf, Row, State, Begins, Shown, ShowsRows, IsUnchanged, IsUnchangedOrUndone, HasCleanDisk, FailsToQuery, Survives, survives_weaker, survives_then, never_commits, begun_plain, given_begin, unchanged, unchanged_then, Ok, Err, Result, IfOk, OnOk, OnErr, option_copied, Bor, AllByRecursion, ShowsAs, FindsAny, IsRefused, IfErr-at_err, IfOk-from_err, IsErr, IsErrAnd, TableFault, Damaged, Vec, Global, is_some}
+use Rattle.sqlite.specs.Given.{HasBegun}
+use Rattle.sqlite.specs.State.{CommitsShowing, Fails}
 use Rattle.sqlite_trees.specs.declared.store.Store.{Ghosts}
-use Rattle.portal_tables.proofs.Queries.{failed_leaves}
+use Rattle.portal_tables.proofs.InTurn.{clean_before, then_leaves}
+use Rattle.portal_tables.proofs.Queries.{failed_leaves, on_err, on_ok, none_ok}
 
 -- what a connection shows that is as it was before is what it showed then
 pub shown_before : (sql : List ℕ) (params : Row) (a b c : State) (rows : List Row) → IsPlain (understood a.now.schema sql) → IsUnchanged a b → Shown sql params b c rows → Shown sql params a c rows
@@ -21,23 +24,133 @@ module _ {S X : Type 0} (g : Ghosts S) (sql : List ℕ) (params : Row) (old new 
   it : IsRefused g sql params old r new
   it = IfErr-at_err (λ _. IsRefused g sql params old r new) is refused
 
-  pub refused_leaves : IsPlain (understood old.schema sql) → HasCleanDisk (state g new) → IsUnchangedOrUndone (state g old) (state g new)
+  refused_leaves : IsPlain (understood old.schema sql) → HasCleanDisk (state g new) → IsUnchangedOrUndone (state g old) (state g new)
   refused_leaves plain clean = failed_leaves sql params (state g old) (state g new) e plain (IfErr-at_err (FailsToQuery sql params (state g old) (state g new)) is (it.err clean))
 
-  pub refused_survives : Survives (state g old) (state g new) (λ _. IsPlain (understood old.schema sql) → ⊥)
+  refused_survives : Survives (state g old) (state g new) (λ _. IsPlain (understood old.schema sql) → ⊥)
   refused_survives = survives_weaker (state g old) (state g new) _ _ (λ _ db made plain. never_commits sql params (state g old) db plain made) it.survives
 
--- what an answer that is known says
-pub at_ok : {V E : Type 0} (r : Result V E) (v : V) (A : Type 0) → r ≡ Ok v → OnOk r A → A
-at_ok {V = V} {E = E} r v A is h = subst (λ (x : Result V E). OnOk x A) is h
+  pub leaves_refused : {V E : Type 0} (a : Result V E) → IsErr a → Leaves g sql a old new
+  leaves_refused a failed = record {
+    same = λ plain clean. none_ok _ a failed;
+    err = λ plain clean. on_err _ a (refused_leaves plain clean);
+    mode = it.mode;
+    survives = refused_survives;
+  }
 
--- what a step to a next row says, where there is one and where there is none
-module _ {S E : Type 0} (g : Ghosts S) (mid new : Held S) (r : Result (Option (Bor Row)) E) (found : Option (Bor Row)) (was : r ≡ Ok found) (on : IfOk r (λ row. Advances g mid new (option_copied row))) where
-  pub at_end : found ≡ None → Advances g mid new None
-  at_end is = subst (λ o. Advances g mid new (option_copied o)) is (subst (λ x. IfOk x (λ row. Advances g mid new (option_copied row))) was on)
+-- A plain query is under way: nothing has changed, and this is known of its rows.
+pub record IsUnderWay {S : Type 0} (g : Ghosts S) (sql : List ℕ) (old mid : Held S) (Given : Type 0) : Type 0 where
+  pub mode : old.in_transaction ≡ false → mid.in_transaction ≡ false
+  pub survives : Survives (state g old) (state g mid) (λ _. IsPlain (understood old.schema sql) → ⊥)
+  pub same : IsPlain (understood old.schema sql) → HasCleanDisk (state g mid) → IsUnchanged (state g old) (state g mid)
+  pub given : IsPlain (understood old.schema sql) → HasCleanDisk (state g mid) → Given
 
-  pub at_row : (row : Bor Row) → found ≡ Some row → Advances g mid new (Some row.now)
-  at_row row is = subst (λ o. Advances g mid new (option_copied o)) is (subst (λ x. IfOk x (λ row. Advances g mid new (option_copied row))) was on)
+-- it begins
+pub begun : {S : Type 0} (g : Ghosts S) (sql : List ℕ) (params : Row) (old mid : Held S) {Given : Type 0} → (HasCleanDisk (state g mid) → HasBegun g sql params old mid) → (old.in_transaction ≡ false → mid.in_transaction ≡ false)
+    → Survives (state g old) (state g mid) (CommitsShowing sql params (state g old)) → (HasGiven g sql params mid [] → Given) → IsUnderWay g sql old mid Given
+begun g sql params old mid has mode survives known = record {
+  mode = mode;
+  survives = survives_weaker (state g old) (state g mid) _ _ (λ _ db made plain. never_commits sql params (state g old) db plain made) survives;
+  same = λ plain clean. (begun_plain g sql params old mid plain (has clean)).1;
+  given = λ plain clean. known (begun_plain g sql params old mid plain (has clean)).0;
+}
+
+module _ {S : Type 0} (g : Ghosts S) (sql : List ℕ) (old mid : Held S) {Given : Type 0} (way : IsUnderWay g sql old mid Given) where
+  -- what it leaves, whatever is answered
+  pub leaves_way : {V E : Type 0} (r : Result V E) → Leaves g sql r old mid
+  leaves_way r = record {
+    same = λ plain clean. on_ok _ r (way.same plain clean);
+    err = λ plain clean. on_err _ r (inl (way.same plain clean));
+    mode = way.mode;
+    survives = way.survives;
+  }
+
+  module _ (new : Held S) (mode : mid.in_transaction ≡ false → new.in_transaction ≡ false) (survives : Survives (state g mid) (state g new) (λ _. ⊥)) where
+    before : HasCleanDisk (state g new) → HasCleanDisk (state g mid)
+    before = clean_before (state g mid) (state g new) _ survives
+
+    after : Survives (state g old) (state g new) (λ _. IsPlain (understood old.schema sql) → ⊥)
+    after = survives_then (state g old) (state g mid) (state g new) _ _ _ (λ clean db no. no) (λ clean db no plain. no) way.survives survives
+
+    -- it goes on to its next row, or to its end
+    pub goes_on : {More : Type 0} → (HasCleanDisk (state g new) → IsUnchanged (state g mid) (state g new))
+        → (IsPlain (understood old.schema sql) → HasCleanDisk (state g new) → IsUnchanged (state g old) (state g mid) → Given → More) → IsUnderWay g sql old new More
+    goes_on same more = record {
+      mode = λ idle. mode (way.mode idle);
+      survives = after;
+      same = λ plain clean. unchanged_then _ _ _ (way.same plain (before clean)) (same clean);
+      given = λ plain clean. more plain clean (way.same plain (before clean)) (way.given plain (before clean));
+    }
+
+    -- it stops with an error
+    pub leaves_stopped : {V E : Type 0} (r : Result V E) → IsErr r → (e : Error) → (HasCleanDisk (state g new) → Fails (state g mid) (state g new) ⊥ e ⊎ IsUnchanged (state g mid) (state g new)) → Leaves g sql r old new
+    leaves_stopped r failed e kept = record {
+      same = λ plain clean. none_ok _ r failed;
+      err = λ plain clean. on_err _ r (then_leaves _ _ _ way.survives.counts (way.same plain (before clean)) (undone (kept clean)));
+      mode = λ idle. mode (way.mode idle);
+      survives = after;
+    }
+      where
+        undone : Fails (state g mid) (state g new) ⊥ e ⊎ IsUnchanged (state g mid) (state g new) → IsUnchangedOrUndone (state g mid) (state g new)
+        undone (inl fails) = inr fails.3
+        undone (inr same) = inl same
+
+-- what is answered, where the rows are decoded as they are read
+module _ {S T : Type 0} (g : Ghosts S) (decode : Row → T) (is_fine : Row → Type 0) (sql : List ℕ) (params : Row) (old new : Held S) where
+  same_fault : {V : Type 0} {a b : TableFault} → ◌≡◌ {A = Result V TableFault} (Err a) (Err b) → a ≡ b
+  same_fault e = cc
+
+  -- an error that does not blame the rows
+  pub broken : (r : Result (Vec T Global) TableFault) (Told : TableFault → Type 0) → IsErrAnd r Told → ((fault : TableFault) → Told fault → fault ≡ Damaged → ⊥) → Leaves g sql r old new → ReadsEach g decode is_fine sql params r old new
+  broken (Ok v) Told failed other leaves = absurd failed
+  broken (Err fault) Told failed other leaves = record {
+    leaves = leaves;
+    rows = λ plain clean. tt;
+    undamaged = λ is fine. other fault failed (same_fault is);
+    refused = λ plain clean is. absurd (other fault failed (same_fault is));
+  }
+
+  -- a row that is not decoded
+  pub refused_row : (r : Result (Vec T Global) TableFault) (fault : TableFault) → IsErrAnd r (λ f. f ≡ fault) → (row : Row) → (fault ≡ Damaged → is_fine row → ⊥)
+      → IsUnderWay g sql old new ((before : List Row) × Begins sql params (state g new) (before ++ row ∷ [])) → ReadsEach g decode is_fine sql params r old new
+  refused_row (Ok v) fault failed row blames way = absurd failed
+  refused_row (Err f) fault failed row blames way = record {
+    leaves = leaves_way g sql old new way (Err f);
+    rows = λ plain clean. tt;
+    undamaged = λ is fine. blames (sym failed ∙ same_fault is) (fine row);
+    refused = λ plain clean is.
+        let read = way.given plain clean in
+        record { before = read.0; row = row; begins = read.1; same = way.same plain clean; refused = blames (sym failed ∙ same_fault is) };
+  }
+
+  -- all rows are decoded
+  pub all_read : (v : Vec T Global) → IsUnderWay g sql old new (ShowsAs decode (Shown sql params (state g old) (state g new)) v.items) → ReadsEach g decode is_fine sql params (Ok v) old new
+  all_read v way = record { leaves = leaves_way g sql old new way (Ok v); rows = way.given; undamaged = λ is. absurd (cc); refused = λ plain clean is. absurd (cc) }
+
+-- whether a row is found, by a step to the first
+module _ {S : Type 0} (g : Ghosts S) (sql : List ℕ) (params : Row) (old mid new : Held S) where
+  none_found : (found : Option (Bor Row)) → IsPlain (understood old.schema sql) → IsUnchanged (state g old) (state g mid) → HasGiven g sql params mid [] → Advances g mid new (option_copied found)
+      → is_some found ≡ false → Shown sql params (state g old) (state g new) []
+  none_found None plain same given on empty = shown_before sql params (state g old) (state g mid) (state g new) [] plain same (on sql params [] given)
+  none_found (Some row) plain same given on empty = absurd (cc)
+
+  one_found : (found : Option (Bor Row)) → HasGiven g sql params mid [] → Advances g mid new (option_copied found) → is_some found ≡ true → (first : Row) × Begins sql params (state g new) (first ∷ [])
+  one_found None given on there = absurd (cc)
+  one_found (Some row) given on there = (row.now, given_begin g sql params new _ (on sql params [] given))
+
+  pub row_found : (found : Option (Bor Row)) (b : Bool) → b ≡ is_some found → IsUnderWay g sql old mid (HasGiven g sql params mid []) → (mid.in_transaction ≡ false → new.in_transaction ≡ false) → Survives (state g mid) (state g new) (λ _. ⊥)
+      → (HasCleanDisk (state g new) → IsUnchanged (state g mid) (state g new)) → (HasCleanDisk (state g new) → Advances g mid new (option_copied found)) → FindsRow g sql params (Ok b) old new
+  row_found found b told way mode survives same on =
+      let before = clean_before (state g mid) (state g new) _ survives in
+      let done : IsUnderWay g sql old new (Unit {0}) = goes_on g sql old mid way new mode survives same (λ plain clean was given. tt) in
+      record {
+        leaves = leaves_way g sql old new done (Ok b);
+        none = λ plain clean no. none_found found plain (way.same plain (before clean)) (way.given plain (before clean)) (on clean) (sym told ∙ no);
+        some = λ plain clean yes. one_found found (way.given plain (before clean)) (on clean) (sym told ∙ yes);
+      }
+
+  pub not_found : (r : Result Bool Error) → IsErr r → Leaves g sql r old new → FindsRow g sql params r old new
+  not_found r failed leaves = record { leaves = leaves; none = λ plain clean. IfOk-from_err r _ failed; some = λ plain clean. IfOk-from_err r _ failed }
 
 module _ {S T : Type 0} (g : Ghosts S) (decode : Row → T) (sql : List ℕ) (params : Row) (old mid new : Held S) (all : List T) (so_far : ShowsAs decode (HasGiven g sql params mid) all) where
   -- no row is to come

@@ -1,9 +1,9 @@
 -- Reads in turn, and what follows of what they tell.
-use Rattle.portal_tables.proofs.Base.{◌≡◌, ◌<◌, ◌≤◌, arith, ℕ, length, get_or, ◌+◌, ◌++◌, ◌∷◌, [], AllByRecursion, all-get_or, take, take_more, Option, cons_option, filter_map, filter_map-append, IsErr, List, IfOk, inl, inr, Ok, Err, Result, OnOk, refl, sym, ap, ap₂, subst, ◌∙◌, Database, State, HasCleanDisk, IsUnchanged, Survives, survives_then, survives_weaker, unchanged, unchanged_then, rolled_back_since, Round, First, Second, HasRound, IsUnchangedOrUndone, on_ok_weaker, on_err_weaker, Reading, Anyhow, IfOpen, TableFault, Damaged, MatchResult, IsErrAnd, Memory, Blames}
+use Rattle.portal_tables.proofs.Base.{◌≡◌, ◌<◌, ◌≤◌, arith, ℕ, length, get_or, ◌+◌, ◌++◌, ◌∷◌, [], map, option_map, None, Some, AllByRecursion, all-get_or, take, take_more, Option, cons_option, filter_map, filter_map-append, IsErr, List, IfOk, inl, inr, Ok, Err, Result, refl, sym, ap, ap₂, subst, ◌∙◌, Database, State, HasCleanDisk, IsUnchanged, Survives, survives_then, survives_weaker, unchanged, unchanged_then, rolled_back_since, Round, First, Second, HasRound, IsUnchangedOrUndone, on_ok_weaker, on_err_weaker, Reading, Anyhow, IfOpen, TableFault, Damaged, MatchResult, IsErrAnd, Memory, Blames}
 use Rattle.portal_tables.proofs.Owned.{current_own}
-use Rattle.portal_tables.proofs.Queries.{on_err}
+use Rattle.portal_tables.proofs.Queries.{on_ok, on_err}
 
-then_leaves : (a b c : State) → a.faults ≤ b.faults → IsUnchanged a b → IsUnchangedOrUndone b c → IsUnchangedOrUndone a c
+pub then_leaves : (a b c : State) → a.faults ≤ b.faults → IsUnchanged a b → IsUnchangedOrUndone b c → IsUnchangedOrUndone a c
 then_leaves a b c counts p (inl q) = inl (unchanged_then a b c p q)
 then_leaves a b c counts p (inr q) = inr (rolled_back_since a b c p counts q)
 
@@ -14,17 +14,13 @@ module _ {round : Round} {Right : Database → Type 0} {V E : Type 0} {Told : Da
   -- no query is made
   pub reads_self : {r : Result V E} {s : State} → (HasRound round s.now.schema → Right s.now → Told s.now r) → Reading round IfOpen Right Told r s s
   reads_self {r} {s} told = record {
-    same = λ own clean on. on_ok r (unchanged s on);
+    same = λ own clean on. on_ok _ r (unchanged s on);
     err = λ own clean on. on_err (IsUnchangedOrUndone s s) r (inl (unchanged s on));
-    now = λ own clean. on_ok r refl;
+    now = λ own clean. on_ok _ r refl;
     mode = λ idle. idle;
     crash = record { clean = omega arith; shield = λ h. h; counts = omega arith; limit = refl; closes = λ clean on. inl on; crash = λ clean db h. inl h };
     told = λ own right clean. told own right;
   }
-    where
-      on_ok : {V E A : Type 0} (r : Result V E) → A → OnOk r A
-      on_ok (Ok v) h = h
-      on_ok (Err e) h = tt
 
   module _ {r : Result V E} {a b : State} where
     -- a query is sure to be made, and perhaps none is
@@ -102,6 +98,15 @@ module _ {round : Round} {On : State → Type 0} {Right : Database → Type 0} {
     pub reads_then : Reading round On Right T (Ok u) a b → Reading round IfOpen Right N r b c → Reading round On Right (λ db r. T db (Ok u) × N db r) r a c
     reads_then p q = reads_then_of (λ own on right told. right) p q
 
+-- an error that is handed on blames the rows if it did, and a shortage of memory never does
+pub blamed : {V W : Type 0} (r : Result V TableFault) (fault : TableFault) → IsErrAnd r (λ f. f ≡ fault) → r ≡ Err Damaged → ◌≡◌ {A = Result W TableFault} (Err fault) (Err Damaged)
+blamed (Ok v) fault is told = absurd is
+blamed (Err f) fault is told = cc
+
+pub not_blamed : {V : Type 0} (r : Result V TableFault) → IsErrAnd r (λ f. f ≡ Memory) → r ≡ Err Damaged → ⊥
+not_blamed (Ok v) is told = absurd is
+not_blamed (Err f) is told = absurd (cc)
+
 -- an answer and an error, each by what is known of it
 pub answered : {V E : Type 0} (r : Result V E) (P : V → Type 0) (Q : E → Type 0) → IfOk r P → ((e : E) → r ≡ Err e → Q e) → MatchResult r P Q
 answered (Ok v) P Q ok err = ok
@@ -132,6 +137,10 @@ at_item P xs i x is within all = subst P (sym is) (all-get_or P xs i x all withi
 
 pub next_item : {X : Type 0} (xs : List X) (i : ℕ) (x : X) → x ≡ get_or xs i x → i < length xs → take (i + 1) xs ≡ take i xs ++ x ∷ []
 next_item xs i x is within = take_more xs i x within ∙ ap (λ y. take i xs ++ y ∷ []) (sym is)
+
+pub map_one : {X Y : Type 0} (f : X → Y) (o : Option X) → map f (cons_option o []) ≡ cons_option (option_map f o) []
+map_one f None = refl
+map_one f (Some x) = refl
 
 -- what the items give that came so far, with what the next one gives
 pub next_given : {X Y : Type 0} (f : X → Option Y) (xs : List X) (i : ℕ) (x : X) (ys : List Y) (y : Option Y) → x ≡ get_or xs i x → i < length xs → ys ≡ filter_map f (take i xs) → y ≡ f x

@@ -1,7 +1,8 @@
 //! Decodes query results into rolls' rows or lists' keys, and checks the results' order.
 
-ghost use Rattle.std.specs.Prelude.{◌≡◌, ◌↔◌, ◌≤◌};
-ghost use Rattle.portal_tables.specs.inner.Base.{true, Err, IfOk, IsTrue, length, map, ⊤};
+ghost use Rattle.std.specs.Prelude.{◌≡◌, ◌↔◌, ◌≤◌, ◌++◌};
+ghost use Rattle.std.specs.List.{cons_option};
+ghost use Rattle.portal_tables.specs.inner.Base.{[], true, Err, IfOk, OnOk, IsTrue, length, map, ⊤};
 ghost use Rattle.portal_tables.specs.inner.Base.{AllByRecursion, Cells, is_key, IsLecturer};
 ghost use Rattle.portal_tables.specs.inner.Base.{IsProject, IsStudent, Rise, is_before};
 ghost use Rattle.portal_tables.specs.Rows.{CountUp};
@@ -14,7 +15,7 @@ use crate::fault::TableFault;
 use portal_core::{LecturerRow, ProjectRow, StudentRow};
 use spa_rows::Key;
 use sqlite::Row;
-use std::alloc::Global;
+use std::alloc::{AllocError, Global};
 
 /// A type that rows of a query are decoded to. Decoding fails with `Damaged` only if `is_fine` does
 /// not hold of the row, and with `Memory` if memory runs out.
@@ -96,6 +97,16 @@ impl FromCells for Row {
     fn from_cells(_alloc: Global, row: &Row) -> Result<Row, TableFault> {
         Ok(row.copy()?)
     }
+}
+
+/// Appends the item if there is one. Fails only if memory runs out.
+pub(crate) fn push_some<T: Drop>(all: &mut Vec<T>, item: Option<T>) -> Result<(), AllocError>
+    ensures { OnOk result (all.new.items ≡ all.old.items ++ cons_option item []) }
+{
+    if let Some(item) = item {
+        all.push(item)?;
+    }
+    Ok(())
 }
 
 /// Decodes the rows of a query's result in order. Stops at the first fault and returns it.

@@ -13,7 +13,7 @@ ghost use Rattle.portal_tables.specs.inner.Owners.{IsFine, IsFineList, IsListOf,
 ghost use Rattle.portal_tables.specs.inner.Shown.{first_cell};
 
 use crate::cells::{bytes_at, key_at, number_at};
-use crate::decode::{do_rise, list_from};
+use crate::decode::{do_rise, list_from, push_some};
 use crate::fault::TableFault;
 use crate::list_table::Lists;
 use crate::named::is_named;
@@ -113,9 +113,8 @@ fn entries_each<S: Alter>(
 {
     let mut entries = Vec::new(alloc);
     for owner in owners {
-        if let Some(entry) = entry_in(alloc, conn, lists, owner)? {
-            entries.push(entry)?;
-        }
+        let entry = entry_in(alloc, conn, lists, owner)?;
+        push_some(&mut entries, entry)?;
     }
     Ok(entries)
 }

@@ -18,7 +18,7 @@ ghost use Rattle.portal_tables.specs.inner.Rolls.{RollRises};
 ghost use Rattle.portal_tables.specs.declared.select.Roll.TheVariants.{Students};
 
 use crate::cells::{assigned_at, bytes_at, is_null, key_at};
-use crate::decode::{at_most_one, decoded};
+use crate::decode::{at_most_one, decoded, push_some};
 use crate::fault::TableFault;
 use crate::rolls::rising;
 use crate::select::{Query, read_rows};
@@ -204,9 +204,8 @@ pub fn pairs_in<S: Alter>(
 {
     let mut pairs = Vec::new(alloc);
     for row in rows {
-        if let Some(pair) = pair_in(alloc, conn, round, phase, row)? {
-            pairs.push(pair)?;
-        }
+        let pair = pair_in(alloc, conn, round, phase, row)?;
+        push_some(&mut pairs, pair)?;
     }
     Ok(pairs)
 }
@@ -229,9 +228,8 @@ fn pairs_from(alloc: Global, rows: &[Row]) -> Result<Vec<(Key, Key)>, TableFault
 {
     let mut pairs = Vec::new(alloc);
     for row in rows {
-        if let Some(pair) = pair_at(alloc, row)? {
-            pairs.push(pair)?;
-        }
+        let pair = pair_at(alloc, row)?;
+        push_some(&mut pairs, pair)?;
     }
     Ok(pairs)
 }

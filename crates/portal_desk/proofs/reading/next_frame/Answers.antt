@@ -1,5 +1,6 @@
 use Rattle.portal_desk.proofs.Base.{rules, arith, ◌≡◌, ℕ, ◌+◌, ◌-◌, ◌<◌, ◌≤◌, Bool, true, false, subst, sym, if◌then◌else◌, NoneWhole}
 use Rattle.portal_desk.proofs.Framing.{follows, within, none_whole, holds_err}
+use Rattle.portal_desk.proofs.Taking.{reads_taken, more_taken, at_err}
 use Rattle.portal_desk.proofs.reading.next_frame.Goals as goal
 
 pub returns-in_default-clause-follows : goal.returns-in_default-clause-follows
@@ -25,3 +26,13 @@ pub returns-in_err-ended-clause-none : goal.returns-in_err-ended-clause-none
 returns-in_err-ended-clause-none g c =
     let framed = rw (c.as_slice.ensures.value, c.in-Need.is) at c.in_ok-found.ensures.framed in
     holds_err _ _ (subst NoneWhole (sym c.in_err-ended.ensures.none_lost) (none_whole _ c.loop-found.ended framed))
+
+pub returns-in_err-found-clause-taken : goal.returns-in_err-found-clause-taken
+returns-in_err-found-clause-taken g c =
+    let x = c.loop-found.invariant in
+    at_err _ (reads_taken 1064960 _ _ _ _ c.loop-found.ended x.reads x.held)
+
+pub returns-in_err-ended-clause-taken : goal.returns-in_err-ended-clause-taken
+returns-in_err-ended-clause-taken g c =
+    let x = c.loop-found.invariant in
+    at_err _ (more_taken 1064960 _ _ _ _ _ c.loop-found.ended x.reads x.held c.in_err-ended.ensures.taken)

@@ -2,14 +2,14 @@ use Rattle.portal_list.proofs.Base.{◌∙◌, sym, ap, subst, option_map, IsFit
 use Rattle.portal_list.proofs.Parted.{fitted_rows, lecturers_of_sound, students_of_sound, nothing_made}
 use Rattle.portal_list.proofs.from_rows.fitted.Goals as goal
 
-pub returns-in_default : goal.returns-in_default
-returns-in_default c w e sound = nothing_made (λ v. v.items) c.in_ok-lecturers.field-0 w.lecturers c.in_default.is (c.in_ok-lecturers.ensures ∙ lecturers_of_sound _ w (c.rows.view_is ∙ e) sound)
+pub returns-in_default-clause-refused : goal.returns-in_default-clause-refused
+returns-in_default-clause-refused c refused w e sound = nothing_made (λ v. v.items) c.in_ok-lecturers.field-0 w.lecturers c.in_default.is (c.in_ok-lecturers.ensures ∙ lecturers_of_sound _ w (c.rows.view_is ∙ e) sound)
 
-pub returns-in_default-2 : goal.returns-in_default-2
-returns-in_default-2 c w e sound = nothing_made (λ v. v.items) c.in_ok-students.field-0 w.students c.in_default-2.is (c.in_ok-students.ensures ∙ students_of_sound _ w (c.rows.view_is ∙ e) sound)
+pub returns-in_default-2-clause-refused : goal.returns-in_default-2-clause-refused
+returns-in_default-2-clause-refused c refused w e sound = nothing_made (λ v. v.items) c.in_ok-students.field-0 w.students c.in_default-2.is (c.in_ok-students.ensures ∙ students_of_sound _ w (c.rows.view_is ∙ e) sound)
 
-pub returns : goal.returns
-returns c =
+pub returns-clause-fitted : goal.returns-clause-fitted
+returns-clause-fitted c =
     subst (λ rows. IsFitted rows (record {
       round = c.rows.inside.round;
       phase = c.rows.inside.phase;

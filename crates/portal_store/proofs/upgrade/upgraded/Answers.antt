@@ -34,3 +34,16 @@ returns-in-Err-upgrade_tables-clause-crash g c mine own =
     let mid = state g.S.Store c.examine_first.new.conn in
     let reads = c.in-Ok.ensures.reads mine in
     crash_asked old mid (state g.S.Store c.upgrade_tables.new.conn) Upgrades Upgrades (λ clean after up. up) (λ clean. reads.same own clean tt) (survives_weaker old mid _ _ (λ clean db no. no own tt) reads.crash) c.upgrade_tables.ensures.crash
+
+pub returns-in-Err-clause-crash : goal.returns-in-Err-clause-crash
+returns-in-Err-clause-crash g c mine own =
+    survives_weaker (state g.S.Store c.args.conn.now) (state g.S.Store c.examine_first.new.conn) _ _ (λ clean db no. absurd (no own tt)) (c.in-Err.ensures.reads mine).crash
+
+pub returns-then-is_taken-clause-crash : goal.returns-then-is_taken-clause-crash
+returns-then-is_taken-clause-crash g c mine own =
+    survives_weaker (state g.S.Store c.args.conn.now) (state g.S.Store c.examine_first.new.conn) _ _ (λ clean db no. absurd (no own tt)) (c.in-Ok.ensures.reads mine).crash
+
+pub returns-then-is_taken-clause-err : goal.returns-then-is_taken-clause-err
+returns-then-is_taken-clause-err g c mine own clean on =
+    let same = (c.in-Ok.ensures.reads mine).same own clean tt in
+    (same.0.was_open, same.0.now_is, same.0.committed_is)

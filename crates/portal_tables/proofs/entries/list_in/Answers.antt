@@ -1,6 +1,6 @@
-use Rattle.portal_tables.proofs.Base.{◌≡◌, ◌∷◌, true, [], sym, subst, subst₂, ◌∙◌, AllByRecursion, state, is_key, ListsBy, has_text, columns, tree_of, shown_name, all_unmap}
+use Rattle.portal_tables.proofs.Base.{◌≡◌, ◌∷◌, true, [], sym, subst, subst₂, ◌∙◌, AllByRecursion, state, is_key, ListsBy, has_text, columns, tree_of, shown_name, all_unmap, ap, Err}
 use Rattle.portal_tables.proofs.Listed.{list_whole, list_names, list_counts}
-use Rattle.portal_tables.proofs.InTurn.{reads_more, judged, both}
+use Rattle.portal_tables.proofs.InTurn.{reads_more, judged, both, reads_handed}
 use Rattle.portal_tables.proofs.entries.list_in.Goals as goal
 
 pub returns : goal.returns
@@ -16,3 +16,6 @@ returns g c =
     (λ damaged fine.
     let up = list_counts owner table rows h fine.whole in
     e.damaged damaged up (all_unmap (λ k. is_key k ≡ true) shown_name rows (subst (AllByRecursion (λ k. is_key k ≡ true)) (sym (list_names owner table rows h up)) fine.keys))))
+
+pub returns-in_err-rows : goal.returns-in_err-rows
+returns-in_err-rows g c = reads_handed c.from_residual.ensures.1 c.in_err-rows.ensures.reads (λ own any told blamed so. c.in_err-rows.ensures.undamaged (ap Err blamed))

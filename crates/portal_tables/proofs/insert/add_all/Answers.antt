@@ -1,5 +1,5 @@
 use Rattle.portal_tables.proofs.Base.{◌≡◌, ◌++◌, rules, [], Ok, map, refl, sym, ap, ap₂, subst, ◌∙◌, append-nil, append_assoc, nil_from_length, take-append-drop, Does, GoesOn, Adds}
-use Rattle.portal_tables.proofs.Runs.{does_none, goes_nowhere}
+use Rattle.portal_tables.proofs.Runs.{does_none, does_both, does_failed, goes_nowhere}
 use Rattle.portal_tables.proofs.Keeping.{adds_none, rows_run}
 use Rattle.portal_tables.proofs.insert.add_all.Goals as goal
 
@@ -22,3 +22,6 @@ returns g c =
     let none : c.runs.rest.now ≡ [] = nil_from_length c.runs.rest.now (search rules) in
     let whole = sym (append-nil was.before) ∙ ap (λ l. was.before ++ l) (sym none) ∙ was.cut in
     subst (λ l. Does g.S.Store (GoesOn (Adds (g.T.Target.tree c.args.table.now) (map g.T.Target.cells l))) (Ok (tt {0})) c.args.tx.now c.runs.tx) whole was.does
+
+pub returns-in_err-write_rows : goal.returns-in_err-write_rows
+returns-in_err-write_rows g c = does_failed g.S.Store c.from_residual.result c.from_residual.ensures.0 (does_both g.S.Store c.runs.invariant.does c.write_rows.ensures)

@@ -1,5 +1,5 @@
 use Rattle.portal_tables.proofs.Base.{◌∷◌, [], Err, sym, ap, subst, ◌∙◌, state, portal_tree, ListsBy, every, columns, IfOk-weaker}
-use Rattle.portal_tables.proofs.InTurn.{reads_more, answered}
+use Rattle.portal_tables.proofs.InTurn.{reads_more, answered, reads_handed}
 use Rattle.portal_tables.proofs.OfficeRow.{office_found, office_there}
 use Rattle.portal_tables.proofs.office.office_in.Goals as goal
 
@@ -14,3 +14,6 @@ returns g c =
     (λ e is office blamed code.
     let there = office_there c.args.version (now.trees portal_tree) c.deref.result.now h office in
     found.ensures.damaged (is ∙ ap Err blamed) there.0 office.phase office.office there.1 there.2 code))
+
+pub returns-in_err-rows : goal.returns-in_err-rows
+returns-in_err-rows g c = reads_handed c.from_residual.ensures.1 c.in_err-rows.ensures.reads (λ own any told office blamed so. c.in_err-rows.ensures.undamaged (ap Err blamed))

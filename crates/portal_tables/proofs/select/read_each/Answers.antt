@@ -11,7 +11,7 @@ returns-clause-reads g c =
     let schema = c.args.conn.now.schema in
     let values = ap bound c.values.ensures ∙ c.value.ensures in
     let it = c.read_each.ensures in
-    asks c.args.query _ _ c.text.ensures values c.read_each.result old new it.same it.err it.mode it.survives
+    asks c.args.query _ _ c.text.ensures values c.read_each.result old new it.leaves.same it.leaves.err it.leaves.mode it.leaves.survives
     (λ own clean.
     let sure = plain c.args.query _ _ c.text.ensures values schema own in
     answered c.read_each.result _ _ (IfOk-weaker c.read_each.result _ _ (λ v. shows_weaker _ _ _ v.items (λ rows. shows c.args.query _ _ c.text.ensures values old new rows own)) (it.rows sure clean))

@@ -1,6 +1,7 @@
-use Rattle.portal_list.proofs.Base.{arith, common_steps, filter_map-append}
+use Rattle.portal_list.proofs.Base.{arith}
+use Rattle.portal_list.proofs.Steps.{some_more, none_more}
 use Rattle.portal_list.proofs.views.placements.pairs_of.Goals as goal
 use Rattle.portal_list.proofs.views.placements.pairs_of.Goals.{in-Some+in_ok-push, in_default}
 
 pub loop-student-preserved : goal.loop-student-preserved
-loop-student-preserved c = elim c.match-branch-2.branch [ in-Some+in_ok-push w ↦ grind (arith, common_steps, filter_map-append) | in_default w ↦ grind (arith, common_steps, filter_map-append) ]
+loop-student-preserved c = grind (arith, in-Some+in_ok-push, some_more, in_default, none_more)

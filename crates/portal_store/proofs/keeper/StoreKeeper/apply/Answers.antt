@@ -1,4 +1,4 @@
-use Rattle.portal_store.proofs.Base.{IsTrue, sym, subst, HasCleanDisk, Survives, Held, state, survives_weaker, change_model, clean_if_open, IsCurrentSchema, Seen, IsTransition, IsAfter}
+use Rattle.portal_store.proofs.Base.{Commits, IsTrue, OnOk, sym, subst, HasCleanDisk, Survives, Held, state, survives_weaker, change_model, clean_if_open, IsCurrentSchema, Seen, IsTransition, IsAfter}
 use Rattle.portal_store.proofs.Keeps.{open_by, change_keeps, change_lasts, change_shown, change_told, change_left, change_clean, change_made, change_same}
 use Rattle.portal_store.proofs.keeper.StoreKeeper.apply.Given.{Over}
 use Rattle.portal_store.proofs.keeper.StoreKeeper.apply.Goals as goal
@@ -46,3 +46,14 @@ returns-clause-crash g c own =
 pub returns-clause-lasts : goal.returns-clause-lasts
 returns-clause-lasts g c =
     change_lasts (change_model c.args.change.now) c.make-made.new.conn c.self.view_is c.self.invariant.kept c.in_default.ensures (law g c.make-made.new.conn) c.requires.good c.requires.leaves_good c.make-made.ensures.ends
+
+pub returns-clause-commits : goal.returns-clause-commits
+returns-clause-commits g c own =
+    let change = change_model c.args.change.now in
+    let new = state g.S.Store c.make-made.new.conn in
+    let current = subst (λ (s : Seen _). IsTrue s.own → IsCurrentSchema s.conn.schema) (sym c.self.view_is) c.in_default.ensures (subst (λ (s : Seen _). IsTrue s.own) (sym c.self.view_is) own) in
+    subst (λ (s : Seen _). HasCleanDisk new → OnOk c.make-made.result (Commits (IsTransition change) (state g.S.Store s.conn) new)) c.self.view_is (c.make-made.ensures.ends.ok current)
+
+pub returns-clause-durable : goal.returns-clause-durable
+returns-clause-durable g c own =
+    c.make-made.ensures.ends.durable (subst (λ (s : Seen _). IsTrue s.own → IsCurrentSchema s.conn.schema) (sym c.self.view_is) c.in_default.ensures (subst (λ (s : Seen _). IsTrue s.own) (sym c.self.view_is) own))

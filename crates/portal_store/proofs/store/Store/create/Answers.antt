@@ -1,4 +1,4 @@
-use Rattle.portal_store.proofs.Base.{IsTrue, sym, subst, ◌∙◌, HasCleanDisk, Held, state, IsFresh, clean_if_open}
+use Rattle.portal_store.proofs.Base.{Commits, Creates, IsAfter, IsTrue, Survives, sym, subst, ◌∙◌, HasCleanDisk, Held, state, IsFresh, clean_if_open}
 use Rattle.portal_store.proofs.First.{first_is, first_is_good, first_kept}
 use Rattle.portal_store.proofs.store.Store.create.Given.{Over}
 use Rattle.portal_store.proofs.store.Store.create.Goals as goal
@@ -27,3 +27,11 @@ returns-clause-good g c on =
     first_is_good c.args.office (state g.S.Store new).now
     (subst (λ office. IsFresh office (state g.S.Store new).now) c.as_bytes.ensures.bytes ((c.in_default.ensures.ok (law g new on.1)).changed (sym c.schema.ensures.value ∙ c.is_empty-own.ensures.0 on.0)))
     c.as_bytes.ensures.form
+
+pub returns-clause-made : goal.returns-clause-made
+returns-clause-made g c clean =
+    subst (λ office. Commits (Creates office) (state g.S.Store c.args.conn) (state g.S.Store c.create_portal.new.conn)) c.as_bytes.ensures.bytes (c.in_default.ensures.ok clean)
+
+pub returns-clause-crash_ok : goal.returns-clause-crash_ok
+returns-clause-crash_ok g c =
+    subst (λ office. Survives (state g.S.Store c.args.conn) (state g.S.Store c.create_portal.new.conn) (IsAfter (Creates office) (state g.S.Store c.args.conn))) c.as_bytes.ensures.bytes c.create_portal.ensures.crash

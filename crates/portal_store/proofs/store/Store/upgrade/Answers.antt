@@ -47,3 +47,28 @@ returns-in-Err-upgraded-clause-refused g c first clean =
       | inl is ↦ absurd (not_taken c.is_there-is_taken.result free (c.in-Err-upgraded.ensures.exists (ap Err is)))
       | inr bars ↦ bars
     ]
+
+pub returns-clause-made : goal.returns-clause-made
+returns-clause-made g c first clean =
+    let mine = c.fits_first-own.ensures.first.1 first in
+    c.in-Ok-upgraded.ensures.made mine (c.fits_first-own.ensures.own mine) clean
+
+pub returns-clause-stands : goal.returns-clause-stands
+returns-clause-stands g c first clean =
+    let mine = c.fits_first-own.ensures.first.1 first in
+    (c.in-Ok-upgraded.ensures.stands mine (c.fits_first-own.ensures.own mine) c.settled.ensures.live clean).0.stands
+
+pub returns-clause-crash_ok : goal.returns-clause-crash_ok
+returns-clause-crash_ok g c first =
+    let mine = c.fits_first-own.ensures.first.1 first in
+    c.upgraded.ensures.crash mine (c.fits_first-own.ensures.own mine)
+
+pub returns-in-Err-upgraded-clause-err : goal.returns-in-Err-upgraded-clause-err
+returns-in-Err-upgraded-clause-err g c first clean on =
+    let mine = c.fits_first-own.ensures.first.1 first in
+    c.in-Err-upgraded.ensures.err mine (c.fits_first-own.ensures.own mine) clean on
+
+pub returns-in-Err-upgraded-clause-crash_err : goal.returns-in-Err-upgraded-clause-crash_err
+returns-in-Err-upgraded-clause-crash_err g c first =
+    let mine = c.fits_first-own.ensures.first.1 first in
+    c.upgraded.ensures.crash mine (c.fits_first-own.ensures.own mine)
