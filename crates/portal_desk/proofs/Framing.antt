@@ -53,13 +53,6 @@ pub holds_none : (l : FrameFault) (bytes : List ℕ) → NoneWhole bytes → Hol
 holds_none fault.Read bytes none = none
 holds_none fault.Memory bytes none = tt
 
--- what was read so far, and a failed read
-pub stays : (old mid new : Option (List ℕ)) (before during after : List ℕ) (ended : Bool) → ReadsMore old mid before during ended → KeepsStream mid new during after → KeepsStream old new before after
-stays None mid new before during after ended reads stay = tt
-stays (Some more) mid new before during after ended (rest, known, same, last) stay =
-    let s = subst (λ o. KeepsStream o new during after) known stay in
-    (s.0, s.1, s.2 ∙ same)
-
 pub holds_err : {A : Type 0} (r : Result A FrameFault) (bytes : List ℕ) → NoneWhole bytes → IfErr r (λ l. HoldsNone l bytes)
 holds_err (Ok a) bytes none = tt
 holds_err (Err l) bytes none = holds_none l bytes none
