@@ -29,34 +29,20 @@ fn is_applicant(student: u64, lecturer: u64) -> bool {
     false
 }
 
-/// Returns this line.
-fn headed(rt: &(impl Abort + AllocGlobal), line: &str) -> String {
-    line.to_string(rt.alloc()).expect(rt, "memory")
-}
-
-fn lecturers(rt: &(impl Abort + AllocGlobal)) -> String {
-    let mut text = headed(rt, "id,name,code,capacity\n");
-    for i in 0..LECTURERS {
-        let row = format!(in rt.alloc(); "L{i},Lee,lect-code-{i},7\n");
-        put(rt, &mut text, row);
-    }
-    text
-}
-
-fn projects(rt: &(impl Abort + AllocGlobal)) -> String {
-    let mut text = headed(rt, "id,lecturer,title,capacity\n");
-    for i in 0..PROJECTS {
-        let l = i % LECTURERS;
-        let row = format!(in rt.alloc(); "P{i},L{l},Tides,2\n");
-        put(rt, &mut text, row);
-    }
-    text
-}
-
-fn students(rt: &(impl Abort + AllocGlobal)) -> String {
-    let mut text = headed(rt, "id,name,code\n");
-    for i in 0..STUDENTS {
-        let row = format!(in rt.alloc(); "S{i},Ann,stud-code-{i}\n");
+/// Returns the roll of this many rows. Each begins with the letter and its number. Between the two
+/// texts it holds its number, or its lecturer's if it is a project.
+fn roll(
+    rt: &(impl Abort + AllocGlobal),
+    columns: &str,
+    letter: char,
+    count: u64,
+    texts: (&str, &str),
+) -> String {
+    let (before, after) = texts;
+    let mut text = columns.to_string(rt.alloc()).expect(rt, "memory");
+    for i in 0..count {
+        let n = if letter == 'P' { i % LECTURERS } else { i };
+        let row = format!(in rt.alloc(); "{letter}{i},{before}{n}{after}\n");
         put(rt, &mut text, row);
     }
     text
@@ -65,7 +51,7 @@ fn students(rt: &(impl Abort + AllocGlobal)) -> String {
 /// Returns the key of this letter and number, as a call has it.
 fn key(rt: &(impl Abort + AllocGlobal), letter: char, number: u64) -> Vec<u8> {
     let text = format!(in rt.alloc(); "{letter}{number}").expect(rt, "memory");
-    Vec::from_slice(rt.alloc(), text.as_bytes()).expect(rt, "memory")
+    text.into_bytes()
 }
 
 /// Returns the student's list as a call has it.
@@ -88,53 +74,50 @@ fn ranking(rt: &(impl Abort + AllocGlobal), lecturer: u64) -> Vec<Vec<u8>> {
     list
 }
 
+/// Sends the rankings of all lecturers or the lists of all students.
+fn send(rt: &(impl Abort + AllocGlobal), portal: &mut Portal, word: &str, count: u64, ranks: bool) {
+    for i in 0..count {
+        let code = format!(in rt.alloc(); "{word}-code-{i}").expect(rt, "memory");
+        if ranks {
+            portal.accepts(rt, &code, Call::SetRanking(ranking(rt, i)));
+        } else {
+            portal.accepts(rt, &code, Call::SetChoices(choice(rt, i)));
+        }
+    }
+}
+
+/// Adds the rolls as the office.
+fn add_rolls(rt: &(impl Abort + AllocGlobal), portal: &mut Portal) {
+    let texts = ("Lee,lect-code-", ",7");
+    let text = roll(rt, "id,name,code,capacity\n", 'L', LECTURERS, texts);
+    let rows = read_lecturers(rt.alloc(), text.as_bytes()).expect(rt, "a roll of lecturers");
+    let reply = r#"{"added":300,"same":0}"#;
+    portal.answers(rt, OFFICE, Call::AddLecturers(rows), 200, reply);
+    let texts = ("L", ",Tides,2");
+    let text = roll(rt, "id,lecturer,title,capacity\n", 'P', PROJECTS, texts);
+    let rows = read_projects(rt.alloc(), text.as_bytes()).expect(rt, "a roll of projects");
+    let reply = r#"{"added":1000,"same":0}"#;
+    portal.answers(rt, OFFICE, Call::AddProjects(rows), 200, reply);
+    let texts = ("Ann,stud-code-", "");
+    let text = roll(rt, "id,name,code\n", 'S', STUDENTS, texts);
+    let rows = read_students(rt.alloc(), text.as_bytes()).expect(rt, "a roll of students");
+    let reply = r#"{"added":2000,"same":0}"#;
+    portal.answers(rt, OFFICE, Call::AddStudents(rows), 200, reply);
+}
+
 /// Moves to this phase as the office.
 fn moves(rt: &(impl Abort + AllocGlobal), portal: &mut Portal, phase: Phase) {
     portal.accepts(rt, OFFICE, Call::Move { phase, round: None });
 }
 
-fn choose(rt: &(impl Abort + AllocGlobal), portal: &mut Portal) {
-    for s in 0..STUDENTS {
-        let code = format!(in rt.alloc(); "stud-code-{s}").expect(rt, "memory");
-        portal.accepts(rt, &code, Call::SetChoices(choice(rt, s)));
-    }
-}
-
-fn rank(rt: &(impl Abort + AllocGlobal), portal: &mut Portal) {
-    for l in 0..LECTURERS {
-        let code = format!(in rt.alloc(); "lect-code-{l}").expect(rt, "memory");
-        portal.accepts(rt, &code, Call::SetRanking(ranking(rt, l)));
-    }
-}
-
-fn add_lecturers(rt: &(impl Abort + AllocGlobal), portal: &mut Portal) {
-    let rows = read_lecturers(rt.alloc(), lecturers(rt).as_bytes()).expect(rt, "a roll");
-    let reply = r#"{"added":300,"same":0}"#;
-    portal.answers(rt, OFFICE, Call::AddLecturers(rows), 200, reply);
-}
-
-fn add_projects(rt: &(impl Abort + AllocGlobal), portal: &mut Portal) {
-    let rows = read_projects(rt.alloc(), projects(rt).as_bytes()).expect(rt, "a roll");
-    let reply = r#"{"added":1000,"same":0}"#;
-    portal.answers(rt, OFFICE, Call::AddProjects(rows), 200, reply);
-}
-
-fn add_students(rt: &(impl Abort + AllocGlobal), portal: &mut Portal) {
-    let rows = read_students(rt.alloc(), students(rt).as_bytes()).expect(rt, "a roll");
-    let reply = r#"{"added":2000,"same":0}"#;
-    portal.answers(rt, OFFICE, Call::AddStudents(rows), 200, reply);
-}
-
 #[test]
 fn a_department_at_every_limit(rt: HostRuntime) {
     let mut portal = Portal::new(&rt);
-    add_lecturers(&rt, &mut portal);
-    add_projects(&rt, &mut portal);
-    add_students(&rt, &mut portal);
+    add_rolls(&rt, &mut portal);
     moves(&rt, &mut portal, Phase::Choosing);
-    choose(&rt, &mut portal);
+    send(&rt, &mut portal, "stud", STUDENTS, false);
     moves(&rt, &mut portal, Phase::Ranking);
-    rank(&rt, &mut portal);
+    send(&rt, &mut portal, "lect", LECTURERS, true);
     moves(&rt, &mut portal, Phase::Published);
     portal.accepts(&rt, OFFICE, Call::Status);
 }

@@ -4,9 +4,10 @@ ghost use Rattle.portal_core.specs.Meaning.{call_model};
 ghost use Rattle.portal_core.specs.Run.{HasForm};
 
 use crate::tests::readers::same;
-use portal_core::{Body, Call, Code, Reply};
+use crate::tests::rows::{Sketch, rows_of};
+use portal_core::{Body, Call, Code};
 use portal_desk::play;
-use portal_list::{ListKeeper, WorldRows};
+use portal_list::ListKeeper;
 use std::marker::Model;
 use std::process::Abort;
 
@@ -29,12 +30,6 @@ impl Model for Portal {
 
 pub(crate) const OFFICE: &str = "office-code-0";
 
-/// Checks that the reply has this status and this body.
-fn is_reply(rt: &(impl Abort + AllocGlobal), reply: &Reply, status: u16, body: &str) {
-    assert_eq!(rt; reply.status, status);
-    is_json(rt, &reply.body, body);
-}
-
 /// Checks that the body is this JSON.
 fn is_json(rt: &(impl Abort + AllocGlobal), body: &Body, wanted: &str) {
     match body {
@@ -55,18 +50,28 @@ impl Portal {
         }
     }
 
-    /// Makes a keeper of the world of these rows, and checks that it is good.
-    pub(crate) fn of(rt: &(impl Abort + AllocGlobal), rows: WorldRows) -> Portal {
-        let keeper = ListKeeper::from_rows(rt.alloc(), rows).expect(rt, "rows of a sound world");
+    /// Makes a keeper of the world of the sketch, and checks that it is good.
+    pub(crate) fn of(rt: &(impl Abort + AllocGlobal), sketch: &Sketch) -> Portal {
+        let keeper = ListKeeper::from_rows(rt.alloc(), rows_of(rt, sketch));
+        let keeper = keeper.expect(rt, "rows of a sound world");
         assert!(rt; keeper.is_good(rt.alloc()).expect(rt, "memory"));
         Portal { keeper }
     }
 
-    /// Returns the reply to a call of the caller with this code.
-    fn reply(&mut self, rt: &(impl Abort + AllocGlobal), code: &str, call: &Call) -> Reply
-        requires { HasForm (call_model call.now) }
+    /// Checks that a call of the caller with this code gets this status, and returns the body.
+    fn reply(
+        &mut self,
+        rt: &(impl Abort + AllocGlobal),
+        code: &str,
+        call: Call,
+        status: u16,
+    ) -> Body
+        requires { HasForm (call_model call) }
     {
-        play(rt.alloc(), &mut self.keeper, code.as_bytes(), call).expect(rt, "memory")
+        let reply = play(rt.alloc(), &mut self.keeper, code.as_bytes(), &call);
+        let reply = reply.expect(rt, "memory");
+        assert_eq!(rt; reply.status, status);
+        reply.body
     }
 
     /// Checks that a call of the caller with this code gets this status and body.
@@ -80,13 +85,13 @@ impl Portal {
     )
         requires { HasForm (call_model call) }
     {
-        is_reply(rt, &self.reply(rt, code, &call), status, body);
+        is_json(rt, &self.reply(rt, code, call, status), body);
     }
 
     /// Checks that a call of the caller with this code is accepted.
     pub(crate) fn accepts(&mut self, rt: &(impl Abort + AllocGlobal), code: &str, call: Call)
         requires { HasForm (call_model call) }
     {
-        assert_eq!(rt; self.reply(rt, code, &call).status, 200);
+        self.reply(rt, code, call, 200);
     }
 }

@@ -2,10 +2,10 @@
 
 use crate::tests::portal::{OFFICE, Portal};
 use crate::tests::rows::{
-    Sketch, add, after_first, are_refused, in_choosing, in_ranking, opened, rows_of,
+    AFTER_FIRST, IN_CHOOSING, IN_RANKING, OPENED, Sketch, add, have_fault, rows_of,
 };
 use portal_core::{Call, Phase, Round};
-use portal_list::ListKeeper;
+use portal_list::{ListKeeper, RowsFault};
 use std::process::Abort;
 
 const S1: &str = "ann-code-1";
@@ -26,7 +26,7 @@ const S3_ME: &str =
 const L1_ME: &str =
     "{\"capacity\":2,\"key\":\"L1\",\"name\":\"Lee\",\"phase\":\"choosing\",\"role\":\"lecturer\",\"round\":2}";
 
-const OPENED: &str =
+const STATUS: &str =
     "{\"assigned\":2,\"lecturers\":2,\"phase\":\"choosing\",\"projects\":3,\"round\":2,\"still_to_rank\":[],\"students\":3,\"unassigned\":[\"S3\"],\"without_list\":[\"S3\"]}";
 
 /// The first result, as L1 is shown it.
@@ -46,20 +46,10 @@ const PLAYED: &str =
 
 const WRONG_PHASE: &str = "{\"error\":\"wrong_phase\"}";
 
-/// Makes a portal from the rows of the sketch.
-fn portal(rt: &(impl Abort + AllocGlobal), sketch: &Sketch) -> Portal {
-    Portal::of(rt, rows_of(rt, sketch))
-}
+/// The published first round, and the opened second one.
+const FIRST: &Sketch = &AFTER_FIRST;
 
-/// Returns the keys of a list as a call has them.
-fn list(rt: &(impl Abort + AllocGlobal), keys: &[&str]) -> Vec<Vec<u8>> {
-    let mut texts = Vec::new(rt.alloc());
-    for key in keys {
-        let text = key.as_bytes().to_vec(rt.alloc());
-        add(rt, &mut texts, text.expect(rt, "memory"));
-    }
-    texts
-}
+const SECOND: &Sketch = &OPENED;
 
 /// Checks the reply when the student with this code chooses these projects.
 fn chooses(
@@ -70,30 +60,29 @@ fn chooses(
     status: u16,
     reply: &str,
 ) {
-    portal.answers(rt, code, Call::SetChoices(list(rt, keys)), status, reply);
+    let mut list = Vec::new(rt.alloc());
+    for key in keys {
+        let text = key.as_bytes().to_vec(rt.alloc());
+        add(rt, &mut list, text.expect(rt, "memory"));
+    }
+    portal.answers(rt, code, Call::SetChoices(list), status, reply);
 }
 
-/// Checks the reply when the office moves to this phase of this round.
-fn moves(
+/// Checks that the office may not move to this phase of this round.
+fn is_refused(
     rt: &(impl Abort + AllocGlobal),
     portal: &mut Portal,
     phase: Phase,
     round: Option<Round>,
-    status: u16,
-    reply: &str,
 ) {
-    portal.answers(rt, OFFICE, Call::Move { phase, round }, status, reply);
-}
-
-/// Checks that the office may not move to this phase of this round.
-fn is_refused(rt: &(impl Abort + AllocGlobal), portal: &mut Portal, to: (Phase, Option<Round>)) {
-    moves(rt, portal, to.0, to.1, 409, WRONG_PHASE);
+    portal.answers(rt, OFFICE, Call::Move { phase, round }, 409, WRONG_PHASE);
 }
 
 /// Opens the second round as the office.
 fn opens(rt: &(impl Abort + AllocGlobal), portal: &mut Portal) {
     let reply = "{\"phase\":\"choosing\",\"round\":2}";
-    moves(rt, portal, Phase::Choosing, Some(Round::Second), 200, reply);
+    let (phase, round) = (Phase::Choosing, Some(Round::Second));
+    portal.answers(rt, OFFICE, Call::Move { phase, round }, 200, reply);
 }
 
 /// Checks what each role is shown when the second round begins.
@@ -101,50 +90,42 @@ fn is_offered(rt: &(impl Abort + AllocGlobal), portal: &mut Portal) {
     for code in [OFFICE, L1, S1, S3] {
         portal.answers(rt, code, Call::Catalogue, 200, LEFT);
     }
-    is_begun(rt, portal);
-    portal.answers(rt, OFFICE, Call::Status, 200, OPENED);
-}
-
-/// Checks what lecturers and students are shown when the second round begins.
-fn is_begun(rt: &(impl Abort + AllocGlobal), portal: &mut Portal) {
     portal.answers(rt, S3, Call::Me, 200, S3_ME);
     portal.answers(rt, S1, Call::Result, 200, "{\"project\":\"P2\"}");
     portal.answers(rt, S1, Call::ShowChoices, 200, "{\"projects\":[]}");
     portal.answers(rt, S3, Call::Result, 200, "{\"project\":null}");
     portal.answers(rt, L1, Call::Me, 200, L1_ME);
     portal.answers(rt, L1, Call::Result, 200, L1_RESULT);
-}
-
-#[test]
-fn what_is_left_is_offered(rt: HostRuntime) {
-    let mut portal = portal(&rt, &opened());
-    is_offered(&rt, &mut portal);
+    portal.answers(rt, OFFICE, Call::Status, 200, STATUS);
 }
 
 #[test]
 fn the_office_opens_the_second_round(rt: HostRuntime) {
-    let mut portal = portal(&rt, &after_first());
-    is_refused(&rt, &mut portal, (Phase::Choosing, None));
-    is_refused(&rt, &mut portal, (Phase::Choosing, Some(Round::First)));
-    is_refused(&rt, &mut portal, (Phase::Ranking, Some(Round::Second)));
-    is_refused(&rt, &mut portal, (Phase::Published, Some(Round::Second)));
+    is_offered(&rt, &mut Portal::of(&rt, SECOND));
+    let mut portal = Portal::of(&rt, FIRST);
+    is_refused(&rt, &mut portal, Phase::Choosing, None);
+    is_refused(&rt, &mut portal, Phase::Choosing, Some(Round::First));
+    is_refused(&rt, &mut portal, Phase::Ranking, Some(Round::Second));
+    is_refused(&rt, &mut portal, Phase::Published, Some(Round::Second));
     opens(&rt, &mut portal);
     is_offered(&rt, &mut portal);
-    is_refused(&rt, &mut portal, (Phase::Published, None));
-    is_refused(&rt, &mut portal, (Phase::Published, Some(Round::First)));
+    is_refused(&rt, &mut portal, Phase::Published, None);
+    is_refused(&rt, &mut portal, Phase::Published, Some(Round::First));
     opens(&rt, &mut portal);
 }
 
-/// Checks that no second round follows the unpublished round of these rows.
-fn has_no_second(rt: &(impl Abort + AllocGlobal), sketch: &Sketch, phase: Phase) {
-    let to = (phase, Some(Round::Second));
-    is_refused(rt, &mut portal(rt, sketch), to);
-}
+/// Unpublished first rounds, and the phase of a second one to which each may not move.
+const UNPUBLISHED: &[(Sketch, Phase)] = &[
+    (IN_CHOOSING, Phase::Ranking),
+    (IN_RANKING, Phase::Choosing),
+];
 
 #[test]
 fn an_unpublished_round_is_followed_by_none(rt: HostRuntime) {
-    has_no_second(&rt, &in_choosing(), Phase::Ranking);
-    has_no_second(&rt, &in_ranking(), Phase::Choosing);
+    for (sketch, phase) in UNPUBLISHED {
+        let portal = &mut Portal::of(&rt, sketch);
+        is_refused(&rt, portal, *phase, Some(Round::Second));
+    }
 }
 
 /// Checks that only a student without a project may choose, and only what is left.
@@ -154,61 +135,99 @@ fn is_chosen(rt: &(impl Abort + AllocGlobal), portal: &mut Portal) {
     chooses(rt, portal, S3, &["P1"], 422, unknown);
     chooses(rt, portal, S3, &["P3"], 200, "{\"projects\":[\"P3\"]}");
     let ranking = "{\"phase\":\"ranking\",\"round\":2}";
-    moves(rt, portal, Phase::Ranking, None, 200, ranking);
+    let (phase, round) = (Phase::Ranking, None);
+    portal.answers(rt, OFFICE, Call::Move { phase, round }, 200, ranking);
     chooses(rt, portal, S1, &[], 409, WRONG_PHASE);
 }
 
-/// Checks what lecturers and students are shown in the second round's ranking.
-fn is_to_rank(rt: &(impl Abort + AllocGlobal), portal: &mut Portal) {
+/// Checks what is shown in the second round's ranking, and publishes it once it is filled in.
+fn is_ranked(rt: &(impl Abort + AllocGlobal), portal: &mut Portal) {
     portal.answers(rt, S3, Call::Result, 200, "{\"project\":null}");
     portal.answers(rt, L1, Call::Result, 200, L1_RESULT);
     portal.answers(rt, L2, Call::Applicants, 200, L2_APPLICANTS);
     portal.answers(rt, L1, Call::Applicants, 200, L1_APPLICANTS);
-}
-
-/// Publishes the second round once its rankings are filled in.
-fn is_ranked(rt: &(impl Abort + AllocGlobal), portal: &mut Portal) {
     let missing = "{\"error\":\"still_to_rank\",\"lecturers\":[\"L2\"]}";
-    moves(rt, portal, Phase::Published, None, 409, missing);
+    let (phase, round) = (Phase::Published, None);
+    portal.answers(rt, OFFICE, Call::Move { phase, round }, 409, missing);
     portal.answers(rt, OFFICE, Call::FillRankings, 200, "{\"filled\":[\"L2\"]}");
     portal.answers(rt, L2, Call::ShowRanking, 200, "{\"students\":[\"S3\"]}");
     let published = "{\"phase\":\"published\",\"round\":2}";
-    moves(rt, portal, Phase::Published, None, 200, published);
+    portal.answers(rt, OFFICE, Call::Move { phase, round }, 200, published);
 }
 
 #[test]
 fn the_second_round_is_played(rt: HostRuntime) {
-    let mut portal = portal(&rt, &after_first());
+    let mut portal = Portal::of(&rt, FIRST);
     opens(&rt, &mut portal);
     is_chosen(&rt, &mut portal);
-    is_to_rank(&rt, &mut portal);
     is_ranked(&rt, &mut portal);
     portal.answers(&rt, S3, Call::Result, 200, "{\"project\":\"P3\"}");
     portal.answers(&rt, S1, Call::Result, 200, "{\"project\":\"P2\"}");
     portal.answers(&rt, OFFICE, Call::Status, 200, PLAYED);
 }
 
+/// A published second round.
+const PUBLISHED: Sketch = Sketch {
+    phase: Phase::Published,
+    choices: &[("S1", &[]), ("S2", &[]), ("S3", &["P3"])],
+    rankings: &[("L2", &["S3"])],
+    pairs: &[("S3", "P3")],
+    ..OPENED
+};
+
+const LAST: &Sketch = &PUBLISHED;
+
+/// Rows of no second round.
+const BAD: &[Sketch] = &[
+    Sketch {
+        phase: Phase::Setup,
+        ..OPENED
+    },
+    Sketch {
+        choices: &[("S1", &[]), ("S2", &[]), ("S3", &["P1"])],
+        ..OPENED
+    },
+    Sketch {
+        choices: &[("S1", &["P3"]), ("S2", &[]), ("S3", &[])],
+        ..OPENED
+    },
+    Sketch {
+        earlier_choices: &[("S1", &["P1", "P2"]), ("S2", &["P1", "P3"])],
+        ..OPENED
+    },
+    Sketch {
+        earlier_pairs: &[("S1", "P2")],
+        ..AFTER_FIRST
+    },
+    Sketch {
+        pairs: &[("S1", "P3"), ("S3", "P3")],
+        ..PUBLISHED
+    },
+];
+
+/// Rows of a sound world that is not good.
+const NOT_GOOD: &[Sketch] = &[
+    Sketch {
+        earlier_pairs: &[("S1", "P1"), ("S2", "P3")],
+        ..OPENED
+    },
+    Sketch {
+        earlier_pairs: &[("S1", "P3"), ("S2", "P1")],
+        ..OPENED
+    },
+    Sketch {
+        earlier_rankings: &[("L1", &["S2", "S1"])],
+        ..OPENED
+    },
+    Sketch {
+        pairs: &[],
+        ..PUBLISHED
+    },
+];
+
 #[test]
 fn rows_of_no_second_round_are_refused(rt: HostRuntime) {
-    let mut in_setup = opened();
-    in_setup.phase = Phase::Setup;
-    are_refused(&rt, &in_setup);
-    let mut sketch = opened();
-    sketch.choices = &[("S1", &[]), ("S2", &[]), ("S3", &["P1"])];
-    are_refused(&rt, &sketch);
-    sketch.choices = &[("S1", &["P3"]), ("S2", &[]), ("S3", &[])];
-    are_refused(&rt, &sketch);
-    let mut left_out = opened();
-    left_out.earlier_choices = &[("S1", &["P1", "P2"]), ("S2", &["P1", "P3"])];
-    are_refused(&rt, &left_out);
-    let mut too_early = after_first();
-    too_early.earlier_pairs = &[("S1", "P2")];
-    are_refused(&rt, &too_early);
-}
-
-/// Checks that a keeper of the sketch's rows tells whether its world is good.
-fn is_told(rt: &(impl Abort + AllocGlobal), sketch: &Sketch, good: bool) {
-    assert_eq!(rt; is_good(rt, sketch), good);
+    have_fault(&rt, BAD, Some(RowsFault::NotGood));
 }
 
 /// Returns whether a keeper of the sketch's rows has a good world.
@@ -218,30 +237,15 @@ fn is_good(rt: &(impl Abort + AllocGlobal), sketch: &Sketch) -> bool {
 }
 
 #[test]
-fn a_first_round_that_is_not_good_is_told(rt: HostRuntime) {
-    is_told(&rt, &opened(), true);
-    let mut sketch = opened();
-    sketch.earlier_pairs = &[("S1", "P1"), ("S2", "P3")];
-    is_told(&rt, &sketch, false);
-    sketch.earlier_pairs = &[("S1", "P3"), ("S2", "P1")];
-    is_told(&rt, &sketch, false);
-    let mut unranked = opened();
-    unranked.earlier_rankings = &[("L1", &["S2", "S1"])];
-    is_told(&rt, &unranked, false);
+fn a_round_that_is_not_good_is_told(rt: HostRuntime) {
+    assert!(rt; is_good(&rt, SECOND));
+    for at in 0..NOT_GOOD.len() {
+        assert!(rt; !is_good(&rt, &NOT_GOOD[at]), "at {at}");
+    }
 }
 
 #[test]
 fn a_published_second_round_is_taken(rt: HostRuntime) {
-    let mut published = opened();
-    published.phase = Phase::Published;
-    published.choices = &[("S1", &[]), ("S2", &[]), ("S3", &["P3"])];
-    published.rankings = &[("L2", &["S3"])];
-    published.pairs = &[("S3", "P3")];
-    portal(&rt, &published).answers(&rt, S3, Call::Result, 200, "{\"project\":\"P3\"}");
-    let mut nobody = published;
-    nobody.pairs = &[];
-    is_told(&rt, &nobody, false);
-    let mut twice = published;
-    twice.pairs = &[("S1", "P3"), ("S3", "P3")];
-    are_refused(&rt, &twice);
+    let project = "{\"project\":\"P3\"}";
+    Portal::of(&rt, LAST).answers(&rt, S3, Call::Result, 200, project);
 }

@@ -1,7 +1,7 @@
 //! Tests keepers in lists that are made from good and bad rows of a database.
 
 use crate::tests::readers::same;
-use portal_core::{Code, LecturerRow, Listing, Name, Phase, ProjectRow, Round, StudentRow};
+use portal_core::{Code, LecturerRow, Name, Phase, ProjectRow, Round, StudentRow};
 use portal_list::{ListKeeper, RowsFault, WorldRows, listings_of};
 use portal_rolls::{read_lecturers, read_students};
 use spa_rows::Key;
@@ -98,21 +98,17 @@ pub(crate) fn pairs(rt: &(impl Abort + AllocGlobal), places: Pairs) -> Vec<(Key,
 
 type Pairs<'a> = &'a [(&'a str, &'a str)];
 
-/// Appends the listing's key, its title and its lecturer's name.
-fn put_line(rt: &(impl Abort + AllocGlobal), text: &mut String, listing: &Listing) {
-    let key = listing.key.as_str();
-    let title = listing.title.as_str();
-    let lecturer = listing.lecturer_name.as_str();
-    let line = format!(in rt.alloc(); "{key} {title} {lecturer}/");
-    put(rt, text, line);
-}
-
-/// Returns the catalogue of the two lecturers and these projects as a text.
+/// Returns the catalogue of the two lecturers and these projects as a text: the key, the title and
+/// the lecturer's name of each listing.
 fn catalogue(rt: &(impl Abort + AllocGlobal), projects: &[ProjectRow]) -> String {
     let mut text = String::new(rt.alloc());
     let listings = listings_of(rt.alloc(), &lecturers(rt, 1), projects).expect(rt, "memory");
     for listing in &listings {
-        put_line(rt, &mut text, listing);
+        let key = listing.key.as_str();
+        let title = listing.title.as_str();
+        let lecturer = listing.lecturer_name.as_str();
+        let line = format!(in rt.alloc(); "{key} {title} {lecturer}/");
+        put(rt, &mut text, line);
     }
     text
 }
@@ -141,59 +137,61 @@ pub(crate) struct Sketch {
     pub earlier_pairs: Pairs<'static>,
 }
 
-/// Returns a published first round.
-pub(crate) fn after_first() -> Sketch {
-    Sketch {
-        round: Round::First,
-        phase: Phase::Published,
-        capacity: 1,
-        code: "ann-code-1",
-        projects: &["P1", "P2"],
-        choices: &[("S1", &["P1", "P2"]), ("S2", &["P1", "P3"]), ("S3", &[])],
-        rankings: &[("L1", &["S2", "S1"]), ("L2", &["S2"])],
-        pairs: &[("S1", "P2"), ("S2", "P1")],
-        earlier_choices: &[],
-        earlier_rankings: &[],
-        earlier_pairs: &[],
-    }
-}
+/// The lists, the rankings and the result of the first round.
+const CHOICES: Lists<'static> = &[("S1", &["P1", "P2"]), ("S2", &["P1", "P3"]), ("S3", &[])];
 
-/// Returns a second round in choosing.
-pub(crate) fn opened() -> Sketch {
-    let mut sketch = after_first();
-    sketch.earlier_choices = sketch.choices;
-    sketch.earlier_rankings = sketch.rankings;
-    sketch.earlier_pairs = sketch.pairs;
-    sketch.round = Round::Second;
-    sketch.phase = Phase::Choosing;
-    sketch.choices = &[("S1", &[]), ("S2", &[]), ("S3", &[])];
-    sketch.rankings = &[];
-    sketch.pairs = &[];
-    sketch
-}
+const RANKINGS: Lists<'static> = &[("L1", &["S2", "S1"]), ("L2", &["S2"])];
 
-/// Returns a first round in ranking.
-pub(crate) fn in_ranking() -> Sketch {
-    let mut sketch = after_first();
-    sketch.phase = Phase::Ranking;
-    sketch.pairs = &[];
-    sketch
-}
+const PAIRS: Pairs<'static> = &[("S1", "P2"), ("S2", "P1")];
 
-/// Returns a first round in choosing.
-pub(crate) fn in_choosing() -> Sketch {
-    let mut sketch = in_ranking();
-    sketch.phase = Phase::Choosing;
-    sketch.rankings = &[];
-    sketch
-}
+/// A published first round.
+pub(crate) const AFTER_FIRST: Sketch = Sketch {
+    round: Round::First,
+    phase: Phase::Published,
+    capacity: 1,
+    code: "ann-code-1",
+    projects: &["P1", "P2"],
+    choices: CHOICES,
+    rankings: RANKINGS,
+    pairs: PAIRS,
+    earlier_choices: &[],
+    earlier_rankings: &[],
+    earlier_pairs: &[],
+};
 
-fn in_setup() -> Sketch {
-    let mut sketch = in_choosing();
-    sketch.phase = Phase::Setup;
-    sketch.choices = &[("S1", &[]), ("S2", &[]), ("S3", &[])];
-    sketch
-}
+/// A second round in choosing.
+pub(crate) const OPENED: Sketch = Sketch {
+    round: Round::Second,
+    phase: Phase::Choosing,
+    choices: &[("S1", &[]), ("S2", &[]), ("S3", &[])],
+    rankings: &[],
+    pairs: &[],
+    earlier_choices: CHOICES,
+    earlier_rankings: RANKINGS,
+    earlier_pairs: PAIRS,
+    ..AFTER_FIRST
+};
+
+/// A first round in ranking.
+pub(crate) const IN_RANKING: Sketch = Sketch {
+    phase: Phase::Ranking,
+    pairs: &[],
+    ..AFTER_FIRST
+};
+
+/// A first round in choosing.
+pub(crate) const IN_CHOOSING: Sketch = Sketch {
+    phase: Phase::Choosing,
+    rankings: &[],
+    ..IN_RANKING
+};
+
+/// A first round in setup.
+const IN_SETUP: Sketch = Sketch {
+    phase: Phase::Setup,
+    choices: &[("S1", &[]), ("S2", &[]), ("S3", &[])],
+    ..IN_CHOOSING
+};
 
 /// Builds the rows of the sketch.
 pub(crate) fn rows_of(rt: &(impl Abort + AllocGlobal), sketch: &Sketch) -> WorldRows {
@@ -213,70 +211,83 @@ pub(crate) fn rows_of(rt: &(impl Abort + AllocGlobal), sketch: &Sketch) -> World
     }
 }
 
-/// Returns why the rows of the sketch make no keeper, if they make none.
-fn fault_of(rt: &(impl Abort + AllocGlobal), sketch: &Sketch) -> Option<RowsFault> {
-    ListKeeper::from_rows(rt.alloc(), rows_of(rt, sketch)).err()
-}
-
-/// Checks that the rows of the sketch are refused as `NotGood`.
-pub(crate) fn are_refused(rt: &(impl Abort + AllocGlobal), sketch: &Sketch) {
-    assert_eq!(rt; fault_of(rt, sketch), Some(RowsFault::NotGood));
-}
-
-#[test]
-fn each_phase_is_taken(rt: HostRuntime) {
-    for sketch in [in_setup(), in_choosing(), in_ranking(), after_first()] {
-        assert_eq!(rt; fault_of(&rt, &sketch), None);
+/// Checks that the rows of each sketch are refused with this fault, or make a keeper.
+pub(crate) fn have_fault(
+    rt: &(impl Abort + AllocGlobal),
+    sketches: &[Sketch],
+    fault: Option<RowsFault>,
+) {
+    for at in 0..sketches.len() {
+        let found = ListKeeper::from_rows(rt.alloc(), rows_of(rt, &sketches[at])).err();
+        assert!(rt; found == fault, "at {at}: {found:?}");
     }
 }
 
-#[test]
-fn too_early_is_refused(rt: HostRuntime) {
-    let mut listed = in_choosing();
-    listed.phase = Phase::Setup;
-    let mut ranked = in_ranking();
-    ranked.phase = Phase::Choosing;
-    let mut placed = after_first();
-    placed.phase = Phase::Ranking;
-    are_refused(&rt, &listed);
-    are_refused(&rt, &ranked);
-    are_refused(&rt, &placed);
-}
+/// Rows of each phase.
+const TAKEN: &[Sketch] = &[IN_SETUP, IN_CHOOSING, IN_RANKING, AFTER_FIRST];
 
 #[test]
-fn bad_lists_are_refused(rt: HostRuntime) {
-    let mut sketch = in_choosing();
-    sketch.choices = &[("S1", &["P1", "P9x"]), ("S2", &[]), ("S3", &[])];
-    are_refused(&rt, &sketch);
-    sketch.choices = &[("S1", &["P1", "P1"]), ("S2", &[]), ("S3", &[])];
-    are_refused(&rt, &sketch);
-    sketch.choices = &[("S1", &["P1"]), ("S2", &[])];
-    are_refused(&rt, &sketch);
-    sketch.choices = &[("S1", &[]), ("S2", &[]), ("S3", &[]), ("S9", &[])];
-    are_refused(&rt, &sketch);
+fn each_phase_is_taken(rt: HostRuntime) {
+    have_fault(&rt, TAKEN, None);
 }
 
-#[test]
-fn bad_rankings_are_refused(rt: HostRuntime) {
-    let mut sketch = in_ranking();
-    sketch.rankings = &[("L1", &["S2"])];
-    are_refused(&rt, &sketch);
-    sketch.rankings = &[("L2", &["S1"])];
-    are_refused(&rt, &sketch);
-    let mut still_to_rank = after_first();
-    still_to_rank.rankings = &[("L1", &["S2", "S1"])];
-    are_refused(&rt, &still_to_rank);
-}
+/// Rows of an early phase with what comes later, then with bad lists, rankings and rolls.
+const BAD: &[Sketch] = &[
+    Sketch {
+        phase: Phase::Setup,
+        ..IN_CHOOSING
+    },
+    Sketch {
+        phase: Phase::Choosing,
+        ..IN_RANKING
+    },
+    Sketch {
+        phase: Phase::Ranking,
+        ..AFTER_FIRST
+    },
+    Sketch {
+        choices: &[("S1", &["P1", "P9x"]), ("S2", &[]), ("S3", &[])],
+        ..IN_CHOOSING
+    },
+    Sketch {
+        choices: &[("S1", &["P1", "P1"]), ("S2", &[]), ("S3", &[])],
+        ..IN_CHOOSING
+    },
+    Sketch {
+        choices: &[("S1", &["P1"]), ("S2", &[])],
+        ..IN_CHOOSING
+    },
+    Sketch {
+        choices: &[("S1", &[]), ("S2", &[]), ("S3", &[]), ("S9", &[])],
+        ..IN_CHOOSING
+    },
+    Sketch {
+        rankings: &[("L1", &["S2"])],
+        ..IN_RANKING
+    },
+    Sketch {
+        rankings: &[("L2", &["S1"])],
+        ..IN_RANKING
+    },
+    Sketch {
+        rankings: &[("L1", &["S2", "S1"])],
+        ..AFTER_FIRST
+    },
+    Sketch {
+        projects: &["P2", "P1"],
+        ..IN_SETUP
+    },
+    Sketch {
+        code: "office-code-0",
+        ..IN_SETUP
+    },
+    Sketch {
+        capacity: 201,
+        ..IN_SETUP
+    },
+];
 
 #[test]
-fn bad_rolls_are_refused(rt: HostRuntime) {
-    let mut falling = in_setup();
-    falling.projects = &["P2", "P1"];
-    let mut one_code = in_setup();
-    one_code.code = "office-code-0";
-    let mut too_large = in_setup();
-    too_large.capacity = 201;
-    are_refused(&rt, &falling);
-    are_refused(&rt, &one_code);
-    are_refused(&rt, &too_large);
+fn bad_rows_are_refused(rt: HostRuntime) {
+    have_fault(&rt, BAD, Some(RowsFault::NotGood));
 }

@@ -1,7 +1,7 @@
 //! Tests the text of the status of the worked world.
 
 use crate::tests::rows::{add, code, key, lecturers, pairs, students};
-use portal_core::{OfficeView, Phase, ProjectRow, Round};
+use portal_core::{OfficeView, Phase, Round};
 use portal_reports::status_text;
 use portal_rolls::read_projects;
 use std::process::Abort;
@@ -12,13 +12,10 @@ fn shared<X: Drop>(rt: &(impl Abort + AllocGlobal), rows: Vec<X>) -> Rc<Vec<X>> 
     Rc::new(rt.alloc(), rows).expect(rt, "memory")
 }
 
-fn projects(rt: &(impl Abort + AllocGlobal)) -> Rc<Vec<ProjectRow>> {
-    let text = b"id,lecturer,title,capacity\nP1,L1,Tides,1\nP2,L1,Kites,1\nP3,L2,Bells,1\n";
-    shared(rt, read_projects(rt.alloc(), text).expect(rt, "a roll"))
-}
-
 /// Returns the office's view of the published worked world, with this round in it.
 fn worked(rt: &(impl Abort + AllocGlobal), round: Round) -> OfficeView {
+    let text = b"id,lecturer,title,capacity\nP1,L1,Tides,1\nP2,L1,Kites,1\nP3,L2,Bells,1\n";
+    let projects = read_projects(rt.alloc(), text).expect(rt, "a roll");
     let mut without_list = Vec::new(rt.alloc());
     add(rt, &mut without_list, key(rt, "S3"));
     OfficeView {
@@ -26,7 +23,7 @@ fn worked(rt: &(impl Abort + AllocGlobal), round: Round) -> OfficeView {
         phase: Phase::Published,
         office_code: code(rt, "office-code-0"),
         lecturers: shared(rt, lecturers(rt, 1)),
-        projects: projects(rt),
+        projects: shared(rt, projects),
         students: shared(rt, students(rt, "ann-code-1")),
         catalogue: shared(rt, Vec::new(rt.alloc())),
         without_list,
@@ -35,18 +32,22 @@ fn worked(rt: &(impl Abort + AllocGlobal), round: Round) -> OfficeView {
     }
 }
 
-/// Checks the text of the worked world with this round in it.
-fn has_text(rt: &(impl Abort + AllocGlobal), round: Round, wanted: &str) {
-    let text = status_text(rt.alloc(), &worked(rt, round)).expect(rt, "memory");
-    assert!(rt; text.as_slice() == wanted.as_bytes());
-}
+/// The text of the worked world with each round in it.
+const TEXTS: &[(Round, &str)] = &[
+    (
+        Round::First,
+        "phase           published\nlecturers            2\nprojects             3\nstudents             3\nwithout list         1\nstill to rank        0\nassigned             2\n",
+    ),
+    (
+        Round::Second,
+        "phase           published\nround                2\nlecturers            2\nprojects             3\nstudents             3\nwithout list         1\nstill to rank        0\nassigned             2\n",
+    ),
+];
 
 #[test]
 fn the_state_of_each_round_as_text(rt: HostRuntime) {
-    let wanted =
-        "phase           published\nlecturers            2\nprojects             3\nstudents             3\nwithout list         1\nstill to rank        0\nassigned             2\n";
-    has_text(&rt, Round::First, wanted);
-    let wanted =
-        "phase           published\nround                2\nlecturers            2\nprojects             3\nstudents             3\nwithout list         1\nstill to rank        0\nassigned             2\n";
-    has_text(&rt, Round::Second, wanted);
+    for (round, wanted) in TEXTS {
+        let text = status_text(rt.alloc(), &worked(&rt, *round)).expect(&rt, "memory");
+        assert!(rt; text.as_slice() == wanted.as_bytes(), "{wanted}");
+    }
 }

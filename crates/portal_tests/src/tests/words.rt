@@ -12,20 +12,19 @@ fn is_code(rt: &(impl Abort + AllocGlobal), text: &str) {
     assert_eq!(rt; parsed.copy(rt.alloc()).expect(rt, "memory"), parsed);
 }
 
-/// Checks that the text is no code.
-fn is_no_code(rt: &(impl Abort + AllocGlobal), text: &str) {
-    let fault = Code::parse(rt.alloc(), text.as_bytes()).err();
-    assert_eq!(rt; fault, Some(CodeFault::BadCode));
-}
-
 #[test]
 fn codes_have_their_form(rt: HostRuntime) {
     is_code(&rt, "ann-code");
     is_code(&rt, "0123456789-abcdefghijklmnopqrstuvwxyz-AZ");
-    is_no_code(&rt, "");
-    is_no_code(&rt, "ann-cod");
-    is_no_code(&rt, "ann_code");
-    is_no_code(&rt, "0123456789-abcdefghijklmnopqrstuvwxyz-ABZ");
+    for text in [
+        "",
+        "ann-cod",
+        "ann_code",
+        "0123456789-abcdefghijklmnopqrstuvwxyz-ABZ",
+    ] {
+        let fault = Code::parse(rt.alloc(), text.as_bytes()).err();
+        assert!(rt; fault == Some(CodeFault::BadCode), "{text}");
+    }
 }
 
 /// Checks that the text is a name, and that its copy is the same name.
@@ -35,33 +34,27 @@ fn is_name(rt: &(impl Abort + AllocGlobal), text: &str) {
     assert_eq!(rt; parsed.copy(rt.alloc()).expect(rt, "memory"), parsed);
 }
 
-/// Checks that the text is no name.
-fn is_no_name(rt: &(impl Abort + AllocGlobal), text: &str) {
-    let fault = Name::parse(rt.alloc(), text.as_bytes()).err();
-    assert_eq!(rt; fault, Some(NameFault::BadName));
-}
-
 #[test]
 fn names_have_their_form(rt: HostRuntime) {
     is_name(&rt, "A");
     is_name(&rt, "Roe, Bea");
     is_name(&rt, "Łukasz Żak");
-    is_no_name(&rt, "");
-    is_no_name(&rt, "a\nb");
-    is_no_name(&rt, "a\u{7F}");
-}
-
-/// Checks that the word is parsed as this phase.
-fn is_parsed(rt: &impl Abort, word: &str, phase: Option<Phase>) {
-    assert_eq!(rt; Phase::parse(word.as_bytes()), phase);
+    for text in ["", "a\nb", "a\u{7F}"] {
+        let fault = Name::parse(rt.alloc(), text.as_bytes()).err();
+        assert!(rt; fault == Some(NameFault::BadName), "{text}");
+    }
 }
 
 #[test]
 fn phases_have_their_words(rt: HostRuntime) {
-    is_parsed(&rt, Phase::Setup.word(), Some(Phase::Setup));
-    is_parsed(&rt, Phase::Choosing.word(), Some(Phase::Choosing));
-    is_parsed(&rt, Phase::Ranking.word(), Some(Phase::Ranking));
-    is_parsed(&rt, Phase::Published.word(), Some(Phase::Published));
-    is_parsed(&rt, "setup", Some(Phase::Setup));
-    is_parsed(&rt, "Setup", None);
+    for (word, phase) in [
+        (Phase::Setup.word(), Some(Phase::Setup)),
+        (Phase::Choosing.word(), Some(Phase::Choosing)),
+        (Phase::Ranking.word(), Some(Phase::Ranking)),
+        (Phase::Published.word(), Some(Phase::Published)),
+        ("setup", Some(Phase::Setup)),
+        ("Setup", None),
+    ] {
+        assert!(rt; Phase::parse(word.as_bytes()) == phase, "{word}");
+    }
 }

@@ -5,7 +5,6 @@ use super::blocking::block;
 use super::chance::add;
 use spa_check::Block;
 use spa_model::{Instance, Letter};
-use std::alloc::Global;
 use std::process::Abort;
 
 /// The lists and capacities of an instance, by number.
@@ -20,6 +19,7 @@ pub(crate) struct Board {
     rooms: Vec<usize>,
 }
 
+/// Returns the list of this number, or an empty one.
 fn row(rows: &[Vec<usize>], at: usize) -> &[usize] {
     match rows.get(at) {
         Some(row) => row.as_slice(),
@@ -27,27 +27,37 @@ fn row(rows: &[Vec<usize>], at: usize) -> &[usize] {
     }
 }
 
+/// Returns the entry of this number, or 0.
 fn number(numbers: &[usize], at: usize) -> usize {
     numbers.get(at).copied().unwrap_or(0)
 }
 
+/// Returns the student's project.
 fn project(projects: &[Option<usize>], s: usize) -> Option<usize> {
     projects.get(s).copied().unwrap_or(None)
 }
 
+/// Returns the place of the number on the list, or the list's length.
 fn place(list: &[usize], wanted: usize) -> usize {
     list.iter().position(|x| *x == wanted).unwrap_or(list.len())
 }
 
-fn put_list(rt: &impl Abort, alloc: Global, lists: &mut Vec<Vec<usize>>, list: &[usize]) {
-    add(rt, lists, Vec::from_slice(alloc, list).expect(rt, "memory"));
+/// Appends a copy of the list.
+fn put_list(rt: &(impl Abort + AllocGlobal), lists: &mut Vec<Vec<usize>>, list: &[usize]) {
+    add(
+        rt,
+        lists,
+        Vec::from_slice(rt.alloc(), list).expect(rt, "memory"),
+    );
 }
 
 /// The project of each student.
 pub(crate) type Places = Vec<Option<usize>>;
 
 impl Board {
-    pub(crate) fn of(rt: &impl Abort, alloc: Global, instance: &Instance) -> Board {
+    /// Copies the instance.
+    pub(crate) fn of(rt: &(impl Abort + AllocGlobal), instance: &Instance) -> Board {
+        let alloc = rt.alloc();
         let mut board = Board {
             choices: Vec::new(alloc),
             rankings: Vec::new(alloc),
@@ -56,19 +66,20 @@ impl Board {
             rooms: Vec::new(alloc),
         };
         for s in 0..instance.students() {
-            put_list(rt, alloc, &mut board.choices, instance.choices(s));
+            put_list(rt, &mut board.choices, instance.choices(s));
         }
         for p in 0..instance.projects() {
             add(rt, &mut board.owners, instance.lecturer_of(p));
             add(rt, &mut board.places, instance.project_capacity(p) as usize);
         }
         for l in 0..instance.lecturers() {
-            put_list(rt, alloc, &mut board.rankings, instance.ranking(l));
+            put_list(rt, &mut board.rankings, instance.ranking(l));
             add(rt, &mut board.rooms, instance.lecturer_capacity(l) as usize);
         }
         board
     }
 
+    /// Returns whether the lecturer offers the project.
     fn is_with(&self, own: Option<usize>, l: usize) -> bool {
         match own {
             Some(p) => number(&self.owners, p) == l,
@@ -76,10 +87,12 @@ impl Board {
         }
     }
 
+    /// Counts the students at the project.
     fn count_at(&self, projects: &[Option<usize>], p: usize) -> usize {
         projects.iter().filter(|own| **own == Some(p)).count()
     }
 
+    /// Counts the students with the lecturer.
     fn count_with(&self, projects: &[Option<usize>], l: usize) -> usize {
         projects.iter().filter(|own| self.is_with(**own, l)).count()
     }
@@ -107,6 +120,7 @@ impl Board {
         }
     }
 
+    /// Returns why the student and the project block, if they do.
     fn letter(&self, projects: &[Option<usize>], s: usize, p: usize) -> Option<Letter> {
         let list = row(&self.choices, s);
         let own = project(projects, s);
@@ -132,8 +146,8 @@ impl Board {
     }
 
     /// Returns all blocking pairs, ordered by student, then by project.
-    pub(crate) fn blocks(&self, rt: &impl Abort, alloc: Global, projects: &Places) -> Vec<Block> {
-        let mut blocks = Vec::new(alloc);
+    pub(crate) fn blocks(&self, rt: &(impl Abort + AllocGlobal), projects: &Places) -> Vec<Block> {
+        let mut blocks = Vec::new(rt.alloc());
         for student in 0..self.choices.len() {
             for project in 0..self.owners.len() {
                 if let Some(letter) = self.letter(projects, student, project) {
@@ -156,7 +170,13 @@ impl Board {
 
     /// Assigns the student to the project, and lets a student go if there is no room. Then shortens
     /// the lists of students ranked after the last one at a full project or lecturer.
-    fn round(&mut self, rt: &impl Abort, alloc: Global, projects: &mut Places, s: usize, p: usize) {
+    fn round(
+        &mut self,
+        rt: &(impl Abort + AllocGlobal),
+        projects: &mut Places,
+        s: usize,
+        p: usize,
+    ) {
         let l = number(&self.owners, p);
         set(projects, s, Some(p));
         if self.count_at(projects, p) > number(&self.places, p) {
@@ -173,15 +193,15 @@ impl Board {
         }
         if self.count_with(projects, l) == number(&self.rooms, l) {
             if let Some(w) = self.worst_with(projects, l) {
-                let offered = self.offered(rt, alloc, l);
+                let offered = self.offered(rt, l);
                 self.strike(l, w, &offered);
             }
         }
     }
 
     /// Returns the projects of the lecturer.
-    fn offered(&self, rt: &impl Abort, alloc: Global, l: usize) -> Vec<usize> {
-        let mut offered = Vec::new(alloc);
+    fn offered(&self, rt: &(impl Abort + AllocGlobal), l: usize) -> Vec<usize> {
+        let mut offered = Vec::new(rt.alloc());
         for q in 0..self.owners.len() {
             if number(&self.owners, q) == l {
                 add(rt, &mut offered, q);
@@ -215,8 +235,8 @@ impl Board {
     }
 
     /// Computes the student-optimal matching by the method that shortens lists.
-    pub(crate) fn solve(&mut self, rt: &impl Abort, alloc: Global) -> Places {
-        let mut projects = Vec::new(alloc);
+    pub(crate) fn solve(&mut self, rt: &(impl Abort + AllocGlobal)) -> Places {
+        let mut projects = Vec::new(rt.alloc());
         for _ in 0..self.choices.len() {
             add(rt, &mut projects, None);
         }
@@ -224,12 +244,13 @@ impl Board {
             let Some((s, p)) = self.next(&projects) else {
                 return projects;
             };
-            self.round(rt, alloc, &mut projects, s, p);
+            self.round(rt, &mut projects, s, p);
         }
         projects
     }
 }
 
+/// Sets the student's project.
 fn set(projects: &mut Places, s: usize, own: Option<usize>) {
     if let Some(place) = projects.get_mut(s) {
         *place = own;
