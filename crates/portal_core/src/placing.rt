@@ -1,4 +1,4 @@
-//! Finds the project row of a placed student, by the result that the office sees.
+//! Finds a placed student's project row in the office's view.
 
 ghost use Rattle.std.specs.Prelude.{◌≡◌, IfOk, option_map};
 ghost use Rattle.portal_core.specs.Bodies.{is_assigned};

@@ -1,4 +1,4 @@
-//! Counts the lines of a request's head, to detect a head that is too long.
+//! Counts a request head's lines, to detect a head with too many lines.
 
 ghost use Rattle.std.specs.Prelude.{◌≡◌, ◌≤◌};
 ghost use Rattle.portal_frame.specs.inner.Counting.{lines_from, step as step_of, stops as stops_at};

@@ -1,4 +1,4 @@
-//! Runs `serve`, `pipe`, `report` and `upgrade` on the database in a file, and closes it.
+//! Runs `serve`, `pipe`, `report` or `upgrade` on a database file, then closes the database.
 
 ghost use Rattle.std.specs.Prelude.{◌≡◌, ◌*◌, ◌<◌, ◌≤◌, false};
 ghost use Rattle.sqlite.specs.Files.{over_files};

@@ -1,4 +1,4 @@
-//! The server loop: serves connections in turn, and counts those that end with a fault.
+//! The server loop: serves connections in turn, and counts their faults, except the store's.
 
 ghost use Rattle.std.specs.Prelude.{◌≡◌, ◌≢◌, ◌+◌, ◌-◌, ◌^◌, ◌<◌, ◌≤◌, true, if◌then◌else◌, List};
 ghost use Rattle.std.specs.Prelude.{Option, None, IfSome};

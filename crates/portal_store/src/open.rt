@@ -1,5 +1,5 @@
-//! Opens a store over tables. Checks the second round's tables (`seeing` checks the first's), and
-//! the world that the tables of both rounds represent.
+//! Opens a store over tables. `seeing` checks the first round's tables; this file checks the
+//! second's, and the world of both rounds.
 
 ghost use Rattle.std.specs.Prelude.{◌≡◌, ◌↔◌, false, [], IfOk, IfErr, IsTrue};
 ghost use Rattle.sqlite.specs.Effect.{IsDatabase};

@@ -1,4 +1,4 @@
-//! Checks the first round's tables, their version and their rowids; checks a loaded world.
+//! Checks the first round's tables, version and rowids; checks that loaded worlds are good.
 
 ghost use Rattle.std.specs.Prelude.{◌≡◌, ◌≢◌, ◌↔◌, ◌⊎◌, false, [], ◌∷◌, pos, Err, List, IfErr};
 ghost use Rattle.std.specs.Prelude.{OnOk, IsTrue};

@@ -1,4 +1,4 @@
-//! Tests whether a schema has no tables, and whether it has the portal's table names.
+//! Tests whether a schema is empty, and whether any portal table's name is taken.
 
 ghost use Rattle.std.specs.Prelude.{◌≡◌, ◌↔◌};
 ghost use Rattle.portal_tables.specs.inner.Base.{IsTrue, list_any};

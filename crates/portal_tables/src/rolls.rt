@@ -1,4 +1,4 @@
-//! Reads and decodes rolls, sorted by key; `rising` reads any query's rows in key order.
+//! Reads and decodes sorted rolls; `rising` reads any query's rows and checks their key order.
 
 ghost use Rattle.std.specs.Prelude.{◌≡◌};
 ghost use Rattle.portal_tables.specs.inner.Base.{Err, IfOk, List, Cells, map, AllByRecursion};

@@ -1,4 +1,4 @@
-//! Proves PROMISES.md's headline for `replies_in_memory`, which serves over a store in memory.
+//! Proves PROMISES.md's headline for streams served over a store in memory (`replies_in_memory`).
 #![tactic(auto)]
 
 ghost use Rattle.std.specs.Prelude.{IfSome, map};

@@ -1,4 +1,4 @@
-//! Makes the reply to a refused stream, or to a request without a call.
+//! Builds the reply to a framing fault or a request that makes no call.
 
 ghost use Rattle.std.specs.Prelude.{◌≡◌, IfOk};
 ghost use Rattle.serde_json.specs.View.{view};

@@ -1,4 +1,4 @@
-//! Finds, for each fault in turn, the lowest-numbered row of any kind that has this fault.
+//! Checks all rows for fault after fault; a refusal names the first fault's lowest-numbered row.
 
 ghost use Rattle.std.specs.Prelude.{◌≡◌, Err, IfErr, IfOk, IsOk, MatchOption, OnOk};
 ghost use Rattle.spa_rows.specs.Faults.{HasFault, HasNoneBefore, IsRefusal};

@@ -1,4 +1,4 @@
-//! `solve`: the SPA-student algorithm. A cursor is a position in a list; a cut shortens a ranking.
+//! `solve`: the SPA-student algorithm. Cursors are positions in lists; cuts are where rankings end.
 
 ghost use Rattle.std.specs.Prelude.{◌≡◌, ◌≢◌, ◌<◌, ◌≤◌, ◌+◌, ◌↔◌, ◌⊎◌, ℕ, IfOk, IfSome};
 ghost use Rattle.std.specs.Prelude.{MatchOption, IsTrue, Some, None, length, slice_set};
