@@ -1,4 +1,5 @@
-//! Checks all rows for fault after fault; a refusal names the first fault's lowest-numbered row.
+//! Checks all rows for one fault after another; refusals name the first fault's lowest-numbered
+//! row.
 
 ghost use Rattle.std.specs.Prelude.{◌≡◌, Err, IfErr, IfOk, IsOk, MatchOption, OnOk};
 ghost use Rattle.spa_rows.specs.Faults.{HasFault, HasNoneBefore, IsRefusal};
