@@ -120,7 +120,7 @@ abbrev pub AreServedOn : {K : Type 0} → (K → KeeperState) → K → List (Se
 AreServedOn state k [] = Unit {0}
 AreServedOn state k (s ∷ ss) = Resumes (state k) (state s.old) × IsSession state s × AreServedOn state s.new ss
 
--- the keeper after the last session
+-- the keeper after the last call of `serve`
 abbrev pub left_by : {K : Type 0} → K → List (Session K) → K
 left_by k [] = k
 left_by k (s ∷ ss) = left_by s.new ss

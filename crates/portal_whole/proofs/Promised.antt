@@ -28,8 +28,8 @@ are_told state k [] [] (t ∷ ts) served are = absurd are
 are_told state k [] (x ∷ xs) ts served are = absurd are
 are_told state k (s ∷ ss) [] ts served are = absurd are
 are_told state k (s ∷ ss) (x ∷ xs) [] served are = absurd are
-are_told state k (s ∷ ss) (x ∷ xs) (t ∷ ts) (next, session, later) (bytes, before, after, ended, more) =
-    let d = session_done state s session in
+are_told state k (s ∷ ss) (x ∷ xs) (t ∷ ts) (next, visit, later) (bytes, before, after, ended, more) =
+    let d = session_done state s visit in
     let written : d.written ≡ t = sym (d.adds ∙ ap (λ b. b ++ d.written) before) ∙ after in
     let told = told_by s.finish s.bytes s.exchanges d.written ended d.tells in
     (subst (λ b. IsTold b s.exchanges t) bytes (subst (IsTold s.bytes s.exchanges) written told), are_told state s.new ss xs ts later more)
