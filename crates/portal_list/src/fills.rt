@@ -1,4 +1,4 @@
-//! `Entries::fills` finds lecturers yet to rank, and their applicants, for the store's fill.
+//! `Entries::fills` finds the lecturers who still have to rank, and their applicants, for a fill.
 
 ghost use Rattle.std.specs.Prelude.{◌≡◌, IfOk, List, map};
 ghost use Rattle.portal_core.specs.Words as words;

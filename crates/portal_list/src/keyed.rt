@@ -1,4 +1,4 @@
-//! Implements `Keyed` for entries; tests whether keys rise, and whether rows include a key.
+//! Implements `Keyed` for entries; tests whether keys ascend, and whether rows include a key.
 
 ghost use Rattle.std.specs.Prelude.{◌≡◌, ◌↔◌, ℕ, List, IsTrue, map};
 ghost use Rattle.std.specs.Ordering.{nat_cmp};

@@ -1,4 +1,4 @@
-//! Tests whether the rolls are sound: valid rows, distinct codes, rising keys.
+//! Tests whether the rolls are sound: valid rows, distinct codes, ascending keys.
 
 ghost use Rattle.std.specs.Prelude.{◌≡◌, ◌↔◌, ◌++◌, IfOk, OnOk, IsTrue, true, map};
 ghost use Rattle.std.specs.List.{AllByRecursion};

@@ -1,4 +1,4 @@
-//! The server loop: serves connections in turn, and counts their faults, except the store's.
+//! The server loop: serves one connection after another, and counts faults other than store faults.
 
 ghost use Rattle.std.specs.Prelude.{◌≡◌, ◌≢◌, ◌+◌, ◌-◌, ◌^◌, ◌<◌, ◌≤◌, true, if◌then◌else◌, List};
 ghost use Rattle.std.specs.Prelude.{Option, None, IfSome};

@@ -1,4 +1,4 @@
-//! Tells proofs what is true of a connection outside a transaction.
+//! Gives proofs the fact that a connection outside a transaction shows only committed data.
 
 ghost use Rattle.std.specs.Prelude.{◌≡◌, false, IsTrue};
 ghost use Rattle.sqlite.specs.Held.{state};

@@ -1,4 +1,4 @@
-//! Declares the store, and the faults of creating, opening or upgrading it; closes and reopens it.
+//! Declares the type `Store` with its faults, and the functions that close and reopen a store.
 
 ghost use Rattle.std.specs.Prelude.{◌≡◌, false, IfOk};
 ghost use Rattle.sqlite.specs.Held.{state};

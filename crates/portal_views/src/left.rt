@@ -1,4 +1,4 @@
-//! Finds the students who take part in a round and are missing from given rows.
+//! Finds the students who take part in a round, but are missing from the given rows.
 
 ghost use Rattle.std.specs.Prelude.{◌≡◌, ◌&&◌, is_none};
 ghost use Rattle.portal_views.specs.inner.Base.{Err, IfOk, not, map, filter, has, Rise};

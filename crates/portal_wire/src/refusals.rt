@@ -1,4 +1,4 @@
-//! Builds the reply to a framing fault or a request that makes no call.
+//! Builds the reply to a framing fault, or to a request with a faulty route, method or body.
 
 ghost use Rattle.std.specs.Prelude.{◌≡◌, IfOk};
 ghost use Rattle.serde_json.specs.View.{view};

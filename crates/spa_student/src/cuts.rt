@@ -1,4 +1,4 @@
-//! `solve`: the SPA-student algorithm. Cursors are positions in lists; cuts are where rankings end.
+//! `solve`: the SPA-student algorithm, with cursors into students' lists and cuts in rankings.
 
 ghost use Rattle.std.specs.Prelude.{◌≡◌, ◌≢◌, ◌<◌, ◌≤◌, ◌+◌, ◌↔◌, ◌⊎◌, ℕ, IfOk, IfSome};
 ghost use Rattle.std.specs.Prelude.{MatchOption, IsTrue, Some, None, length, slice_set};
