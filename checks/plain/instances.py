@@ -46,7 +46,7 @@ def read(data):
         refuse("bad_header")
     for row, fields in enumerate(records[1:], 1):
         if row > 5300:
-            refuse("too_many_rows", row)
+            refuse("too_many_rows")
         if len(fields) != 4:
             refuse("field_count", row)
         if not all(map(is_text, fields)):
