@@ -1,4 +1,4 @@
-//! Finds the students who take part in a round, but are missing from the given rows.
+//! Given the students with a list, finds the other students who take part in the round.
 
 ghost use Rattle.std.specs.Prelude.{◌≡◌, ◌&&◌, is_none};
 ghost use Rattle.portal_views.specs.inner.Base.{Err, IfOk, not, map, filter, has, Rise};

@@ -1,4 +1,4 @@
-//! Counts the students of each project and of each lecturer; finds the worst student's rank.
+//! Counts the students of each project and lecturer; finds the lowest place on the ranking.
 
 ghost use Rattle.std.specs.Prelude.{◌≡◌, ◌+◌, ◌<◌, ◌^◌, IfOk, length, max};
 ghost use Rattle.spa_model.specs.Spa.{IsMatching, IsOn, place, ranking_of};
