@@ -1,4 +1,4 @@
-//! The type `Ending`: requests end with the input, a closing request, a refusal or request 256.
+//! The type `Ending`: the end of the input, a closing request, a framing fault, or request 256.
 
 /// How the requests of a stream end.
 #[derive(Clone, Copy, Debug, PartialEq, Eq, Drop)]
