@@ -3,6 +3,7 @@
 
 mod call;
 mod code;
+mod coded;
 mod copies;
 mod deciding;
 mod decision;
@@ -20,6 +21,7 @@ mod view_cache;
 
 pub use call::Call;
 pub use code::{Code, CodeFault};
+pub use coded::Coded;
 pub use copies::copy_keys;
 pub use deciding::decide;
 pub use decision::{Act, Body, Change, Decision, Reply, Sheet};

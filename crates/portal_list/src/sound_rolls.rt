@@ -2,14 +2,14 @@
 
 ghost use Rattle.std.specs.Prelude.{◌≡◌, ◌↔◌, ◌++◌, IfOk, OnOk, IsTrue, true, map};
 ghost use Rattle.std.specs.List.{AllByRecursion};
-ghost use Rattle.portal_core.specs.Words.{Key as Text, has, Rise, AreDistinct};
+ghost use Rattle.portal_core.specs.Words.{has, Rise, AreDistinct};
 ghost use Rattle.portal_core.specs.Good.{IsLecturer, IsProject, IsStudent};
 ghost use Rattle.portal_list.specs.inner.Parts.{codes_in, lecturer_row_keys, KeysRise, AreFew};
 ghost use Rattle.portal_list.specs.inner.Parts.{RollsFit};
 
 use crate::distinct::are_distinct;
 use crate::keyed::{is_known, keys_rise};
-use portal_core::{Code, LecturerRow, ProjectRow, StudentRow};
+use portal_core::{Code, Coded, LecturerRow, ProjectRow, StudentRow};
 use spa_rows::limits::{MOST_LECTURERS, MOST_PROJECTS, MOST_STUDENTS, is_capacity};
 use std::alloc::{AllocError, Global};
 
@@ -90,39 +90,13 @@ fn lecturers_are_known(lecturers: &[LecturerRow], projects: &[ProjectRow]) -> bo
         .all(|project| is_known(lecturers, &project.lecturer))
 }
 
-/// A row of a roll that has a code.
-trait Coded {
-    /// The row's code.
-    ghost code_of: { Self → Text };
-
-    /// Returns the bytes of the row's code.
-    fn code_bytes(&self) -> &[u8]
-        ensures { result.now ≡ code_of self.now };
-}
-
-impl Coded for LecturerRow {
-    ghost code_of = { λ row. row.code };
-
-    fn code_bytes(&self) -> &[u8] {
-        self.code.as_bytes()
-    }
-}
-
-impl Coded for StudentRow {
-    ghost code_of = { λ row. row.code };
-
-    fn code_bytes(&self) -> &[u8] {
-        self.code.as_bytes()
-    }
-}
-
 /// Adds the codes of the rows to the codes, to test whether all are distinct.
 fn push_codes<'a, T: Coded>(codes: &mut Vec<&'a [u8]>, rows: &'a [T]) -> Result<(), AllocError>
     ensures { OnOk result (map (λ code. code.now) codes.new.items
         ≡ map (λ code. code.now) codes.old.items ++ map T.code_of rows.now) }
 {
     for row in rows {
-        codes.push(row.code_bytes())?;
+        codes.push(row.code().as_bytes())?;
     }
     Ok(())
 }

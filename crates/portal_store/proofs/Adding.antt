@@ -2,7 +2,7 @@
 use Rattle.portal_store.proofs.Base.{◌≡◌, ℕ, false, ◌||◌, List, [], ◌∷◌, ◌++◌, None, map, refl, sym, ap, ap₂, subst, subst₂, ◌∙◌, map-append, AllByRecursion, IsDistinct, IsPermutation, IsPermutation-refl, IsPermutation-trans, IsPermutation-sym, IsPermutation-middle, IsPermutation-map, Null, Int, Row, next_rowid, put_row, Database, IsDatabase, First, Second, LecturerRow, ProjectRow, StudentRow, Key, equals, has, Rise, put_all, lecturer_key, project_key, student_key, changed, Lecturers, Projects, Students, Good, lecturer_tree, project_tree, student_tree, choice_tree, ranking_tree, RowNumbersDiffer, row_key, Keeps, with_rows, put_splits, with_rows_added, NewRows, IsConsistentIn, HasChangedIn, IsTransitionIn, of_key, IsWhole, list_in_order, world_in, project_row, permutes, permutes_more, rise_distinct, all_permuted, distinct_permuted, map_twice, map_alike, all_map_on, all_unmap, all_map, all_append, all_weaker, drop, IsPermutation-append_right, new_lecturer, new_student, InsertsRows, AreNew, Adds, lecturer_new, project_new, student_new, puts_apart, more_put, OnRoll, none_of, place_parents}
 use Rattle.portal_tables.specs.declared.list_table.Lists.TheVariants as which
 use Rattle.portal_tables.proofs.Writes.{unnumbered}
-use Rattle.portal_store.specs.declared.rolls.NewRows.TheVariants as come
+use Rattle.portal_store.specs.declared.add_rows.NewRows.TheVariants as come
 use Rattle.portal_store.proofs.Still.{holds_after, world_after}
 use Rattle.portal_store.proofs.FirstRows.{has_ranking, lecturer_of, student_of}
 

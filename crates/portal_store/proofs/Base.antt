@@ -39,7 +39,7 @@ pub use Rattle.portal_list.specs.inner.Shown.{is_wanted, is_waiting, offered}
 pub use Rattle.portal_store.specs.Crash.{Refutes, Bars, Reopens, OpensAgain, OpensFresh, UpgradesAgain, HasVersion, RefusalSays, IsLeft}
 pub use Rattle.portal_store.specs.Kept.{AllNumbersDiffer, HasChanged, HasGoodFirst, HasGoodWorld, HasGoodWorldIn, HasSecond, IsCleanStore, IsConsistent, IsConsistentIn, IsTransition, IsUnopened, Seen, Whole, kept_world, later_trees, AreWhole, AreEmpty, HasDisk, DiskInMemory, KeepsClean, Lasts, LastsInMemory, IsOpened}
 pub use Rattle.portal_store.specs.World.{is_ranked, lecturer_stored, phase_in, round_in, student_stored, first_world, ranking_in, choice_in, placement_in_round, second_phase, office_row, round_by}
-pub use Rattle.portal_store.specs.declared.rolls.NewRows.{NewRows}
+pub use Rattle.portal_store.specs.declared.add_rows.NewRows.{NewRows}
 pub use Rattle.portal_store.specs.declared.store.OpenFault.{OpenFault}
 pub use Rattle.portal_store.specs.inner.Adding.{with_rows_added}
 pub use Rattle.portal_store.specs.inner.Asked.{Admits, AdmitsAs, Denies, NumbersDiffer, SaysNothing, IsJudged}

@@ -11,13 +11,13 @@ ghost use Rattle.portal_store.specs.inner.Keeping.{IsTransitionFrom, IsTransitio
 ghost use Rattle.portal_store.specs.inner.Ending.{CommitsChange};
 ghost use Rattle.portal_store.specs.inner.Reading.{KeepsEntries};
 
+use crate::add_rows::{NewRows, add_rows};
 use crate::fault::told;
 use crate::fill::fill_rankings;
 use crate::lists::{PutChoices, replace_ranking};
 use crate::opening::open_second;
 use crate::phase::set_phase;
 use crate::placing::publish;
-use crate::rolls::{NewRows, add_rows};
 use crate::round::round_in;
 use crate::settled::settled;
 use portal_core::{Change, KeepFault, Round};

@@ -1,6 +1,7 @@
 //! A keeper that stores the world in a database; each change is one transaction.
 #![tactic(auto)]
 
+mod add_rows;
 mod change;
 mod create;
 mod fault;
@@ -17,7 +18,6 @@ mod opening;
 mod phase;
 mod placing;
 pub mod queries;
-mod rolls;
 mod round;
 mod seeing;
 mod settled;

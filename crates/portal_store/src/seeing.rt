@@ -1,4 +1,4 @@
-//! Checks the first round's tables, version and rowids; checks that loaded worlds are good.
+//! Checks the version and the rowids of the first round's tables; checks that loaded worlds are good.
 
 ghost use Rattle.std.specs.Prelude.{◌≡◌, ◌≢◌, ◌↔◌, ◌⊎◌, false, [], ◌∷◌, pos, Err, List, IfErr};
 ghost use Rattle.std.specs.Prelude.{OnOk, IsTrue};

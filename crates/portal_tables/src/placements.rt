@@ -20,8 +20,8 @@ ghost use Rattle.portal_tables.specs.declared.select.Roll.TheVariants.{Students}
 use crate::cells::{assigned_at, bytes_at, is_null, key_at};
 use crate::decode::{at_most_one, decoded, push_some};
 use crate::fault::TableFault;
-use crate::rolls::rising;
 use crate::select::{Query, read_rows};
+use crate::sorted_rolls::rising;
 use portal_core::{Phase, Round};
 use spa_rows::Key;
 use sqlite::{Alter, Connection, Row};

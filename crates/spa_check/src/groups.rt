@@ -1,4 +1,4 @@
-//! Counts the students of each project and lecturer; finds the lowest place on the ranking.
+//! Counts the students of each project and lecturer, and finds the worst rank of these students.
 
 ghost use Rattle.std.specs.Prelude.{◌≡◌, ◌+◌, ◌<◌, ◌^◌, IfOk, length, max};
 ghost use Rattle.spa_model.specs.Spa.{IsMatching, IsOn, place, ranking_of};

@@ -1,4 +1,4 @@
-//! Finds all blocking pairs and their letters, from the counts and worst ranks in `groups`.
+//! Finds all blocking pairs and their letters, using the module `groups`.
 
 ghost use Rattle.std.specs.Prelude.{◌≡◌, ◌+◌, ◌<◌, IfOk, OnOk, MatchOption, length};
 ghost use Rattle.spa_model.specs.declared.letter.Letter.{Letter};

@@ -1,4 +1,4 @@
-//! `solve`: the SPA-student algorithm, with cursors into students' lists and cuts in rankings.
+//! `solve` runs the SPA-student algorithm. It moves a cursor in each list, and shortens rankings.
 
 ghost use Rattle.std.specs.Prelude.{◌≡◌, ◌≢◌, ◌<◌, ◌≤◌, ◌+◌, ◌↔◌, ◌⊎◌, ℕ, IfOk, IfSome};
 ghost use Rattle.std.specs.Prelude.{MatchOption, IsTrue, Some, None, length, slice_set};

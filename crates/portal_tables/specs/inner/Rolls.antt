@@ -1,7 +1,7 @@
 -- The three rolls by rising key, whatever the order of their rows in the tables.
 use Rattle.std.specs.Prelude.{◌≡◌, ◌∷◌}
 use Rattle.portal_tables.specs.inner.Base.{List, [], map, Row, Trees, Rise, put_all}
-use Rattle.portal_tables.specs.declared.rolls.Rolls.{Rolls}
+use Rattle.portal_tables.specs.declared.sorted_rolls.Rolls.{Rolls}
 use Rattle.portal_tables.specs.declared.select.Roll.{Roll}
 use Rattle.portal_tables.specs.declared.select.Roll.TheVariants.{Lecturers, Projects, Students}
 use Rattle.portal_tables.specs.inner.Queries.{roll_tree, columns_of}

@@ -1,4 +1,4 @@
-//! Defines the INSERT statements for the tables of lists.
+//! Defines the INSERT statements for the tables of lists and rankings.
 
 ghost use Rattle.portal_tables.specs.Tables.{tree_of};
 ghost use Rattle.portal_tables.specs.inner.RowChanges.{AddsBy, place_new};

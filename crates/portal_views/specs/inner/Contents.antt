@@ -6,7 +6,7 @@ use Rattle.portal_tables.specs.Tables.{choice_table, ranking_table}
 use Rattle.portal_tables.specs.inner.Placements.{pair_shown, HasPlacement}
 use Rattle.portal_tables.specs.inner.Rolls.{RollsRise, lecturers_shown, projects_shown, students_shown}
 use Rattle.portal_tables.specs.inner.Shown.{shown_lecturer, shown_project, shown_student}
-use Rattle.portal_tables.specs.declared.rolls.Rolls.{Rolls}
+use Rattle.portal_tables.specs.declared.sorted_rolls.Rolls.{Rolls}
 use Rattle.portal_views.specs.declared.contents.Contents.{Contents}
 
 pub record AllRows : Type 0 where

@@ -2,7 +2,7 @@ use Rattle.portal_tables.proofs.Base.{state, roll_tree, columns_of, OfRoll}
 use Rattle.portal_tables.proofs.InTurn.{reads_as, told_more}
 use Rattle.portal_tables.proofs.Listed.{roll_rises, roll_shown}
 use Rattle.portal_tables.proofs.Texts.{key_texts}
-use Rattle.portal_tables.proofs.rolls.roll_in.Goals as goal
+use Rattle.portal_tables.proofs.sorted_rolls.roll_in.Goals as goal
 
 pub returns : goal.returns
 returns g c =

@@ -1,7 +1,7 @@
 use Rattle.portal_tables.proofs.Base.{sym, ap, subst, Err, IfOk-weaker, state}
 use Rattle.portal_tables.specs.inner.Queries.{Shows}
 use Rattle.portal_tables.proofs.InTurn.{reads_more, reads_handed, judged}
-use Rattle.portal_tables.proofs.rolls.rising.Goals as goal
+use Rattle.portal_tables.proofs.sorted_rolls.rising.Goals as goal
 
 pub returns-in_err-rows-clause-reads : goal.returns-in_err-rows-clause-reads
 returns-in_err-rows-clause-reads g c = reads_handed c.from_residual.ensures.1 c.in_err-rows.ensures.reads (λ own any told blamed rise. c.in_err-rows.ensures.undamaged (ap Err blamed))

@@ -1,5 +1,5 @@
 use Rattle.portal_tables.proofs.InTurn.{reads_open, reads_then, reads_more, reads_handed}
-use Rattle.portal_tables.proofs.rolls.rolls_in.Goals as goal
+use Rattle.portal_tables.proofs.sorted_rolls.rolls_in.Goals as goal
 
 pub returns-in_err-projects : goal.returns-in_err-projects
 returns-in_err-projects g c =

@@ -1,6 +1,6 @@
 use Rattle.portal_store.proofs.Base.{sym, subst, subst₂, state, Round, Does, GoesOn, does_none, does_more, goes_nowhere, goes_more, with_rows_added, IsTransitionIn, NewRows}
 use Rattle.portal_store.proofs.Adding.{lecturers_turn, projects_turn, students_turn, no_rows}
-use Rattle.portal_store.proofs.rolls.AddRowsStep.take.Goals as goal
+use Rattle.portal_store.proofs.add_rows.AddRowsStep.take.Goals as goal
 
 pub returns-in-Lecturers : goal.returns-in-Lecturers
 returns-in-Lecturers g c =
