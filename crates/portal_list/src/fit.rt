@@ -1,4 +1,4 @@
-//! Joins rows, lists and pairs into entries.
+//! Joins the rows of the rolls with lists, rankings and placements into entries.
 
 ghost use Rattle.std.specs.Prelude.{◌≡◌, IfOk, map, option_map};
 ghost use Rattle.portal_list.specs.inner.Fit.{next_for, rest_for, earlier_for, earlier_rest};

@@ -1,4 +1,4 @@
-//! Counts the students of each project and lecturer, and finds the worst rank of these students.
+//! Counts the assigned students of each project and lecturer; finds the worst-ranked of them.
 
 ghost use Rattle.std.specs.Prelude.{◌≡◌, ◌+◌, ◌<◌, ◌^◌, IfOk, length, max};
 ghost use Rattle.spa_model.specs.Spa.{IsMatching, IsOn, place, ranking_of};
