@@ -1,4 +1,4 @@
-//! Checks the version and the rowids of the first round's tables; checks that loaded worlds are good.
+//! Checks the version, the rowids of the first round's tables, and that loaded worlds are good.
 
 ghost use Rattle.std.specs.Prelude.{◌≡◌, ◌≢◌, ◌↔◌, ◌⊎◌, false, [], ◌∷◌, pos, Err, List, IfErr};
 ghost use Rattle.std.specs.Prelude.{OnOk, IsTrue};

@@ -1,4 +1,4 @@
-//! Stores a result in the entries: sets the project of each student who takes part.
+//! Stores a result in the entries: sets the project of each student who takes part in the round.
 
 ghost use Rattle.std.specs.Prelude.{◌≡◌, IfOk, OnOk, OnErr, map};
 ghost use Rattle.portal_core.specs.World.{placement_in, with_place};
