@@ -1,4 +1,4 @@
-//! Reads the rolls, with the lists, the rankings and the result of a round.
+//! Reads the rolls, and one round's lists, rankings and result.
 
 ghost use Rattle.std.specs.Prelude.{◌≡◌};
 ghost use Rattle.portal_views.specs.inner.Base.{Err, IfOk, map, AllByRecursion, IsDatabase};
