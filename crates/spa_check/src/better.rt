@@ -1,4 +1,4 @@
-//! Finds the first student who gets a better project in another matching.
+//! Finds the first student who gets a better project in the second of two matchings.
 
 ghost use Rattle.std.specs.Prelude.{◌<◌, ◌↔◌, ℕ, IsTrue, MatchOption, length};
 ghost use Rattle.spa_model.specs.Spa.{IsMatching};
