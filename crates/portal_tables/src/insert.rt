@@ -1,5 +1,5 @@
-//! Inserts rows into a table: eight per statement, the rest singly. Also inserts the only rows of
-//! the tables `portal` and `second`.
+//! Inserts rows into a table: eight per statement, the rest singly. Also inserts the one row of
+//! the table `portal`, and the one row of the table `second`.
 
 ghost use Rattle.std.specs.Prelude.{◌≡◌, ◌<◌, ◌≤◌, ◌++◌, ◌∷◌};
 ghost use Rattle.portal_tables.specs.inner.Base.{ℕ, [], pos, map, OnOk, flat_map, Row, bound};
