@@ -1,5 +1,5 @@
 -- What a frame of the buffer says of the stream.
-use Rattle.portal_desk.proofs.Base.{◌≡◌, ℕ, ◌<◌, inl, inr, Bool, true, false, List, [], ◌++◌, length, take, drop, refl, sym, ap, ◌∙◌, subst, append-nil, arith, Option, Some, None, nat_le, if◌then◌else◌, Frame, Opens, whole, fault, seen, refused, Asked, is_head, ReadsMore, Heads, Follows, NoneWhole, IsTrue, ◌≢◌, IfErr, Result, Ok, Err, leb-true, not_headless, Framed, IsWithinLimits, over, item_of, after_lines, asked_of, fields_of, body_length, bad_length, KeepsStream, IsWithin, HoldsNone}
+use Rattle.portal_desk.proofs.Base.{◌≡◌, ℕ, ◌<◌, inl, inr, Bool, true, false, List, [], ◌++◌, length, take, drop, refl, sym, ap, ◌∙◌, subst, append-nil, arith, Option, Some, None, nat_le, if◌then◌else◌, Frame, Opens, whole, fault, seen, refused, Asked, is_head, ReadsMore, Heads, Follows, NoneWhole, IsTrue, ◌≢◌, IfErr, Result, Ok, Err, leb-true, not_headless, Framed, IsWithinLimits, over, item_of, after_lines, asked_of, fields_of, body_length, bad_length, IsWithin, HoldsNone}
 use Rattle.httparse.specs.Grammar.{RequestHead}
 use Rattle.httparse.proofs.GrammarLemmas.{request_unique}
 use Rattle.portal_desk.specs.declared.reading.FrameFault.{FrameFault}
