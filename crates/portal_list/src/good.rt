@@ -1,4 +1,4 @@
-//! Tests whether a keeper's sound world has stable results, and so is good.
+//! Tests whether a keeper's sound world is good: stable results, and a sound first round.
 
 ghost use Rattle.std.specs.Prelude.{◌≡◌, ◌↔◌, IfOk, IsTrue, true, map, filter, option_map};
 ghost use Rattle.spa_model.specs.Pairs.{number_in};

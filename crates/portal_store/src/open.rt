@@ -1,5 +1,5 @@
 //! Opens a store over tables. The file `seeing` checks the first round's tables; this file checks
-//! the second round's tables, and worlds of two rounds.
+//! the second round's tables, and the whole world.
 
 ghost use Rattle.std.specs.Prelude.{◌≡◌, ◌↔◌, false, [], IfOk, IfErr, IsTrue};
 ghost use Rattle.sqlite.specs.Effect.{IsDatabase};

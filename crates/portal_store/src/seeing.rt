@@ -1,4 +1,4 @@
-//! Checks the version, the rowids of the first round's tables, and that loaded worlds are good.
+//! Checks the first round's tables, their version and rowids, and that loaded worlds are good.
 
 ghost use Rattle.std.specs.Prelude.{◌≡◌, ◌≢◌, ◌↔◌, ◌⊎◌, false, [], ◌∷◌, pos, Err, List, IfErr};
 ghost use Rattle.std.specs.Prelude.{OnOk, IsTrue};

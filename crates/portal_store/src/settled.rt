@@ -1,4 +1,4 @@
-//! A function for proofs: a connection outside a transaction shows only committed data.
+//! Tells proofs that an open connection outside a transaction shows only committed data.
 
 ghost use Rattle.std.specs.Prelude.{◌≡◌, false, IsTrue};
 ghost use Rattle.sqlite.specs.Held.{state};

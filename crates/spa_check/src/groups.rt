@@ -1,4 +1,4 @@
-//! Counts the assigned students of each project and lecturer; finds the worst-ranked of them.
+//! Counts the assigned students of each project and lecturer, and finds their worst rank.
 
 ghost use Rattle.std.specs.Prelude.{◌≡◌, ◌+◌, ◌<◌, ◌^◌, IfOk, length, max};
 ghost use Rattle.spa_model.specs.Spa.{IsMatching, IsOn, place, ranking_of};

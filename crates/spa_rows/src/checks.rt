@@ -1,5 +1,5 @@
-//! Tests all rows for one fault, then all rows for the next fault. A refusal names the first row
-//! that has the fault.
+//! Tests all rows for one fault, then all rows for the next fault. A refusal names the
+//! lowest-numbered row that has the fault.
 
 ghost use Rattle.std.specs.Prelude.{◌≡◌, Err, IfErr, IfOk, IsOk, MatchOption, OnOk};
 ghost use Rattle.spa_rows.specs.Faults.{HasFault, HasNoneBefore, IsRefusal};

@@ -1,4 +1,4 @@
-//! `solve` runs the SPA-student algorithm, which moves a cursor in each list and shortens rankings.
+//! `solve` runs the SPA-student algorithm, with a cursor in each list and cut-offs in rankings.
 
 ghost use Rattle.std.specs.Prelude.{◌≡◌, ◌≢◌, ◌<◌, ◌≤◌, ◌+◌, ◌↔◌, ◌⊎◌, ℕ, IfOk, IfSome};
 ghost use Rattle.std.specs.Prelude.{MatchOption, IsTrue, Some, None, length, slice_set};

@@ -1,4 +1,4 @@
-//! Builds replies and decisions that several calls share, such as refusals.
+//! Builds replies and decisions, such as refusals.
 
 ghost use Rattle.std.specs.Prelude.{◌≡◌, codes, IfOk};
 ghost use Rattle.serde_json.specs.View as json;
