@@ -2,7 +2,7 @@
 pub use lib.Pointwise.{bytes_decides}
 pub use Rattle.std.proofs.Common.{Bool, Contains, Global, List, Vec, [], add-one, ap, append-nil, append_assoc, arith, cond, drop, false, get_or, inl, inr, length, map, refl, reverse, rules, subst, suc, sym, take, true, zero, ℕ, ◌++◌, ◌+◌, ◌-◌, ◌<◌, ◌∙◌, ◌∷◌, ◌≡◌, ◌≢◌, ◌≤◌, IfOk, Ok, Err, string_bytes, IsTrue, ◌↔◌, Bor, drop-cons}
 pub use Rattle.std.proofs.Math.Bool.{and-false, or-true, or_comm, or_assoc}
-pub use Rattle.std.proofs.lemmas.Bool.{eq-eqb, eqb-true, or_parts, or_from, cases_lt, false≢true, not-false, and_parts}
+pub use Rattle.std.proofs.lemmas.Bool.{ne_eqb, eq-eqb, eqb-true, or_parts, or_from, cases_lt, false≢true, not-false, and_parts}
 pub use Rattle.std.proofs.lemmas.Bool.Decides.{nat_tests}
 pub use Rattle.std.proofs.lemmas.Cmp.{nat_list_cmp_total, tied_itself}
 pub use Rattle.std.proofs.lemmas.Iterator.Adapters.{YieldsList-from_rev_slice}
@@ -22,13 +22,13 @@ pub use Rattle.portal_core.specs.Bodies.{is_assigned, person, phase_body, projec
 pub use Rattle.portal_core.specs.Faults.{ListFault, choice_fault, fault_at, in_catalogue, is_applicant, lacks_one, ranking_fault, Faulty, Roll, RollRefusal, Taken, Took, lecturer_roll, one_new, one_same, project_roll, student_roll, take_row, take_rows, AreFresh, conflict_at, roll_full, wrong_choice, wrong_rank, NoneWrong, IsFirstWrong, IsRefused, with_new, IsFirstRefused}
 pub use Rattle.portal_core.specs.Good.{Good, IsChoice, IsLecturer, IsProject, IsRanking, IsRound, IsStudent, Sound, codes_of, placed_to, placed_with, instance, instance_of, lecturer_keys, matching_of, places_of, project_keys, student_keys, KeepsCapacities, CanPublish}
 pub use Rattle.portal_core.specs.Heard.{ChangeSeen, Heard, HeardItem, SeenIf, Sees, is_move_or_add, replies_to, Reordered, SameButPlaces, own_item, may_show, SameStudent, Asked, HeardOf, IsMember, IsIdle, none, front, turn, chain, SameWish, equal, sets, SameRequest, has_places, moves_to_published, Unless, AlikeUntilPublished}
-pub use Rattle.portal_core.specs.Honest.{DifferInLists, DifferInOneList, HasBest, IsNoWorse, ListAlike, OrderAlike, RankAlike, ShowsBest, OneGainsNothing}
+pub use Rattle.portal_core.specs.Honest.{IsBusy, IsTaken, Prefers, StandsBefore, DifferInLists, DifferInOneList, HasBest, IsNoWorse, ListAlike, OrderAlike, RankAlike, ShowsBest, OneGainsNothing}
 pub use Rattle.portal_core.specs.Meaning.{texts_of, change_model, call_model, decision_model}
-pub use Rattle.portal_core.specs.Run.{OpensSecond, AllAnswered, Answers, Calls, HasForm, Refused, Request, Run, Serves, Step, StepLeaves, Wish, end_of, unavailable, OpensOnce}
+pub use Rattle.portal_core.specs.Run.{OpensSecond, AllAnswered, Answers, Calls, HasForm, Refused, Request, Run, Serves, Step, StepLeaves, Wish, end_of, unavailable, OpensOnce, HasReply}
 pub use Rattle.portal_core.specs.Sight.{AbstractCall, LecturerSees, OfficeSees, StudentSees}
 pub use Rattle.portal_core.specs.View.{Caller, LecturerCaller, NoCaller, OfficeCaller, StudentCaller, caller, caller_among, catalogue, lecturer_sees, lecturer_with, listing_with, listings, name_in, office_sees, persons, sight_of, student_sees, student_with, view, IsShownAt, ShowsStill}
 pub use Rattle.portal_core.specs.Words.{AreDistinct, Key, Rise, equals, has, is_before, is_empty, put, put_all, is_code_byte}
-pub use Rattle.portal_core.specs.World.{Change, Choices, Fill, Lecturers, Placements, Projects, Ranks, SecondRound, Students, To, changed, in_first, new_lecturer, new_student, opened, placed_before, placement_in, ranked_before, with_choice, with_fill, with_lecturers, with_place, with_projects, with_ranking, with_students, World, applicants_of, applicants_to, first, first_placed, first_published, given_to, given_with, has_result, in_play, is_at, is_choosing, is_from_ranking, is_left, is_published, is_ranking, is_second, is_setup, is_still_to_rank, lecturer_key, lecturers_in, lecturers_left, lowered_lecturer, lowered_project, pairs_of, placed_at, project_key, projects_in, projects_left, projects_of, shown_placement, student_key, students_in, students_left, pairs_with}
+pub use Rattle.portal_core.specs.World.{count_at, count_with, Change, Choices, Fill, Lecturers, Placements, Projects, Ranks, SecondRound, Students, To, changed, in_first, new_lecturer, new_student, opened, placed_before, placement_in, ranked_before, with_choice, with_fill, with_lecturers, with_place, with_projects, with_ranking, with_students, World, applicants_of, applicants_to, first, first_placed, first_published, given_to, given_with, has_result, in_play, is_at, is_choosing, is_from_ranking, is_left, is_published, is_ranking, is_second, is_setup, is_still_to_rank, lecturer_key, lecturers_in, lecturers_left, lowered_lecturer, lowered_project, pairs_of, placed_at, project_key, projects_in, projects_left, projects_of, shown_placement, student_key, students_in, students_left, pairs_with}
 pub use Rattle.portal_core.specs.declared.phase.Phase.{Phase}
 pub use Rattle.portal_core.specs.declared.phase.Phase.TheVariants.{Choosing, Published, Ranking, Setup}
 pub use Rattle.portal_core.specs.declared.phase.Round.{Round}
@@ -45,10 +45,12 @@ pub use Rattle.portal_core.specs.inner.Room.{by_project, own_keys, pairs_among, 
 pub use Rattle.portal_core.specs.inner.Tables.{HasKeys, HasRows, HasTexts}
 pub use Rattle.serde_json.specs.Data.{Data, string}
 pub use Rattle.serde_json.specs.View.{items_of, view as data_of}
-pub use Rattle.spa_honest.proofs.Gains.{honest_is_best as honest_by_number, no_group_gains as no_group_by_number}
+pub use Rattle.spa_honest.proofs.Explained.{why_not as reason_by_number}
+pub use Rattle.spa_honest.proofs.Fewer.{as_good_alike as alike_by_number, fewer_never_harm as fewer_by_number}
+pub use Rattle.spa_honest.proofs.Gains.{honest_is_best as honest_by_number, no_group_gains as no_group_by_number, no_group_gains_over_both as no_group_over_by_number}
 pub use Rattle.spa_honest.proofs.Waits.{waiting_never_pays as waiting_by_number, left_finds_none as left_by_number}
 pub use Rattle.spa_model.proofs.Numbers.{number_is, number_known}
 pub use Rattle.spa_model.proofs.PairFaults.{count_by-map}
 pub use Rattle.spa_model.specs.Pairs.{number_in}
-pub use Rattle.spa_model.specs.Spa.{IsAcceptable, IsBest, IsMatching, IsOn, IsStable, at_lecturer, at_project, is_lecturer, is_project, lecturer_of, place, project_of, choices_of, ranking_of, IsAsGood, IsDistinct, capacity_of, limit_of}
+pub use Rattle.spa_model.specs.Spa.{IsWith, Wants, Improves, IsBefore, IsAcceptable, IsBest, IsMatching, IsOn, IsStable, at_lecturer, at_project, is_lecturer, is_project, lecturer_of, place, project_of, choices_of, ranking_of, IsAsGood, IsDistinct, capacity_of, limit_of}
 pub use Rattle.spa_rows.specs.inner.Index.{text_eq}

@@ -10,25 +10,32 @@ use Rattle.portal_core.proofs.Opened.{the_second}
 use Rattle.portal_core.proofs.HonestLists.{IsStudent, IsBestRound, IsStableRound, world_ranked, x_given, no_worse_by_number, differ_in_one, by_rows, same_place, shown_student, find_left, shown}
 use Rattle.portal_core.proofs.LeftOver.{stable_rows, stays_open}
 
+-- a published first round, and one that a second round keeps
+pub honest_round : (w : World) → HasBest w → w.round ≡ First → IsBestRound w
+honest_round w best one = record {
+  sound = best.good.sound;
+  one = one;
+  published = best.published;
+  best = subst (λ x. IsBest (instance_of x) (places_of x)) (first_plays w one) best.best;
+}
+
+pub stable_first : (u : World) → Good u → is_second u.round ≡ true → IsStableRound (first u)
+stable_first u good second = record {
+  sound = (good.before second).sound;
+  one = refl;
+  published = refl;
+  stable = stable_rows (first u) (good.before second).sound refl refl ((good.before second).stable refl);
+}
+
 module _ (w u : World) (key : Key) (best : HasBest w) (good : Good u) (second : is_second u.round ≡ true) (differ : DifferInOneList w (first u) key) where
   one : w.round ≡ First
   one = sym differ.round
 
   honest : IsBestRound w
-  honest = record {
-    sound = best.good.sound;
-    one = one;
-    published = best.published;
-    best = subst (λ x. IsBest (instance_of x) (places_of x)) (first_plays w one) best.best;
-  }
+  honest = honest_round w best one
 
   other : IsStableRound (first u)
-  other = record {
-    sound = (good.before second).sound;
-    one = refl;
-    published = refl;
-    stable = stable_rows (first u) (good.before second).sound refl refl ((good.before second).stable refl);
-  }
+  other = stable_first u good second
 
   two : u.round ≡ Second
   two = the_second u.round second

@@ -24,7 +24,7 @@ filter_none : {X : Type 0} (a : X → Bool) (xs : List X) → AllByRecursion (λ
 filter_none a [] all = refl
 filter_none a (x ∷ xs) all = grind (arith, filter_none a xs all.1)
 
-count_none : {X : Type 0} (a : X → Bool) (xs : List X) → AllByRecursion (λ x. a x ≡ false) xs → count_by a xs ≡ 0
+pub count_none : {X : Type 0} (a : X → Bool) (xs : List X) → AllByRecursion (λ x. a x ≡ false) xs → count_by a xs ≡ 0
 count_none a xs all = sym (length-filter a xs) ∙ ap length (filter_none a xs all)
 
 -- a filter that drops none of those that count

@@ -150,7 +150,7 @@ module _ {X : Type 0} (roll : Roll X) (fault : RollRefusal) where
       unknown : (take_rows roll (at + 1) (r ∷ there) rs ≡ Faulty fault → FoundRow (at + 1) (r ∷ there) rs) → (bad full : Bool)
           → find (λ x. equals (roll.key x) (roll.key r)) there ≡ None → roll.is_bad there r ≡ bad → nat_le roll.limit (length there) ≡ full → FoundRow at there (r ∷ rs)
       unknown again true full so b f = here (inr (so, inl (b, one_fault (roll.fault at) (take_rows roll at there (r ∷ rs)) (rw (so, b) refl) e)))
-      unknown again false true so b f = here (inr (so, inr (grind (arith, nat_tests), one_fault roll_full (take_rows roll at there (r ∷ rs)) (rw (so, b, f) refl) e)))
+      unknown again false true so b f = here (inr (so, inr (b, grind (arith, nat_tests), one_fault roll_full (take_rows roll at there (r ∷ rs)) (rw (so, b, f) refl) e)))
       unknown again false false so b f =
           let (front, x, rest, new, n, parts, took, refused) = again (new_fault r (take_rows roll (at + 1) (r ∷ there) rs) (sym (new_step at there r rs so b f) ∙ e)) in
           (r ∷ front, x, rest, r ∷ new, n, ap (λ l. r ∷ l) parts, new_step at there r front so b f ∙ ap (one_new r) took, subst (λ m. IsRefused roll (with_new new (r ∷ there)) m x fault) (omega arith) refused)

@@ -1,5 +1,5 @@
 -- No group of students gains anything by other lists: of worlds.
-use Rattle.portal_core.proofs.Base.{◌≡◌, ℕ, ◌<◌, Bool, true, false, List, [], ◌∷◌, map, length, get_or, refl, sym, ◌∙◌, ap, subst, arith, Option, None, is_none, filter, AllByRecursion, get_or-map, length-map, AllZip-get_or, AllZip-long, project_of, IsOn, number_in, number_is, Round, First, Second, StudentRow, Key, equals, has, World, project_key, student_key, is_left, is_second, is_published, students_in, in_play, alone, alone_student, instance_of, places_of, student_keys, view, student_sees, Good, HasBest, ListAlike, DifferInLists, IsNoWorse, get_or_default, no_group_by_number, OneGainsNothing}
+use Rattle.portal_core.proofs.Base.{◌≡◌, ℕ, ◌<◌, Bool, true, false, List, [], ◌∷◌, map, length, get_or, refl, sym, ◌∙◌, ap, subst, arith, Option, None, is_none, filter, AllByRecursion, get_or-map, length-map, AllZip-get_or, AllZip-long, project_of, IsOn, number_in, number_is, Rise, Round, First, Second, StudentRow, Key, equals, has, World, project_key, student_key, is_left, is_second, is_published, students_in, in_play, alone, alone_student, instance_of, places_of, student_keys, view, student_sees, Good, HasBest, ListAlike, DifferInLists, IsNoWorse, get_or_default, no_group_by_number, OneGainsNothing}
 use Rattle.spa_honest.specs.Honest as instances
 use Rattle.portal_core.specs.declared.view.View.TheVariants as sees
 use Rattle.portal_core.specs.World.{Student}
@@ -12,13 +12,24 @@ use Rattle.portal_core.proofs.Capacities.{number_has}
 use Rattle.portal_core.proofs.HonestLists.{has_number, on_number, key_of, no_student, IsBestRound, IsStableRound, best_alone, stable_alone, world_ranked, differ_by_number, differ_alone, rows_no_worse, shown}
 
 -- what is kept of a list of keys stands on it and passes, and what does so is kept
-kept_key : (f : Key → Bool) (ks : List Key) (k : Key) → has ks k ≡ true → f k ≡ true → has (filter f ks) k ≡ true
+pub kept_key : (f : Key → Bool) (ks : List Key) (k : Key) → has ks k ≡ true → f k ≡ true → has (filter f ks) k ≡ true
 kept_key f [] k there meets = there
 kept_key f (g ∷ gs) k there meets = grind (arith, is_same k g, kept_key f gs k)
 
-was_key : (f : Key → Bool) (ks : List Key) (k : Key) → has (filter f ks) k ≡ true → (has ks k ≡ true) × (f k ≡ true)
+pub was_key : (f : Key → Bool) (ks : List Key) (k : Key) → has (filter f ks) k ≡ true → (has ks k ≡ true) × (f k ≡ true)
 was_key f [] k there = absurd (cc)
 was_key f (g ∷ gs) k there = grind (arith, is_same k g, was_key f gs k)
+
+-- who is of the group by key is so by number
+pub of_group : (x : World) (group : List Key) → Rise (student_keys x) → (t : ℕ) → t < length x.students → has group (get_or (student_keys x) t []) ≡ true → IsOn (map (number_in (student_keys x)) (filter (has (student_keys x)) group)) t
+of_group x group rise t t_in m =
+    let keys : List Key = student_keys x in
+    let ours : List Key = filter (has (student_keys x)) group in
+    let k : Key = get_or keys t [] in
+    let low : t < length keys = omega (arith, length-map x.students student_key) in
+    let number : number_in keys k ≡ t = number_back keys t rise low in
+    let k_low : number_in keys k < length keys = subst (λ n. n < length (student_keys x)) (sym number) low in
+    subst (IsOn (map (number_in keys) ours)) number (on_number keys ours k k_low (kept_key (has keys) group k m (number_has keys k k_low)))
 
 -- a student of a round, and who that is in the world
 abbrev IsShown : World → Student → Type 0
@@ -43,16 +54,6 @@ module _ (w v : World) (group : List Key) (one : HasBest w) (other : Good v) (di
 
   apart : DifferInLists (alone (in_play w)) (alone (in_play v)) (λ k. has group k ≡ true)
   apart = differ_alone w v (λ k. has group k ≡ true) differ
-
-  may : (t : ℕ) → t < length (alone (in_play w)).students → has group (get_or (student_keys (alone (in_play w))) t []) ≡ true → IsOn (map (number_in (student_keys (alone (in_play w)))) (filter (has (student_keys (alone (in_play w)))) group)) t
-  may t t_in m =
-      let keys : List Key = student_keys (alone (in_play w)) in
-      let ours : List Key = filter (has (student_keys (alone (in_play w)))) group in
-      let k : Key = get_or keys t [] in
-      let low : t < length keys = omega (arith, length-map (alone (in_play w)).students student_key) in
-      let number : number_in keys k ≡ t = number_back keys t best.sound.students_rise low in
-      let k_low : number_in keys k < length keys = subst (λ n. n < length (student_keys (alone (in_play w)))) (sym number) low in
-      subst (IsOn (map (number_in keys) ours)) number (on_number keys ours k k_low (kept_key (has keys) group k m (number_has keys k k_low)))
 
   -- a student with a key of the group gains nothing, if no better is published by number
   of_key : (k : Key) → has group k ≡ true → number_in (student_keys (alone (in_play w))) k < length (student_keys (alone (in_play w)))
@@ -114,7 +115,7 @@ module _ (w v : World) (group : List Key) (one : HasBest w) (other : Good v) (di
           no_group_by_number (instance_of (alone (in_play w))) (instance_of (alone (in_play v))) (map (number_in keys) ours) (places_of (alone (in_play w))) (places_of (alone (in_play v)))
           (world_ranked (alone (in_play w)) best.sound best.one best.published) (world_ranked (alone (in_play v)) rival.sound rival.one rival.published)
           (omega (arith, some, length-map ours (number_in keys)))
-          (differ_by_number (alone (in_play w)) (alone (in_play v)) rival.sound (λ k. has group k ≡ true) (IsOn (map (number_in keys) ours)) apart may)
+          (differ_by_number (alone (in_play w)) (alone (in_play v)) rival.sound (λ k. has group k ≡ true) (IsOn (map (number_in keys) ours)) apart (of_group (alone (in_play w)) group best.sound.students_rise))
           best.best rival.stable in
           let k = key_of keys ours found.0 found.1 in
           let mine = was_key (has (student_keys (alone (in_play w)))) group k.0 k.1 in

@@ -23,14 +23,14 @@ module _ (keys : List Key) where
   same_key a b e low = sym (number_is keys a (subst (λ n. n < length keys) (sym e) low)) ∙ ap (λ n. get_or keys n []) e ∙ number_is keys b low
 
   -- the numbers stand on a list as the keys do
-  place_number : (list : List Key) (k : Key) → number_in keys k < length keys → place (map (number_in keys) list) (number_in keys k) ≡ number_in list k
+  pub place_number : (list : List Key) (k : Key) → number_in keys k < length keys → place (map (number_in keys) list) (number_in keys k) ≡ number_in list k
   place_number [] k low = refl
   place_number (c ∷ cs) k low = grind (arith, same_key c k, eqb-true (number_in keys c) (number_in keys k), is_same c k, is_own k, place_number cs k low)
 
   pub on_number : (list : List Key) (k : Key) → number_in keys k < length keys → has list k ≡ true → IsOn (map (number_in keys) list) (number_in keys k)
   on_number list k low h = omega (arith, place_number list k low, has_number list k h, length-map list (number_in keys))
 
-  number_on : (list : List Key) (k : Key) → number_in keys k < length keys → IsOn (map (number_in keys) list) (number_in keys k) → has list k ≡ true
+  pub number_on : (list : List Key) (k : Key) → number_in keys k < length keys → IsOn (map (number_in keys) list) (number_in keys k) → has list k ≡ true
   number_on list k low on = number_has list k (omega (arith, place_number list k low, length-map list (number_in keys)))
 
   -- what stands among the numbers is the number of a key
@@ -86,7 +86,7 @@ module _ (w : World) (sound : Sound w) (one : w.round ≡ First) (published : is
   in_range : (s p : ℕ) → IsAcceptable (instance_of w) s p → s < length w.students
   in_range s p on = omega (arith, acceptable_in_range (instance_of w) s p on, length-map w.students (λ (x : Student). map (number_in (project_keys w)) x.choice))
 
-  known_key : (s p : ℕ) → IsAcceptable (instance_of w) s p → p < length (project_keys w)
+  pub known_key : (s p : ℕ) → IsAcceptable (instance_of w) s p → p < length (project_keys w)
   known_key s p on = on_roll (project_keys w) w.students chosen s p on
 
   known : (s p : ℕ) → IsAcceptable (instance_of w) s p → p < length w.projects
@@ -426,7 +426,7 @@ find_alone : (code : Key) (ss : List Student) (x : Student) → find (λ s. equa
 find_alone code [] x e = absurd (cc)
 find_alone code (s ∷ ss) x e = grind (arith, find_alone code ss x)
 
-found_alone : (w : World) (code : Key) (x : Student) → student_with w code ≡ Some x → is_left x ≡ true → find (λ s. equals s.row.code code) (alone (in_play w)).students ≡ Some (alone_student x)
+pub found_alone : (w : World) (code : Key) (x : Student) → student_with w code ≡ Some x → is_left x ≡ true → find (λ s. equals s.row.code code) (alone (in_play w)).students ≡ Some (alone_student x)
 found_alone w code x e left = find_alone code (students_in w.round w.students) x (by_round w.round)
   where
     by_round : (r : Round) → find (λ s. equals s.row.code code) (students_in r w.students) ≡ Some x

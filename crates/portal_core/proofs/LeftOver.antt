@@ -1,11 +1,11 @@
 -- What has room after the first round, and that nobody whom it left had listed it.
-use Rattle.portal_core.proofs.Base.{◌≡◌, ℕ, suc, ◌-◌, ◌<◌, ◌≤◌, Bool, true, false, List, [], ◌∷◌, map, length, get_or, refl, sym, ◌∙◌, ap, subst, arith, Option, Some, None, option_map, is_none, nat_lt, count_by, ◌&&◌, ◌||◌, AllByRecursion, list_any, eqb-true, nat_tests, get_or-map, length-map, list_any_at, IsStable, IsAcceptable, is_project, is_lecturer, at_project, at_lecturer, lecturer_of, project_of, number_in, number_is, count_by-map, Key, equals, has, World, lecturer_key, project_key, is_at, is_left, is_published, is_second, given_to, given_with, lowered_lecturer, lowered_project, lecturers_left, in_play, first, first_placed, first_published, First, Second, Listing, ProjectRow, instance, instance_of, matching_of, places_of, lecturer_keys, project_keys, in_catalogue, catalogue, Good, IsRound, Sound, IsChoice, placed_to, placed_with, capacity_of, limit_of, left_by_number}
+use Rattle.portal_core.proofs.Base.{◌≡◌, ℕ, suc, ◌-◌, ◌<◌, ◌≤◌, Bool, true, false, List, [], ◌∷◌, map, length, get_or, refl, sym, ◌∙◌, ap, subst, arith, Option, Some, None, option_map, is_none, nat_lt, count_by, ◌&&◌, ◌||◌, AllByRecursion, list_any, eqb-true, nat_tests, get_or-map, length-map, list_any_at, IsStable, IsAcceptable, is_project, is_lecturer, at_project, at_lecturer, lecturer_of, project_of, number_in, number_is, count_by-map, Key, equals, has, World, lecturer_key, project_key, is_at, is_left, is_published, is_second, given_to, given_with, lowered_lecturer, lowered_project, lecturers_left, in_play, first, first_placed, first_published, First, Second, Listing, ProjectRow, instance, instance_of, matching_of, places_of, lecturer_keys, project_keys, in_catalogue, catalogue, Good, IsRound, Sound, IsChoice, placed_to, placed_with, count_at, count_with, ne_eqb, capacity_of, limit_of, left_by_number}
 use Rattle.spa_honest.specs.Honest.{HasRoom}
 use Rattle.portal_core.specs.World.{Lecturer, Student}
 use Rattle.portal_core.proofs.Keys.{is_same, is_own}
 use Rattle.portal_core.proofs.AllLaws.{all_at, all_weaker, any_map, any_alike, filtered_any, is_sym}
 use Rattle.portal_core.proofs.Published.{number_back}
-use Rattle.portal_core.proofs.Capacities.{count_mono, known_in, first_plays, left_of, second_plays}
+use Rattle.portal_core.proofs.Capacities.{count_mono, count_none, known_in, first_plays, left_of, second_plays}
 use Rattle.portal_core.proofs.Opened.{the_second}
 use Rattle.portal_core.proofs.InRound.{catalogue_whole}
 use Rattle.portal_core.proofs.HonestLists.{no_student, no_project, no_lecturer, has_number, on_number, both_hold, lecturer_at, lecturer_known, choice, choices, given}
@@ -13,7 +13,7 @@ use Rattle.portal_core.proofs.HonestLists.{no_student, no_project, no_lecturer, 
 -- lists and tests
 
 -- where a test holds of some element, it holds at a place
-any_place : {X : Type 0} (q : X → Bool) (xs : List X) (d : X) → list_any q xs ≡ true → (k : ℕ) × (k < length xs) × (q (get_or xs k d) ≡ true)
+pub any_place : {X : Type 0} (q : X → Bool) (xs : List X) (d : X) → list_any q xs ≡ true → (k : ℕ) × (k < length xs) × (q (get_or xs k d) ≡ true)
 any_place q [] d h = absurd (cc)
 any_place {X} q (x ∷ xs) d h = by_test (q x) refl (any_place q xs d) h
   where
@@ -22,11 +22,11 @@ any_place {X} q (x ∷ xs) d h = by_test (q x) refl (any_place q xs d) h
     by_test false e r t = let rest = r t in (suc rest.0, omega (arith, rest.1), rest.2)
 
 -- what holds at each place holds of each
-all_from : {X : Type 0} (P : X → Type 0) (xs : List X) (d : X) → ((k : ℕ) → k < length xs → P (get_or xs k d)) → AllByRecursion P xs
+pub all_from : {X : Type 0} (P : X → Type 0) (xs : List X) (d : X) → ((k : ℕ) → k < length xs → P (get_or xs k d)) → AllByRecursion P xs
 all_from P [] d each = tt
 all_from P (x ∷ xs) d each = (each 0 (omega arith), all_from P xs d (λ k h. each (suc k) (omega arith)))
 
-and_parts : (a b : Bool) → (a && b) ≡ true → (a ≡ true) × (b ≡ true)
+pub and_parts : (a b : Bool) → (a && b) ≡ true → (a ≡ true) × (b ≡ true)
 and_parts a b h = grind arith
 
 is_below : (n : ℕ) → nat_lt 0 n ≡ true → 0 < n
@@ -36,13 +36,7 @@ is_none_of : {X : Type 0} (o : Option X) → is_none o ≡ true → o ≡ None
 is_none_of o h = grind arith
 
 -- one published round, by its rows
-module _ (v : World) (sound : Sound v) (one : v.round ≡ First) (published : is_published v.phase ≡ true) (stable : IsStable (instance v) (matching_of v)) where
-  pub stable_rows : IsStable (instance_of v) (places_of v)
-  stable_rows = subst (λ u. IsStable (instance_of u) (places_of u)) (first_plays v one) stable
-
-  placed_known : AllByRecursion (λ (s : Student). (q : Key) → s.placed ≡ Some q → number_in (project_keys v) q < length (project_keys v)) v.students
-  placed_known = subst (λ u. AllByRecursion (λ (s : Student). (q : Key) → s.placed ≡ Some q → number_in (project_keys u) q < length (project_keys u)) u.students) (first_plays v one) (known_in v sound stable.matching)
-
+module _ (v : World) (sound : Sound v) (one : v.round ≡ First) (published : is_published v.phase ≡ true) where
   key_at : (k : ℕ) → k < length v.projects → get_or (project_keys v) k [] ≡ (get_or v.projects k no_project).key
   key_at k h = get_or-map project_key v.projects k no_project [] h
 
@@ -50,44 +44,74 @@ module _ (v : World) (sound : Sound v) (one : v.round ≡ First) (published : is
   at_key : (k : ℕ) → k < length v.projects → (q : Key) → number_in (project_keys v) q < length (project_keys v) → number_in (project_keys v) q ≡ k → q ≡ (get_or v.projects k no_project).key
   at_key k h q low same = sym (number_is (project_keys v) q low) ∙ ap (λ n. get_or (project_keys v) n []) same ∙ key_at k h
 
-  few_at : (k : ℕ) → k < length v.projects → at_project (places_of v) k ≤ placed_to v.students (get_or v.projects k no_project).key
-  few_at k h =
-      let counted : at_project (places_of v) k ≡ count_by (λ s. is_project k (option_map (number_in (project_keys v)) s.placed)) v.students
-      = count_by-map (is_project k) (λ (s : Student). option_map (number_in (project_keys v)) s.placed) v.students in
-      let fewer : count_by (λ s. is_project k (option_map (number_in (project_keys v)) s.placed)) v.students ≤ count_by (λ (s : Student). is_at (get_or v.projects k no_project).key s.placed) v.students
-      = count_mono _ _ v.students (all_weaker _ _ (λ s low. here s.placed low) v.students placed_known) in
-      omega (arith, counted, fewer)
-    where
-      here : (o : Option Key) → ((q : Key) → o ≡ Some q → number_in (project_keys v) q < length (project_keys v)) → is_project k (option_map (number_in (project_keys v)) o) ≡ true → is_at (get_or v.projects k no_project).key o ≡ true
-      here None low e = absurd (cc)
-      here (Some q) low e = subst (λ x. equals q x ≡ true) (at_key k h q (low q refl) (eqb-true (number_in (project_keys v) q) k e)) (is_own q)
+  -- students at known projects, by number and by key
+  module _ (place : Student → Option Key) (ss : List Student) (known : AllByRecursion (λ s. (q : Key) → place s ≡ Some q → number_in (project_keys v) q < length (project_keys v)) ss) where
+    pub few_at : (k : ℕ) → k < length v.projects → at_project (map (λ s. option_map (number_in (project_keys v)) (place s)) ss) k ≤ count_at place ss (get_or v.projects k no_project).key
+    few_at k h =
+        let counted : at_project (map (λ s. option_map (number_in (project_keys v)) (place s)) ss) k ≡ count_by (λ s. is_project k (option_map (number_in (project_keys v)) (place s))) ss
+        = count_by-map (is_project k) (λ (s : Student). option_map (number_in (project_keys v)) (place s)) ss in
+        let fewer : count_by (λ s. is_project k (option_map (number_in (project_keys v)) (place s))) ss ≤ count_by (λ (s : Student). is_at (get_or v.projects k no_project).key (place s)) ss
+        = count_mono _ _ ss (all_weaker _ _ (λ s low. here (place s) low) ss known) in
+        omega (arith, counted, fewer)
+      where
+        here : (o : Option Key) → ((q : Key) → o ≡ Some q → number_in (project_keys v) q < length (project_keys v)) → is_project k (option_map (number_in (project_keys v)) o) ≡ true → is_at (get_or v.projects k no_project).key o ≡ true
+        here None low e = absurd (cc)
+        here (Some q) low e = subst (λ x. equals q x ≡ true) (at_key k h q (low q refl) (eqb-true (number_in (project_keys v) q) k e)) (is_own q)
 
-  few_with : (h : ℕ) → h < length v.lecturers → at_lecturer (instance_of v) (places_of v) h ≤ placed_with v.projects v.students (get_or v.lecturers h no_lecturer).row.key
-  few_with h h_in =
-      let counted : at_lecturer (instance_of v) (places_of v) h ≡ count_by (λ s. is_lecturer (instance_of v) h (option_map (number_in (project_keys v)) s.placed)) v.students
-      = count_by-map (is_lecturer (instance_of v) h) (λ (s : Student). option_map (number_in (project_keys v)) s.placed) v.students in
-      let fewer : count_by (λ s. is_lecturer (instance_of v) h (option_map (number_in (project_keys v)) s.placed)) v.students ≤ placed_with v.projects v.students (get_or v.lecturers h no_lecturer).row.key
-      = count_mono _ _ v.students (all_weaker _ _ (λ s low. here s.placed low) v.students placed_known) in
-      omega (arith, counted, fewer)
-    where
-      here : (o : Option Key) → ((q : Key) → o ≡ Some q → number_in (project_keys v) q < length (project_keys v)) → is_lecturer (instance_of v) h (option_map (number_in (project_keys v)) o) ≡ true
-          → list_any (λ (p : ProjectRow). equals p.lecturer (get_or v.lecturers h no_lecturer).row.key && is_at p.key o) v.projects ≡ true
-      here None low e = absurd (cc)
-      here (Some q) low e =
-          let k : ℕ = number_in (project_keys v) q in
-          let k_low : number_in (project_keys v) q < length (project_keys v) = low q refl in
-          let k_in : number_in (project_keys v) q < length v.projects = omega (arith, k_low, length-map v.projects project_key) in
-          let row : ProjectRow = get_or v.projects (number_in (project_keys v) q) no_project in
-          let l_is : number_in (lecturer_keys v) (get_or v.projects (number_in (project_keys v) q) no_project).lecturer ≡ h
-          = sym (lecturer_at v sound one published (number_in (project_keys v) q) k_in) ∙ eqb-true (lecturer_of (instance_of v) (number_in (project_keys v) q)) h e in
-          let of_l : (get_or v.projects (number_in (project_keys v) q) no_project).lecturer ≡ (get_or v.lecturers h no_lecturer).row.key
-          = sym (number_is (lecturer_keys v) (get_or v.projects (number_in (project_keys v) q) no_project).lecturer (lecturer_known v sound one published (number_in (project_keys v) q) k_in))
-          ∙ ap (λ n. get_or (lecturer_keys v) n []) l_is ∙ get_or-map lecturer_key v.lecturers h no_lecturer [] h_in in
-          let q_is : q ≡ (get_or v.projects (number_in (project_keys v) q) no_project).key = at_key (number_in (project_keys v) q) k_in q k_low refl in
-          list_any_at (λ (p : ProjectRow). equals p.lecturer (get_or v.lecturers h no_lecturer).row.key && equals q p.key) v.projects (number_in (project_keys v) q) no_project k_in
-          (both_hold _ _
-          (subst (λ x. equals (get_or v.projects (number_in (project_keys v) q) no_project).lecturer x ≡ true) of_l (is_own (get_or v.projects (number_in (project_keys v) q) no_project).lecturer))
-          (subst (λ x. equals q x ≡ true) q_is (is_own q)))
+    pub few_with : (h : ℕ) → h < length v.lecturers → at_lecturer (instance_of v) (map (λ s. option_map (number_in (project_keys v)) (place s)) ss) h ≤ count_with place v.projects ss (get_or v.lecturers h no_lecturer).row.key
+    few_with h h_in =
+        let counted : at_lecturer (instance_of v) (map (λ s. option_map (number_in (project_keys v)) (place s)) ss) h ≡ count_by (λ s. is_lecturer (instance_of v) h (option_map (number_in (project_keys v)) (place s))) ss
+        = count_by-map (is_lecturer (instance_of v) h) (λ (s : Student). option_map (number_in (project_keys v)) (place s)) ss in
+        let fewer : count_by (λ s. is_lecturer (instance_of v) h (option_map (number_in (project_keys v)) (place s))) ss ≤ count_with place v.projects ss (get_or v.lecturers h no_lecturer).row.key
+        = count_mono _ _ ss (all_weaker _ _ (λ s low. here (place s) low) ss known) in
+        omega (arith, counted, fewer)
+      where
+        here : (o : Option Key) → ((q : Key) → o ≡ Some q → number_in (project_keys v) q < length (project_keys v)) → is_lecturer (instance_of v) h (option_map (number_in (project_keys v)) o) ≡ true
+            → list_any (λ (p : ProjectRow). equals p.lecturer (get_or v.lecturers h no_lecturer).row.key && is_at p.key o) v.projects ≡ true
+        here None low e = absurd (cc)
+        here (Some q) low e =
+            let k : ℕ = number_in (project_keys v) q in
+            let k_low : number_in (project_keys v) q < length (project_keys v) = low q refl in
+            let k_in : number_in (project_keys v) q < length v.projects = omega (arith, k_low, length-map v.projects project_key) in
+            let row : ProjectRow = get_or v.projects (number_in (project_keys v) q) no_project in
+            let l_is : number_in (lecturer_keys v) (get_or v.projects (number_in (project_keys v) q) no_project).lecturer ≡ h
+            = sym (lecturer_at v sound one published (number_in (project_keys v) q) k_in) ∙ eqb-true (lecturer_of (instance_of v) (number_in (project_keys v) q)) h e in
+            let of_l : (get_or v.projects (number_in (project_keys v) q) no_project).lecturer ≡ (get_or v.lecturers h no_lecturer).row.key
+            = sym (number_is (lecturer_keys v) (get_or v.projects (number_in (project_keys v) q) no_project).lecturer (lecturer_known v sound one published (number_in (project_keys v) q) k_in))
+            ∙ ap (λ n. get_or (lecturer_keys v) n []) l_is ∙ get_or-map lecturer_key v.lecturers h no_lecturer [] h_in in
+            let q_is : q ≡ (get_or v.projects (number_in (project_keys v) q) no_project).key = at_key (number_in (project_keys v) q) k_in q k_low refl in
+            list_any_at (λ (p : ProjectRow). equals p.lecturer (get_or v.lecturers h no_lecturer).row.key && equals q p.key) v.projects (number_in (project_keys v) q) no_project k_in
+            (both_hold _ _
+            (subst (λ x. equals (get_or v.projects (number_in (project_keys v) q) no_project).lecturer x ≡ true) of_l (is_own (get_or v.projects (number_in (project_keys v) q) no_project).lecturer))
+            (subst (λ x. equals q x ≡ true) q_is (is_own q)))
+
+    -- and nobody past the rolls
+    pub none_at : (k : ℕ) → length v.projects ≤ k → at_project (map (λ s. option_map (number_in (project_keys v)) (place s)) ss) k ≡ 0
+    none_at k past = count_by-map (is_project k) (λ (s : Student). option_map (number_in (project_keys v)) (place s)) ss ∙ count_none _ ss (all_weaker _ _ (λ s low. off (place s) low) ss known)
+      where
+        off : (o : Option Key) → ((q : Key) → o ≡ Some q → number_in (project_keys v) q < length (project_keys v)) → is_project k (option_map (number_in (project_keys v)) o) ≡ false
+        off None low = refl
+        off (Some q) low = let k_low = low q refl in ne_eqb (number_in (project_keys v) q) k (λ same. omega (arith, k_low, past, length-map v.projects project_key))
+
+    pub none_with : (h : ℕ) → length v.lecturers ≤ h → at_lecturer (instance_of v) (map (λ s. option_map (number_in (project_keys v)) (place s)) ss) h ≡ 0
+    none_with h past = count_by-map (is_lecturer (instance_of v) h) (λ (s : Student). option_map (number_in (project_keys v)) (place s)) ss ∙ count_none _ ss (all_weaker _ _ (λ s low. off (place s) low) ss known)
+      where
+        off : (o : Option Key) → ((q : Key) → o ≡ Some q → number_in (project_keys v) q < length (project_keys v)) → is_lecturer (instance_of v) h (option_map (number_in (project_keys v)) o) ≡ false
+        off None low = refl
+        off (Some q) low =
+            let k_low = low q refl in
+            let k_in : number_in (project_keys v) q < length v.projects = omega (arith, k_low, length-map v.projects project_key) in
+            let l_is = lecturer_at v sound one published (number_in (project_keys v) q) k_in in
+            let l_low = lecturer_known v sound one published (number_in (project_keys v) q) k_in in
+            ne_eqb (lecturer_of (instance_of v) (number_in (project_keys v) q)) h (λ same. omega (arith, l_is, l_low, past, length-map v.lecturers lecturer_key))
+
+-- and its result
+module _ (v : World) (sound : Sound v) (one : v.round ≡ First) (published : is_published v.phase ≡ true) (stable : IsStable (instance v) (matching_of v)) where
+  pub stable_rows : IsStable (instance_of v) (places_of v)
+  stable_rows = subst (λ u. IsStable (instance_of u) (places_of u)) (first_plays v one) stable
+
+  pub placed_known : AllByRecursion (λ (s : Student). (q : Key) → s.placed ≡ Some q → number_in (project_keys v) q < length (project_keys v)) v.students
+  placed_known = subst (λ u. AllByRecursion (λ (s : Student). (q : Key) → s.placed ≡ Some q → number_in (project_keys u) q < length (project_keys u)) u.students) (first_plays v one) (known_in v sound stable.matching)
 
   -- a row with room, whose lecturer has room, has it by number
   has_room : (k h : ℕ) → k < length v.projects → h < length v.lecturers → (get_or v.projects k no_project).lecturer ≡ (get_or v.lecturers h no_lecturer).row.key
@@ -100,8 +124,8 @@ module _ (v : World) (sound : Sound v) (one : v.round ≡ First) (published : is
       = lecturer_at v sound one published k k_in ∙ ap (number_in (lecturer_keys v)) (of_l ∙ sym (get_or-map lecturer_key v.lecturers h no_lecturer [] h_in)) ∙ number_back (lecturer_keys v) h sound.lecturers_rise h_low in
       let cap : capacity_of (instance_of v) k ≡ (get_or v.projects k no_project).capacity = get_or-map (λ (p : ProjectRow). p.capacity) v.projects k no_project 0 k_in in
       let top : limit_of (instance_of v) h ≡ (get_or v.lecturers h no_lecturer).row.capacity = get_or-map (λ (l : Lecturer). l.row.capacity) v.lecturers h no_lecturer 0 h_in in (
-        omega (arith, few_at k k_in, room, cap),
-        rw l_is (omega (arith, few_with h h_in, room_l, top)),
+        omega (arith, few_at v sound one published (λ s. s.placed) v.students placed_known k k_in, room, cap),
+        rw l_is (omega (arith, few_with v sound one published (λ s. s.placed) v.students placed_known h h_in, room_l, top)),
       )
 
 -- a second-round project and its lecturer, by places on the rolls: the first round left both room
@@ -167,6 +191,13 @@ has_rows w p two there = by_project (project_row w p two there)
               room = room;
               lecturer_room = below row.row.capacity (given_with w.projects w.students row.row.key) parts.0;
             }
+
+-- what takes part is on the roll
+pub plays_known : (w : World) (p : Key) → w.round ≡ Second → has (project_keys (in_play w)) p ≡ true → has (project_keys w) p ≡ true
+plays_known w p two there =
+    let r : HasRows w p = has_rows w p two there in
+    let low = r.project_in in
+    list_any_at (equals p) (project_keys w) r.project [] (omega (arith, low, length-map w.projects project_key)) (subst (λ x. equals p x ≡ true) (r.key ∙ sym (get_or-map project_key w.projects r.project no_project [] r.project_in)) (is_own p))
 
 -- what takes part in the second round has room after the first
 module _ (w : World) (sound : Sound w) (two : w.round ≡ Second) (before : IsRound (first w)) where

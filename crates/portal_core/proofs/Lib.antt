@@ -45,3 +45,7 @@ pub mod LeftOver
 mod BothRounds
 mod OverRuns
 mod BestShown
+pub mod Going
+pub mod OverGroups
+pub mod FewerLists
+pub mod Reasons

@@ -1,11 +1,12 @@
 -- From a published first round a run reaches that world, or a second round that opened from it.
-use Rattle.portal_core.proofs.Base.{◌≡◌, ◌⊎◌, inl, inr, true, false, List, refl, sym, ◌∙◌, ap, subst, AllByRecursion, Key, World, is_published, is_second, first, SecondRound, changed, Published, First, StudentSees, Caller, caller, sight_of, view, AbstractCall, Answer, Decision, decision, Good, StepLeaves, Step, Request, Run, HasBest, DifferInOneList, IsNoWorse, arith}
+use Rattle.portal_core.proofs.Base.{DifferInLists, OneGainsNothing, has, student_keys, ◌≡◌, ◌⊎◌, inl, inr, true, false, List, refl, sym, ◌∙◌, ap, subst, AllByRecursion, Key, World, is_published, is_second, first, SecondRound, changed, Published, First, StudentSees, Caller, caller, sight_of, view, AbstractCall, Answer, Decision, decision, Good, StepLeaves, Step, Request, Run, HasBest, DifferInOneList, IsNoWorse, arith}
 use Rattle.portal_core.specs.declared.view.View.TheVariants as sees
 use Rattle.portal_core.proofs.Steps.{run_keeps, step_good}
 use Rattle.portal_core.proofs.Opened.{opens_to, first_stays}
 use Rattle.portal_core.proofs.Opening.{first_kept}
 use Rattle.portal_core.proofs.AllLaws.{all_weaker}
 use Rattle.portal_core.proofs.BothRounds.{honest_over_both}
+use Rattle.portal_core.proofs.OverGroups.{no_group_gains_over_both}
 
 module _ (w u : World) (out : w.phase ≡ Published) where
   -- nothing changed, or the second round opened
@@ -55,3 +56,14 @@ honest_over_runs w v code a asked told after best good one out differ sees_a run
     no_worse u (good_u, inl is) b two sees_b = let no : is_second u.round ≡ false = ap (λ (x : World). is_second x.round) is ∙ ap is_second one in absurd (cc)
     no_worse u (good_u, inr (two_u, is)) b two sees_b =
         honest_over_both w u code a b best good_u two (subst (λ x. DifferInOneList w x a.me.key) (sym is) differ) sees_a sees_b
+
+-- NOR DOES A GROUP
+pub no_group_over_runs : (w v : World) (group : List Key) (key : Key) (asked : List Request) (told : List Answer) (after : List World) → HasBest w → Good v → v.round ≡ First → v.phase ≡ Published
+    → DifferInLists w v (λ k. has group k ≡ true) → has group key ≡ true → has (student_keys w) key ≡ true → Run v asked told after
+    → AllByRecursion (λ u. is_second u.round ≡ true → OneGainsNothing w u group) after
+no_group_over_runs w v group key asked told after best good one out differ in_group there run =
+    all_weaker _ _ no_worse after (run_keeps (Reached v one out) (step_reaches v one out) v asked told after (good, inl refl) run)
+  where
+    no_worse : (u : World) → Reached v one out u → is_second u.round ≡ true → OneGainsNothing w u group
+    no_worse u (good_u, inl is) two = let no : is_second u.round ≡ false = ap (λ (x : World). is_second x.round) is ∙ ap is_second one in absurd (cc)
+    no_worse u (good_u, inr (two_u, is)) two = no_group_gains_over_both w u group best good_u two (subst (λ x. DifferInLists w x (λ k. has group k ≡ true)) (sym is) differ) key in_group there

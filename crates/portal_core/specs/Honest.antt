@@ -1,10 +1,10 @@
 -- Two worlds that differ in some students' lists, and what these students are shown.
-use Rattle.portal_core.specs.Base.{AllZip, AllByRecursion, IsBest, number_in, Published, First}
-use Rattle.std.specs.Prelude.{◌≡◌, ◌<◌, ◌≤◌, true, false, List, [], Option, Some, unwrap_or}
+use Rattle.portal_core.specs.Base.{list_any, AllZip, AllByRecursion, IsBest, number_in, Published, First}
+use Rattle.std.specs.Prelude.{◌≡◌, ◌⊎◌, ◌&&◌, ◌<◌, ◌≤◌, true, false, List, [], Option, Some, unwrap_or}
 use Rattle.portal_core.specs.declared.view.View.TheVariants as sees
-use Rattle.portal_core.specs.Words.{Key, has}
-use Rattle.portal_core.specs.World.{World, Lecturer, Student, first, is_left, is_second, is_published, in_play}
-use Rattle.portal_core.specs.Good.{instance, matching_of, student_keys, Good}
+use Rattle.portal_core.specs.Words.{Key, equals, has}
+use Rattle.portal_core.specs.World.{World, Lecturer, ProjectRow, Student, is_at, first, is_left, is_second, is_published, in_play}
+use Rattle.portal_core.specs.Good.{instance, matching_of, student_keys, placed_to, placed_with, Good}
 use Rattle.portal_core.specs.Sight.{StudentSees}
 use Rattle.portal_core.specs.View.{catalogue, view}
 use Rattle.portal_core.specs.Faults.{in_catalogue}
@@ -96,3 +96,45 @@ abbrev pub NoGroupGains : Type 0
 NoGroupGains =
     (w v : World) (group : List Key) (key : Key) → HasBest w → Good v → DifferInLists w v (λ k. has group k ≡ true)
     → has group key ≡ true → has (student_keys (in_play w)) key ≡ true → OneGainsNothing w v group
+
+-- if u's first round differs from w in the lists of a group with a member in it, some member gains
+-- nothing over both rounds of u
+abbrev pub NoGroupGainsOverBoth : Type 0
+NoGroupGainsOverBoth =
+    (w u : World) (group : List Key) (key : Key) → HasBest w → Good u → is_second u.round ≡ true → DifferInLists w (first u) (λ k. has group k ≡ true)
+    → has group key ≡ true → has (student_keys w) key ≡ true → OneGainsNothing w u group
+
+-- the same of each second round that a run reaches from a published first round v
+abbrev pub NoGroupGainsOverRuns : Type 0
+NoGroupGainsOverRuns =
+    (w v : World) (group : List Key) (key : Key) (asked : List Request) (told : List Answer) (after : List World)
+    → HasBest w → Good v → v.round ≡ First → v.phase ≡ Published → DifferInLists w v (λ k. has group k ≡ true)
+    → has group key ≡ true → has (student_keys w) key ≡ true → Run v asked told after
+    → AllByRecursion (λ u. is_second u.round ≡ true → OneGainsNothing w u group) after
+
+-- if the group has no list in v, its best result shows nobody else worse than w, by the own list
+abbrev pub FewerNeverHarm : Type 0
+FewerNeverHarm =
+    (w v : World) (group : List Key) (code : Key) (a b : StudentSees) → Good w → HasBest v → DifferInLists w v (λ k. has group k ≡ true)
+    → AllByRecursion (λ s. has group s.row.key ≡ true → s.choice ≡ []) v.students
+    → view v code ≡ sees.Student a → view w code ≡ sees.Student b → has group a.me.key ≡ false → IsNoWorse a.choices a.result b.result
+
+-- the project is on the student's list, before the one that this round's result gives, if any
+abbrev pub Prefers : Student → Key → Type 0
+Prefers s p = (has s.choice p ≡ true) × ((q : Key) → s.placed ≡ Some q → number_in s.choice p < number_in s.choice q)
+
+-- p is full, and its lecturer l ranks each student there above the student with the key
+pub record IsTaken (w : World) (l : Lecturer) (p : ProjectRow) (key : Key) : Type 0 where
+  pub full : p.capacity ≤ placed_to w.students p.key
+  pub above : AllByRecursion (λ t. t.placed ≡ Some p.key → StandsBefore (unwrap_or l.ranking []) t.row.key key) w.students
+
+-- l is full, and ranks each own student above the student with the key
+pub record IsBusy (w : World) (l : Lecturer) (key : Key) : Type 0 where
+  pub full : l.row.capacity ≤ placed_with w.projects w.students l.row.key
+  pub above : AllByRecursion (λ t. list_any (λ p. equals p.lecturer l.row.key && is_at p.key t.placed) w.projects ≡ true → StandsBefore (unwrap_or l.ranking []) t.row.key key) w.students
+
+-- in a published round, each project that a student prefers is taken, or its lecturer is busy
+abbrev pub WhyNot : Type 0
+WhyNot =
+    (w : World) → Good w → w.round ≡ First → is_published w.phase ≡ true
+    → AllByRecursion (λ s. AllByRecursion (λ p. Prefers s p.key → AllByRecursion (λ l. l.row.key ≡ p.lecturer → IsTaken w l p s.row.key ⊎ IsBusy w l s.row.key) w.lecturers) w.projects) w.students

@@ -1,7 +1,7 @@
 //! Laws of the portal: privacy, good worlds, runs, refusals, results and honest lists.
 
 ghost use Rattle.std.specs.Prelude.{◌≡◌, ◌⊎◌, ◌++◌, ◌∷◌, [], List, map, codes, true, false, Some};
-ghost use Rattle.std.specs.Prelude.{None};
+ghost use Rattle.std.specs.Prelude.{None, ◌↔◌};
 ghost use Rattle.portal_core.specs.Words.{Key, equals, has};
 ghost use Rattle.portal_core.specs.World.{World, Lecturer, is_published, in_play, first, is_second};
 ghost use Rattle.portal_core.specs.World.{student_key, applicants_of, is_from_ranking, SecondRound};
@@ -11,6 +11,8 @@ ghost use Rattle.portal_core.specs.Good.{Good, KeepsCapacities, codes_of, IsChoi
 ghost use Rattle.portal_core.specs.Good.{instance};
 ghost use Rattle.portal_core.specs.Honest.{HasBest, HonestIsBest, HonestOverBoth, HonestOverRuns};
 ghost use Rattle.portal_core.specs.Honest.{LeftFindsNone, NoGroupGains, ShowsBest};
+ghost use Rattle.portal_core.specs.Honest.{NoGroupGainsOverBoth, NoGroupGainsOverRuns};
+ghost use Rattle.portal_core.specs.Honest.{FewerNeverHarm, WhyNot};
 ghost use Rattle.portal_core.specs.Faults.{ListFault, fault_at, choice_fault, ranking_fault};
 ghost use Rattle.portal_core.specs.Faults.{lacks_one, RollRefusal, Faulty, Took, take_rows};
 ghost use Rattle.portal_core.specs.Faults.{lecturer_roll, project_roll, student_roll, AreFresh};
@@ -27,7 +29,7 @@ ghost use Rattle.portal_core.specs.declared.view.View.TheVariants as sees;
 ghost use Rattle.portal_core.specs.declared.rows.Listing.{Listing};
 ghost use Rattle.portal_core.specs.declared.rows.ProjectRow.{ProjectRow};
 ghost use Rattle.portal_core.specs.Run.{Request, Step, Serves, Calls, Run, AllAnswered, end_of};
-ghost use Rattle.portal_core.specs.Run.{OpensSecond, OpensOnce};
+ghost use Rattle.portal_core.specs.Run.{OpensSecond, OpensOnce, HasForm, HasReply};
 ghost use Rattle.portal_core.specs.Heard.{IsMember, IsIdle, is_move_or_add, HeardItem, Heard};
 ghost use Rattle.portal_core.specs.Heard.{replies_to, SameButPlaces, SameRequest};
 ghost use Rattle.portal_core.specs.Heard.{AlikeUntilPublished};
@@ -141,6 +143,16 @@ pub fn one_run()
         (after later : List World)
         → Run w asked told after → AllAnswered told → Run w asked said later → AllAnswered said
         → (told ≡ said) × (after ≡ later) }
+{}
+
+/// Law: from a good world, each call whose rows have the forms of their roll has a step. Requests
+/// have a run without a 503 exactly if each is such a call, or has a refusal other than 503.
+pub fn run_exists()
+    ensures step { (w : World) (code : Key) (ask : AbstractCall) → Good w → HasForm ask
+        → (reply : Answer) × (v : World) × Step w code ask reply v }
+    ensures run { (w : World) (asked : List Request) → Good w
+        → ((told : List Answer) × (after : List World) × Run w asked told after × AllAnswered told)
+        ↔ AllByRecursion (λ r. HasReply r.wish) asked }
 {}
 
 /// Law: a list of at most 20 known projects, none twice, has no fault. Nor has a ranking of each
@@ -265,6 +277,28 @@ pub fn left_finds_none()
 /// the round.
 pub fn no_group_gains()
     ensures { NoGroupGains }
+{}
+
+/// Law: nor do they over both rounds, whoever of the group waits for the second. Whatever lists and
+/// rankings the second round has, some member is shown nothing better than with honest lists in the
+/// first, by that member's honest list. The same holds for each second round that a run reaches.
+pub fn no_group_gains_over_both()
+    ensures worlds { NoGroupGainsOverBoth }
+    ensures runs { NoGroupGainsOverRuns }
+{}
+
+/// Law: students who submit no list harm nobody else. By the own list, each other student is shown
+/// nothing better in a good world with their lists. The world without them is good, and published
+/// with its best result. Both worlds differ as in `no_group_gains`.
+pub fn fewer_never_harm()
+    ensures { FewerNeverHarm }
+{}
+
+/// Law: in a published first round, there is a reason for each project that a student listed before
+/// the own result. It is full, and its lecturer ranks each student there higher; or its lecturer is
+/// full, and ranks each own student higher. By `played_alone`, the same holds in the second round.
+pub fn why_not()
+    ensures { WhyNot }
 {}
 
 /// Law: the replies in a small example world, worked out.

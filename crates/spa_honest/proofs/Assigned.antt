@@ -40,18 +40,25 @@ greater_term f g (suc n) h = elim (cases_lt (g n) (f n)) [
   | inr least ↦ let before = greater_term f g n (omega arith) in (before.0, omega (arith, before.1), before.2)
 ]
 
+-- where m has more with a lecturer, by what is allowed for each project, it has so at a project
+pub more_over : (i : Spa) (l : ℕ) (m n : List (Option ℕ)) (extra : ℕ → ℕ) → ((s q : ℕ) → project_of m s ≡ Some q → q < length i.lecturers) → ((s q : ℕ) → project_of n s ≡ Some q → q < length i.lecturers) → at_lecturer i n l + sum_below extra (length i.lecturers) < at_lecturer i m l
+    → (u : ℕ) × (lecturer_of i u ≡ l) × (at_project n u + extra u < at_project m u)
+more_over i l m n extra known_m known_n more =
+    let count : ℕ = length i.lecturers in
+    let term = greater_term (share i m l) (λ u. share i n l u + extra u) count (omega (arith, more, at_lecturer-sum i l count m known_m, at_lecturer-sum i l count n known_n, sum_below-add (share i n l) extra count)) in
+    let here = own term.0 (eqb (lecturer_of i term.0) l) refl term.2 in
+    (term.0, here.0, here.1)
+  where
+    own : (u : ℕ) (b : Bool) → eqb (lecturer_of i u) l ≡ b → cond b (at_project n u) 0 + extra u < cond b (at_project m u) 0 → (lecturer_of i u ≡ l) × (at_project n u + extra u < at_project m u)
+    own u true e h = (eqb-true (lecturer_of i u) l e, h)
+    own u false e h = absurd (omega arith)
+
 -- where m has more with a lecturer, it has more at a project of the lecturer
 pub more_at : (i : Spa) (l : ℕ) (m n : List (Option ℕ)) → ((s q : ℕ) → project_of m s ≡ Some q → q < length i.lecturers) → ((s q : ℕ) → project_of n s ≡ Some q → q < length i.lecturers) → at_lecturer i n l < at_lecturer i m l
     → (u : ℕ) × (lecturer_of i u ≡ l) × (at_project n u < at_project m u)
 more_at i l m n known_m known_n more =
-    let count : ℕ = length i.lecturers in
-    let term = greater_term (share i m l) (share i n l) count (omega (arith, more, at_lecturer-sum i l count m known_m, at_lecturer-sum i l count n known_n)) in
-    let here = own term.0 (eqb (lecturer_of i term.0) l) refl term.2 in
-    (term.0, here.0, here.1)
-  where
-    own : (u : ℕ) (b : Bool) → eqb (lecturer_of i u) l ≡ b → cond b (at_project n u) 0 < cond b (at_project m u) 0 → (lecturer_of i u ≡ l) × (at_project n u < at_project m u)
-    own u true e h = (eqb-true (lecturer_of i u) l e, h)
-    own u false e h = absurd (omega arith)
+    let at = more_over i l m n (λ u. 0) known_m known_n (omega (arith, more, sum_below-zero (λ u. 0) (length i.lecturers) (λ k _. refl))) in
+    (at.0, at.1, omega (arith, at.2))
 
 -- where m has more at a project, some student is there in m alone
 pub one_there : (i : Spa) (m n : List (Option ℕ)) (u : ℕ) → length m ≡ length n → at_project n u < at_project m u → (s : ℕ) × (project_of m s ≡ Some u) × (project_of n s ≡ Some u → ⊥)

@@ -1,15 +1,16 @@
 -- No group of students gains by other lists, and so no student.
-use Rattle.spa_honest.proofs.Base.{◌≡◌, ◌⊎◌, inl, inr, ℕ, zero, suc, ◌<◌, ◌≤◌, true, false, List, [], ◌∷◌, length, get_or, Option, Some, None, sym, ◌∙◌, ap, subst, arith, cases_lt, cases_eq, Letter, Spa, place, choices_of, project_of, IsOn, IsAcceptable, IsMatching, Blocks, IsStable, IsBest, IsRanked, DifferInLists, DifferInOneList, get_or-place, place-get_or-le, IsNoWorse}
+use Rattle.spa_honest.proofs.Base.{◌≡◌, Bool, refl, cond, ltb, ltb-true, ltb-false, IsAsGood, AddsTo, ◌⊎◌, inl, inr, ℕ, zero, suc, ◌<◌, ◌≤◌, true, false, List, [], ◌∷◌, length, get_or, Option, Some, None, sym, ◌∙◌, ap, subst, arith, cases_lt, cases_eq, Letter, Spa, place, choices_of, project_of, IsOn, IsAcceptable, IsMatching, Blocks, IsStable, IsBest, IsRanked, DifferInLists, DifferInOneList, get_or-place, place-get_or-le, IsNoWorse}
 use Rattle.spa_honest.proofs.Lists.{one_on, on_one}
-use Rattle.spa_honest.proofs.Outside.{outside}
+use Rattle.spa_honest.proofs.Outside.{outside, not_grown}
 use Rattle.spa_honest.proofs.Last.{better, not_better, gains, turned_away}
-use Rattle.spa_honest.proofs.Carry.{wanted_too, unblocked_too, matches_too}
+use Rattle.spa_honest.proofs.Carry.{wanted_too, unblocked_too, same_capacity, same_limit, same_count}
+use Rattle.spa_honest.proofs.Added.{joined, joined_at, adds_joined, blocks_no_more}
 
 -- WHERE SOMEBODY LIKES A MATCHING BETTER than the best one, somebody who does not blocks it
 pub blocked_outside : (i : Spa) → IsRanked i → (best : List (Option ℕ)) → IsBest i best → (x : List (Option ℕ)) → IsMatching i x → (s : ℕ) → gains i best x s ≡ true → ((t u : ℕ) (k : Letter) → gains i best x t ≡ false → Blocks i x t u k → ⊥) → ⊥
 blocked_outside i law best is_best x there s meets unblocked =
     let y = turned_away i law best is_best x there s meets in
-    outside i law (gains i best x) x y.0 y.1 unblocked
+    outside i law i.capacities i.limits (not_grown i) (gains i best x) x y.0 y.1 there unblocked
 
 -- one of the numbers below n has the first property, or all have the second
 one_or_all : (P Q : ℕ → Type 0) → ((k : ℕ) → P k ⊎ Q k) → (n : ℕ) → ((k : ℕ) × (k < n) × P k) ⊎ ((k : ℕ) → k < n → Q k)
@@ -37,33 +38,103 @@ module _ (i : Spa) (m n : List (Option ℕ)) (best : IsBest i m) where
         | inl on ↦ grind (arith, not_better)
       ]
 
--- NO GROUP GAINS
-pub no_group_gains : (i j : Spa) (group : List ℕ) (m n : List (Option ℕ)) → IsRanked i → IsRanked j → 1 ≤ length group → DifferInLists i j (IsOn group) → IsBest i m → IsStable j n → (s : ℕ) × IsOn group s × IsNoWorse i s (project_of m s) (project_of n s)
-no_group_gains i j group m n lawful law some differ best stable =
-    elim (one_or_all (λ k. IsNoWorse i (get_or group k 0) (project_of m (get_or group k 0)) (project_of n (get_or group k 0))) (λ k. Gains i m n (get_or group k 0)) (λ k. no_worse_or_gains i m n best (get_or group k 0)) (length group)) [
-      | inl one ↦ (get_or group one.0 0, omega (arith, one.1, place-get_or-le group one.0 0 one.1), one.2)
-      | inr all ↦ absurd (blocked_outside i lawful m best n (there all) (get_or group 0 0) (all 0 (omega arith)).1 (unblocked all))
-    ]
+-- ---- the group has what x gives, the others what n gives
+
+abbrev member : List ℕ → ℕ → Bool
+member group t = ltb (place group t) (length group)
+
+is_member : (group : List ℕ) (t : ℕ) → IsOn group t → member group t ≡ true
+is_member group t on = by_test (member group t) refl
   where
-    of_group : ((k : ℕ) → k < length group → Gains i m n (get_or group k 0)) → (t : ℕ) → IsOn group t → Gains i m n t
-    of_group all t on = subst (Gains i m n) (get_or-place group t 0 on) (all (place group t) on)
+    by_test : (b : Bool) → member group t ≡ b → member group t ≡ true
+    by_test true e = e
+    by_test false e = absurd (omega (arith, ltb-false (place group t) (length group) e, on))
 
-    there : ((k : ℕ) → k < length group → Gains i m n (get_or group k 0)) → IsMatching i n
-    there all = matches_too i j (IsOn group) n differ law stable (λ t. elim (cases_lt (place group t) (length group)) [ inl on ↦ inl on | inr off ↦ inr (λ on. omega arith) ]) (λ t q on e. (of_group all t on).0 q e)
+module _ (i j : Spa) (group : List ℕ) (m n x : List (Option ℕ)) (law : IsRanked j) (differ : DifferInLists i j (IsOn group)) (stable : IsStable j n) (adds : AddsTo j n x) (all : (t : ℕ) → IsOn group t → Gains i m x t) where
+  adds_here : AddsTo i n (joined (member group) x n)
+  adds_here =
+      let more = adds_joined j n x (member group) adds in
+      let y = joined (member group) x n in
+      record {
+        students = more.students;
+        keeps = more.keeps;
+        projects = λ p. omega (arith, more.projects p, same_capacity i j (IsOn group) y differ p);
+        lecturers = λ l. omega (arith, more.lecturers l, same_count i j (IsOn group) y differ l, same_limit i j (IsOn group) y differ l);
+      }
 
-    unblocked : ((k : ℕ) → k < length group → Gains i m n (get_or group k 0)) → (t u : ℕ) (k : Letter) → gains i m n t ≡ false → Blocks i n t u k → ⊥
-    unblocked all t u k misses = unblocked_too i j (IsOn group) n differ law stable t u
-        (λ w. wanted_too i j (IsOn group) n differ t u (λ on. let wrong : true ≡ false = sym (of_group all t on).1 ∙ misses in cc) w) k
+  of_group : (t : ℕ) → IsOn group t → project_of (joined (member group) x n) t ≡ project_of x t
+  of_group t on = joined_at (member group) x n t adds.students ∙ ap (λ b. cond b (project_of x t) (project_of n t)) (is_member group t on)
 
--- NO OTHER LIST GAINS: the group of one
-pub honest_is_best : (i j : Spa) (s : ℕ) (m n : List (Option ℕ)) → IsRanked i → IsRanked j → DifferInOneList i j s → IsBest i m → IsStable j n → IsNoWorse i s (project_of m s) (project_of n s)
-honest_is_best i j s m n lawful law differ best stable =
-    let one = no_group_gains i j (s ∷ []) m n lawful law (omega arith) (record {
+  of_others : (t : ℕ) → (IsOn group t → ⊥) → project_of (joined (member group) x n) t ≡ project_of n t
+  of_others t off = joined_at (member group) x n t adds.students ∙ by_test (member group t) refl
+    where
+      by_test : (b : Bool) → member group t ≡ b → cond b (project_of x t) (project_of n t) ≡ project_of n t
+      by_test true e = absurd (off (ltb-true (place group t) (length group) e))
+      by_test false e = refl
+
+  there : IsMatching i (joined (member group) x n)
+  there = record {
+    students = adds_here.students ∙ stable.matching.students ∙ differ.students;
+    acceptable = λ t q e. elim (cases_lt (place group t) (length group)) [
+      | inl on ↦ (all t on).0 q (sym (of_group t on) ∙ e)
+      | inr off ↦ let out : IsOn group t → ⊥ = λ on. omega (arith, on) in
+          rw (differ.others t out) at (stable.matching.acceptable t q (sym (of_others t out) ∙ e))
+    ];
+    projects = adds_here.projects;
+    lecturers = adds_here.lecturers;
+  }
+
+  gains_too : (t : ℕ) → IsOn group t → gains i m (joined (member group) x n) t ≡ true
+  gains_too t on = ap (λ o. better i t o (project_of m t)) (of_group t on) ∙ (all t on).1
+
+  unblocked : (t u : ℕ) (k : Letter) → gains i m (joined (member group) x n) t ≡ false → Blocks i (joined (member group) x n) t u k → ⊥
+  unblocked t u k misses =
+      let out : IsOn group t → ⊥ = λ on. let wrong : true ≡ false = sym (gains_too t on) ∙ misses in cc in
+      blocks_no_more i n (joined (member group) x n) adds_here t u (of_others t out) (unblocked_too i j (IsOn group) n differ law stable t u (wanted_too i j (IsOn group) n differ t u out)) k
+
+  pub not_all : IsRanked i → IsBest i m → (t : ℕ) → IsOn group t → ⊥
+  not_all lawful best t on = blocked_outside i lawful m best (joined (member group) x n) there t (gains_too t on) unblocked
+
+-- NO GROUP GAINS, not even over two rounds
+pub no_group_gains_over_both : (i j : Spa) (group : List ℕ) (m n x : List (Option ℕ)) → IsRanked i → IsRanked j → 1 ≤ length group → DifferInLists i j (IsOn group) → IsBest i m → IsStable j n → AddsTo j n x → (s : ℕ) × IsOn group s × IsNoWorse i s (project_of m s) (project_of x s)
+no_group_gains_over_both i j group m n x lawful law some differ best stable adds =
+    elim (one_or_all (λ k. IsNoWorse i (get_or group k 0) (project_of m (get_or group k 0)) (project_of x (get_or group k 0))) (λ k. Gains i m x (get_or group k 0)) (λ k. no_worse_or_gains i m x best (get_or group k 0)) (length group)) [
+      | inl one ↦ (get_or group one.0 0, omega (arith, one.1, place-get_or-le group one.0 0 one.1), one.2)
+      | inr all ↦ absurd (
+          not_all i j group m n x law differ stable adds (λ t on. subst (Gains i m x) (get_or-place group t 0 on) (all (place group t) on)) lawful best
+          (get_or group 0 0) (omega (arith, place-get_or-le group 0 0 some))
+          )
+    ]
+
+-- a second round may give nothing
+adds_nothing : (j : Spa) (n : List (Option ℕ)) → IsStable j n → AddsTo j n n
+adds_nothing j n stable = record { students = refl; keeps = λ s p e. e; projects = stable.matching.projects; lecturers = stable.matching.lecturers }
+
+-- in one round
+pub no_group_gains : (i j : Spa) (group : List ℕ) (m n : List (Option ℕ)) → IsRanked i → IsRanked j → 1 ≤ length group → DifferInLists i j (IsOn group) → IsBest i m → IsStable j n → (s : ℕ) × IsOn group s × IsNoWorse i s (project_of m s) (project_of n s)
+no_group_gains i j group m n lawful law some differ best stable = no_group_gains_over_both i j group m n n lawful law some differ best stable (adds_nothing j n stable)
+
+-- ONE STUDENT: the group of one
+pub no_one_gains_over_both : (i j : Spa) (s : ℕ) (m n x : List (Option ℕ)) → IsRanked i → IsRanked j → DifferInOneList i j s → IsBest i m → IsStable j n → AddsTo j n x → IsNoWorse i s (project_of m s) (project_of x s)
+no_one_gains_over_both i j s m n x lawful law differ best stable adds =
+    let one = no_group_gains_over_both i j (s ∷ []) m n x lawful law (omega arith) (record {
       students = differ.students;
       lecturers = differ.lecturers;
       capacities = differ.capacities;
       limits = differ.limits;
       others = λ t other. differ.others t (λ same. other (rw same (on_one s)));
       orders = differ.orders;
-    }) best stable in
-    subst (λ t. IsNoWorse i t (project_of m t) (project_of n t)) (sym (one_on s one.0 one.1)) one.2
+    }) best stable adds in
+    subst (λ t. IsNoWorse i t (project_of m t) (project_of x t)) (sym (one_on s one.0 one.1)) one.2
+
+-- NO OTHER LIST GAINS
+pub honest_is_best : (i j : Spa) (s : ℕ) (m n : List (Option ℕ)) → IsRanked i → IsRanked j → DifferInOneList i j s → IsBest i m → IsStable j n → IsNoWorse i s (project_of m s) (project_of n s)
+honest_is_best i j s m n lawful law differ best stable = no_one_gains_over_both i j s m n n lawful law differ best stable (adds_nothing j n stable)
+
+-- NO OTHER ORDER of the same projects, or of some of them
+pub order_honestly : (i j : Spa) (s : ℕ) (m n : List (Option ℕ)) → IsRanked i → IsRanked j → DifferInOneList i j s → ((p : ℕ) → IsAcceptable j s p → IsAcceptable i s p) → IsBest i m → IsStable j n → IsAsGood i s (project_of m s) (project_of n s)
+order_honestly i j s m n lawful law differ within best stable = by_own (project_of n s) refl
+  where
+    by_own : (o : Option ℕ) → project_of n s ≡ o → IsAsGood i s (project_of m s) o
+    by_own None e = tt
+    by_own (Some p) e = honest_is_best i j s m n lawful law differ best stable p e (within p (stable.matching.acceptable s p e))

@@ -32,21 +32,21 @@ abbrev spot : Spa → ℕ → Option ℕ → ℕ
 spot i s None = 0
 spot i s (Some p) = place (choices_of i s) p
 
--- ALL BUT ONE go on: s keeps still, until nobody else has a turn
-record Rested (i : Spa) (s : ℕ) (c : ℕ → ℕ) : Type 0 where
+-- SOME KEEP STILL, and the others go on until none of them has a turn
+pub record Rested (i : Spa) (Still : ℕ → Type 0) (c : ℕ → ℕ) : Type 0 where
   pub after : List (Option ℕ)
   pub cursors : ℕ → ℕ
   pub state : UnderWay i after cursors
   pub onward : (x : ℕ) → c x ≤ cursors x
-  pub still : project_of after s ≡ None
-  pub done : (x p : ℕ) → (x ≡ s → ⊥) → project_of after x ≡ None → IsAcceptable i x p → Passed i cursors x p
+  pub still : (x : ℕ) → Still x → project_of after x ≡ None
+  pub done : (x p : ℕ) → (Still x → ⊥) → project_of after x ≡ None → IsAcceptable i x p → Passed i cursors x p
 
-rest : (i : Spa) → IsRanked i → (s fuel : ℕ) (m : List (Option ℕ)) (c : ℕ → ℕ) → UnderWay i m c → project_of m s ≡ None → sum_below (turns i m c) (length i.choices) < fuel → Rested i s c
-rest i law s zero m c state free enough = absurd (omega arith)
-rest i law s (suc fuel) m c state free enough = elim (next_or_done i m c (λ x. x ≡ s) (λ x. cases_eq x s)) [
+pub rest : (i : Spa) → IsRanked i → (Still : ℕ → Type 0) → ((x : ℕ) → Still x ⊎ (Still x → ⊥)) → (fuel : ℕ) (m : List (Option ℕ)) (c : ℕ → ℕ) → UnderWay i m c → ((x : ℕ) → Still x → project_of m x ≡ None) → sum_below (turns i m c) (length i.choices) < fuel → Rested i Still c
+rest i law Still test zero m c state free enough = absurd (omega arith)
+rest i law Still test (suc fuel) m c state free enough = elim (next_or_done i m c Still test) [
   | inl next ↦
       let one : Turned i m c next.0 = turn_of i law m c state next.0 next.1 next.2.1 next.2.2 in
-      let all = rest i law s fuel one.after one.cursors one.state (one.still s (λ e. next.2.0 (sym e)) free) (omega (arith, one.fewer)) in
+      let all = rest i law Still test fuel one.after one.cursors one.state (λ x keeps. one.still x (λ e. next.2.0 (subst Still e keeps)) (free x keeps)) (omega (arith, one.fewer)) in
       record {
         after = all.after;
         cursors = all.cursors;
@@ -138,7 +138,7 @@ module _ (i : Spa) (law : IsRanked i) (best : List (Option ℕ)) (is_best : IsBe
   turned_away s meets =
       let one : Stopped i best x = stopped s meets in
       let z : ℕ = one.last.0 in
-      let all : Rested i z one.cursors = rest i law z (suc (sum_below (turns i one.after one.cursors) (length i.choices))) one.after one.cursors one.state one.last.2 (omega arith) in (
+      let all : Rested i (λ t. t ≡ z) one.cursors = rest i law (λ t. t ≡ z) (λ t. cases_eq t z) (suc (sum_below (turns i one.after one.cursors) (length i.choices))) one.after one.cursors one.state (λ t same. rw same one.last.2) (omega arith) in (
         all.after,
         record {
           there = there;
@@ -151,6 +151,6 @@ module _ (i : Spa) (law : IsRanked i) (best : List (Option ℕ)) (is_best : IsBe
               as_good_as_stable i all.after (Passed i all.cursors) all.state.holds best is_best.stable t (λ p free on. all.done t p (λ e. let wrong : true ≡ false = sym (subst (λ k. gains i best x k ≡ true) (sym e) one.last.1) ∙ out in cc) free on) in
               as_good_trans i t (project_of all.after t) (project_of best t) (project_of x t) as_best
               (not_better i t (project_of x t) (project_of best t) (λ p e. there.acceptable t p e) (λ q e. is_best.stable.matching.acceptable t q e) out);
-          last = (z, one.last.1, all.still);
+          last = (z, one.last.1, all.still z refl);
         },
       )

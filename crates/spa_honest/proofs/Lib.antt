@@ -9,3 +9,7 @@ pub mod Gains
 pub mod Tested
 pub mod Worked
 pub mod Waits
+pub mod Added
+pub mod Fewer
+pub mod Explained
+pub mod Room

@@ -1,7 +1,8 @@
--- If the students of r like a matching x better than what they can have, somebody else blocks x.
+-- If the students of r like a matching x better than what they can have, somebody else blocks x,
+-- also where the capacities that x keeps are lower, if lecturers lose no less than their projects.
 -- The matching y turns all of r away from their places in x, one has none, and others do no worse.
-use Rattle.spa_honest.proofs.Base.{◌≡◌, inl, inr, ℕ, ◌+◌, ◌<◌, ◌≤◌, Bool, true, false, List, length, Option, Some, None, refl, sym, ◌∙◌, ap, subst, arith, count_by, cases_lt, Letter, A, B, C, Spa, is_lecturer, at_project, at_lecturer, project_of, lecturer_of, ranking_of, capacity_of, limit_of, IsOn, IsMatching, IsAsGood, Wants, Blocks, sum_below, IsRanked, rank_of, IsSpent, student_in_range, rules, zero, suc, cond, [], ◌∷◌, one_if, count_by-cons, is_project}
-use Rattle.spa_honest.proofs.Assigned.{has_one, count_by-lt, all_lecturers, greater_term, more_at, one_there, wants_best}
+use Rattle.spa_honest.proofs.Base.{◌⊎◌, cases_eq, share, at_lecturer-sum, places_among, places_with, ◌≡◌, inl, inr, ℕ, ◌+◌, ◌-◌, eqb, eq-eqb, get_or, sum_below-zero, with_room, ◌<◌, ◌≤◌, Bool, true, false, List, length, Option, Some, None, refl, sym, ◌∙◌, ap, subst, arith, count_by, cases_lt, Letter, A, B, C, Spa, is_lecturer, at_project, at_lecturer, project_of, lecturer_of, ranking_of, capacity_of, limit_of, IsOn, IsMatching, IsAsGood, Wants, Blocks, sum_below, IsRanked, rank_of, IsSpent, student_in_range, rules, zero, suc, cond, [], ◌∷◌, one_if, count_by-cons, is_project}
+use Rattle.spa_honest.proofs.Assigned.{has_one, count_by-lt, all_lecturers, greater_term, more_at, more_over, one_there, wants_best}
 
 -- A matching with the projects of some students alone.
 
@@ -71,7 +72,26 @@ pub record TurnsAway (i : Spa) (r : ℕ → Bool) (x y : List (Option ℕ)) : Ty
   pub no_worse : (t : ℕ) → r t ≡ false → IsAsGood i t (project_of y t) (project_of x t)
   pub last : (s : ℕ) × (r s ≡ true) × (project_of y s ≡ None)
 
-module _ (i : Spa) (law : IsRanked i) (r : ℕ → Bool) (x y : List (Option ℕ)) (turns : TurnsAway i r x y) (unblocked : (t u : ℕ) (k : Letter) → r t ≡ false → Blocks i x t u k → ⊥) where
+-- what a project of the lecturer has more than these capacities
+abbrev pub growth : Spa → List ℕ → ℕ → ℕ → ℕ
+growth i cs l p = cond (eqb (lecturer_of i p) l) (capacity_of i p - get_or cs p 0) 0
+
+-- no capacity is below these, and each lecturer has more by at least as many as the own projects,
+-- or as many as all their places
+pub record Grown (i : Spa) (cs ls : List ℕ) : Type 0 where
+  pub capacities : (p : ℕ) → get_or cs p 0 ≤ capacity_of i p
+  pub limits : (l : ℕ) → (get_or ls l 0 + sum_below (growth i cs l) (length i.lecturers) ≤ limit_of i l) ⊎ (places_with i l ≤ limit_of i l)
+
+pub not_grown : (i : Spa) → Grown i i.capacities i.limits
+not_grown i = record {
+  capacities = λ p. omega arith;
+  limits = λ l. inl (omega (arith, sum_below-zero (growth i i.capacities l) (length i.lecturers) (λ p _. none l p (eqb (lecturer_of i p) l))));
+} where
+  none : (l p : ℕ) (b : Bool) → cond b (capacity_of i p - capacity_of i p) 0 ≡ 0
+  none l p true = omega arith
+  none l p false = refl
+
+module _ (i : Spa) (law : IsRanked i) (cs ls : List ℕ) (grown : Grown i cs ls) (r : ℕ → Bool) (x y : List (Option ℕ)) (turns : TurnsAway i r x y) (fits : IsMatching (with_room i cs ls) x) (unblocked : (t u : ℕ) (k : Letter) → r t ≡ false → Blocks (with_room i cs ls) x t u k → ⊥) where
   same : length x ≡ length y
   same = turns.there.students ∙ sym turns.here.students
 
@@ -81,17 +101,17 @@ module _ (i : Spa) (law : IsRanked i) (r : ℕ → Bool) (x y : List (Option ℕ
   -- t, outside r, has u in y, not in x; u's lecturer has s in x, after t; a full u has one after t
   blocks : (t u : ℕ) → r t ≡ false → project_of y t ≡ Some u → (project_of x t ≡ Some u → ⊥)
       → (s q : ℕ) → project_of x s ≡ Some q → lecturer_of i q ≡ lecturer_of i u → rank_of i (lecturer_of i u) t < rank_of i (lecturer_of i u) s
-      → (at_project x u ≡ capacity_of i u → (z : ℕ) × (project_of x z ≡ Some u) × (rank_of i (lecturer_of i u) t < rank_of i (lecturer_of i u) z)) → ⊥
+      → (at_project x u ≡ get_or cs u 0 → (z : ℕ) × (project_of x z ≡ Some u) × (rank_of i (lecturer_of i u) t < rank_of i (lecturer_of i u) z)) → ⊥
   blocks t u out at not_there s q has own less at_full =
       let wants : Wants i x t u = wants_best i x t u (turns.here.acceptable t u at) not_there (project_of x t) refl (subst (λ o. IsAsGood i t o (project_of x t)) at (turns.no_worse t out)) in
       let on : IsOn (ranking_of i (lecturer_of i u)) s = rw own at (law.ranked s q (turns.there.acceptable s q has)) in
-      elim (cases_lt (at_project x u) (capacity_of i u)) [
-        | inl room ↦ elim (cases_lt (at_lecturer i x (lecturer_of i u)) (limit_of i (lecturer_of i u))) [
+      elim (cases_lt (at_project x u) (get_or cs u 0)) [
+        | inl room ↦ elim (cases_lt (at_lecturer i x (lecturer_of i u)) (get_or ls (lecturer_of i u) 0)) [
           | inl room_l ↦ unblocked t u A out (wants, room, room_l)
-          | inr full_l ↦ unblocked t u B out (wants, room, omega (arith, full_l, turns.there.lecturers (lecturer_of i u)), inr (s, (q, has, own), (less, on)))
+          | inr full_l ↦ unblocked t u B out (wants, room, omega (arith, full_l, fits.lecturers (lecturer_of i u)), inr (s, (q, has, own), (less, on)))
         ]
         | inr full ↦
-            let level : at_project x u ≡ capacity_of i u = omega (arith, full, turns.there.projects u) in
+            let level : at_project x u ≡ get_or cs u 0 = omega (arith, full, fits.projects u) in
             let z = at_full level in
             unblocked t u C out (wants, level, (z.0, z.1, (z.2, law.ranked z.0 u (turns.there.acceptable z.0 u z.1))))
       ]
@@ -137,6 +157,37 @@ module _ (i : Spa) (law : IsRanked i) (r : ℕ → Bool) (x y : List (Option ℕ
           let of : r z ≡ true = (only_has r y z q e).0 in
           ap has_one (only_keeps r x z of ∙ (turns.away z of).1)
 
+  -- a full lecturer with no fewer places than all own projects has each of them full
+  all_full : (l p : ℕ) → lecturer_of i p ≡ l → p < length i.lecturers → at_lecturer i y l ≡ limit_of i l → places_with i l ≤ limit_of i l → at_project y p ≡ capacity_of i p
+  all_full l p own low full enough = elim (cases_lt (at_project y p) (capacity_of i p)) [
+    | inr least ↦ omega (arith, least, turns.here.projects p)
+    | inl room ↦
+        let less : sum_below (share i y l) (length i.lecturers) + 1 ≤ places_with i l
+        = fewer_than (length i.lecturers) low (rw (eq-eqb (lecturer_of i p) l own) room) in
+        absurd (omega (arith, less, full, enough, at_lecturer-sum i l (length i.lecturers) y (λ s q e. law.known s q (turns.here.acceptable s q e))))
+  ]
+    where
+      at_most : (u : ℕ) (b : Bool) → cond b (at_project y u) 0 ≤ cond b (capacity_of i u) 0
+      at_most u true = turns.here.projects u
+      at_most u false = omega arith
+
+      no_more_than : (n : ℕ) → sum_below (share i y l) n ≤ places_among i l n
+      no_more_than zero = omega arith
+      no_more_than (suc n) = omega (arith, no_more_than n, at_most n (eqb (lecturer_of i n) l))
+
+      fewer_than : (n : ℕ) → p < n → cond (eqb (lecturer_of i p) l) (at_project y p) 0 < cond (eqb (lecturer_of i p) l) (capacity_of i p) 0 → sum_below (share i y l) n + 1 ≤ places_among i l n
+      fewer_than zero low h = absurd (omega arith)
+      fewer_than (suc n) low h = elim (cases_eq p n) [
+        | inl same ↦ omega (arith, no_more_than n, subst (λ k. cond (eqb (lecturer_of i k) l) (at_project y k) 0 < cond (eqb (lecturer_of i k) l) (capacity_of i k) 0) same h)
+        | inr other ↦ omega (arith, fewer_than n (omega arith) h, at_most n (eqb (lecturer_of i n) l))
+      ]
+
+  -- where p is full in y with students who stand before s, who has p in x
+  full_there : (s p : ℕ) → project_of x s ≡ Some p → at_project (only r y) p < at_project (only r x) p → at_project y p ≡ capacity_of i p → ((t : ℕ) → project_of y t ≡ Some p → rank_of i (lecturer_of i p) t < rank_of i (lecturer_of i p) s) → ⊥
+  full_there s p has fewer full before =
+      let t = instead p (omega (arith, fewer, split x p, split y p, full, fits.projects p, grown.capacities p)) in
+      blocks t.0 p t.1 t.2 t.3 s p has refl (before t.0 t.2) (λ _. (s, has, before t.0 t.2))
+
   -- SOMEBODY ELSE BLOCKS
   pub outside : ⊥
   outside =
@@ -148,20 +199,21 @@ module _ (i : Spa) (law : IsRanked i) (r : ℕ → Bool) (x y : List (Option ℕ
       let s : ℕ = one.0 in
       let mine = only_has r x s p one.1 in
       elim (spent s p mine.0 mine.1) [
-        | inr project ↦
-            let t = instead p (omega (arith, at.2, split x p, split y p, project.full, turns.there.projects p)) in
-            let less : rank_of i (lecturer_of i p) t.0 < rank_of i (lecturer_of i p) s = project.before t.0 t.2 in
-            blocks t.0 p t.1 t.2 t.3 s p mine.1 refl less (λ full. (s, mine.1, less))
+        | inr project ↦ full_there s p mine.1 at.2 project.full project.before
         | inl lecturer ↦
             let full_y : at_lecturer i y l ≡ limit_of i l = rw at.1 at lecturer.full in
-            let u = more_at i l (only (others r) y) (only (others r) x) (known_y (others r)) (known_x (others r)) (omega (arith, few.1, split_l x l, split_l y l, full_y, turns.there.lecturers l)) in
-            let same_l : lecturer_of i p ≡ lecturer_of i u.0 = at.1 ∙ sym u.1 in
-            let t = instead u.0 u.2 in
-            let less : rank_of i (lecturer_of i u.0) t.0 < rank_of i (lecturer_of i u.0) s = rw same_l at (lecturer.before t.0 u.0 t.2 (sym same_l)) in
-            blocks t.0 u.0 t.1 t.2 t.3 s p mine.1 same_l less (λ full. at_full u.0 u.2 t.0 t.2 full)
+            elim (grown.limits l) [
+              | inr enough ↦ full_there s p mine.1 at.2 (all_full l p at.1 (known_x r s p one.1) full_y enough) (λ t has. lecturer.before t p has refl)
+              | inl more ↦
+                  let u = more_over i l (only (others r) y) (only (others r) x) (growth i cs l) (known_y (others r)) (known_x (others r)) (omega (arith, few.1, split_l x l, split_l y l, full_y, fits.lecturers l, more)) in
+                  let same_l : lecturer_of i p ≡ lecturer_of i u.0 = at.1 ∙ sym u.1 in
+                  let t = instead u.0 (omega (arith, u.2)) in
+                  let less : rank_of i (lecturer_of i u.0) t.0 < rank_of i (lecturer_of i u.0) s = rw same_l at (lecturer.before t.0 u.0 t.2 (sym same_l)) in
+                  blocks t.0 u.0 t.1 t.2 t.3 s p mine.1 same_l less (λ full. at_full u.0 (rw (eq-eqb (lecturer_of i u.0) l u.1) at u.2) t.0 t.2 full)
+            ]
       ]
     where
-      at_full : (u : ℕ) → at_project (only (others r) x) u < at_project (only (others r) y) u → (t : ℕ) → project_of y t ≡ Some u → at_project x u ≡ capacity_of i u → (z : ℕ) × (project_of x z ≡ Some u) × (rank_of i (lecturer_of i u) t < rank_of i (lecturer_of i u) z)
+      at_full : (u : ℕ) → at_project (only (others r) x) u + (capacity_of i u - get_or cs u 0) < at_project (only (others r) y) u → (t : ℕ) → project_of y t ≡ Some u → at_project x u ≡ get_or cs u 0 → (z : ℕ) × (project_of x z ≡ Some u) × (rank_of i (lecturer_of i u) t < rank_of i (lecturer_of i u) z)
       at_full u more t has full =
           let one = one_there i (only r x) (only r y) u (only_length r x ∙ same ∙ sym (only_length r y)) (omega (arith, more, split x u, split y u, full, turns.here.projects u)) in
           let mine = only_has r x one.0 u one.1 in

@@ -185,8 +185,11 @@ blocks i m s u = improves i s u (project_of m s) && (has_room i m u || some (λ 
 abbrev is_over : Spa → List (Option ℕ) → ℕ → Bool
 is_over i m p = ltb (capacity_of i p) (at_project m p)
 
+abbrev has_over : Spa → List (Option ℕ) → ℕ → Bool
+has_over i m l = ltb (limit_of i l) (at_lecturer i m l)
+
 abbrev unstable : Spa → List (Option ℕ) → Bool
-unstable i m = some (is_over i m) (length i.lecturers) || some (λ s. list_any (blocks i m s) (choices_of i s)) (length i.choices)
+unstable i m = some (is_over i m) (length i.lecturers) || (some (has_over i m) (length i.limits) || some (λ s. list_any (blocks i m s) (choices_of i s)) (length i.choices))
 
 is_before : (list : List ℕ) (a b : ℕ) → goes_before list a b ≡ true → IsBefore list a b
 is_before list a b h = search (rules, and_parts, ltb-true)
@@ -212,12 +215,15 @@ module _ (i : Spa) (m : List (Option ℕ)) (stable : IsStable i m) where
       ]
 
   not_unstable : unstable i m ≡ true → ⊥
-  not_unstable h = elim (or_cases (some (is_over i m) (length i.lecturers)) (some (λ s. list_any (blocks i m s) (choices_of i s)) (length i.choices)) h) [
+  not_unstable h = elim (or_cases (some (is_over i m) (length i.lecturers)) (some (has_over i m) (length i.limits) || some (λ s. list_any (blocks i m s) (choices_of i s)) (length i.choices)) h) [
     | inl over ↦ let one = some_at (is_over i m) (length i.lecturers) over in omega (arith, ltb-true (capacity_of i one.0) (at_project m one.0) one.1, stable.matching.projects one.0)
-    | inr pair ↦
-        let one = some_at (λ s. list_any (blocks i m s) (choices_of i s)) (length i.choices) pair in
-        let any = Any-from_list_any (blocks i m one.0) (choices_of i one.0) one.1 in
-        no_block one.0 any.1 (at_on (choices_of i one.0) any.0 any.1 any.2 any.3) any.4
+    | inr rest ↦ elim (or_cases (some (has_over i m) (length i.limits)) (some (λ s. list_any (blocks i m s) (choices_of i s)) (length i.choices)) rest) [
+      | inl over ↦ let one = some_at (has_over i m) (length i.limits) over in omega (arith, ltb-true (limit_of i one.0) (at_lecturer i m one.0) one.1, stable.matching.lecturers one.0)
+      | inr pair ↦
+          let one = some_at (λ s. list_any (blocks i m s) (choices_of i s)) (length i.choices) pair in
+          let any = Any-from_list_any (blocks i m one.0) (choices_of i one.0) one.1 in
+          no_block one.0 any.1 (at_on (choices_of i one.0) any.0 any.1 any.2 any.3) any.4
+    ]
   ]
 
 -- where each other way is unstable, the matching is the best one

@@ -1,6 +1,6 @@
 -- The examples: they are lawful with each list, and what is best.
-use Rattle.spa_honest.proofs.Base.{◌≡◌, inl, inr, ℕ, zero, suc, [], ◌∷◌, Some, None, refl, arith, choices_of, IsOn, IsAsGood, IsLawful, IsBest, ranked_of, HasRoom, ann, cem, bells, kites, tides, example, honest_list, safe_list, short_list, DifferInLists, NobodyGains}
-use Rattle.spa_honest.specs.examples.Waiting.{at_once, waiting}
+use Rattle.spa_honest.proofs.Base.{◌≤◌, ◌≡◌, inl, inr, ℕ, zero, suc, [], ◌∷◌, Some, None, refl, arith, choices_of, IsOn, IsAsGood, IsLawful, IsBest, ranked_of, HasRoom, ann, cem, bells, kites, tides, example, honest_list, safe_list, short_list, DifferInLists, NobodyGains, MorePlacesNeverHarm, with_room, capacity_of}
+use Rattle.spa_honest.specs.examples.Waiting.{at_once, second_alone, waiting}
 use Rattle.spa_honest.proofs.Tested.{lawful_by, best_by}
 
 pub honest_lawful : IsLawful (example honest_list)
@@ -37,6 +37,34 @@ one_may_gain nobody = no_better (nobody (example honest_list) (example safe_list
     no_better : IsAsGood (example honest_list) cem (Some bells) (Some kites) → ⊥
     no_better good = elim good [ inl same ↦ omega (arith, same) | inr before ↦ omega (arith, before.0) ]
 
+-- ---- a place more
+
+-- Ann lists Tides and Bells, and has Bells; with a second place at Tides Cem has Bells
+few_lawful : IsLawful (example (tides ∷ bells ∷ []))
+few_lawful = lawful_by (example (tides ∷ bells ∷ [])) refl
+
+many_lawful : IsLawful (with_room (example (tides ∷ bells ∷ [])) (1 ∷ 1 ∷ 2 ∷ []) (2 ∷ 1 ∷ []))
+many_lawful = lawful_by (with_room (example (tides ∷ bells ∷ [])) (1 ∷ 1 ∷ 2 ∷ []) (2 ∷ 1 ∷ [])) refl
+
+few_best : IsBest (example (tides ∷ bells ∷ [])) (Some bells ∷ Some tides ∷ Some kites ∷ [])
+few_best = best_by (example (tides ∷ bells ∷ [])) (ranked_of (example (tides ∷ bells ∷ [])) few_lawful) (Some bells ∷ Some tides ∷ Some kites ∷ []) refl
+
+many_best : IsBest (with_room (example (tides ∷ bells ∷ [])) (1 ∷ 1 ∷ 2 ∷ []) (2 ∷ 1 ∷ [])) (Some tides ∷ Some tides ∷ Some bells ∷ [])
+many_best = best_by (with_room (example (tides ∷ bells ∷ [])) (1 ∷ 1 ∷ 2 ∷ []) (2 ∷ 1 ∷ [])) (ranked_of (with_room (example (tides ∷ bells ∷ [])) (1 ∷ 1 ∷ 2 ∷ []) (2 ∷ 1 ∷ [])) many_lawful) (Some tides ∷ Some tides ∷ Some bells ∷ []) refl
+
+-- so Cem loses Kites
+pub more_places_may_harm : MorePlacesNeverHarm → ⊥
+more_places_may_harm never = no_better (never (example (tides ∷ bells ∷ [])) (1 ∷ 1 ∷ 2 ∷ []) _ _ few_lawful many_lawful no_fewer few_best many_best cem)
+  where
+    no_fewer : (q : ℕ) → capacity_of (example (tides ∷ bells ∷ [])) q ≤ capacity_of (with_room (example (tides ∷ bells ∷ [])) (1 ∷ 1 ∷ 2 ∷ []) (2 ∷ 1 ∷ [])) q
+    no_fewer zero = omega arith
+    no_fewer (suc zero) = omega arith
+    no_fewer (suc (suc zero)) = omega arith
+    no_fewer (suc (suc (suc q))) = omega arith
+
+    no_better : IsAsGood (example (tides ∷ bells ∷ [])) cem (Some bells) (Some kites) → ⊥
+    no_better good = elim good [ inl same ↦ omega (arith, same) | inr before ↦ omega (arith, before.0) ]
+
 -- ---- one who waits
 
 pub at_once_lawful : IsLawful at_once
@@ -47,6 +75,13 @@ waiting_lawful = lawful_by waiting refl
 
 pub at_once_best : IsBest at_once (Some kites ∷ Some tides ∷ Some bells ∷ None ∷ [])
 at_once_best = best_by at_once (ranked_of at_once at_once_lawful) (Some kites ∷ Some tides ∷ Some bells ∷ None ∷ []) refl
+
+pub second_lawful : IsLawful second_alone
+second_lawful = lawful_by second_alone refl
+
+-- each student but Dan has a project
+pub second_best : IsBest second_alone (Some kites ∷ Some tides ∷ Some bells ∷ None ∷ [])
+second_best = best_by second_alone (ranked_of second_alone second_lawful) (Some kites ∷ Some tides ∷ Some bells ∷ None ∷ []) refl
 
 -- Cem is put at Kites, and Ann and Dan are left
 pub waiting_best : IsBest waiting (None ∷ Some tides ∷ Some kites ∷ None ∷ [])

@@ -1,6 +1,7 @@
--- The statements of the laws for the students. `NobodyGains` is refuted; the others are proved.
-use Rattle.std.specs.Prelude.{◌≡◌, ◌↔◌, ℕ, ◌<◌, ◌≤◌, List, length, Option, Some, None}
-use Rattle.spa_model.specs.Spa.{Spa, choices_of, ranking_of, project_of, lecturer_of, capacity_of, limit_of, at_project, at_lecturer, IsOn, IsBefore, IsAcceptable, IsAsGood, IsLawful, IsStable, IsBest}
+-- The statements of the laws for the students. `NobodyGains` and `MorePlacesNeverHarm` are refuted;
+-- the others are proved.
+use Rattle.std.specs.Prelude.{◌≡◌, ◌↔◌, ◌⊎◌, ℕ, zero, suc, ◌+◌, ◌<◌, ◌≤◌, ◌==◌, if◌then◌else◌, List, [], length, Option, Some, None}
+use Rattle.spa_model.specs.Spa.{Spa, choices_of, ranking_of, project_of, lecturer_of, capacity_of, limit_of, at_project, at_lecturer, IsOn, IsBefore, IsAcceptable, IsAsGood, IsWith, Wants, IsMatching, IsLawful, IsStable, IsBest}
 
 -- the same students have a project in both, and each lecturer has as many students in both
 pub record AssignTheSame (i : Spa) (m n : List (Option ℕ)) : Type 0 where
@@ -68,3 +69,75 @@ abbrev pub NobodyGains : Type 0
 NobodyGains =
     (i j : Spa) (group : List ℕ) (m n : List (Option ℕ)) → IsLawful i → IsLawful j → DifferInLists i j (IsOn group) → IsBest i m → IsBest j n
     → (s : ℕ) → IsOn group s → IsNoWorse i s (project_of m s) (project_of n s)
+
+-- x keeps the pairs of n, may place those whom n leaves anywhere, and keeps within the capacities
+pub record AddsTo (i : Spa) (n x : List (Option ℕ)) : Type 0 where
+  pub students : length x ≡ length n
+  pub keeps : (s p : ℕ) → project_of n s ≡ Some p → project_of x s ≡ Some p
+  pub projects : (p : ℕ) → at_project x p ≤ capacity_of i p
+  pub lecturers : (l : ℕ) → at_lecturer i x l ≤ limit_of i l
+
+-- the same over both rounds: x is a stable matching of j, with what a second round adds
+abbrev pub NoGroupGainsOverBoth : Type 0
+NoGroupGainsOverBoth =
+    (i j : Spa) (group : List ℕ) (m n x : List (Option ℕ)) → IsLawful i → IsLawful j → DifferInLists i j (IsOn group) → 1 ≤ length group → IsBest i m → IsStable j n → AddsTo j n x
+    → (s : ℕ) × IsOn group s × IsNoWorse i s (project_of m s) (project_of x s)
+
+-- by the list in i, no list of the same projects, or of some of them, gives s a better one
+abbrev pub OrderHonestly : Type 0
+OrderHonestly =
+    (i j : Spa) (s : ℕ) (m n : List (Option ℕ)) → IsLawful i → IsLawful j → DifferInOneList i j s → ((p : ℕ) → IsAcceptable j s p → IsAcceptable i s p)
+    → IsBest i m → IsStable j n → IsAsGood i s (project_of m s) (project_of n s)
+
+-- p is full, and its lecturer ranks each student there above s
+pub record IsTaken (i : Spa) (m : List (Option ℕ)) (p s : ℕ) : Type 0 where
+  pub full : at_project m p ≡ capacity_of i p
+  pub above : (t : ℕ) → project_of m t ≡ Some p → IsBefore (ranking_of i (lecturer_of i p)) t s
+
+-- l is full, and ranks each own student above s
+pub record IsBusy (i : Spa) (m : List (Option ℕ)) (l s : ℕ) : Type 0 where
+  pub full : at_lecturer i m l ≡ limit_of i l
+  pub above : (t : ℕ) → IsWith i m l t → IsBefore (ranking_of i l) t s
+
+-- a matching is stable exactly if each project that a student would rather have is taken, or its
+-- lecturer is busy
+abbrev pub WhyNot : Type 0
+WhyNot =
+    (i : Spa) (m : List (Option ℕ)) → IsLawful i → IsMatching i m
+    → IsStable i m ↔ ((s p : ℕ) → Wants i m s p → IsTaken i m p s ⊎ IsBusy i m (lecturer_of i p) s)
+
+-- if a group lists nothing in j, j's best gives nobody else worse than a stable matching of i
+abbrev pub FewerNeverHarm : Type 0
+FewerNeverHarm =
+    (i j : Spa) (group : List ℕ) (t : ℕ) (m n : List (Option ℕ)) → IsLawful i → DifferInLists i j (IsOn group) → ((s : ℕ) → IsOn group s → choices_of j s ≡ []) → IsStable i m → IsBest j n
+    → (IsOn group t → ⊥) → IsAsGood i t (project_of n t) (project_of m t)
+
+-- the same instance with other capacities and limits
+abbrev pub with_room : Spa → List ℕ → List ℕ → Spa
+with_room i capacities limits = record i { capacities = capacities; limits = limits }
+
+-- the places of a lecturer's projects among the first n, and of all together
+abbrev pub places_among : Spa → ℕ → ℕ → ℕ
+places_among i l zero = 0
+places_among i l (suc n) = places_among i l n + (if lecturer_of i n == l then capacity_of i n else 0)
+
+abbrev pub places_with : Spa → ℕ → ℕ
+places_with i l = places_among i l (length i.lecturers)
+
+-- in j no project has fewer places; each lecturer's limit grows by as many places as the own
+-- projects together, or is as high as all their places, so that it binds nobody
+pub record GivesRoom (i j : Spa) : Type 0 where
+  pub projects : (p : ℕ) → capacity_of i p ≤ capacity_of j p
+  pub lecturers : (l : ℕ) → (limit_of i l + places_with j l ≤ limit_of j l + places_with i l) ⊎ (places_with j l ≤ limit_of j l)
+
+-- then nobody gets worse in j's best than in a stable matching of i
+abbrev pub MoreRoomNeverHarms : Type 0
+MoreRoomNeverHarms =
+    (i : Spa) (capacities limits : List ℕ) (m n : List (Option ℕ)) → IsLawful i → IsLawful (with_room i capacities limits) → GivesRoom i (with_room i capacities limits)
+    → IsStable i m → IsBest (with_room i capacities limits) n → (s : ℕ) → IsAsGood i s (project_of n s) (project_of m s)
+
+-- a statement that does not hold: more places, with the same limits, harm nobody
+abbrev pub MorePlacesNeverHarm : Type 0
+MorePlacesNeverHarm =
+    (i : Spa) (capacities : List ℕ) (m n : List (Option ℕ)) → IsLawful i → IsLawful (with_room i capacities i.limits) → ((p : ℕ) → capacity_of i p ≤ capacity_of (with_room i capacities i.limits) p)
+    → IsBest i m → IsBest (with_room i capacities i.limits) n → (s : ℕ) → IsAsGood i s (project_of n s) (project_of m s)

@@ -4,10 +4,12 @@ ghost use Rattle.std.specs.Prelude.{◌≡◌, ◌↔◌, ℕ, ◌∷◌, [], So
 ghost use Rattle.spa_model.specs.Spa.{IsBest, IsLawful};
 ghost use Rattle.spa_honest.specs.Honest.{BestThereIs, HasRoom, HonestIsBest, LeftFindsNone};
 ghost use Rattle.spa_honest.specs.Honest.{NobodyGains, NoGroupGains, SameAssigned};
-ghost use Rattle.spa_honest.specs.Honest.{WaitingNeverPays};
+ghost use Rattle.spa_honest.specs.Honest.{WaitingNeverPays, NoGroupGainsOverBoth, OrderHonestly};
+ghost use Rattle.spa_honest.specs.Honest.{WhyNot, FewerNeverHarm, MoreRoomNeverHarms};
+ghost use Rattle.spa_honest.specs.Honest.{MorePlacesNeverHarm};
 ghost use Rattle.spa_honest.specs.examples.Example.{bells, example, honest_list, kites, safe_list};
 ghost use Rattle.spa_honest.specs.examples.Example.{short_list, tides};
-ghost use Rattle.spa_honest.specs.examples.Waiting.{at_once, waiting};
+ghost use Rattle.spa_honest.specs.examples.Waiting.{at_once, second_alone, waiting};
 
 /// Law: all stable matchings of an instance assign the same students, and equally many to each
 /// lecturer. So the choice of a stable matching does not decide who gets no project.
@@ -46,6 +48,45 @@ pub fn no_group_gains()
     ensures { NoGroupGains }
 {}
 
+/// Law: nor do they over both rounds, whoever of the group waits. A second round may place those
+/// whom the first left wherever there is room, by any lists and rankings. Some member still gets
+/// nothing better than with honest lists in the first round, judged by that member's honest list.
+pub fn no_group_gains_over_both()
+    ensures { NoGroupGainsOverBoth }
+{}
+
+/// Law: of all lists of the same projects, or of some of them, the honest order is best for a
+/// student. So whoever likes more projects than a list holds orders the listed ones honestly.
+pub fn order_honestly()
+    ensures { OrderHonestly }
+{}
+
+/// Law: a matching is stable exactly if there is a reason for each project that a student would
+/// rather have. It is full, and its lecturer ranks each student there higher; or its lecturer is
+/// full, and ranks each own student higher.
+pub fn why_not()
+    ensures { WhyNot }
+{}
+
+/// Law: students who submit no list harm nobody else. With their lists, no stable matching gives
+/// another student a better project. Each lecturer has to order the same students alike.
+pub fn fewer_never_harm()
+    ensures { FewerNeverHarm }
+{}
+
+/// Law: more places give no student a worse project, if each lecturer's limit grows by at least as
+/// many as the own projects together. A limit that is no bar to the own projects need not grow.
+pub fn more_room_never_harms()
+    ensures { MoreRoomNeverHarms }
+{}
+
+/// Law: more places at a project, and none for its lecturer, may give a student a worse project. In
+/// the example, Tides gets a second place. Ann moves there, and Cem, whom Lee ranks last, loses
+/// Kites to the limit.
+pub fn more_places_may_harm()
+    ensures { MorePlacesNeverHarm → ⊥ }
+{}
+
 /// Law: one member of a group may gain by dishonest lists. In the example, Ann puts Bells first and
 /// gets it, although it is her last choice. Cem then gets Kites.
 pub fn one_may_gain()
@@ -60,6 +101,15 @@ pub fn worked_example()
     ensures honest { IsBest (example honest_list) (Some kites ∷ Some tides ∷ Some bells ∷ []) }
     ensures safe { IsBest (example safe_list) (Some bells ∷ Some tides ∷ Some kites ∷ []) }
     ensures short { IsBest (example short_list) (Some kites ∷ Some tides ∷ Some bells ∷ []) }
+{}
+
+/// Law: no law tells a student which projects to list. In the example of waiting, let a list have
+/// room for one project. Tides, Ann's first choice, then gives her no project, and Kites, her
+/// second, gives her Kites.
+pub fn limited_example()
+    ensures lawful { IsLawful waiting × IsLawful second_alone }
+    ensures first { IsBest waiting (None ∷ Some tides ∷ Some kites ∷ None ∷ []) }
+    ensures second { IsBest second_alone (Some kites ∷ Some tides ∷ Some bells ∷ None ∷ []) }
 {}
 
 /// Law: in an example of waiting, the honest list gives Ann Kites at once. If she lists only Tides,

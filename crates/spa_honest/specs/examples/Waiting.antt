@@ -29,3 +29,7 @@ at_once = department honest_list (ann ∷ cem ∷ [])
 -- with Tides alone she does not
 abbrev pub waiting : Spa
 waiting = department (tides ∷ []) (cem ∷ [])
+
+-- with Kites alone she does not either
+abbrev pub second_alone : Spa
+second_alone = department (kites ∷ []) (cem ∷ [])

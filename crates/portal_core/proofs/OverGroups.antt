@@ -1,0 +1,177 @@
+-- No group of students gains over both rounds: of worlds.
+use Rattle.portal_core.proofs.Base.{◌≡◌, inl, inr, ℕ, zero, suc, ◌+◌, ◌<◌, ◌≤◌, Bool, true, false, List, [], ◌∷◌, map, length, get_or, refl, sym, ◌∙◌, ap, subst, arith, Option, Some, None, option_map, is_none, filter, count_by, ◌&&◌, ◌||◌, AllByRecursion, list_any, get_or-map, length-map, length-filter, AllZip-get_or, AllZip-long, cases_lt, IsOn, project_of, number_in, number_is, Second, Phase, StudentRow, Key, equals, has, World, project_key, student_key, is_at, is_left, is_published, is_second, shown_placement, students_in, in_play, first, first_placed, first_published, instance_of, places_of, project_keys, student_keys, view, student_sees, Good, HasBest, Sound, at_lecturer, count_with, DifferInLists, ListAlike, IsNoWorse, OneGainsNothing, KeepsCapacities, no_group_over_by_number, given_to, given_with, placed_to, placed_with, limit_of, get_or_default}
+use Rattle.spa_honest.specs.Honest as instances
+use Rattle.portal_core.specs.declared.view.View.TheVariants as sees
+use Rattle.portal_core.specs.World.{Lecturer, Student, ProjectRow}
+use Rattle.portal_core.proofs.Keys.{all_unmap}
+use Rattle.portal_core.proofs.AllLaws.{all_at, all_weaker, all_both, each_one}
+use Rattle.portal_core.proofs.Named.{students_named}
+use Rattle.portal_core.proofs.InPlay.{given_none}
+use Rattle.portal_core.proofs.Opened.{the_second}
+use Rattle.portal_core.proofs.Capacities.{number_has, known_in, keeps}
+use Rattle.portal_core.proofs.HonestLists.{has_number, key_of, no_student, no_project, no_lecturer, IsBestRound, IsStableRound, world_ranked, differ_by_number, no_worse_by_number, shown}
+use Rattle.portal_core.proofs.HonestGroups.{kept_key, was_key, of_group}
+use Rattle.portal_core.proofs.LeftOver.{few_at, few_with, none_at, none_with, placed_known, plays_known}
+use Rattle.portal_core.proofs.BothRounds.{honest_round, stable_first}
+
+-- ---- what is shown of both rounds
+
+-- a count is at most that of the first round and that of the second
+either_sizes : {X : Type 0} (a b c : X → Bool) (xs : List X) → AllByRecursion (λ x. a x ≡ true → (b x || c x) ≡ true) xs → length (filter a xs) ≤ length (filter b xs) + length (filter c xs)
+either_sizes a b c [] all = omega arith
+either_sizes a b c (x ∷ xs) all = grind (arith, all.0, either_sizes a b c xs all.1)
+
+shown_counts : (t : Option Key → Bool) (phase : Phase) → t None ≡ false → (ss : List Student) → count_by (λ s. t (shown_placement phase s)) ss ≤ count_by (λ (s : Student). t s.earlier_placement) ss + count_by (λ (s : Student). t s.placed) ss
+shown_counts t phase off ss =
+    omega (
+      arith,
+      either_sizes (λ s. t (shown_placement phase s)) (λ (s : Student). t s.earlier_placement) (λ (s : Student). t s.placed) ss (each_one _ each ss),
+      length-filter (λ s. t (shown_placement phase s)) ss,
+      length-filter (λ (s : Student). t s.earlier_placement) ss,
+      length-filter (λ (s : Student). t s.placed) ss,
+    )
+  where
+    each : (s : Student) → t (shown_placement phase s) ≡ true → (t s.earlier_placement || t s.placed) ≡ true
+    each s on = grind (arith, off)
+
+-- what the first round gave is shown
+shown_stays : (keys : List Key) (phase : Phase) (ss : List Student) (s p : ℕ) → project_of (map (λ (x : Student). option_map (number_in keys) x.placed) (map first_placed ss)) s ≡ Some p → project_of (map (λ x. option_map (number_in keys) (shown_placement phase x)) ss) s ≡ Some p
+shown_stays keys phase [] s p e = e
+shown_stays keys phase (x ∷ ss) zero p e = by_first x.earlier_placement e
+  where
+    by_first : (o : Option Key) → option_map (number_in keys) o ≡ Some p → option_map (number_in keys) (shown_placement phase (record x { earlier_placement = o })) ≡ Some p
+    by_first None e = absurd (cc)
+    by_first (Some q) e = e
+shown_stays keys phase (x ∷ ss) (suc s) p e = shown_stays keys phase ss s p e
+
+-- who takes part, from those who passed
+unfiltered : {X : Type 0} (P : X → Type 0) (q : X → Bool) (xs : List X) → AllByRecursion P (filter q xs) → AllByRecursion (λ x. q x ≡ true → P x) xs
+unfiltered P q [] all = tt
+unfiltered P q (x ∷ xs) all = grind (arith, unfiltered P q xs)
+
+-- by the numbers of the first round
+abbrev both_places : World → List (Option ℕ)
+both_places u = map (λ (s : Student). option_map (number_in (project_keys u)) (shown_placement u.phase s)) u.students
+
+module _ (u : World) (good : Good u) (second : is_second u.round ≡ true) where
+  two : u.round ≡ Second
+  two = the_second u.round second
+
+  abbrev Known : Option Key → Type 0
+  Known o = (q : Key) → o ≡ Some q → number_in (project_keys u) q < length (project_keys u)
+
+  second_known : AllByRecursion (λ (s : Student). is_left s ≡ true → is_published u.phase ≡ true → Known s.placed) u.students
+  second_known = by_phase (is_published u.phase) refl
+    where
+      by_phase : (out : Bool) → is_published u.phase ≡ out → AllByRecursion (λ (s : Student). is_left s ≡ true → is_published u.phase ≡ true → (q : Key) → s.placed ≡ Some q → number_in (project_keys u) q < length (project_keys u)) u.students
+      by_phase false e = each_one _ (λ s left out. let no : true ≡ false = sym out ∙ e in cc) u.students
+      by_phase true e =
+          all_weaker _ _ (λ s h left out q shows. has_number (project_keys u) q (plays_known u q two (number_has (project_keys (in_play u)) q (h left q shows)))) u.students
+          (unfiltered (λ (s : Student). (q : Key) → s.placed ≡ Some q → number_in (project_keys (in_play u)) q < length (project_keys (in_play u))) is_left u.students
+          (subst (λ r. AllByRecursion (λ (s : Student). (q : Key) → s.placed ≡ Some q → number_in (project_keys (in_play u)) q < length (project_keys (in_play u))) (students_in r u.students)) two (known_in u good.sound (good.stable e).matching)))
+
+  both_known : AllByRecursion (λ (s : Student). (q : Key) → shown_placement u.phase s ≡ Some q → number_in (project_keys u) q < length (project_keys u)) u.students
+  both_known =
+      all_weaker _ _ (λ s h q shows. here (is_published u.phase) refl s.earlier_placement s.placed h.0 h.1 q shows) u.students
+      (all_both _ _ u.students
+      (all_unmap (λ (s : Student). (q : Key) → s.placed ≡ Some q → number_in (project_keys u) q < length (project_keys u)) first_placed u.students (placed_known (first u) (good.before second).sound refl refl ((good.before second).stable refl)))
+      second_known)
+    where
+      here : (out : Bool) → is_published u.phase ≡ out → (o p : Option Key) → ((q : Key) → o ≡ Some q → number_in (project_keys u) q < length (project_keys u)) → (is_none o ≡ true → is_published u.phase ≡ true → (q : Key) → p ≡ Some q → number_in (project_keys u) q < length (project_keys u))
+          → (q : Key) → shown_placement u.phase (record no_student { earlier_placement = o; placed = p }) ≡ Some q → number_in (project_keys u) q < length (project_keys u)
+      here out e (Some z) p one two' q shows = one q shows
+      here true e None p one two' q shows = two' refl e q (rw e at shows)
+      here false e None p one two' q shows = let none : None ≡ Some q = rw e at shows in absurd (cc)
+
+  -- they keep what the first round gave, and the capacities
+  adds : instances.AddsTo (instance_of (first u)) (places_of (first u)) (both_places u)
+  adds = record {
+    students = length-map u.students _ ∙ sym (length-map u.students first_placed) ∙ sym (length-map (map first_placed u.students) _);
+    keeps = shown_stays (project_keys u) u.phase u.students;
+    projects = λ k. elim (cases_lt k (length u.projects)) [
+      | inr past ↦ omega (arith, none_at (first u) sound refl refl (shown_placement u.phase) u.students both_known k past)
+      | inl k_in ↦
+          let row : ProjectRow = get_or u.projects k no_project in
+          let fits = all_at (λ (p : ProjectRow). given_to u.students p.key + placed_to u.students p.key ≤ p.capacity) u.projects k no_project kept.projects k_in in
+          omega (
+            arith,
+            few_at (first u) sound refl refl (shown_placement u.phase) u.students both_known k k_in,
+            shown_counts (is_at row.key) u.phase refl u.students,
+            fits,
+            get_or-map (λ (p : ProjectRow). p.capacity) u.projects k no_project 0 k_in,
+          )
+    ];
+    lecturers = λ h. elim (cases_lt h (length u.lecturers)) [
+      | inr past ↦ omega (arith, none_with (first u) sound refl refl (shown_placement u.phase) u.students both_known h (omega (arith, past, length-map u.lecturers first_published)))
+      | inl h_in ↦ with_lecturer h h_in
+    ];
+  } where
+    sound : Sound (first u)
+    sound = (good.before second).sound
+
+    kept : KeepsCapacities u
+    kept = keeps u good
+
+    with_lecturer : (h : ℕ) → h < length u.lecturers → at_lecturer (instance_of (first u)) (both_places u) h ≤ limit_of (instance_of (first u)) h
+    with_lecturer h h_in =
+        let h_first : h < length (first u).lecturers = omega (arith, h_in, length-map u.lecturers first_published) in
+        let row : get_or (first u).lecturers h no_lecturer ≡ first_published (get_or u.lecturers h no_lecturer) = get_or-map first_published u.lecturers h no_lecturer no_lecturer h_in in
+        let fits = all_at (λ (l : Lecturer). given_with u.projects u.students l.row.key + placed_with u.projects u.students l.row.key ≤ l.row.capacity) u.lecturers h no_lecturer kept.lecturers h_in in
+        let few : at_lecturer (instance_of (first u)) (both_places u) h ≤ count_with (shown_placement u.phase) u.projects u.students (get_or u.lecturers h no_lecturer).row.key
+        = subst (λ (l : Lecturer). at_lecturer (instance_of (first u)) (both_places u) h ≤ count_with (shown_placement u.phase) u.projects u.students l.row.key) row (few_with (first u) sound refl refl (shown_placement u.phase) u.students both_known h h_first) in
+        let counts = shown_counts (λ o. list_any (λ (p : ProjectRow). equals p.lecturer (get_or u.lecturers h no_lecturer).row.key && is_at p.key o) u.projects) u.phase (given_none u.projects (get_or u.lecturers h no_lecturer).row.key) u.students in
+        let top : limit_of (instance_of (first u)) h ≡ (get_or u.lecturers h no_lecturer).row.capacity = get_or-map (λ (l : Lecturer). l.row.capacity) (first u).lecturers h no_lecturer 0 h_first ∙ ap (λ (l : Lecturer). l.row.capacity) row in
+        omega (arith, few, counts, fits, top)
+
+-- ---- NO GROUP GAINS
+module _ (w u : World) (group : List Key) (best : HasBest w) (good : Good u) (second : is_second u.round ≡ true) (differ : DifferInLists w (first u) (λ k. has group k ≡ true)) where
+  honest : IsBestRound w
+  honest = honest_round w best (sym differ.round)
+
+  other : IsStableRound (first u)
+  other = stable_first u good second
+
+  -- a student with a key of the group gains nothing, if that is so by number
+  of_key : (k : Key) → has group k ≡ true → number_in (student_keys w) k < length (student_keys w)
+      → instances.IsNoWorse (instance_of w) (number_in (student_keys w) k) (project_of (places_of w) (number_in (student_keys w) k)) (project_of (both_places u) (number_in (student_keys w) k))
+      → OneGainsNothing w u group
+  of_key k of_k k_low by_number =
+      let s : ℕ = number_in (student_keys w) k in
+      let s_in : s < length w.students = omega (arith, k_low, length-map w.students student_key) in
+      let s_first : s < length (first u).students = omega (arith, s_in, AllZip-long (ListAlike (λ k. has group k ≡ true)) w.students (first u).students differ.students) in
+      let s_u : s < length u.students = omega (arith, s_first, length-map u.students first_placed) in
+      let x : Student = get_or w.students s no_student in
+      let z : Student = get_or u.students s no_student in
+      let alike = AllZip-get_or (ListAlike (λ k. has group k ≡ true)) w.students (first u).students s no_student no_student differ.students s_in in
+      let row : get_or (first u).students s no_student ≡ first_placed z = get_or-map first_placed u.students s no_student no_student s_u in
+      let same_row : z.row ≡ x.row = sym (ap (λ (y : Student). y.row) row) ∙ alike.0 in
+      let x_key : k ≡ x.row.key = sym (number_is (student_keys w) k k_low) ∙ get_or-map student_key w.students s no_student [] s_in in
+      let none : x.earlier_placement ≡ None = (all_at (λ (y : Student). (y.earlier_choice ≡ []) × (y.earlier_placement ≡ None)) w.students s no_student (best.good.sound.no_earlier_lists (ap is_second (sym differ.round))) s_in).1 in
+      record {
+        code = x.row.code;
+        one = student_sees w x;
+        other = student_sees u z;
+        sees_one = all_at (λ (y : Student). view w y.row.code ≡ sees.Student (student_sees w y)) w.students s no_student (students_named w best.good.sound) s_in;
+        sees_other = subst (λ (r : StudentRow). view u r.code ≡ sees.Student (student_sees u z)) same_row (all_at (λ (y : Student). view u y.row.code ≡ sees.Student (student_sees u y)) u.students s no_student (students_named u good.sound) s_u);
+        of_group = subst (λ k. has group k ≡ true) x_key of_k;
+        no_worse = subst (λ o. IsNoWorse x.choice o (shown_placement u.phase z)) (sym (shown w x best.published none))
+            (λ p shows there. no_worse_by_number w s x honest (record { in_range = s_in; is = get_or_default w.students s x no_student s_in }) p there
+            (by_number (number_in (project_keys w) p)
+            (get_or-map (λ (y : Student). option_map (number_in (project_keys u)) (shown_placement u.phase y)) u.students s no_student None s_u ∙ ap (option_map (number_in (project_keys u))) shows ∙ ap (λ keys. Some (number_in keys p)) (ap (map project_key) differ.projects))));
+      }
+
+  pub no_group_gains_over_both : (key : Key) → has group key ≡ true → has (student_keys w) key ≡ true → OneGainsNothing w u group
+  no_group_gains_over_both key in_group there =
+      let keys : List Key = student_keys w in
+      let ours : List Key = filter (has (student_keys w)) group in
+      let some : number_in ours key < length ours = has_number ours key (kept_key (has (student_keys w)) group key in_group there) in
+      let found =
+      no_group_over_by_number (instance_of w) (instance_of (first u)) (map (number_in keys) ours) (places_of w) (places_of (first u)) (both_places u)
+      (world_ranked w honest.sound honest.one honest.published) (world_ranked (first u) other.sound other.one other.published)
+      (omega (arith, some, length-map ours (number_in keys)))
+      (differ_by_number w (first u) other.sound (λ k. has group k ≡ true) (IsOn (map (number_in keys) ours)) differ (of_group w group honest.sound.students_rise))
+      honest.best other.stable (adds u good second) in
+      let k = key_of keys ours found.0 found.1 in
+      let mine = was_key (has (student_keys w)) group k.0 k.1 in
+      of_key k.0 mine.0 (has_number keys k.0 mine.1)
+      (subst (λ n. instances.IsNoWorse (instance_of w) n (project_of (places_of w) n) (project_of (both_places u) n)) (sym k.2) found.2)
