@@ -5,10 +5,10 @@ pub use Rattle.std.proofs.lemmas.Bool.{both_ways, leb-true, leb-false}
 pub use Rattle.std.proofs.lemmas.List.{length-append, length-drop, take-append-drop, length-take-le, map-append}
 pub use Rattle.std.specs.Io.KnownBytes.{Appends, Keeps}
 pub use Rattle.std.specs.List.{AllZip, AllByRecursion}
-pub use Rattle.std.specs.Prelude.{None, Option, Some, if◌then◌else◌, nat_le, ◌||◌, IsTrue, ◌≢◌, IfErr, Result, Ok, Err, IfSome, is_none}
+pub use Rattle.std.specs.Prelude.{◌⊎◌, None, Option, Some, if◌then◌else◌, nat_le, ◌||◌, IsTrue, ◌≢◌, IfErr, Result, Ok, Err, IfSome, is_none}
 pub use Rattle.portal_core.specs.Answer.{Answer, Apply, Decision, Nothing, decision, Act, Publish, Render, Said, Json, Unavailable, emptied, open_where, unless_faulty, added, row_fault, already_placed, moves_on, opens, moves_in, moves, publishes, is_open_to_rolls, to_student, to_lecturer, to_office}
 pub use Rattle.portal_core.specs.Good.{Good, instance, matching_of, CanPublish}
-pub use Rattle.portal_core.specs.Meaning.{call_model, decision_model, reply_model, StaysClean}
+pub use Rattle.portal_core.specs.Meaning.{call_model, decision_model, reply_model, StaysClean, Breaks, LeavesBy, Settles}
 pub use Rattle.portal_core.specs.Run.{AllAnswered, Request, Run, Serves, Step, end_of, Request as Wanted, unavailable, HasForm, StepLeaves, Wish, Calls, Refused, Answers}
 pub use Rattle.portal_core.specs.Sight.{AbstractCall, StudentSees, LecturerSees, OfficeSees}
 pub use Rattle.portal_core.specs.View.{view}
@@ -17,11 +17,11 @@ pub use Rattle.portal_core.specs.World.{World, is_setup, Placements, changed, is
 pub use Rattle.portal_core.specs.declared.view.View.{View as Sight}
 pub use Rattle.portal_core.specs.inner.Room.{pairs_by}
 pub use Rattle.portal_desk.specs.Headline.{ServesEach, AllTellOf, AreServed, AreVisits, Ended, IsSession, Session, Visit, exchanges_of, worlds_of, Finish, Stopped, Tells, ServesUntil, IsVisit, AreAnswered, Hears, texts_to, replies_in, AlikeTexts, AreServedOn, left_by, exchanges_in, IsServed, IsUnseen, AreUnseen, PublishesBest, IsUpheld, MainPromise, IsEnded, AreOf}
-pub use Rattle.portal_desk.specs.Kept.{KeeperState, state_of, FailsByCount, Deals, ServesWhole, Stops, Kept, Wrote, TakesAtMost}
+pub use Rattle.portal_desk.specs.Kept.{KeeperState, state_of, FailsByCount, Deals, Moves, MayReach, LastsOrBreaks, IsSettled, ServesWhole, Stops, Kept, Wrote, TakesAtMost}
 pub use Rattle.portal_desk.specs.declared.served.Cause.{Cause}
 pub use Rattle.portal_desk.specs.inner.Play.{CanDo, IsSolved, with_sheet}
 pub use Rattle.portal_desk.specs.inner.Reading.{Follows, Heads, NoneWhole, ReadsMore, KeepsStream, IsWithin, HoldsNone}
-pub use Rattle.portal_desk.specs.inner.Turns.{Broke, Partly, ServesPart, Acted, Replied}
+pub use Rattle.portal_desk.specs.inner.Turns.{Broke, Partly, ServesPart, Acted, Replied, MayLeave}
 pub use Rattle.portal_frame.specs.Stream.{Asked, Opens, fault, is_head, refused, seen, whole, Framed, IsWithinLimits, over, item_of, after_lines, asked_of, fields_of, body_length, bad_length}
 pub use Rattle.portal_frame.specs.declared.types.Frame.{Frame}
 pub use Rattle.portal_wire.proofs.Exist.{not_headless, shut_ends}

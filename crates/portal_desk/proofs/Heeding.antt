@@ -129,15 +129,15 @@ session_done state s serves = done s.finish s.exchanges (state s.old) (state s.n
 
 -- what was told of streams that were served one after another
 pub are_visits : {K : Type 0} (state : K → KeeperState) (k : K) (ss : List (Session K)) → AreServed state k ss
-    → (vs : List Visit) × AllTellOf ss vs × AreVisits (state k).world vs
+    → (vs : List Visit) × AllTellOf state ss vs × AreVisits (state k).world vs
 are_visits state k [] served = ([], tt, tt)
 are_visits state k (s ∷ ss) (same, is_clean, serves, later) =
     let d = session_done state s serves in
-    let r = d.deals.reaches is_clean in
+    let r = d.deals.moves.reaches is_clean in
     let v : Visit = record { bytes = s.bytes; written = d.written; finish = s.finish; exchanges = s.exchanges; worlds = r.0 } in
     let more = are_visits state s.new ss later in (
       v ∷ more.0,
-      (record { bytes = refl; finish = refl; exchanges = refl; count = d.deals.counted; written = d.adds }, more.1),
+      (record { bytes = refl; finish = refl; exchanges = refl; count = d.deals.counted; written = d.adds; left = r.2 }, more.1),
       (
         subst (λ w. IsVisit w v) same (record { tells = d.tells; run = r.1 }),
         subst (λ w. AreVisits w more.0) (r.2 ∙ ap (λ w. end_of w r.0) same) more.2,
@@ -146,7 +146,7 @@ are_visits state k (s ∷ ss) (same, is_clean, serves, later) =
 
 pub equal : {K L : Type 0} (state : K → KeeperState) (states : L → KeeperState) (c : Key) (k : K) (l : L)
     (ss : List (Session K)) (ts : List (Session L)) → AreServed state k ss → AreServed states l ts → view (state k).world c ≡ view (states l).world c
-    → (first second : List Visit) × AllTellOf ss first × AreVisits (state k).world first × AllTellOf ts second × AreVisits (states l).world second
+    → (first second : List Visit) × AllTellOf state ss first × AreVisits (state k).world first × AllTellOf states ts second × AreVisits (states l).world second
     × ((items : List HeardItem) → AreAnswered first → AreAnswered second → Hears c (state k).world first items → Hears c (states l).world second items
     → replies_in c first ≡ replies_in c second)
 equal state states c k l ss ts served others same =

@@ -7,6 +7,7 @@ pub mod Steps
 pub mod Framing
 pub mod Taking
 pub mod Sent
+pub mod Moving
 pub mod Telling
 pub mod Heeding
 pub mod Failing

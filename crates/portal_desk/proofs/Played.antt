@@ -1,6 +1,8 @@
 -- What was decided in a good world may be done, and leaves a good world.
-use Rattle.portal_desk.proofs.Base.{◌≡◌, List, sym, ◌∙◌, ap, subst, Key, World, pairs_by, AbstractCall, Nothing, Apply, Decision, decision, Good, Step, view, is_setup, Placements, changed, instance, matching_of, CanPublish, Act, Publish, Render, HasForm, StepLeaves, CanDo, IsSolved, Result, Ok, Err}
-use Rattle.std.specs.Prelude.{IfOk}
+use Rattle.portal_desk.proofs.Base.{◌≡◌, List, sym, ◌∙◌, ap, subst, Key, World, pairs_by, AbstractCall, Nothing, Apply, Decision, decision, Good, Step, view, is_setup, Placements, changed, instance, matching_of, CanPublish, Act, Publish, Render, HasForm, StepLeaves, CanDo, IsSolved, Result, Ok, Err, inl, Bool, Answer, Asked, Answers, Calls, request_of, reply_model, unavailable, KeeperState, MayLeave}
+use Rattle.std.specs.Prelude.{IfOk, OnOk, MatchResult}
+use Rattle.portal_core.specs.declared.decision.Reply.{Reply}
+use Rattle.portal_wire.specs.Wish.{wish_of}
 use Rattle.spa_model.specs.Spa.{Spa, IsBest}
 use Rattle.portal_core.proofs.Kept.{to_published}
 use Rattle.portal_core.proofs.Play.{can_apply, can_publish}
@@ -50,3 +52,21 @@ pub published : (w u v : World) (i : Spa) (pairs : List (Key × Key)) → Good w
 published w u v i pairs g is solved same made =
     let end : v ≡ changed w (Placements pairs) = made ∙ ap (λ x. changed x (Placements pairs)) same in
     (pairs, end, subst (λ x. IsBest (instance w) (matching_of x)) (sym end) (solved_best w i pairs g is solved))
+
+-- where the keeper is broken now, the call failed, and its reply is 503
+untold_by : {A E : Type 0} (r : Result A E) (B Q : Type 0) (P : A → Type 0) → OnOk r (B → ⊥) → MatchResult r P (λ _. Q) → B → Q
+untold_by (Ok v) B Q P never told bad = absurd (never bad)
+untold_by (Err e) B Q P never told bad = told
+
+-- what a stop may leave of a call that was played for a request
+pub may_leave : {E : Type 0} (r : Result Reply E) (old new : KeeperState) (closes : Bool) (a : Asked) (code : Key) (ask : AbstractCall) (reply : Reply)
+    → OnOk r (new.broken → ⊥) → MatchResult r (λ told. reply ≡ told) (λ _. reply_model reply ≡ unavailable) → code ≡ a.code → wish_of a ≡ Calls ask
+    → (w : World) → (old.broken → ⊥) × (old.clean → (other : Answer) × Step old.world code ask other w) → MayLeave old new (request_of closes a) (reply_model reply) w
+may_leave r old new closes a code ask reply never told same is w (alive, made) = record {
+  alive = alive;
+  untold = untold_by r new.broken (reply_model reply ≡ unavailable) (λ v. reply ≡ v) never told;
+  turned = λ on. let m = made on in (
+    m.0,
+    inl (subst (λ wish. Answers old.world (request_of closes a) wish m.0 w) (sym is) (subst (λ c. Step old.world c ask m.0 w) same m.1)),
+  );
+}

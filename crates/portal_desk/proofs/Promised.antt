@@ -12,19 +12,19 @@ stays_served state k [] served all last = (last, λ on. tt)
 stays_served state k (s ∷ ss) (resumes, serves, later) all last =
     let apart = answered_apart s.exchanges (exchanges_in ss) all in
     let next = stays_served state s.new ss later apart.1 last in
-    let own = (session_done state s serves).deals.lasts apart.0 next.0 in
+    let own = (session_done state s serves).deals.moves.lasts apart.0 next.0 in
     let before = resumes own.0 in (
       before.0,
       λ on. let start = before.1 on in let now = own.1 start.0 in (start.1, now, serves, next.1 now),
     )
 
 -- the visits have the streams' own requests and replies
-pub same_exchanges : {K : Type 0} (ss : List (Session K)) (vs : List Visit) → AllTellOf ss vs → exchanges_in ss ≡ exchanges_of vs
-same_exchanges [] [] tell = refl
-same_exchanges [] (v ∷ vs) tell = absurd tell
-same_exchanges (s ∷ ss) [] tell = absurd tell
-same_exchanges (s ∷ ss) (v ∷ vs) tell =
-    ap (λ es. es ++ exchanges_in ss) (sym tell.0.exchanges) ∙ ap (λ es. v.exchanges ++ es) (same_exchanges ss vs tell.1)
+pub same_exchanges : {K : Type 0} (state : K → KeeperState) (ss : List (Session K)) (vs : List Visit) → AllTellOf state ss vs → exchanges_in ss ≡ exchanges_of vs
+same_exchanges state [] [] tell = refl
+same_exchanges state [] (v ∷ vs) tell = absurd tell
+same_exchanges state (s ∷ ss) [] tell = absurd tell
+same_exchanges state (s ∷ ss) (v ∷ vs) tell =
+    ap (λ es. es ++ exchanges_in ss) (sym tell.0.exchanges) ∙ ap (λ es. v.exchanges ++ es) (same_exchanges state ss vs tell.1)
 
 -- one step
 
@@ -91,12 +91,12 @@ upheld run_good step_best run_best w visits good are =
     }
 
 pub headline : RunsGood → StepsBest → RunsBest → {K L : Type 0} (state : K → KeeperState) (states : L → KeeperState) (k : K) (l : L)
-    (ss : List (Session K)) (ts : List (Session L)) → IsServed state k ss → IsServed states l ts → MainPromise (state k).world (states l).world ss ts
+    (ss : List (Session K)) (ts : List (Session L)) → IsServed state k ss → IsServed states l ts → MainPromise state states (state k).world (states l).world ss ts
 headline run_good step_best run_best state states k l ss ts one other =
     let a = are_visits state k ss ((stays_served state k ss one.served one.answered one.disk).1 one.clean) in
     let b = are_visits states l ts ((stays_served states l ts other.served other.answered other.disk).1 other.clean) in
-    let all = subst (λ es. AllAnswered (told_in es)) (same_exchanges ss a.0 a.1) one.answered in
-    let also = subst (λ es. AllAnswered (told_in es)) (same_exchanges ts b.0 b.1) other.answered in (
+    let all = subst (λ es. AllAnswered (told_in es)) (same_exchanges state ss a.0 a.1) one.answered in
+    let also = subst (λ es. AllAnswered (told_in es)) (same_exchanges states ts b.0 b.1) other.answered in (
       a.0,
       b.0,
       a.1,

@@ -8,16 +8,23 @@ use Rattle.portal_wire.specs.Wish.{answer_to}
 use Rattle.portal_wire.specs.Conversation as talk
 use Rattle.portal_wire.specs.inner.Calls.{last_for}
 use Rattle.portal_desk.proofs.Known.{Appends-append}
-use Rattle.portal_desk.proofs.Failing.{lasts_then}
-use Rattle.portal_desk.proofs.Steps.{text-snoc, Reaches-snoc, after_one, Leads-snoc, answered_apart}
-
-exchange : Wanted → Answer → Exchange
-exchange r a = record { request = r; reply = a }
+use Rattle.portal_desk.proofs.Moving.{exchange, Moves-none, Moves-snoc}
+use Rattle.portal_desk.proofs.Steps.{text-snoc, after_one, Leads-snoc}
 
 -- what the loop knows before a turn
 abbrev pub SoFar : Option (List ℕ) → Option (List ℕ) → KeeperState → KeeperState → Option (List ℕ) → Option (List ℕ) → List ℕ → ℕ → Type 0
 SoFar src rem old mid before w front count =
     IfSome src (λ bytes. (rest : List ℕ) × (rem ≡ Some rest) × ServesPart old mid before w bytes (front ++ rest) count)
+
+-- before the first turn
+pub so_far_none : (src : Option (List ℕ)) (s : KeeperState) (w : Option (List ℕ)) (front : List ℕ) → front ≡ [] → SoFar src src s s w w front 0
+so_far_none None s w front empty = tt
+so_far_none (Some bytes) s w front empty =
+    (bytes, refl, subst (λ f. ServesPart s s w w bytes (f ++ bytes) 0) (sym empty) ([], record { leads = refl; moves = Moves-none s; counted = refl }, nothing w))
+  where
+    nothing : (w : Option (List ℕ)) → Appends w w []
+    nothing None = tt
+    nothing (Some x) = sym (append-nil x)
 
 -- what was told, and what the rest of the stream opens with
 abbrev pub Joined : KeeperState → KeeperState → Option (List ℕ) → Option (List ℕ) → Option (List ℕ) → ℕ → List ℕ → Frame → List ℕ → Type 0
@@ -82,8 +89,7 @@ Deals-snoc old mid new bytes left after count es a closes reply deals back opens
     record {
       leads = subst (λ b. Leads 256 bytes (asked_in (es ++ e ∷ [])) (after_one b a after)) (sym at)
           (Leads-snoc 256 (256 - count) bytes es left e a after deals.leads opens (ap (λ n. 256 - n) deals.counted) (ap (λ b. request_of b a) at));
-      reaches = λ x. Reaches-snoc old.world mid.world new.world es e (deals.reaches (back x)) (acted.serves x);
-      lasts = λ all. let apart = answered_apart es (e ∷ []) all in lasts_then _ _ _ _ _ _ (deals.lasts apart.0) (acted.lasts apart.1.0);
+      moves = Moves-snoc old mid new es (request_of closes a) reply deals.moves back acted;
       counted = one_longer count es e deals.counted;
     }
   where

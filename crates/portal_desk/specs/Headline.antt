@@ -98,18 +98,19 @@ AreServed state k [] = Unit {0}
 AreServed state k (s ∷ ss) =
     ((state s.old).world ≡ (state k).world) × (state s.new).clean × IsSession state s × AreServed state s.new ss
 
--- the visit describes the call of `serve`
-pub record TellsOf {K : Type 0} (s : Session K) (v : Visit) : Type 0 where
+-- the visit describes the call of `serve`, and ends in the world that the keeper then has
+pub record TellsOf {K : Type 0} (state : K → KeeperState) (s : Session K) (v : Visit) : Type 0 where
   pub bytes : v.bytes ≡ s.bytes
   pub finish : v.finish ≡ s.finish
   pub exchanges : v.exchanges ≡ s.exchanges
   pub count : s.count ≡ length v.exchanges
   pub written : s.after ≡ s.before ++ v.written
+  pub left : (state s.new).world ≡ end_of (state s.old).world v.worlds
 
-abbrev pub AllTellOf : {K : Type 0} → List (Session K) → List Visit → Type 0
-AllTellOf [] [] = Unit {0}
-AllTellOf (s ∷ ss) (v ∷ vs) = TellsOf s v × AllTellOf ss vs
-AllTellOf _ _ = ⊥
+abbrev pub AllTellOf : {K : Type 0} → (K → KeeperState) → List (Session K) → List Visit → Type 0
+AllTellOf state [] [] = Unit {0}
+AllTellOf state (s ∷ ss) (v ∷ vs) = TellsOf state s v × AllTellOf state ss vs
+AllTellOf state _ _ = ⊥
 
 -- `new` goes on from `old`: it is the same keeper, or what it kept was closed and opened again
 abbrev pub Resumes : KeeperState → KeeperState → Type 0
@@ -165,9 +166,9 @@ AreEqual w v first second =
     → (replies_in c first ≡ replies_in c second) × (view (end_of w (worlds_of first)) c ≡ view (end_of v (worlds_of second)) c)
 
 -- visits describe the sessions of both lists, and the main promise holds of these visits
-abbrev pub MainPromise : {K L : Type 0} → World → World → List (Session K) → List (Session L) → Type 0
-MainPromise w v sessions others =
-    (first second : List Visit) × AllTellOf sessions first × AllTellOf others second × IsUpheld w first × IsUpheld v second
+abbrev pub MainPromise : {K L : Type 0} → (K → KeeperState) → (L → KeeperState) → World → World → List (Session K) → List (Session L) → Type 0
+MainPromise state states w v sessions others =
+    (first second : List Visit) × AllTellOf state sessions first × AllTellOf states others second × IsUpheld w first × IsUpheld v second
     × AreEqual w v first second
 
 -- the sessions serve these streams to their ends, and write these texts, each to an empty writer

@@ -2,10 +2,10 @@
 -- for a stream.
 use Rattle.std.specs.Prelude.{ℕ, Bool, ◌≡◌, ◌⊎◌, ◌+◌, ◌-◌, ◌^◌, ◌<◌, ◌≤◌, min, List, length, Option, Some, IfSome, Result, MatchResult, true, false, ◌||◌, [], ◌∷◌, ◌++◌, take}
 use Rattle.portal_core.specs.World.{World}
-use Rattle.portal_core.specs.Answer.{Said, Json, Unavailable}
+use Rattle.portal_core.specs.Answer.{Answer, Said, Json, Unavailable}
 use Rattle.serde_json.specs.Written.{has_float}
 use Rattle.std.specs.Io.KnownBytes.{Appends}
-use Rattle.portal_core.specs.Meaning.{StaysClean}
+use Rattle.portal_core.specs.Meaning.{StaysClean, Settles}
 use Rattle.portal_core.specs.Run.{AllAnswered, unavailable}
 use Rattle.portal_frame.specs.Stream.{Asked, Opens, whole}
 use Rattle.portal_desk.specs.declared.served.Cause.{Cause}
@@ -22,14 +22,26 @@ pub record Metered (T : Type 0) : Type 0 where
   pub inner : T
   pub failures : ℕ
 
--- a keeper's world, whether its disk has returned what was written, and whether it is clean
+-- a keeper's world, whether its disk has returned what was written, whether it is clean or broken,
+-- and what worlds a stop may leave
 pub record KeeperState : Type 1 where
   pub disk : Type 0
   pub clean : Type 0
   pub world : World
+  pub broken : Type 0
+  pub leaves : World → Type 0
 
-abbrev pub state_of : {K : Type 0} → (K → Type 0) → (K → Type 0) → (K → World) → K → KeeperState
-state_of disk clean world k = record { disk = disk k; clean = clean k; world = world k }
+abbrev pub state_of : {K : Type 0} → (K → Type 0) → (K → Type 0) → (K → World) → (K → Type 0) → (K → World → Type 0) → K → KeeperState
+state_of disk clean world broken leaves k =
+    record { disk = disk k; clean = clean k; world = world k; broken = broken k; leaves = leaves k }
+
+-- if a disk is clean, it was; a clean keeper stayed clean or broke, and a broken one is still broken
+abbrev pub LastsOrBreaks : KeeperState → KeeperState → Type 0
+LastsOrBreaks old new = new.disk → old.disk × (old.clean → new.clean ⊎ new.broken) × (old.broken → new.broken)
+
+-- a stop leaves only the keeper's world
+abbrev pub IsSettled : KeeperState → Type 0
+IsSettled s = Settles s.world s.leaves
 
 -- a call that failed counts once, up to the greatest number, and no other does
 abbrev pub Counts : {A E : Type 0} → Result A E → ℕ → ℕ → Type 0
@@ -55,11 +67,29 @@ IsTold (Json body) = has_float body ≡ false
 IsTold Unavailable = ⊥
 IsTold _ = Unit {0}
 
--- after the first requests, a clean keeper has their world; it stays clean if no reply is 503
-pub record Deals (old new : KeeperState) (bytes : List ℕ) (count : ℕ) (es : List Exchange) (rest : Rest) : Type 0 where
-  pub leads : Leads 256 bytes (asked_in es) rest
+-- the exchanges reach this world, or they do if the request of one reply 503 was carried out
+abbrev pub MayReach : World → List Exchange → World → Type 0
+MayReach old es w =
+    Reaches old es w
+    ⊎ ((front back : List Exchange) × (e : Exchange) × (other : Answer) × (es ≡ front ++ e ∷ back) × (e.reply ≡ unavailable)
+    × Reaches old (front ++ record e { reply = other } ∷ back) w)
+
+-- what these exchanges did to a keeper, whatever is known of their bytes: a clean one has their
+-- world, and is clean still if no reply is 503; else it is clean or broken. A broken one leaves each
+-- world as it is. A stop may leave the world of these exchanges, or of a run in which the request of
+-- one reply 503 was carried out
+pub record Moves (old new : KeeperState) (es : List Exchange) : Type 0 where
   pub reaches : new.clean → Reaches old.world es new.world
   pub lasts : AllAnswered (told_in es) → StaysClean old.disk new.disk old.clean new.clean
+  pub breaks : LastsOrBreaks old new
+  pub settled : IsSettled old → new.clean → IsSettled new
+  pub still : new.disk → old.broken → (w : World) → Reaches w es w × (new.leaves w → old.leaves w)
+  pub leaves : IsSettled old → old.clean → new.disk → (w : World) → new.leaves w → MayReach old.world es w
+
+-- the first requests of these bytes, and what they did to the keeper
+pub record Deals (old new : KeeperState) (bytes : List ℕ) (count : ℕ) (es : List Exchange) (rest : Rest) : Type 0 where
+  pub leads : Leads 256 bytes (asked_in es) rest
+  pub moves : Moves old new es
   pub counted : count ≡ length es
 
 -- these exchanges serve the whole stream, and the text of all replies is written

@@ -4,15 +4,16 @@ ghost use Rattle.std.specs.Prelude.{◌≡◌, ◌≢◌, ◌||◌, ℕ, ◌+◌
 ghost use Rattle.std.specs.Prelude.{IfSome, IfOk, OnOk, IfErr, MatchResult};
 ghost use Rattle.std.specs.Io.KnownBytes.{Appends};
 ghost use Rattle.portal_frame.specs.Stream.{seen, is_head};
-ghost use Rattle.portal_core.specs.Meaning.{StaysClean, reply_model, body_model};
+ghost use Rattle.portal_core.specs.Meaning.{LeavesBy, Settles, StaysClean, reply_model, body_model};
 ghost use Rattle.portal_core.specs.Good.{Good};
 ghost use Rattle.portal_core.specs.Run.{Serves, unavailable};
-ghost use Rattle.portal_wire.specs.Conversation.{request_of, closes_at, last, reply_text};
+ghost use Rattle.portal_core.specs.World.{World};
+ghost use Rattle.portal_wire.specs.Conversation.{Exchange, request_of, closes_at, last, reply_text};
 ghost use Rattle.portal_wire.specs.inner.Calls.{last_for};
 ghost use Rattle.portal_core.specs.Answer.{HasWholeNumbers};
 ghost use Rattle.portal_desk.specs.Kept.{FailsAfter, TakesAtMost, state_of, FailsByCount};
-ghost use Rattle.portal_desk.specs.Kept.{ServesWhole, Stops, Blames, AtFirst};
-ghost use Rattle.portal_desk.specs.inner.Turns.{is_store, TurnsAway, Broke, Replied};
+ghost use Rattle.portal_desk.specs.Kept.{LastsOrBreaks, Moves, ServesWhole, Stops, Blames, AtFirst};
+ghost use Rattle.portal_desk.specs.inner.Turns.{is_store, TurnsAway, Broke, MayLeave, Replied};
 ghost use Rattle.portal_desk.specs.declared.served.Cause.TheVariants.{Read as ReadFailed};
 ghost use Rattle.portal_desk.specs.declared.served.Cause.TheVariants.{Write as WriteFailed};
 ghost use Rattle.portal_desk.specs.declared.served.Cause.TheVariants.{Store as StoreFailed};
@@ -100,6 +101,17 @@ impl<K: Keeper> Desk<K> {
         ensures lasts { reply_model result ≢ unavailable
             → StaysClean (K.disk self.old.keeper) (K.disk self.new.keeper)
             (K.clean self.old.keeper) (K.clean self.new.keeper) }
+        ensures breaks { LastsOrBreaks (state_of K.disk K.clean K.world K.broken K.leaves self.old.keeper)
+            (state_of K.disk K.clean K.world K.broken K.leaves self.new.keeper) }
+        ensures broken { K.disk self.new.keeper → K.broken self.new.keeper → (w : World)
+            → Serves w (request_of request.now.close (seen request.now)) (reply_model result) w }
+        ensures settled { Settles (K.world self.old.keeper) (K.leaves self.old.keeper)
+            → K.clean self.new.keeper
+            → Settles (K.world self.new.keeper) (K.leaves self.new.keeper) }
+        ensures leaves { LeavesBy (K.disk self.new.keeper) (K.leaves self.old.keeper) (K.leaves self.new.keeper)
+            (MayLeave (state_of K.disk K.clean K.world K.broken K.leaves self.old.keeper)
+            (state_of K.disk K.clean K.world K.broken K.leaves self.new.keeper)
+            (request_of request.now.close (seen request.now)) (reply_model result)) }
         ensures serves { K.clean self.new.keeper
             → Serves (K.world self.old.keeper) (request_of request.now.close (seen request.now))
             (reply_model result) (K.world self.new.keeper) }
@@ -133,15 +145,15 @@ impl<K: Keeper> Desk<K> {
         sink: &mut W,
     ) -> Result<(), Cause>
         ensures clean { K.clean self.new.keeper → K.clean self.old.keeper }
-        ensures ok { OnOk result (Replied (state_of K.disk K.clean K.world self.old.keeper)
-            (state_of K.disk K.clean K.world self.new.keeper)
+        ensures ok { OnOk result (Replied (state_of K.disk K.clean K.world K.broken K.leaves self.old.keeper)
+            (state_of K.disk K.clean K.world K.broken K.leaves self.new.keeper)
             (request_of closes (seen request.now))
             (λ reply. (self.new.failed ≡ false)
             × Appends (W.contents sink.old) (W.contents sink.new)
             (reply_text reply (is_head request.now.method.items) closes))) }
         ensures err { IfErr result (λ cause. Replied
-            (state_of K.disk K.clean K.world self.old.keeper)
-            (state_of K.disk K.clean K.world self.new.keeper)
+            (state_of K.disk K.clean K.world K.broken K.leaves self.old.keeper)
+            (state_of K.disk K.clean K.world K.broken K.leaves self.new.keeper)
             (request_of closes (seen request.now))
             (λ reply. Broke cause self.new.failed reply (is_head request.now.method.items) closes
             (W.contents sink.old) (W.contents sink.new))) }
@@ -149,6 +161,8 @@ impl<K: Keeper> Desk<K> {
         ensures calm { OnOk result (W.failed sink.new ≡ W.failed sink.old) }
         ensures blames { IfErr result (λ cause. cause ≡ WriteFailed
             → FailsAfter (W.failed sink.old) (W.failed sink.new)) }
+        ensures spared { IfErr result (λ cause. cause ≢ WriteFailed
+            → W.failed sink.new ≡ W.failed sink.old) }
         ensures counts { FailsByCount self.old.failed self.new.failed (K.faults self.old.keeper)
             (K.faults self.new.keeper) }
         ensures unread { IfErr result (λ cause. cause ≡ ReadFailed → ⊥) }
@@ -181,16 +195,23 @@ impl<K: Keeper> Desk<K> {
         sink: &mut W,
     ) -> Result<Served, ServeFault>
         ensures clean { K.clean self.new.keeper → K.clean self.old.keeper }
+        ensures moves { (es : List Exchange)
+            × Moves (state_of K.disk K.clean K.world K.broken K.leaves self.old.keeper)
+            (state_of K.disk K.clean K.world K.broken K.leaves self.new.keeper) es }
         ensures served { IfOk result (λ served. IfSome (R.remaining source.old) (λ bytes.
-            ServesWhole (state_of K.disk K.clean K.world self.old.keeper)
-            (state_of K.disk K.clean K.world self.new.keeper) (W.contents sink.old)
+            ServesWhole (state_of K.disk K.clean K.world K.broken K.leaves self.old.keeper)
+            (state_of K.disk K.clean K.world K.broken K.leaves self.new.keeper) (W.contents sink.old)
             (W.contents sink.new) bytes served.requests (last served.ending))) }
         ensures stopped { IfErr result (λ fault. IfSome (R.remaining source.old) (λ bytes.
-            Stops fault.cause self.new.failed (state_of K.disk K.clean K.world self.old.keeper)
-            (state_of K.disk K.clean K.world self.new.keeper) (R.remaining source.new)
+            Stops fault.cause self.new.failed (state_of K.disk K.clean K.world K.broken K.leaves self.old.keeper)
+            (state_of K.disk K.clean K.world K.broken K.leaves self.new.keeper) (R.remaining source.new)
             (W.contents sink.old) (W.contents sink.new) bytes fault.requests)) }
         ensures blames { IfErr result (λ fault. Blames fault.cause (R.failed source.old)
             (R.failed source.new) (W.failed sink.old) (W.failed sink.new)) }
+        ensures spared_source { IfErr result (λ fault. fault.cause ≢ ReadFailed
+            → R.failed source.new ≡ R.failed source.old) }
+        ensures spared_sink { IfErr result (λ fault. fault.cause ≢ WriteFailed
+            → W.failed sink.new ≡ W.failed sink.old) }
         ensures taken { TakesAtMost (256 * 1064960) (R.remaining source.old)
             (R.remaining source.new) }
         ensures stays { self.old.failed ≡ true → self.new ≡ self.old }

@@ -16,7 +16,7 @@ pub fn serve_each<K: Keeper>(
     desk: &mut Desk<K>,
     streams: &[&[u8]],
 ) -> Option<Vec<Vec<u8>>>
-    ensures served { IfSome result (λ texts. ServesEach (state_of K.disk K.clean K.world)
+    ensures served { IfSome result (λ texts. ServesEach (state_of K.disk K.clean K.world K.broken K.leaves)
         desk.old.keeper desk.new.keeper (map (λ stream. stream.now) streams.now)
         (map (λ text. text.items) texts.items)) }
 {

@@ -37,8 +37,10 @@ pub fn same_bytes()
 /// Law: visits describe successive calls of `serve` if each call leaves its keeper clean.
 pub fn served_is_visit<K: Keeper>()
     ensures { (k : K) (sessions : List (Session K))
-        → AreServed (state_of K.disk K.clean K.world) k sessions
-        → (visits : List Visit) × AllTellOf sessions visits × AreVisits (K.world k) visits }
+        → AreServed (state_of K.disk K.clean K.world K.broken K.leaves) k sessions
+        → (visits : List Visit)
+        × AllTellOf (state_of K.disk K.clean K.world K.broken K.leaves) sessions visits
+        × AreVisits (K.world k) visits }
 {}
 
 /// Law: visits describe what two desks write, over keepers of any kind that stay clean. Suppose no
@@ -46,11 +48,14 @@ pub fn served_is_visit<K: Keeper>()
 /// replies to that caller are equal byte for byte.
 pub fn equal_byte_for_byte<K: Keeper, L: Keeper>()
     ensures { (c : Key) (k : K) (l : L) (sessions : List (Session K)) (others : List (Session L))
-        → AreServed (state_of K.disk K.clean K.world) k sessions
-        → AreServed (state_of L.disk L.clean L.world) l others
+        → AreServed (state_of K.disk K.clean K.world K.broken K.leaves) k sessions
+        → AreServed (state_of L.disk L.clean L.world L.broken L.leaves) l others
         → view (K.world k) c ≡ view (L.world l) c
-        → (first second : List Visit) × AllTellOf sessions first × AreVisits (K.world k) first
-        × AllTellOf others second × AreVisits (L.world l) second
+        → (first second : List Visit)
+        × AllTellOf (state_of K.disk K.clean K.world K.broken K.leaves) sessions first
+        × AreVisits (K.world k) first
+        × AllTellOf (state_of L.disk L.clean L.world L.broken L.leaves) others second
+        × AreVisits (L.world l) second
         × ((items : List HeardItem) → AreAnswered first → AreAnswered second
         → Hears c (K.world k) first items → Hears c (L.world l) second items
         → replies_in c first ≡ replies_in c second) }
@@ -67,9 +72,10 @@ pub fn equal_byte_for_byte<K: Keeper, L: Keeper>()
 /// lists. Then the replies to that caller are equal byte for byte, and so is the last view.
 pub fn headline<K: Keeper, L: Keeper>()
     ensures { (k : K) (l : L) (sessions : List (Session K)) (others : List (Session L))
-        → IsServed (state_of K.disk K.clean K.world) k sessions
-        → IsServed (state_of L.disk L.clean L.world) l others
-        → MainPromise (K.world k) (L.world l) sessions others }
+        → IsServed (state_of K.disk K.clean K.world K.broken K.leaves) k sessions
+        → IsServed (state_of L.disk L.clean L.world L.broken L.leaves) l others
+        → MainPromise (state_of K.disk K.clean K.world K.broken K.leaves)
+        (state_of L.disk L.clean L.world L.broken L.leaves) (K.world k) (L.world l) sessions others }
 {
     run_good();
     published_best();

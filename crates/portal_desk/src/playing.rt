@@ -3,8 +3,9 @@
 ghost use Rattle.std.specs.Prelude.{◌≡◌, IfOk, OnOk, OnErr, IfErr};
 ghost use Rattle.spa_model.specs.Spa.{IsMatching};
 ghost use Rattle.portal_core.specs.Answer as answer;
-ghost use Rattle.portal_core.specs.Answer.{Publish, HasWholeNumbers};
-ghost use Rattle.portal_core.specs.Meaning.{CountsFaults, StaysClean, call_model, decision_model};
+ghost use Rattle.portal_core.specs.Answer.{Answer, Publish, HasWholeNumbers};
+ghost use Rattle.portal_core.specs.Meaning.{Breaks, CountsFaults, LeavesBy, Settles, StaysClean};
+ghost use Rattle.portal_core.specs.Meaning.{call_model, decision_model};
 ghost use Rattle.portal_core.specs.Meaning.{act_model, reply_model, body_model};
 ghost use Rattle.portal_core.specs.Good.{Good, CanPublish};
 ghost use Rattle.portal_core.specs.inner.Room.{pairs_by};
@@ -79,6 +80,11 @@ fn ask<K: Keeper>(
     ensures clean { K.clean keeper.new → K.clean keeper.old }
     ensures lasts { OnOk result (StaysClean (K.disk keeper.old) (K.disk keeper.new)
         (K.clean keeper.old) (K.clean keeper.new)) }
+    ensures breaks { Breaks result (K.disk keeper.old) (K.disk keeper.new) (K.clean keeper.old)
+        (K.clean keeper.new) (K.broken keeper.old) (K.broken keeper.new) }
+    ensures settled { K.clean keeper.new → Settles (K.world keeper.new) (K.leaves keeper.new) }
+    ensures leaves { LeavesBy (K.disk keeper.new) (K.leaves keeper.old) (K.leaves keeper.new)
+        (λ _. ⊥) }
     ensures decided { IfOk result (λ d. K.clean keeper.new → Good (K.world keeper.old)
         → decision_model d ≡ answer.decision (seen.view (K.world keeper.old) code.now)
         (call_model call.now)) }
@@ -126,6 +132,11 @@ fn publish<K: Keeper>(alloc: Global, keeper: &mut K) -> Result<(), KeepFault>
     ensures clean { K.clean keeper.new → K.clean keeper.old }
     ensures lasts { OnOk result (StaysClean (K.disk keeper.old) (K.disk keeper.new)
         (K.clean keeper.old) (K.clean keeper.new)) }
+    ensures breaks { Breaks result (K.disk keeper.old) (K.disk keeper.new) (K.clean keeper.old)
+        (K.clean keeper.new) (K.broken keeper.old) (K.broken keeper.new) }
+    ensures settled { K.clean keeper.new → Settles (K.world keeper.new) (K.leaves keeper.new) }
+    ensures leaves { LeavesBy (K.disk keeper.new) (K.leaves keeper.old) (K.leaves keeper.new)
+        (λ w. K.clean keeper.old → StepLeaves (K.world keeper.old) Publish w) }
     ensures made { OnOk result (K.clean keeper.new
         → StepLeaves (K.world keeper.old) Publish (K.world keeper.new)) }
     ensures same { OnErr result (K.clean keeper.new → K.world keeper.new ≡ K.world keeper.old) }
@@ -142,9 +153,16 @@ fn publish<K: Keeper>(alloc: Global, keeper: &mut K) -> Result<(), KeepFault>
 fn perform<K: Keeper>(alloc: Global, keeper: &mut K, act: Act) -> Result<(), KeepFault>
     requires good { K.clean keeper.old → Good (K.world keeper.old) }
     requires can { K.clean keeper.old → CanDo (K.world keeper.old) (act_model act) }
+    requires alive { K.disk keeper.old → K.broken keeper.old → ⊥ }
     ensures clean { K.clean keeper.new → K.clean keeper.old }
     ensures lasts { OnOk result (StaysClean (K.disk keeper.old) (K.disk keeper.new)
         (K.clean keeper.old) (K.clean keeper.new)) }
+    ensures breaks { Breaks result (K.disk keeper.old) (K.disk keeper.new) (K.clean keeper.old)
+        (K.clean keeper.new) (K.broken keeper.old) (K.broken keeper.new) }
+    ensures settled { Settles (K.world keeper.old) (K.leaves keeper.old) → K.clean keeper.new
+        → Settles (K.world keeper.new) (K.leaves keeper.new) }
+    ensures leaves { LeavesBy (K.disk keeper.new) (K.leaves keeper.old) (K.leaves keeper.new)
+        (λ w. K.clean keeper.old → StepLeaves (K.world keeper.old) (act_model act) w) }
     ensures made { OnOk result (K.clean keeper.new
         → StepLeaves (K.world keeper.old) (act_model act) (K.world keeper.new)) }
     ensures same { OnErr result (K.clean keeper.new → K.world keeper.new ≡ K.world keeper.old) }
@@ -169,6 +187,12 @@ pub fn play<K: Keeper>(
     ensures clean { K.clean keeper.new → K.clean keeper.old }
     ensures lasts { OnOk result (StaysClean (K.disk keeper.old) (K.disk keeper.new)
         (K.clean keeper.old) (K.clean keeper.new)) }
+    ensures breaks { Breaks result (K.disk keeper.old) (K.disk keeper.new) (K.clean keeper.old)
+        (K.clean keeper.new) (K.broken keeper.old) (K.broken keeper.new) }
+    ensures settled { K.clean keeper.new → Settles (K.world keeper.new) (K.leaves keeper.new) }
+    ensures leaves { LeavesBy (K.disk keeper.new) (K.leaves keeper.old) (K.leaves keeper.new)
+        (λ w. (K.broken keeper.old → ⊥) × (K.clean keeper.old → (reply : Answer)
+        × Step (K.world keeper.old) code.now (call_model call.now) reply w)) }
     ensures step { IfOk result (λ r. K.clean keeper.new
         → Step (K.world keeper.old) code.now (call_model call.now) (reply_model r)
         (K.world keeper.new)) }

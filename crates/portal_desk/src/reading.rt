@@ -55,6 +55,8 @@ fn read_piece<R: Source>(source: &mut R, buffer: &mut Vec<u8>) -> Result<bool, F
     ensures calm { OnOk result (R.failed source.new ≡ R.failed source.old) }
     ensures counts { IfErr result (λ fault. fault ≡ ReadFailed
         → FailsAfter (R.failed source.old) (R.failed source.new)) }
+    ensures spared { IfErr result (λ fault. fault ≢ ReadFailed
+        → R.failed source.new ≡ R.failed source.old) }
     ensures same_device { R.name source.new ≡ R.name source.old }
 {
     let mut piece = [0u8; 4096];
@@ -88,6 +90,8 @@ pub(crate) fn next_frame<R: Source>(
     ensures calm { OnOk result (R.failed source.new ≡ R.failed source.old) }
     ensures counts { IfErr result (λ fault. fault ≡ ReadFailed
         → FailsAfter (R.failed source.old) (R.failed source.new)) }
+    ensures spared { IfErr result (λ fault. fault ≢ ReadFailed
+        → R.failed source.new ≡ R.failed source.old) }
     ensures same_device { R.name source.new ≡ R.name source.old }
 {
     let mut ended = false;

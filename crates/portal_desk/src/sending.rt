@@ -1,6 +1,6 @@
 //! Writes replies to a sink.
 
-ghost use Rattle.std.specs.Prelude.{◌≡◌, true, OnOk, IfErr, OnErr};
+ghost use Rattle.std.specs.Prelude.{◌≡◌, ◌≢◌, true, OnOk, IfErr, OnErr};
 ghost use Rattle.std.specs.Io.KnownBytes.{Appends};
 ghost use Rattle.portal_core.specs.Meaning.{reply_model, body_model};
 ghost use Rattle.portal_frame.specs.Stream.{refused};
@@ -26,6 +26,8 @@ fn send<W: Sink>(bytes: &[u8], sink: &mut W) -> Result<(), Cause>
     ensures calm { OnOk result (W.failed sink.new ≡ W.failed sink.old) }
     ensures counts { IfErr result (λ cause. cause ≡ WriteFailed
         → FailsAfter (W.failed sink.old) (W.failed sink.new)) }
+    ensures spared { IfErr result (λ cause. cause ≢ WriteFailed
+        → W.failed sink.new ≡ W.failed sink.old) }
     ensures same_device { W.name sink.new ≡ W.name sink.old }
 {
     match write_whole(sink, bytes) {
@@ -50,6 +52,8 @@ pub(crate) fn send_reply<W: Sink>(
     ensures calm { OnOk result (W.failed sink.new ≡ W.failed sink.old) }
     ensures counts { IfErr result (λ cause. cause ≡ WriteFailed
         → FailsAfter (W.failed sink.old) (W.failed sink.new)) }
+    ensures spared { IfErr result (λ cause. cause ≢ WriteFailed
+        → W.failed sink.new ≡ W.failed sink.old) }
     ensures same_device { W.name sink.new ≡ W.name sink.old }
 {
     match reply_bytes(alloc, &reply, head_only, close) {
@@ -72,6 +76,8 @@ pub(crate) fn send_refusal<W: Sink>(
     ensures calm { OnOk result (W.failed sink.new ≡ W.failed sink.old) }
     ensures counts { IfErr result (λ cause. cause ≡ WriteFailed
         → FailsAfter (W.failed sink.old) (W.failed sink.new)) }
+    ensures spared { IfErr result (λ cause. cause ≢ WriteFailed
+        → W.failed sink.new ≡ W.failed sink.old) }
     ensures same_device { W.name sink.new ≡ W.name sink.old }
 {
     match reply_of(alloc, refusal) {

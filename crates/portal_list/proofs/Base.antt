@@ -36,7 +36,7 @@ pub use Rattle.portal_list.specs.inner.ApplicantIndex.{IsIndexOf, is_among, is_n
 pub use Rattle.portal_list.specs.inner.Fill.{filled, missing, with_missing, unless_empty, fill_missing}
 pub use Rattle.portal_list.specs.inner.Fit.{IsFitted, lecturers_fitting, students_fitting, next_for, rest_for, earlier_for, earlier_rest, with_lists}
 pub use Rattle.portal_list.specs.inner.Lines.{instance_lecturer, instance_project, instance_rows, instance_student}
-pub use Rattle.portal_list.specs.inner.Parts.{HasNothingEarlier, HasRanking, ListsOf, RollsOf, applicant_keys, wanting, codes_in, lecturer_row_keys, student_row_keys, RollsFit, IsOutIfPlaced, IsStableIfPublished}
+pub use Rattle.portal_list.specs.inner.Parts.{HasNothingEarlier, HasRanking, ListsFit, ListsOf, RollsOf, applicant_keys, wanting, codes_in, lecturer_row_keys, student_row_keys, RollsFit, IsOutIfPlaced, IsStableIfPublished}
 pub use Rattle.portal_list.specs.inner.Played.{world_with, all_played, lecturer_played, project_played, takes_part, is_followed, placed_now}
 pub use Rattle.portal_list.specs.inner.Shown.{applicants_shown, catalogue_in, is_waiting, name_of, offered, placements_shown, is_wanted}
 pub use Rattle.spa_model.proofs.OneInstance.{never_itself, own_number, numbers_back, choices_below, ranking_below, keys_one, student_there, project_there, lecturer_there, student_says, project_says, lecturer_says}

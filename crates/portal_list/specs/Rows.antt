@@ -1,6 +1,7 @@
 -- A world as entries (the rows of the rolls with their owners' lists) and as the rows of tables.
-use Rattle.std.specs.Prelude.{◌≡◌, List, [], map, Option, option_map}
-use Rattle.portal_core.specs.World.{World, Lecturer, Student, pairs_with}
+use Rattle.std.specs.Prelude.{◌≡◌, true, List, [], map, Option, option_map}
+use Rattle.portal_core.specs.World.{World, Lecturer, Student, pairs_with, first, is_second}
+use Rattle.portal_core.specs.Good.{Sound}
 use Rattle.portal_core.specs.declared.phase.Round.{Round}
 use Rattle.portal_core.specs.declared.rows.ProjectRow.{ProjectRow}
 use Rattle.std.specs.List.{filter_map}
@@ -23,6 +24,10 @@ entries_in w = record { round = w.round; lecturers = w.lecturers; projects = w.p
 -- the world has these entries
 pub record HasEntries (entries : AllEntries) (w : World) : Type 0 where
   pub there : entries_in w ≡ entries
+
+-- in the second round, the world in which the first was published is sound
+abbrev pub HasSoundFirst : World → Type 0
+HasSoundFirst w = is_second w.round ≡ true → Sound (first w)
 
 pub record RowsOfWorld : Type 0 where
   pub round : Round

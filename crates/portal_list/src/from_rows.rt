@@ -1,11 +1,12 @@
-//! Builds a keeper or entries from the rows of tables; turns a keeper into its entries.
+//! Builds entries from the rows of tables, and a keeper around them; gives a keeper's entries out.
 
 ghost use Rattle.std.specs.Prelude.{◌≡◌, Err, IfOk};
 ghost use Rattle.portal_core.specs.World.{World};
 ghost use Rattle.portal_core.specs.Good.{Sound};
-ghost use Rattle.portal_list.specs.Rows.{HasEntries, world_rows};
+ghost use Rattle.portal_list.specs.Rows.{HasEntries, HasSoundFirst, world_rows};
 ghost use Rattle.portal_list.specs.inner.Parts.{RollsFit};
 ghost use Rattle.portal_list.specs.inner.Fit.{IsFitted};
+ghost use Rattle.portal_list.specs.inner.Played.{world_with};
 ghost use Rattle.portal_list.specs.declared.from_rows.RowsFault.TheVariants.{Memory};
 
 use crate::entries::Entries;
@@ -18,7 +19,8 @@ use spa_rows::Key;
 use std::alloc::{AllocError, Global};
 use std::marker::Model;
 
-/// The rows of a world, as tables store them.
+/// The rows of a world, as tables store them. The rows of each roll come in ascending order of
+/// keys.
 #[derive(Drop)]
 pub struct WorldRows {
     pub round: Round,
@@ -98,16 +100,17 @@ fn check_rolls(alloc: Global, rows: &WorldRows) -> Result<(), RowsFault>
     if fit { Ok(()) } else { Err(RowsFault::NotGood) }
 }
 
-/// Builds the keeper that has these rows. Returns `NotGood` only if no sound world has them.
-fn fitted(alloc: Global, rows: WorldRows) -> Result<ListKeeper, RowsFault>
-    ensures fitted { IfOk result (λ keeper. IsFitted rows keeper) }
+/// Joins rows into the entries of the world that has them. Returns `NotGood` only if no sound world
+/// has them.
+fn fitted(alloc: Global, rows: WorldRows) -> Result<Entries, RowsFault>
+    ensures fitted { IfOk result (λ e. IsFitted rows (world_with rows.phase rows.office e)) }
     ensures refused { result ≡ Err RowsFault.NotGood → (w : World) → rows ≡ world_rows w → Sound w
         → ⊥ }
 {
     let WorldRows {
         round,
-        phase,
-        office,
+        phase: _,
+        office: _,
         lecturers,
         projects,
         students,
@@ -133,30 +136,39 @@ fn fitted(alloc: Global, rows: WorldRows) -> Result<ListKeeper, RowsFault>
     else {
         return Err(RowsFault::NotGood);
     };
-    Ok(ListKeeper {
-        phase,
-        office,
-        entries: Entries {
-            round,
-            lecturers,
-            projects,
-            students,
-        },
-        catalogue: None,
+    Ok(Entries {
+        round,
+        lecturers,
+        projects,
+        students,
     })
 }
 
 impl ListKeeper {
-    /// Builds a keeper from the rows of a sound world, and refuses other rows as `NotGood`.
+    /// Builds a keeper from the rows of a sound world. In the second round the first, as published,
+    /// must be sound, too. Refuses other rows as `NotGood`, also rolls out of the order of keys.
     pub fn from_rows(alloc: Global, rows: WorldRows) -> Result<ListKeeper, RowsFault>
         ensures ok { IfOk result (λ keeper. rows ≡ world_rows keeper) }
         ensures sound { IfOk result (λ keeper. Sound keeper) }
+        ensures first { IfOk result (λ keeper. HasSoundFirst keeper) }
         ensures err { result ≡ Err RowsFault.NotGood → (w : World) → rows ≡ world_rows w → Sound w
+            → HasSoundFirst w
             → ⊥ }
     {
         check_rolls(alloc, &rows)?;
-        let keeper = fitted(alloc, rows)?;
-        if lists_fit(alloc, keeper.phase, &keeper.entries)? {
+        let phase = rows.phase;
+        let office = rows.office.copy(alloc)?;
+        let entries = fitted(alloc, rows)?;
+        if !lists_fit(alloc, phase, &entries)? {
+            return Err(RowsFault::NotGood);
+        }
+        let keeper = ListKeeper {
+            phase,
+            office,
+            entries,
+            catalogue: None,
+        };
+        if keeper.has_sound_first(alloc)? {
             Ok(keeper)
         } else {
             Err(RowsFault::NotGood)
@@ -181,7 +193,6 @@ impl Entries {
             → Sound w
             → ⊥ }
     {
-        let keeper = fitted(alloc, rows)?;
-        Ok(keeper.into_entries())
+        fitted(alloc, rows)
     }
 }

@@ -5,6 +5,7 @@ ghost use Rattle.spa_model.specs.Pairs.{number_in};
 ghost use Rattle.spa_model.specs.Spa.{IsStable};
 ghost use Rattle.portal_core.specs.Good.{Good, Sound, IsRound};
 ghost use Rattle.portal_core.specs.World.{first, first_published, first_placed, is_second};
+ghost use Rattle.portal_list.specs.Rows.{HasSoundFirst};
 ghost use Rattle.portal_list.specs.inner.Parts.{IsStableIfPublished, RollsOf};
 ghost use Rattle.portal_list.specs.inner.Played.{takes_part};
 
@@ -142,12 +143,34 @@ impl ListKeeper {
         })
     }
 
+    /// Returns whether a world with valid rolls is sound.
+    fn is_sound(&self, alloc: Global) -> Result<bool, AllocError>
+        requires { RollsOf self.now }
+        ensures { IfOk result (λ yes. IsTrue yes ↔ Sound self.now) }
+    {
+        lists_fit(alloc, self.phase, &self.entries)
+    }
+
+    /// Returns whether the published first round is sound, or `true` in the first round.
+    pub(crate) fn has_sound_first(&self, alloc: Global) -> Result<bool, AllocError>
+        requires { Sound self.now }
+        ensures { IfOk result (λ yes. IsTrue yes ↔ HasSoundFirst self.now) }
+    {
+        match self.entries.round {
+            Round::First => Ok(true),
+            Round::Second => {
+                let first = self.first(alloc)?;
+                first.is_sound(alloc)
+            }
+        }
+    }
+
     /// Returns whether a world with valid rolls is sound, and its result, if published, stable.
     fn is_round(&self, alloc: Global) -> Result<bool, AllocError>
         requires { RollsOf self.now }
         ensures { IfOk result (λ yes. IsTrue yes ↔ IsRound self.now) }
     {
-        if !lists_fit(alloc, self.phase, &self.entries)? {
+        if !self.is_sound(alloc)? {
             return Ok(false);
         }
         self.is_settled(alloc)

@@ -253,6 +253,11 @@ impl Keeper for ListKeeper {
 
     ghost disk = { λ _. Unit {0} };
 
+    // There is no disk that could fail, and a process that stops leaves nothing.
+    ghost broken = { λ _. ⊥ };
+
+    ghost leaves = { λ _ _. ⊥ };
+
     ghost faults = { λ _. 0 };
 
     fn view(&mut self, alloc: Global, code: &[u8]) -> Result<View, KeepFault>

@@ -1,8 +1,14 @@
 -- What `open` makes of what was read.
-use Rattle.portal_store.proofs.Base.{List, [], ◌∷◌, pos, ◌≡◌, ◌≢◌, ℕ, Bool, true, false, not, IsTrue, Ok, Err, Result, map, length, filter, slice_index_or, refl, sym, ap, subst, ◌∙◌, IsPermutation, length_permutation, Int, Row, column, Trees, IsUnchanged, Ghosts, Held, state, Round, First, Second, portal_tree, second_tree, choice2_tree, ranked2_tree, ranking2_tree, assigned2_tree, first_trees, own_trees, version, IsCurrentSchema, RowNumbersDiffer, portal_row, second_row, ListsBy, every, columns, HasOffice, number_of_phase, is_empty, AllNumbersDiffer, HasSecond, IsUnopened, IsConsistent, IsConsistentIn, later_trees, IsKept, early_trees, apart_one, current_own, Denies, AdmitsAs, Admits, TableFault, OpenFault, IfErr, IsLive, apart_none, HasVersion, RefusalSays, NumbersDiffer, SaysNothing}
+use Rattle.portal_store.proofs.Base.{List, [], ◌∷◌, pos, ◌≡◌, ◌≢◌, ℕ, Bool, true, false, not, IsTrue, Ok, Err, Result, map, length, filter, slice_index_or, refl, sym, ap, subst, ◌∙◌, IsPermutation, length_permutation, Int, Row, column, Trees, Database, HasCleanDisk, IsUnchanged, State, Ghosts, Held, state, Round, First, Second, portal_tree, second_tree, choice2_tree, ranked2_tree, ranking2_tree, assigned2_tree, first_trees, own_trees, version, IsCurrentSchema, RowNumbersDiffer, portal_row, second_row, ListsBy, every, columns, HasOffice, number_of_phase, is_empty, AllNumbersDiffer, HasSecond, IsUnopened, IsConsistent, IsConsistentIn, later_trees, IsKept, early_trees, apart_one, current_own, Denies, AdmitsAs, Admits, TableFault, OpenFault, IfErr, IsLive, apart_none, HasVersion, RefusalSays, NumbersDiffer, SaysNothing}
 use Rattle.sqlite.proofs.Callers.{one_permutation}
+unfoldable use Rattle.sqlite.specs.State.{Begins}
+use Rattle.sqlite.specs.Listing.{understood, reads_listing, IsSourceOf}
+use Rattle.portal_tables.specs.declared.select.Query.TheVariants.{Office}
+use Rattle.portal_store.specs.Crash.{ShowsVersion}
+use Rattle.portal_store.specs.inner.Keeping.{IsReady}
+use Rattle.portal_store.proofs.Keeps.{leaves_shown}
 use Rattle.portal_tables.specs.inner.Decoding.{FindsAny}
-use Rattle.portal_tables.specs.inner.Queries.{selection, Shows}
+use Rattle.portal_tables.specs.inner.Queries.{selection, Shows, query_text}
 use Rattle.portal_tables.specs.declared.select.Query.{Query}
 use Rattle.portal_tables.specs.declared.fault.TableFault.TheVariants as told
 use Rattle.portal_store.specs.declared.store.OpenFault.TheVariants.{NotPortal, OtherVersion, Damaged, Store, Memory}
@@ -175,12 +181,18 @@ apart_both db round office second many = (
 )
 
 -- a store over tables that were admitted
-pub opened_kept : {S : Type 0} (g : Ghosts S) (own : Bool) (old new : Held S) → new.in_transaction ≡ false → (IsTrue own → IsCurrentSchema old.schema) → (IsTrue (state g old).is_open → (state g old).now ≡ (state g old).committed) → IsLive (state g old)
-    → (IsTrue own → IsTrue (state g new).is_open → IsUnchanged (state g old) (state g new) × Admits (state g old).now.trees) → IsKept g new own
-opened_kept g own old new idle is_own settled live found = record {
-  idle = idle;
-  ready = λ mine on.
-      let f = found mine on in
+module _
+    {S : Type 0}
+    (g : Ghosts S)
+    (own : Bool)
+    (old new : Held S)
+    (is_own : IsTrue own → IsCurrentSchema old.schema)
+    (settled : IsTrue (state g old).is_open → (state g old).now ≡ (state g old).committed)
+    (live : IsLive (state g old))
+    (found : IsTrue own → HasCleanDisk (state g new) → IsUnchanged (state g old) (state g new) × Admits (state g old).now.trees) where
+  admitted : IsTrue own → HasCleanDisk (state g new) → IsReady (state g new)
+  admitted mine clean =
+      let f = found mine clean in
       let same = f.0.0 in
       let good = f.1 in
       let before : IsConsistentIn good.stands.0 (state g old).now = record {
@@ -192,5 +204,31 @@ opened_kept g own old new idle is_own settled live found = record {
         second = good.stands.1.second;
         whole = good.stands.1.whole;
       } in
-      record { settled = same.committed_is ∙ sym (settled same.was_open) ∙ sym same.now_is; holds = subst IsConsistent (sym same.now_is) (good.stands.0, before) };
+      record { settled = same.committed_is ∙ sym (settled same.was_open) ∙ sym same.now_is; holds = subst IsConsistent (sym same.now_is) (good.stands.0, before) }
+
+  pub opened_kept : new.in_transaction ≡ false → (IsTrue (state g new).is_open → HasCleanDisk (state g new)) → ((db : Trees) → IsTrue (state g new).is_open → (state g new).may_leave db → db ≡ (state g new).committed.trees) → IsKept g new own
+  opened_kept idle shut law = record {
+    idle = idle;
+    ready = λ mine on. admitted mine (shut on);
+    left = λ mine clean db may.
+        let ready = admitted mine clean in
+        leaves_shown g new law ready.settled ready.holds (found mine clean).0.0.is_open db may;
+  }
+
+-- what the text begins with, and so the version that is shown, depends on the database alone
+pub version_still : (of : ℕ) (a b : State) → b.now ≡ a.now → ShowsVersion of a → ShowsVersion of b
+unfolding Begins
+version_still of a b same h = record {
+  row = h.row;
+  rest = h.rest;
+  shown =
+      let it = h.shown in (
+        it.0,
+        record { is = subst (λ (d : Database). understood d.schema (query_text Office) ≡ Ok it.0) (sym same) it.1.is; whole = it.1.whole; given = it.1.given; now = it.1.now },
+        it.2,
+        it.3,
+        subst (λ (d : Database). IsSourceOf (reads_listing d.schema (query_text Office)) d it.3) (sym same) it.4,
+        it.5,
+      );
+  version_is = h.version_is;
 }

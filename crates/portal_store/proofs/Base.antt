@@ -37,22 +37,22 @@ pub use Rattle.portal_list.specs.Rows.{HasEntries, RowsOfWorld, world_rows, choi
 pub use Rattle.portal_list.specs.inner.Fill.{fill_missing}
 pub use Rattle.portal_list.specs.inner.Shown.{is_wanted, is_waiting, offered}
 pub use Rattle.portal_store.specs.Crash.{Refutes, Bars, Reopens, OpensAgain, OpensFresh, UpgradesAgain, HasVersion, RefusalSays, IsLeft}
-pub use Rattle.portal_store.specs.Kept.{AllNumbersDiffer, HasChanged, HasGoodFirst, HasGoodWorld, HasGoodWorldIn, HasSecond, IsCleanStore, IsConsistent, IsConsistentIn, IsTransition, IsUnopened, Seen, Whole, kept_world, later_trees, AreWhole, AreEmpty, HasDisk, DiskInMemory, KeepsClean, Lasts, LastsInMemory, IsOpened}
+pub use Rattle.portal_store.specs.Kept.{AllNumbersDiffer, HasChanged, HasGoodFirst, HasGoodWorld, HasGoodWorldIn, HasSecond, IsCleanStore, IsConsistent, IsConsistentIn, IsTransition, IsUnopened, Seen, Whole, kept_world, later_trees, AreWhole, AreEmpty, HasDisk, DiskInMemory, KeepsClean, Lasts, LastsInMemory, IsOpened, IsBrokenStore, LeavesWorld, UnbrokenInMemory, AreConsistent, LeavesConsistent}
 pub use Rattle.portal_store.specs.World.{is_ranked, lecturer_stored, phase_in, round_in, student_stored, first_world, ranking_in, choice_in, placement_in_round, second_phase, office_row, round_by}
 pub use Rattle.portal_store.specs.declared.add_rows.NewRows.{NewRows}
 pub use Rattle.portal_store.specs.declared.store.OpenFault.{OpenFault}
 pub use Rattle.portal_store.specs.inner.Adding.{with_rows_added}
 pub use Rattle.portal_store.specs.inner.Asked.{Admits, AdmitsAs, Denies, NumbersDiffer, SaysNothing, IsJudged}
-pub use Rattle.portal_store.specs.inner.Ending.{CommitsChange}
+pub use Rattle.portal_store.specs.inner.Ending.{CommitsChange, LeavesMade}
 pub use Rattle.portal_store.specs.inner.Keeping.{AreEntries, HasChangedIn, IsKept, IsTransitionFrom, IsTransitionIn, early_trees, HasChangedFrom}
 pub use Rattle.portal_store.specs.inner.Loads.{LoadsIn, Loads, after_first}
 pub use Rattle.portal_store.specs.inner.Opening.{OpensSecondRound, is_opening}
 pub use Rattle.portal_store.specs.inner.Placing.{ShowsRoll, TurnsLeft, TurnsShown, assigned_of, pair_left}
 pub use Rattle.portal_store.specs.inner.Putting.{TurnsAll, TurnsThere, with_rankings}
 pub use Rattle.portal_store.specs.inner.Queried.{lecturer_from, student_from}
-pub use Rattle.portal_store.specs.inner.Reading.{IsNow, KeepsEntries, IsSoundIfOpen, RemembersIn}
-pub use Rattle.portal_tables.proofs.Asking.{commits_asked, IsSettled, commits_none, crash_asked}
-pub use Rattle.portal_tables.proofs.InTurn.{both, clean_before, if_answered, reads_as, reads_both, reads_handed, reads_more, reads_of, reads_open, reads_short, reads_then, reads_then_of, reads_wide}
+pub use Rattle.portal_store.specs.inner.Reading.{IsNow, IsToldAs, KeepsEntries, IsSoundIfOpen, RemembersIn}
+pub use Rattle.portal_tables.proofs.Asking.{commits_asked, commits_none, crash_asked}
+pub use Rattle.portal_tables.proofs.InTurn.{both, clean_before, if_answered, looks_by, looks_never, looks_then, settled_still, stays_left, stays_then, reads_as, reads_both, reads_handed, reads_more, reads_of, reads_open, reads_short, reads_then, reads_then_of, reads_wide}
 pub use Rattle.portal_tables.proofs.Keeping.{apart_one, others_are, apart_none, puts_apart, sets_apart}
 pub use Rattle.portal_tables.proofs.Listed.{all_map_on, permuted}
 pub use Rattle.portal_tables.proofs.Lists.{filter_all, put_splits}
@@ -65,7 +65,7 @@ pub use Rattle.portal_tables.proofs.Shapes.{IsLecturerRow, IsStudentRow, has_tex
 pub use Rattle.portal_tables.proofs.Sorted.{all_permuted, all_two, at, distinct_if_rise, distinct_permuted, map_alike, map_alike_on, map_twice, permutes, permutes_more, put_all_map, put_same, rise_distinct, all_has, has_of, one_rise, rise_put_all, more_put}
 pub use Rattle.portal_tables.specs.Making.{IsFresh, Upgrades, has_names, Creates, Upgraded, has_name, is_named_table, is_named_view}
 pub use Rattle.portal_tables.specs.Rows.{IsWhole, chosen, list_in_order, of_key, HasOffice, number_of_phase, RowNumbersDiffer, has_text, portal_row, row_key, second_row, text_or_none, phase_numbered}
-pub use Rattle.portal_tables.specs.Steps.{Anyhow, Reading, Commits, IsAfter, IsUnchangedOrUndone, Stays, LeavesOnly, Reads}
+pub use Rattle.portal_tables.specs.Steps.{Anyhow, Reading, Commits, IsAfter, IsSettled, IsUnchangedOrUndone, OnlyLooks, Stays, LeavesOnly, Reads}
 pub use Rattle.portal_tables.specs.Tables.{tree_of, assigned2_tree, choice2_tree, choice_tree, first_trees, first_version, lecturer_tree, own_trees, portal_tree, project_tree, ranked2_tree, ranking2_tree, ranking_tree, second_tree, student_tree, version, HasFirstSchema, IsCurrentSchema, IsFirstSchema, no_schema, first_schema, SameTable, second_trees, choice_table, ranking_table}
 pub use Rattle.portal_tables.specs.declared.fault.TableFault.{TableFault}
 pub use Rattle.portal_tables.specs.declared.names.Names.TheVariants.{OfSecond}

@@ -1,25 +1,38 @@
 -- How a call ends that makes a change: of one transaction, after a query or with none.
-use Rattle.portal_store.proofs.Base.{◌∙◌, ◌≡◌, Anyhow, Commits, CommitsChange, Database, Err, HasCleanDisk, IsAfter, IsCurrentSchema, IsErr, IsTrue, IsUnchanged, IsUnchangedOrUndone, Ok, OnErr, OnOk, Reading, Result, Round, State, Stays, Survives, Trees, ap, clean_before, commits_asked, false, has_round, inl, inr, on_err_weaker, on_ok_weaker, subst, survives_then, survives_weaker, sym, LeavesOnly, IsSettled, commits_none}
+use Rattle.portal_store.proofs.Base.{◌∙◌, ◌≡◌, Anyhow, Commits, CommitsChange, Database, Err, HasCleanDisk, IsAfter, IsCurrentSchema, IsErr, IsTrue, IsUnchanged, IsUnchangedOrUndone, Ok, OnErr, OnOk, Reading, Result, Round, State, Stays, Survives, Trees, ap, clean_before, commits_asked, false, inl, inr, on_err_weaker, on_ok_weaker, stays_left, subst, survives_then, survives_weaker, sym, LeavesOnly, IsSettled, commits_none, LeavesMade, IsToldAs, IfOk}
 
 -- the tables are read, and then the change is made, or not
 pub ends_then : {round : Round} {Right : Database → Type 0} {U F V E : Type 0} {Told : Database → Result U F → Type 0} {C D : Database → Database → Type 0} {u : U} {r : Result V E} {old mid new : State} → Reading round Anyhow Right Told (Ok u) old mid → CommitsChange C r mid new
     → (IsCurrentSchema old.now.schema → HasCleanDisk mid → (after : Database) → C old.now after → D old.now after) → CommitsChange D r old new
-ends_then {round} {C = C} {D = D} {r = r} {old} {mid} {new} reads then more =
+ends_then {C = C} {D = D} {r = r} {old} {mid} {new} reads then more =
     let before : HasCleanDisk new → HasCleanDisk mid = clean_before mid new _ then.crash in
-    let same = λ (own : IsCurrentSchema old.now.schema) (clean : HasCleanDisk mid). reads.same (has_round round old.now.schema own) clean tt in
+    let same : HasCleanDisk mid → IsUnchanged old mid = λ clean. reads.same clean tt in
     let mine : IsUnchanged old mid → IsCurrentSchema old.now.schema → IsCurrentSchema mid.now.schema = λ m own. subst (λ (d : Database). IsCurrentSchema d.schema) (sym m.0.now_is) own in
     record {
-      ok = λ own clean. let m = same own (before clean) in on_ok_weaker r (commits_asked old mid new C D (more own) (before clean) m) (then.ok (mine m own) clean);
-      err = λ own clean on. let m = same own (before clean) in on_err_weaker r (λ s. (m.0.was_open, s.1 ∙ m.0.now_is, s.2 ∙ m.0.committed_is)) (then.err (mine m own) clean on);
+      ok = λ own clean. let m = same (before clean) in on_ok_weaker r (commits_asked old mid new C D (more own) (before clean) m) (then.ok (mine m own) clean);
+      err = λ own clean on. let m = same (before clean) in on_err_weaker r (λ s. (m.0.was_open, s.1 ∙ m.0.now_is, s.2 ∙ m.0.committed_is)) (then.err (mine m own) clean on);
       mode = λ idle. then.mode (reads.mode idle);
-      durable = λ own clean. then.durable (mine (same own (before clean)) own) clean;
-      crash = survives_then old mid new _ _ (λ db. IsCurrentSchema old.now.schema → IsAfter D old db) (λ clean db no own. absurd (no (has_round round old.now.schema own) tt))
+      durable = λ own clean. then.durable (mine (same (before clean)) own) clean;
+      crash = survives_then old mid new _ _ (λ db. IsCurrentSchema old.now.schema → IsAfter D old db) (λ clean db no own. absurd no)
           (λ clean db left own.
-          let m = same own (before clean) in
+          let m = same (before clean) in
           let l = left (mine m own) in
           (l.0, more own (before clean) l.0 (subst (λ d. C d l.0) m.0.now_is l.1), l.2))
           reads.crash then.crash;
     }
+
+-- the tables are read first, so that a change is one of an open connection
+pub leaves_then : {round : Round} {Right : Database → Type 0} {U F V E : Type 0} {Told : Database → Result U F → Type 0} {C : Database → Database → Type 0} (D : Database → Database → Type 0) {u : U} {r : Result V E} {old mid new : State} → Reading round Anyhow Right Told (Ok u) old mid → CommitsChange C r mid new
+    → (IsCurrentSchema old.now.schema → HasCleanDisk mid → (after : Database) → C old.now after → D old.now after) → LeavesMade D old new
+leaves_then {C = C} D {old = old} {mid} {new} reads then more =
+    survives_then old mid new _ _ (λ db. IsTrue old.is_open × (IsCurrentSchema old.now.schema → IsAfter D old db)) (λ clean db no. absurd no)
+    (λ clean db left.
+    let early = clean_before mid new _ then.crash clean in
+    let m = reads.same early tt in (
+      m.0.was_open,
+      λ own. let l = left (subst (λ (d : Database). IsCurrentSchema d.schema) (sym m.0.now_is) own) in (l.0, more own early l.0 (subst (λ d. C d l.0) m.0.now_is l.1), l.2),
+    ))
+    reads.crash then.crash
 
 -- the same of what the change makes more
 pub ends_more : {V E : Type 0} {C D : Database → Database → Type 0} {r : Result V E} {old new : State} → CommitsChange C r old new → ((after : Database) → C old.now after → D old.now after) → CommitsChange D r old new
@@ -52,23 +65,15 @@ module _
       → (IsCurrentSchema old.now.schema → HasCleanDisk mid → (after : Database) → C old.now after → D old.now after) → CommitsChange D r old new
   ends_asked reads more = ends_then reads (ends_by C r mid new idle ok err durable crash) more
 
--- what at most undoes a transaction that is not there changes nothing
-pub stays_left : (old new : State) → IsSettled old → IsUnchangedOrUndone old new → IsTrue new.is_open → Stays old new
-stays_left old new settled (inl same) on = (same.0.was_open, same.0.now_is, same.0.committed_is)
-stays_left old new settled (inr undone) on =
-    let first = undone.was_open on in
-    let was = undone.undone on in
-    (first, was.0 ∙ sym (settled first), was.1)
-
 -- the tables are read, and that or what comes of it is refused
 pub ends_refused : {round : Round} {Right : Database → Type 0} {U F V E : Type 0} {Told : Database → Result U F → Type 0} {D : Database → Database → Type 0} {x : Result U F} {r : Result V E} {old new : State} → IsErr r → IsSettled old → Reading round Anyhow Right Told x old new → CommitsChange D r old new
 ends_refused {r = Ok v} is settled reads = absurd (cc)
-ends_refused {round} {U = U} {F} {x = x} {r = Err e} {old} {new} is settled reads = record {
+ends_refused {U = U} {F} {x = x} {r = Err e} {old} {new} is settled reads = record {
   ok = λ own clean. tt;
-  err = λ own clean on. stays_left old new settled (let mine = has_round round old.now.schema own in either x (reads.same mine clean tt) (reads.err mine clean tt)) on;
+  err = λ own clean on. stays_left old new settled (either x (reads.same clean tt) (reads.err clean tt)) on;
   mode = reads.mode;
   durable = λ own clean. tt;
-  crash = survives_weaker old new _ _ (λ clean db no own. absurd (no (has_round round old.now.schema own) tt)) reads.crash;
+  crash = survives_weaker old new _ _ (λ clean db no own. absurd no) reads.crash;
 }
   where
     either : (x : Result U F) → OnOk x (IsUnchanged old new) → OnErr x (IsUnchangedOrUndone old new) → IsUnchangedOrUndone old new
@@ -78,16 +83,29 @@ ends_refused {round} {U = U} {F} {x = x} {r = Err e} {old} {new} is settled read
 -- the tables are read, and there is nothing to do: what is open leaves what is committed alone
 pub ends_none : {round : Round} {Right : Database → Type 0} {U F V E : Type 0} {Told : Database → Result U F → Type 0} {D : Database → Database → Type 0} {u : U} {v : V} {old new : State} → IsSettled old → ((db : Trees) → IsTrue new.is_open → new.may_leave db → db ≡ new.committed.trees)
     → Reading round Anyhow Right Told (Ok u) old new → (IsCurrentSchema old.now.schema → HasCleanDisk new → D old.now old.now) → CommitsChange {V = V} {E = E} D (Ok v) old new
-ends_none {round} {D = D} {old = old} {new} settled law reads done = record {
-  ok = λ own clean. commits_none old new D settled (reads.same (has_round round old.now.schema own) clean tt) (done own clean);
+ends_none {D = D} {old = old} {new} settled law reads done = record {
+  ok = λ own clean. commits_none old new D settled (reads.same clean tt) (done own clean);
   err = λ own clean on. tt;
   mode = reads.mode;
   durable = λ own clean db leaves.
-      let same = reads.same (has_round round old.now.schema own) clean tt in
+      let same = reads.same clean tt in
       law db same.0.is_open leaves ∙ ap (λ (d : Database). d.trees) (same.0.committed_is ∙ sym (settled same.0.was_open) ∙ sym same.0.now_is);
-  crash = survives_weaker old new _ _ (λ clean db no own. absurd (no (has_round round old.now.schema own) tt)) reads.crash;
+  crash = survives_weaker old new _ _ (λ clean db no own. absurd no) reads.crash;
 }
 
--- the same, with another error
-pub ends_err : {V U E F : Type 0} {D : Database → Database → Type 0} {d : F} {e : E} {old new : State} → CommitsChange {V = U} {E = F} D (Err d) old new → CommitsChange {V = V} {E = E} D (Err e) old new
-ends_err h = record { ok = λ own clean. tt; err = h.err; mode = h.mode; durable = λ own clean. tt; crash = h.crash }
+-- the same, with another fault for a fault
+pub ends_told : {V E F : Type 0} {D : Database → Database → Type 0} {x : Result V E} {r : Result V F} {old new : State} → IsToldAs x r → CommitsChange D x old new → CommitsChange D r old new
+ends_told {D = D} {x = Ok v} {old = old} {new} is h = subst (λ r. CommitsChange D r old new) (sym is) (record { ok = h.ok; err = h.err; mode = h.mode; durable = h.durable; crash = h.crash })
+ends_told {x = Err e} {r = Ok v} is h = absurd is
+ends_told {x = Err e} {r = Err f} is h = record { ok = λ own clean. tt; err = h.err; mode = h.mode; durable = λ own clean. tt; crash = h.crash }
+
+-- what is said of an answer
+pub told_if : {V E F : Type 0} (P : V → Type 0) (x : Result V E) (r : Result V F) → IsToldAs x r → IfOk x P → IfOk r P
+told_if P (Ok v) r is h = subst (λ r. IfOk r P) (sym is) h
+told_if P (Err e) (Ok v) is h = absurd is
+told_if P (Err e) (Err f) is h = tt
+
+pub told_on : {V E F : Type 0} (A : Type 0) (x : Result V E) (r : Result V F) → IsToldAs x r → OnOk x A → OnOk r A
+told_on A (Ok v) r is h = subst (λ r. OnOk r A) (sym is) h
+told_on A (Err e) (Ok v) is h = absurd is
+told_on A (Err e) (Err f) is h = tt

@@ -1,5 +1,5 @@
 -- The tables as `create` makes them stand for the empty world in setup.
-use Rattle.portal_store.proofs.Base.{◌≡◌, ◌≢◌, ℕ, Bool, IsTrue, List, [], ◌∷◌, true, false, not, eqb, refl, slice_index_or, map, sym, subst, ◌∙◌, AllByRecursion, list_all, Row, column, bytes, Database, Ghosts, Held, state, number_in, Setup, First, is_code, Key, put_all, lecturer_key, project_key, student_key, Good, portal_tree, second_tree, IsFresh, Commits, others_are, parts_of, current_own, world_in, world_of, phase_numbered, project_row, IsConsistent, IsConsistentIn, later_trees, IsKept, early_trees, no_schema, Creates, own_made, first_world}
+use Rattle.portal_store.proofs.Base.{◌≡◌, ◌≢◌, ℕ, Bool, IsTrue, List, [], ◌∷◌, true, false, not, eqb, refl, slice_index_or, map, sym, subst, ◌∙◌, AllByRecursion, list_all, Row, column, bytes, Database, Ghosts, Held, state, number_in, Setup, First, is_code, Key, put_all, lecturer_key, project_key, student_key, Good, portal_tree, second_tree, IsFresh, Commits, others_are, parts_of, current_own, world_in, world_of, phase_numbered, project_row, IsConsistent, IsConsistentIn, later_trees, IsKept, early_trees, no_schema, Creates, own_made, first_world, HasCleanDisk, LeavesOnly}
 use Rattle.portal_tables.proofs.Fresh.{fresh_apart}
 use Rattle.portal_list.proofs.Fresh.{fresh_good}
 use Rattle.portal_store.proofs.FirstRows.{lecturer_of, student_of}
@@ -61,11 +61,12 @@ module _ (office : Key) (db : Database) (f : IsFresh office db) where
   first_is_good form = subst Good (sym first_is) (fresh_good office form)
 
 -- a store over them
-pub first_kept : {S : Type 0} (g : Ghosts S) (office : Key) (own : Bool) (old new : Held S) → new.in_transaction ≡ false → (IsTrue own → old.schema ≡ no_schema)
-    → (IsTrue (state g new).is_open → Commits (Creates office) (state g old) (state g new)) → IsKept g new own
-first_kept g office own old new idle none_before did = record {
+pub first_kept : {S : Type 0} (g : Ghosts S) (office : Key) (own : Bool) (old new : Held S) → new.in_transaction ≡ false → (IsTrue own → old.schema ≡ no_schema) → (IsTrue (state g new).is_open → HasCleanDisk (state g new))
+    → (HasCleanDisk (state g new) → Commits (Creates office) (state g old) (state g new)) → (HasCleanDisk (state g new) → LeavesOnly (state g new)) → IsKept g new own
+first_kept g office own old new idle none_before shut did only = record {
   idle = idle;
   ready = λ mine on.
-      let made = did on in
+      let made = did (shut on) in
       record { settled = made.settled; holds = first_holds office (state g new).now (made.changed (none_before mine)) };
+  left = λ mine clean db may. ((state g new).now, only clean db may, first_holds office (state g new).now ((did clean).changed (none_before mine)));
 }

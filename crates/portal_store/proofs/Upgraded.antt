@@ -1,5 +1,5 @@
 -- Tables of version 1 that were upgraded stand for the world that they stood for.
-use Rattle.portal_store.proofs.Base.{◌≡◌, pos, Bool, false, ◌||◌, IsTrue, List, [], ◌∷◌, slice_index_or, refl, sym, ap, subst, ◌∙◌, AllByRecursion, list_any, column, bytes, Database, Ghosts, Held, state, number_in, with_tree, First, Good, portal_tree, first_trees, version, first_version, IsFirstSchema, Upgrades, has_names, OfSecond, HasOffice, number_of_phase, portal_row, Commits, apart_one, current_own, world_in, world_of, phase_numbered, IsConsistentIn, IsUnopened, HasGoodWorld, HasGoodFirst, IsKept, AdmitsAs, AllZip, first_schema, SameTable, Upgraded, has_name, is_named_table, is_named_view}
+use Rattle.portal_store.proofs.Base.{◌≡◌, pos, Bool, false, ◌||◌, IsTrue, List, [], ◌∷◌, slice_index_or, refl, sym, ap, subst, ◌∙◌, AllByRecursion, list_any, column, bytes, Database, Ghosts, Held, state, number_in, with_tree, First, Good, portal_tree, first_trees, version, first_version, IsFirstSchema, Upgrades, has_names, OfSecond, HasOffice, number_of_phase, portal_row, Commits, apart_one, current_own, world_in, world_of, phase_numbered, IsConsistentIn, IsUnopened, HasGoodWorld, HasGoodFirst, IsKept, AdmitsAs, AllZip, first_schema, SameTable, Upgraded, has_name, is_named_table, is_named_view, HasCleanDisk, IsConsistent, LeavesOnly}
 use Rattle.sqlite_trees.specs.Tree.{Trees}
 use Rattle.sqlite.specs.Table.{Table}
 use Rattle.sqlite.specs.Schema.{Schema}
@@ -83,24 +83,26 @@ module _
     (own : Bool)
     (old new : Held S)
     (is_first : IsTrue own → IsFirstSchema old.schema)
-    (done : IsTrue own → IsTrue (state g new).is_open → Commits Upgrades (state g old) (state g new) × AdmitsAs first_version (state g old).now.trees) where
-  made : (mine : IsTrue own) (on : IsTrue (state g new).is_open)
-      → Upgraded (pos (number_of_phase (done mine on).1.stands.office.phase)) (done mine on).1.stands.office.office (state g old).now (state g new).now
-  made mine on = let d = done mine on in d.0.changed (is_first mine) _ _ d.1.stands.office.is
+    (done : IsTrue own → HasCleanDisk (state g new) → Commits Upgrades (state g old) (state g new) × AdmitsAs first_version (state g old).now.trees) where
+  made : (mine : IsTrue own) (clean : HasCleanDisk (state g new))
+      → Upgraded (pos (number_of_phase (done mine clean).1.stands.office.phase)) (done mine clean).1.stands.office.office (state g old).now (state g new).now
+  made mine clean = let d = done mine clean in d.0.changed (is_first mine) _ _ d.1.stands.office.is
 
-  pub upgraded_kept : new.in_transaction ≡ false → IsKept g new own
-  upgraded_kept idle = record {
+  holds : IsTrue own → HasCleanDisk (state g new) → IsConsistent (state g new).now
+  holds mine clean = let d = done mine clean in (First, upgraded_holds (state g old).now (state g new).now d.1.stands.office (made mine clean) d.1)
+
+  pub upgraded_kept : new.in_transaction ≡ false → (IsTrue (state g new).is_open → HasCleanDisk (state g new)) → (HasCleanDisk (state g new) → LeavesOnly (state g new)) → IsKept g new own
+  upgraded_kept idle shut only = record {
     idle = idle;
-    ready = λ mine on.
-        let d = done mine on in
-        record { settled = d.0.settled; holds = (First, upgraded_holds (state g old).now (state g new).now d.1.stands.office (made mine on) d.1) };
+    ready = λ mine on. record { settled = (done mine (shut on)).0.settled; holds = holds mine (shut on) };
+    left = λ mine clean db may. ((state g new).now, only clean db may, holds mine clean);
   }
 
-  pub same_world : IsTrue own → IsTrue (state g new).is_open → world_of (state g new).now.trees ≡ world_in First (state g old).now.trees
-  same_world mine on =
-      let office = (done mine on).1.stands.office in
-      world_told First (state g new).now.trees (second (state g old).now (state g new).now office (made mine on))
-      ∙ upgraded_world (state g old).now (state g new).now office (made mine on)
+  pub same_world : IsTrue own → HasCleanDisk (state g new) → world_of (state g new).now.trees ≡ world_in First (state g old).now.trees
+  same_world mine clean =
+      let office = (done mine clean).1.stands.office in
+      world_told First (state g new).now.trees (second (state g old).now (state g new).now office (made mine clean))
+      ∙ upgraded_world (state g old).now (state g new).now office (made mine clean)
 
-  pub still_good : IsTrue own → IsTrue (state g new).is_open → Good (world_of (state g new).now.trees)
-  still_good mine on = subst Good (sym (same_world mine on)) (done mine on).1.stands.good
+  pub still_good : IsTrue own → HasCleanDisk (state g new) → Good (world_of (state g new).now.trees)
+  still_good mine clean = subst Good (sym (same_world mine clean)) (done mine clean).1.stands.good

@@ -1,6 +1,9 @@
 -- What a refusal to open or upgrade says of the tables, and what can be opened after a crash.
 use Rattle.portal_store.specs.Base.{Row, column, Trees, portal_tree, version, first_version, IsFirstSchema, IsCurrentSchema, Database, IsDatabase, First, is_code, Key, Change, changed, Good}
-use Rattle.std.specs.Prelude.{◌≡◌, ◌≢◌, ℕ, [], ◌∷◌, pos, ◌⊎◌, IsTrue}
+use Rattle.sqlite.specs.State.{Begins, State}
+use Rattle.portal_tables.specs.inner.Queries.{query_text}
+use Rattle.portal_tables.specs.declared.select.Query.TheVariants.{Office}
+use Rattle.std.specs.Prelude.{◌≡◌, ◌≢◌, ℕ, List, [], ◌∷◌, pos, ◌⊎◌, IsTrue}
 use Rattle.sqlite.specs.declared.types.Value.TheVariants.{Int}
 use Rattle.portal_store.specs.Kept.{HasGoodWorld, HasGoodFirst, IsConsistent, HasChanged}
 use Rattle.portal_store.specs.declared.store.OpenFault.{OpenFault}
@@ -19,6 +22,14 @@ pub record HasVersion (of : ℕ) (db : Trees) : Type 0 where
 pub record HasOther (of : ℕ) (db : Trees) : Type 0 where
   pub there : db portal_tree ≢ []
   pub other : (row : Row) → db portal_tree ≡ row ∷ [] → column row 2 ≢ Int (pos of)
+
+-- the query of the office's row, as the schema understands it, shows a row; the first one has this
+-- schema version
+pub record ShowsVersion (of : ℕ) (s : State) : Type 0 where
+  pub row : Row
+  pub rest : List Row
+  pub shown : Begins (query_text Office) [] s (row ∷ rest)
+  pub version_is : column row 1 ≡ Int (pos of)
 
 -- what a refusal says of tables that should have the schema version `of` and satisfy `so`
 abbrev pub RefusalSays : OpenFault → ℕ → Type 0 → Trees → Type 0

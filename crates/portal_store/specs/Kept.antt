@@ -124,3 +124,28 @@ KeepsClean g old new = StaysClean (HasDisk g old) (HasDisk g new) (IsCleanStore 
 -- the disk of a store in memory is always clean, since there is none
 abbrev pub DiskInMemory : Type 0
 DiskInMemory = (s : Seen MemStore) → HasDisk over_memory s
+
+-- the disk has failed, and the connection to the portal's own tables is shut
+pub record IsBrokenStore {S : Type 0} (g : Ghosts S) (s : Seen S) : Type 0 where
+  pub own : IsTrue s.own
+  pub shut : (state g s.conn).is_open ≡ false
+  pub failed : 1 ≤ (state g s.conn).faults
+
+-- the trees are those of a database that each change may rely on
+abbrev pub AreConsistent : Trees → Type 0
+AreConsistent db = (d : Database) × (db ≡ d.trees) × IsConsistent d
+
+-- whatever a stop may leave of the portal's own database is consistent
+abbrev pub LeavesConsistent : {S : Type 0} → Ghosts S → Seen S → Type 0
+LeavesConsistent g s = IsTrue s.own → HasDisk g s → (db : Trees) → (state g s.conn).may_leave db → AreConsistent db
+
+-- a stop may leave the tables of this world in the portal's own database
+pub record LeavesWorld {S : Type 0} (g : Ghosts S) (s : Seen S) (w : World) : Type 0 where
+  pub own : IsTrue s.own
+  pub db : Trees
+  pub left : (state g s.conn).may_leave db
+  pub world : w ≡ world_of db
+
+-- a store in memory never breaks, since there is no disk that could fail
+abbrev pub UnbrokenInMemory : Type 0
+UnbrokenInMemory = (s : Seen MemStore) → IsBrokenStore over_memory s → ⊥

@@ -2,17 +2,16 @@
 
 ghost use Rattle.std.specs.Prelude.{◌≡◌, false};
 ghost use Rattle.sqlite.specs.Held.{state};
-ghost use Rattle.portal_core.specs.Meaning.{CountsFaults, change_model};
+ghost use Rattle.portal_core.specs.Meaning.{change_model};
 ghost use Rattle.portal_core.specs.World.{SecondRound};
 ghost use Rattle.portal_store.specs.inner.Opening.{is_opening};
 ghost use Rattle.portal_tables.specs.Tables.{IsCurrentSchema};
 ghost use Rattle.portal_store.specs.Kept.{IsTransition};
 ghost use Rattle.portal_store.specs.inner.Keeping.{IsTransitionFrom, IsTransitionIn};
-ghost use Rattle.portal_store.specs.inner.Ending.{CommitsChange};
+ghost use Rattle.portal_store.specs.inner.Ending.{CommitsChange, LeavesMade};
 ghost use Rattle.portal_store.specs.inner.Reading.{KeepsEntries};
 
 use crate::add_rows::{NewRows, add_rows};
-use crate::fault::told;
 use crate::fill::fill_rankings;
 use crate::lists::{PutChoices, replace_ranking};
 use crate::opening::open_second;
@@ -20,7 +19,7 @@ use crate::phase::set_phase;
 use crate::placing::publish;
 use crate::round::round_in;
 use crate::settled::settled;
-use portal_core::{Change, KeepFault, Round};
+use portal_core::{Change, Round};
 use portal_list::Entries;
 use portal_tables::{TableFault, commit};
 use sqlite::{Alter, Connection};
@@ -71,7 +70,7 @@ fn take_step<S: Alter>(
 
 /// Reads the round and commits a change of any kind, or leaves the tables unchanged. `entries`
 /// still match the world before it. `Damaged` means that the rows it read represent no good world.
-fn take<S: Alter>(
+pub(crate) fn take<S: Alter>(
     alloc: Global,
     conn: &mut Connection<S>,
     entries: &mut Option<Entries>,
@@ -80,32 +79,12 @@ fn take<S: Alter>(
     requires idle { conn.old.in_transaction ≡ false }
     ensures ends { CommitsChange (IsTransition (change_model change.now)) result
         (state S.Store conn.old) (state S.Store conn.new) }
+    ensures left { LeavesMade (IsTransition (change_model change.now)) (state S.Store conn.old)
+        (state S.Store conn.new) }
     ensures entries { IsCurrentSchema conn.old.schema
         → KeepsEntries entries.old entries.new (state S.Store conn.old) (state S.Store conn.new) }
 {
     settled(conn);
     let round = round_in(alloc, conn)?;
     take_step(alloc, conn, entries, round, change)
-}
-
-/// Commits a change of any kind, or leaves the tables unchanged. `entries` still match the world
-/// before it. Counts a fault of the store; rows that represent no good world are one.
-pub(crate) fn make<S: Alter>(
-    alloc: Global,
-    conn: &mut Connection<S>,
-    entries: &mut Option<Entries>,
-    faults: &mut u64,
-    change: &Change,
-) -> Result<(), KeepFault>
-    requires idle { conn.old.in_transaction ≡ false }
-    ensures ends { CommitsChange (IsTransition (change_model change.now)) result
-        (state S.Store conn.old) (state S.Store conn.new) }
-    ensures entries { IsCurrentSchema conn.old.schema
-        → KeepsEntries entries.old entries.new (state S.Store conn.old) (state S.Store conn.new) }
-    ensures counts { CountsFaults result faults.old faults.new }
-{
-    match take(alloc, conn, entries, change) {
-        Ok(()) => Ok(()),
-        Err(fault) => Err(told(faults, fault)),
-    }
 }

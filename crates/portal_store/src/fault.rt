@@ -1,6 +1,6 @@
 //! Converts faults of tables, rows and queries into a store's faults; counts the store's faults.
 
-ghost use Rattle.std.specs.Prelude.{◌≡◌, ◌≢◌, ◌↔◌, ◌+◌, ◌-◌, ◌^◌};
+ghost use Rattle.std.specs.Prelude.{◌≡◌, ◌≢◌, ◌↔◌, ◌+◌, ◌-◌, ◌^◌, Err};
 ghost use Rattle.sqlite.specs.Tree.{Trees};
 ghost use Rattle.sqlite.specs.State.{store_error};
 ghost use Rattle.sqlite_trees.specs.declared.error.StoreError.{StoreError};
@@ -8,7 +8,9 @@ ghost use Rattle.sqlite_resolve.specs.declared.error.CompileError.{CompileError}
 ghost use Rattle.portal_tables.specs.Tables.{first_version};
 ghost use Rattle.portal_store.specs.Kept.{HasGoodFirst};
 ghost use Rattle.portal_store.specs.Crash.{RefusalSays, Bars};
+ghost use Rattle.portal_core.specs.Meaning.{CountsFaults};
 ghost use Rattle.portal_store.specs.inner.Asked.{SaysNothing};
+ghost use Rattle.portal_store.specs.inner.Reading.{IsToldAs};
 
 use crate::store::{CreateFault, OpenFault, UpgradeFault};
 use portal_core::KeepFault;
@@ -136,5 +138,18 @@ pub(crate) fn told(faults: &mut u64, fault: TableFault) -> KeepFault
             *faults += 1;
             KeepFault::Store
         }
+    }
+}
+
+/// Converts the outcome of a call into the keeper's, and counts a fault of the store.
+pub(crate) fn counted<T>(faults: &mut u64, outcome: Result<T, TableFault>) -> Result<T, KeepFault>
+    ensures same { IsToldAs outcome result }
+    ensures counts { CountsFaults result faults.old faults.new }
+    ensures kind { faults.old ≢ 2 ^ 64 - 1
+        → (result ≡ Err KeepFault.Memory) ↔ (outcome ≡ Err TableFault.Memory) }
+{
+    match outcome {
+        Ok(value) => Ok(value),
+        Err(fault) => Err(told(faults, fault)),
     }
 }

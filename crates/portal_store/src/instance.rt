@@ -3,7 +3,6 @@
 ghost use Rattle.std.specs.Prelude.{◌≡◌, IfOk};
 ghost use Rattle.sqlite.specs.Effect.{IsDatabase};
 ghost use Rattle.portal_core.specs.World.{World};
-ghost use Rattle.portal_core.specs.Meaning.{CountsFaults};
 ghost use Rattle.portal_core.specs.Good.{Sound};
 ghost use Rattle.portal_core.specs.declared.phase.Round.TheVariants.{Second};
 ghost use Rattle.portal_core.specs.Good as meant_by;
@@ -11,45 +10,35 @@ ghost use Rattle.portal_list.specs.Rows.{HasEntries};
 ghost use Rattle.portal_tables.specs.Steps.{Reads, Gives};
 ghost use Rattle.portal_store.specs.World.{world_of};
 
-use crate::fault::{rows_fault_of, told};
+use crate::fault::rows_fault_of;
 use crate::load::load_entries;
-use portal_core::KeepFault;
 use portal_list::Entries;
+use portal_tables::TableFault;
 use spa_model::Instance;
 use sqlite::{Alter, Connection};
 use std::alloc::Global;
 
-/// Builds the instance of the store's entries, cached or just read, without checking them. If they
-/// have no instance, it counts and returns a fault of the store.
-pub(crate) fn instance_of(
-    alloc: Global,
-    entries: &Entries,
-    faults: &mut u64,
-) -> Result<Instance, KeepFault>
-    ensures instance { IfOk result (λ i. (w : World) → HasEntries entries.now w → Sound w
+/// Builds the instance of the store's entries, cached or just read, without checking them. Entries
+/// without an instance are `Damaged`.
+pub(crate) fn instance_of(alloc: Global, entries: &Entries) -> Result<Instance, TableFault>
+    ensures { IfOk result (λ i. (w : World) → HasEntries entries.now w → Sound w
         → i ≡ meant_by.instance w) }
-    ensures counts { CountsFaults result faults.old faults.new }
 {
     match entries.instance(alloc) {
         Ok(instance) => Ok(instance),
-        Err(fault) => Err(told(faults, rows_fault_of(fault))),
+        Err(fault) => Err(rows_fault_of(fault)),
     }
 }
 
-/// Builds the instance of the current round from the tables, without checking the lists. A fault of
-/// the store is counted.
+/// Builds the instance of the current round from the tables, without checking the lists.
 pub(crate) fn instance_in<S: Alter>(
     alloc: Global,
     conn: &mut Connection<S>,
-    faults: &mut u64,
-) -> Result<Instance, KeepFault>
-    ensures reads { Reads Second S.Store IsDatabase
+) -> Result<Instance, TableFault>
+    ensures { Reads Second S.Store IsDatabase
         (Gives (λ db i. Sound (world_of db.trees) → i ≡ meant_by.instance (world_of db.trees)))
         result conn.old conn.new }
-    ensures counts { CountsFaults result faults.old faults.new }
 {
-    match load_entries(alloc, conn) {
-        Ok(entries) => instance_of(alloc, &entries, faults),
-        Err(fault) => Err(told(faults, fault)),
-    }
+    let entries = load_entries(alloc, conn)?;
+    instance_of(alloc, &entries)
 }

@@ -5,22 +5,24 @@ ghost use Rattle.sqlite.specs.State.{HasCleanDisk, Survives};
 ghost use Rattle.sqlite.specs.Tree.{Trees};
 ghost use Rattle.sqlite.specs.Held.{state};
 ghost use Rattle.portal_core.specs.World.{changed};
-ghost use Rattle.portal_core.specs.Meaning.{CountsFaults, change_model};
+ghost use Rattle.portal_core.specs.Meaning.{Breaks, CountsFaults, KeepsOrBreaks, LeavesBy, Settles};
+ghost use Rattle.portal_core.specs.Meaning.{change_model};
 ghost use Rattle.portal_core.specs.Good.{Good};
 ghost use Rattle.portal_core.specs.View as seen;
 ghost use Rattle.portal_core.specs.Good as meant_by;
 ghost use Rattle.portal_tables.specs.Tables.{IsCurrentSchema};
 ghost use Rattle.portal_tables.specs.Steps.{Commits, IsAfter, LeavesOnly};
-ghost use Rattle.portal_store.specs.Kept.{HasDisk, IsCleanStore, KeepsClean, Lasts, kept_world};
+ghost use Rattle.portal_store.specs.Kept.{HasDisk, IsBrokenStore, IsCleanStore, KeepsClean, Lasts};
+ghost use Rattle.portal_store.specs.Kept.{LeavesWorld, kept_world};
 ghost use Rattle.portal_store.specs.Kept.{IsTransition};
 ghost use Rattle.portal_store.specs.Crash.{IsLeft};
 
-use crate::change::make;
-use crate::fault::told;
+use crate::change::take;
+use crate::fault::{counted, told};
 use crate::follow::follow;
 use crate::instance::{instance_in, instance_of};
-use crate::office::office_code;
-use crate::queries::counted_view;
+use crate::queries::show;
+use crate::round::office_code;
 use crate::store::Store;
 use portal_core::{Change, Code, KeepFault, Keeper, View};
 use portal_tables::TableFault;
@@ -56,7 +58,8 @@ impl<S: Alter> Store<S> {
         if let Err(fault) = self.check_own() {
             return Err(told(&mut self.faults, fault));
         }
-        office_code(alloc, &mut self.conn, &mut self.faults)
+        let code = office_code(alloc, &mut self.conn);
+        counted(&mut self.faults, code)
     }
 }
 
@@ -66,6 +69,10 @@ impl<S: Alter> Keeper for Store<S> {
     ghost clean = { λ s. IsCleanStore S.Store s };
 
     ghost disk = { λ s. HasDisk S.Store s };
+
+    ghost broken = { λ s. IsBrokenStore S.Store s };
+
+    ghost leaves = { λ s w. LeavesWorld S.Store s w };
 
     ghost faults = { λ s. s.faults };
 
@@ -80,18 +87,20 @@ impl<S: Alter> Keeper for Store<S> {
         ensures own { self.new.own ≡ self.old.own }
         ensures stays_open { Lasts S.Store self.old self.new }
         ensures lasts { OnOk result (KeepsClean S.Store self.old self.new) }
+        ensures breaks { Breaks result (HasDisk S.Store self.old) (HasDisk S.Store self.new)
+            (IsCleanStore S.Store self.old) (IsCleanStore S.Store self.new)
+            (IsBrokenStore S.Store self.old) (IsBrokenStore S.Store self.new) }
+        ensures settled { IsCleanStore S.Store self.new
+            → Settles (kept_world S.Store self.new) (LeavesWorld S.Store self.new) }
+        ensures leaves { LeavesBy (HasDisk S.Store self.new) (LeavesWorld S.Store self.old)
+            (LeavesWorld S.Store self.new) (λ _. ⊥) }
         ensures counts { CountsFaults result self.old.faults self.new.faults }
     {
         if let Err(fault) = self.check_own() {
             return Err(told(&mut self.faults, fault));
         }
-        counted_view(
-            alloc,
-            &mut self.conn,
-            &mut self.cache,
-            &mut self.faults,
-            code,
-        )
+        let shown = show(alloc, &mut self.conn, &mut self.cache, code);
+        counted(&mut self.faults, shown)
     }
 
     /// Builds the instance of the current round, from the cached entries or else from the tables.
@@ -105,14 +114,21 @@ impl<S: Alter> Keeper for Store<S> {
         ensures own { self.new.own ≡ self.old.own }
         ensures stays_open { Lasts S.Store self.old self.new }
         ensures lasts { OnOk result (KeepsClean S.Store self.old self.new) }
+        ensures breaks { KeepsOrBreaks (HasDisk S.Store self.old) (HasDisk S.Store self.new)
+            (IsCleanStore S.Store self.old) (IsCleanStore S.Store self.new)
+            (IsBrokenStore S.Store self.old) (IsBrokenStore S.Store self.new) }
+        ensures settled { IsCleanStore S.Store self.new
+            → Settles (kept_world S.Store self.new) (LeavesWorld S.Store self.new) }
+        ensures leaves { LeavesBy (HasDisk S.Store self.new) (LeavesWorld S.Store self.old)
+            (LeavesWorld S.Store self.new) (λ _. ⊥) }
         ensures counts { CountsFaults result self.old.faults self.new.faults }
     {
         if let Err(fault) = self.check_own() {
             return Err(told(&mut self.faults, fault));
         }
         match &self.entries {
-            Some(entries) => instance_of(alloc, entries, &mut self.faults),
-            None => instance_in(alloc, &mut self.conn, &mut self.faults),
+            Some(entries) => counted(&mut self.faults, instance_of(alloc, entries)),
+            None => counted(&mut self.faults, instance_in(alloc, &mut self.conn)),
         }
     }
 
@@ -132,6 +148,14 @@ impl<S: Alter> Keeper for Store<S> {
         ensures own { self.new.own ≡ self.old.own }
         ensures stays_open { Lasts S.Store self.old self.new }
         ensures lasts { OnOk result (KeepsClean S.Store self.old self.new) }
+        ensures breaks { Breaks result (HasDisk S.Store self.old) (HasDisk S.Store self.new)
+            (IsCleanStore S.Store self.old) (IsCleanStore S.Store self.new)
+            (IsBrokenStore S.Store self.old) (IsBrokenStore S.Store self.new) }
+        ensures settled { IsCleanStore S.Store self.new
+            → Settles (kept_world S.Store self.new) (LeavesWorld S.Store self.new) }
+        ensures leaves { LeavesBy (HasDisk S.Store self.new) (LeavesWorld S.Store self.old)
+            (LeavesWorld S.Store self.new) (λ w. IsCleanStore S.Store self.old
+            → w ≡ changed (kept_world S.Store self.old) (change_model change.now)) }
         ensures counts { CountsFaults result self.old.faults self.new.faults }
         ensures commits { IsTrue self.old.own → HasCleanDisk (state S.Store self.new.conn)
             → OnOk result (Commits (IsTransition (change_model change.now))
@@ -149,13 +173,8 @@ impl<S: Alter> Keeper for Store<S> {
         if let Err(fault) = self.check_own() {
             return Err(told(&mut self.faults, fault));
         }
-        let made = make(
-            alloc,
-            &mut self.conn,
-            &mut self.entries,
-            &mut self.faults,
-            change,
-        );
+        let taken = take(alloc, &mut self.conn, &mut self.entries, change);
+        let made = counted(&mut self.faults, taken);
         self.cache.follow(change, &made);
         follow(alloc, &mut self.entries, change, &made);
         made

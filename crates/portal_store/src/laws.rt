@@ -1,6 +1,6 @@
 //! Laws: tables after a crash can be opened or upgraded; stores in memory stay clean.
 
-ghost use Rattle.portal_store.specs.Kept.{DiskInMemory, LastsInMemory};
+ghost use Rattle.portal_store.specs.Kept.{DiskInMemory, LastsInMemory, UnbrokenInMemory};
 ghost use Rattle.portal_store.specs.Crash.{OpensAgain, OpensFresh, UpgradesAgain};
 
 /// Law: a crash in a change leaves the portal's own tables with a good world. It is the world
@@ -31,4 +31,9 @@ pub fn lasts_in_memory()
 /// Law: the disk of a store in memory is always clean, because there is none.
 pub fn disk_in_memory()
     ensures { DiskInMemory }
+{}
+
+/// Law: a store in memory is never broken.
+pub fn unbroken_in_memory()
+    ensures { UnbrokenInMemory }
 {}

@@ -12,7 +12,6 @@ mod keeper;
 pub mod laws;
 mod lists;
 mod load;
-mod office;
 mod open;
 mod opening;
 mod phase;

@@ -1,22 +1,24 @@
 //! Opens a store over tables. The file `seeing` checks the first round's tables; this file checks
 //! the second round's tables, and the whole world.
 
-ghost use Rattle.std.specs.Prelude.{◌≡◌, ◌↔◌, false, [], IfOk, IfErr, IsTrue};
+ghost use Rattle.std.specs.Prelude.{◌≡◌, ◌↔◌, false, [], IfOk, IfErr, OnOk, IsTrue};
 ghost use Rattle.sqlite.specs.Effect.{IsDatabase};
 ghost use Rattle.sqlite.specs.State.{HasCleanDisk, IsUnchanged, Survives};
 ghost use Rattle.sqlite.specs.Held.{state};
 ghost use Rattle.portal_core.specs.Good.{Good};
+ghost use Rattle.portal_core.specs.Meaning.{Settles};
 ghost use Rattle.portal_core.specs.declared.phase.Round.TheVariants.{First, Second};
 ghost use Rattle.portal_core.specs.declared.phase.Phase.TheVariants.{Published};
-ghost use Rattle.portal_tables.specs.Tables.{IsCurrentSchema};
+ghost use Rattle.portal_tables.specs.Tables.{IsCurrentSchema, version};
 ghost use Rattle.portal_tables.specs.inner.Queries.{round_asked};
-ghost use Rattle.portal_tables.specs.Steps.{Reads, Gives, Stays};
+ghost use Rattle.portal_tables.specs.Steps.{Reads, Gives, IsSettled, OnlyLooks, Stays};
 ghost use Rattle.portal_tables.specs.inner.Reads.{Always, Answers};
 ghost use Rattle.portal_list.specs.Rows.{HasEntries};
 ghost use Rattle.portal_store.specs.Kept.{AllNumbersDiffer, AreEmpty, HasSecond, HasGoodWorld};
-ghost use Rattle.portal_store.specs.Kept.{HasGoodWorldIn, IsCleanStore, kept_world, later_trees};
+ghost use Rattle.portal_store.specs.Kept.{HasGoodWorldIn, IsCleanStore, LeavesWorld};
+ghost use Rattle.portal_store.specs.Kept.{kept_world, later_trees};
 ghost use Rattle.portal_store.specs.World.{phase_in, round_in, world_of};
-ghost use Rattle.portal_store.specs.Crash.{Refutes};
+ghost use Rattle.portal_store.specs.Crash.{Refutes, ShowsVersion};
 ghost use Rattle.portal_store.specs.inner.Asked.{NumbersDiffer, Denies, IsJudged, SaysNothing};
 ghost use Rattle.portal_store.specs.inner.Asked.{Admits};
 ghost use Rattle.portal_store.specs.inner.Reading.{ReadsAll, IsSoundIfOpen, queried_rows};
@@ -153,8 +155,9 @@ fn examine<S: Alter>(
     conn: &mut Connection<S>,
     own: bool,
 ) -> Result<Entries, OpenFault>
-    ensures idle { conn.old.in_transaction ≡ false → conn.new.in_transaction ≡ false }
-    ensures disk { HasCleanDisk (state S.Store conn.new) → HasCleanDisk (state S.Store conn.old) }
+    ensures looks { OnlyLooks (state S.Store conn.old) (state S.Store conn.new) }
+    ensures shows { IsSettled (state S.Store conn.old) → HasCleanDisk (state S.Store conn.new)
+        → OnOk result (ShowsVersion version (state S.Store conn.new)) }
     ensures reads { IsTrue own → Reads Second S.Store (IsSoundIfOpen S.Store conn.old)
         (Answers (λ db e. Admits db.trees × HasEntries e (world_of db.trees))
         (λ db fault. Refutes fault db.trees))
@@ -178,7 +181,8 @@ impl<S: Alter> Store<S> {
     ///
     /// # Errors
     ///
-    /// Every error hands the connection back. `NotPortal`: a table cannot be queried, or `portal`
+    /// Every error hands the connection back, with the file unchanged if the disk is clean and the
+    /// connection open, whatever its tables. `NotPortal`: a table cannot be queried, or `portal`
     /// has no row. `OtherVersion`: that row has a version other than 2. `Damaged`: it has version
     /// 2, and the rows represent no good world. `Store`: the store reports an error. `Memory`:
     /// memory runs out. A fault of the device or memory shortage never causes one of the first
@@ -186,6 +190,12 @@ impl<S: Alter> Store<S> {
     pub fn open(alloc: Global, mut conn: Connection<S>) -> Result<Store<S>, NotOpened<OpenFault, S>>
         requires idle { conn.in_transaction ≡ false }
         ensures own { IfOk result (λ s. IsTrue s.own ↔ IsCurrentSchema conn.schema) }
+        ensures counted { IfOk result (λ s. s.faults ≡ 0) }
+        ensures shows { IfOk result (λ s. HasCleanDisk (state S.Store s.conn)
+            → ShowsVersion version (state S.Store s.conn)) }
+        ensures stays { IfOk result (λ s. HasCleanDisk (state S.Store s.conn)
+            → IsTrue (state S.Store s.conn).is_open
+            → Stays (state S.Store conn) (state S.Store s.conn)) }
         ensures same { IfOk result (λ s. IsCurrentSchema conn.schema
             → HasCleanDisk (state S.Store s.conn)
             → IsUnchanged (state S.Store conn) (state S.Store s.conn)) }
@@ -193,20 +203,23 @@ impl<S: Alter> Store<S> {
             → HasCleanDisk (state S.Store s.conn)
             → HasGoodWorld (state S.Store s.conn).now.trees) }
         ensures good { IfOk result (λ s. IsCleanStore S.Store s → Good (kept_world S.Store s)) }
+        ensures settled { IfOk result (λ s. IsCleanStore S.Store s
+            → Settles (kept_world S.Store s) (LeavesWorld S.Store s)) }
         ensures refused { IfErr result (λ e. IsCurrentSchema conn.schema
             → HasCleanDisk (state S.Store e.connection)
             → Refutes e.fault (state S.Store conn).now.trees) }
-        ensures err { IfErr result (λ e. IsCurrentSchema conn.schema
-            → HasCleanDisk (state S.Store e.connection)
+        ensures err { IfErr result (λ e. HasCleanDisk (state S.Store e.connection)
             → IsTrue (state S.Store e.connection).is_open
             → Stays (state S.Store conn) (state S.Store e.connection)) }
         ensures disk { IfOk result (λ s. HasCleanDisk (state S.Store s.conn)
             → HasCleanDisk (state S.Store conn)) }
+        ensures disk_err { IfErr result (λ e. HasCleanDisk (state S.Store e.connection)
+            → HasCleanDisk (state S.Store conn)) }
         ensures idle { IfErr result (λ e. e.connection.in_transaction ≡ false) }
-        ensures crash_ok { IfOk result (λ s. IsCurrentSchema conn.schema
-            → Survives (state S.Store conn) (state S.Store s.conn) (λ _. ⊥)) }
-        ensures crash_err { IfErr result (λ e. IsCurrentSchema conn.schema
-            → Survives (state S.Store conn) (state S.Store e.connection) (λ _. ⊥)) }
+        ensures crash_ok { IfOk result (λ s.
+            Survives (state S.Store conn) (state S.Store s.conn) (λ _. ⊥)) }
+        ensures crash_err { IfErr result (λ e.
+            Survives (state S.Store conn) (state S.Store e.connection) (λ _. ⊥)) }
     {
         settled(&conn);
         let pattern = match PortalSchema::new(alloc) {

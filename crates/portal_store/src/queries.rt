@@ -1,7 +1,6 @@
 //! Identifies the caller, and makes the view from cache and queries.
 
 ghost use Rattle.std.specs.Prelude.{◌≡◌, false, None};
-ghost use Rattle.portal_core.specs.Meaning.{CountsFaults};
 ghost use Rattle.portal_core.specs.Good.{Good};
 ghost use Rattle.portal_core.specs.View as seen;
 ghost use Rattle.portal_core.specs.Words.{equals};
@@ -16,7 +15,6 @@ ghost use Rattle.portal_store.specs.inner.Reading.{IsNow, Remembers, RemembersIn
 mod caller;
 mod catalogue;
 
-use crate::fault::told;
 use crate::round::current_round;
 use caller::{lecturer_by_code, student_by_code};
 use catalogue::shared_catalogue;
@@ -105,8 +103,8 @@ fn show_person<S: Alter>(
     Ok(View::Lecturer(lecturer_view(alloc, conn, round, phase, &row, catalogue)?))
 }
 
-/// Returns the view of the caller with the code, from cache and queries.
-fn show<S: Alter>(
+/// Returns the view of the caller with the code, using and filling the cache.
+pub(crate) fn show<S: Alter>(
     alloc: Global,
     conn: &mut Connection<S>,
     cache: &mut ViewCache,
@@ -121,26 +119,6 @@ fn show<S: Alter>(
         return show_office(alloc, conn, round, cache, office);
     }
     show_person(alloc, conn, round, cache, office.phase, code)
-}
-
-/// Returns the view of the caller with the code, using and filling the cache. A fault of the store
-/// is counted.
-pub(crate) fn counted_view<S: Alter>(
-    alloc: Global,
-    conn: &mut Connection<S>,
-    cache: &mut ViewCache,
-    faults: &mut u64,
-    code: &[u8],
-) -> Result<View, KeepFault>
-    ensures reads { Reads Second S.Store (Remembers cache.old)
-        (Shows cache.new (λ w view. Good w → view ≡ seen.view w code.now))
-        result conn.old conn.new }
-    ensures counts { CountsFaults result faults.old faults.new }
-{
-    match show(alloc, conn, cache, code) {
-        Ok(view) => Ok(view),
-        Err(fault) => Err(told(faults, fault)),
-    }
 }
 
 /// Returns the view of the caller with the code, by queries without a cache. For a student or a
@@ -162,6 +140,8 @@ pub fn view<S: Alter>(
         result conn.old conn.new }
 {
     let mut cache = ViewCache::nothing();
-    let mut faults = 0u64;
-    counted_view(alloc, conn, &mut cache, &mut faults, code)
+    match show(alloc, conn, &mut cache, code) {
+        Ok(view) => Ok(view),
+        Err(fault) => Err(KeepFault::from(fault)),
+    }
 }

@@ -11,7 +11,7 @@ ghost use Rattle.portal_store.specs.World as meant_by;
 ghost use Rattle.portal_store.specs.inner.Reading.{IsNow};
 ghost use Rattle.portal_store.specs.Kept.{HasSecond, HasGoodWorldIn};
 
-use portal_core::{Phase, Round};
+use portal_core::{Code, Phase, Round};
 use portal_tables::{Office, TableFault, VERSION, office_in, second_in};
 use sqlite::{Alter, Connection};
 use std::alloc::Global;
@@ -78,4 +78,16 @@ pub(crate) fn first_phase<S: Alter>(
 {
     let office = office_in(alloc, conn, VERSION)?;
     Ok(office.phase)
+}
+
+/// Reads the office's code.
+pub(crate) fn office_code<S: Alter>(
+    alloc: Global,
+    conn: &mut Connection<S>,
+) -> Result<Code, TableFault>
+    ensures { Reads First S.Store IsDatabase
+        (Gives (λ db code. code ≡ (meant_by.world_of db.trees).office)) result conn.old conn.new }
+{
+    let office = office_in(alloc, conn, VERSION)?;
+    Ok(office.code)
 }

@@ -1,25 +1,25 @@
 //! Checks the first round's tables, their version and rowids, and that loaded worlds are good.
 
-ghost use Rattle.std.specs.Prelude.{◌≡◌, ◌≢◌, ◌↔◌, ◌⊎◌, false, [], ◌∷◌, pos, Err, List, IfErr};
+ghost use Rattle.std.specs.Prelude.{◌≡◌, ◌≢◌, ◌↔◌, ◌⊎◌, [], ◌∷◌, pos, Err, List, IfErr};
 ghost use Rattle.std.specs.Prelude.{OnOk, IsTrue};
 ghost use Rattle.sqlite.specs.declared.types.Value.TheVariants.{Int};
 ghost use Rattle.sqlite.specs.Order.{Row as Cells, column};
 ghost use Rattle.sqlite.specs.Effect.{IsDatabase};
-ghost use Rattle.sqlite.specs.State.{HasCleanDisk};
 ghost use Rattle.sqlite.specs.Held.{state};
+ghost use Rattle.sqlite.specs.State.{HasCleanDisk};
 ghost use Rattle.portal_core.specs.Good.{Good, Sound};
 ghost use Rattle.portal_core.specs.declared.phase.Round.TheVariants.{First};
 ghost use Rattle.portal_tables.specs.Tables.{lecturer_tree, project_tree, student_tree};
 ghost use Rattle.portal_tables.specs.Tables.{choice_tree, ranking_tree};
 ghost use Rattle.portal_tables.specs.Rows.{RowNumbersDiffer};
 ghost use Rattle.portal_tables.specs.inner.Queries.{table_tree, table_round};
-ghost use Rattle.portal_tables.specs.Steps.{Reads, Gives};
+ghost use Rattle.portal_tables.specs.Steps.{Reads, Gives, OnlyLooks};
 ghost use Rattle.portal_tables.specs.inner.Reads.{Always, Answers};
 ghost use Rattle.portal_list.specs.Rows.{HasEntries};
 ghost use Rattle.portal_store.specs.Kept.{AllNumbersDiffer, HasGoodFirst};
 ghost use Rattle.portal_store.specs.inner.Keeping.{early_trees};
 ghost use Rattle.portal_store.specs.World.{world_in};
-ghost use Rattle.portal_store.specs.Crash.{HasVersion, RefusalSays};
+ghost use Rattle.portal_store.specs.Crash.{HasVersion, RefusalSays, ShowsVersion};
 ghost use Rattle.portal_store.specs.inner.Asked.{Denies, SaysNothing, AdmitsAs};
 ghost use Rattle.portal_store.specs.inner.Reading.{IsSoundIfOpen};
 
@@ -35,8 +35,7 @@ use std::alloc::Global;
 
 /// Checks that a single table can be queried.
 fn see_table<S: Alter>(conn: &mut Connection<S>, query: Query<'_>) -> Result<(), OpenFault>
-    ensures idle { conn.old.in_transaction ≡ false → conn.new.in_transaction ≡ false }
-    ensures disk { HasCleanDisk (state S.Store conn.new) → HasCleanDisk (state S.Store conn.old) }
+    ensures looks { OnlyLooks (state S.Store conn.old) (state S.Store conn.new) }
     ensures damaged { result ≢ Err OpenFault.Damaged }
     ensures version { result ≢ Err OpenFault.OtherVersion }
 {
@@ -52,8 +51,7 @@ pub(crate) fn see_tables<S: Alter>(
     own: bool,
     queries: &[Query<'_>],
 ) -> Result<(), OpenFault>
-    ensures idle { conn.old.in_transaction ≡ false → conn.new.in_transaction ≡ false }
-    ensures disk { HasCleanDisk (state S.Store conn.new) → HasCleanDisk (state S.Store conn.old) }
+    ensures looks { OnlyLooks (state S.Store conn.old) (state S.Store conn.new) }
     ensures same { IsTrue own → conn.new ≡ conn.old }
     ensures none { IsTrue own → IfErr result (λ _. ⊥) }
     ensures damaged { result ≢ Err OpenFault.Damaged }
@@ -92,10 +90,12 @@ fn judge_office(rows: &[Row], version: u32) -> Result<(), OpenFault>
 
 /// Checks that `portal` has a row, and that it has this version.
 fn see_office<S: Alter>(conn: &mut Connection<S>, version: u32) -> Result<(), OpenFault>
-    ensures { Reads First S.Store Always
+    ensures reads { Reads First S.Store Always
         (Answers (λ db _. HasVersion version db.trees)
         (λ db fault. RefusalSays fault version (Unit {0}) db.trees))
         result conn.old conn.new }
+    ensures shows { HasCleanDisk (state S.Store conn.new)
+        → OnOk result (ShowsVersion version (state S.Store conn.new)) }
 {
     match read(conn, Query::Office) {
         Ok(rows) => judge_office(&rows, version),
@@ -110,8 +110,9 @@ pub(crate) fn see_first<S: Alter>(
     own: bool,
     version: u32,
 ) -> Result<(), OpenFault>
-    ensures idle { conn.old.in_transaction ≡ false → conn.new.in_transaction ≡ false }
-    ensures disk { HasCleanDisk (state S.Store conn.new) → HasCleanDisk (state S.Store conn.old) }
+    ensures looks { OnlyLooks (state S.Store conn.old) (state S.Store conn.new) }
+    ensures shows { HasCleanDisk (state S.Store conn.new)
+        → OnOk result (ShowsVersion version (state S.Store conn.new)) }
     ensures reads { IsTrue own → Reads First S.Store Always
         (Answers (λ db _. HasVersion version db.trees)
         (λ db fault. RefusalSays fault version (Unit {0}) db.trees))

@@ -1,8 +1,13 @@
 //! Declares the type `Store` with its faults, and the functions that close and reopen a store.
 
-ghost use Rattle.std.specs.Prelude.{◌≡◌, false, IfOk};
+ghost use Rattle.std.specs.Prelude.{◌≡◌, false, IfOk, IfErr, IsTrue};
 ghost use Rattle.sqlite.specs.Held.{state};
-ghost use Rattle.portal_store.specs.Kept.{HasDisk, IsCleanStore, IsConsistent, kept_world};
+ghost use Rattle.sqlite.specs.State.{HasCleanDisk, Survives};
+ghost use Rattle.portal_tables.specs.Steps.{Stays};
+ghost use Rattle.portal_tables.specs.Tables.{IsCurrentSchema};
+ghost use Rattle.portal_store.specs.Crash.{Refutes};
+ghost use Rattle.portal_store.specs.Kept.{HasDisk, IsCleanStore, IsConsistent, LeavesConsistent};
+ghost use Rattle.portal_store.specs.Kept.{kept_world};
 
 use portal_core::ViewCache;
 use portal_list::Entries;
@@ -91,11 +96,12 @@ pub enum UpgradeFault {
 
 impl<S: Alter> Store<S> {
     /// Closes the store and returns its connection, which is in no transaction. The tables of a
-    /// clean store are consistent in it.
+    /// clean store are consistent in it, and so is all that a stop may leave of own tables.
     pub fn into_connection(self) -> Connection<S>
         ensures same { result ≡ self.conn }
         ensures idle { result.in_transaction ≡ false }
         ensures kept { IsCleanStore S.Store self → IsConsistent (state S.Store result).now }
+        ensures left { LeavesConsistent S.Store self }
     {
         let Store {
             conn,
@@ -117,6 +123,15 @@ impl<S: Alter> Store<S> {
             → IsCleanStore S.Store s) }
         ensures same { IfOk result (λ s. HasDisk S.Store s → IsCleanStore S.Store self
             → kept_world S.Store s ≡ kept_world S.Store self) }
+        ensures refused { IfErr result (λ e. IsCurrentSchema self.conn.schema
+            → HasCleanDisk (state S.Store e.connection)
+            → Refutes e.fault (state S.Store self.conn).now.trees) }
+        ensures err { IfErr result (λ e. HasCleanDisk (state S.Store e.connection)
+            → IsTrue (state S.Store e.connection).is_open
+            → Stays (state S.Store self.conn) (state S.Store e.connection)) }
+        ensures idle { IfErr result (λ e. e.connection.in_transaction ≡ false) }
+        ensures crash_err { IfErr result (λ e.
+            Survives (state S.Store self.conn) (state S.Store e.connection) (λ _. ⊥)) }
     {
         Store::open(alloc, self.into_connection())
     }

@@ -4,16 +4,17 @@ ghost use Rattle.std.specs.Prelude.{◌≡◌, ◌↔◌, ◌⊎◌, false, Err,
 ghost use Rattle.sqlite.specs.State.{HasCleanDisk, Survives};
 ghost use Rattle.sqlite.specs.Held.{state};
 ghost use Rattle.portal_core.specs.Good.{Good};
+ghost use Rattle.portal_core.specs.Meaning.{Settles};
 ghost use Rattle.portal_core.specs.declared.phase.Round.TheVariants.{First};
 ghost use Rattle.portal_tables.specs.Tables.{first_version, IsFirstSchema, HasFirstSchema};
 ghost use Rattle.portal_tables.specs.Making.{Upgrades, has_names};
 ghost use Rattle.portal_tables.specs.declared.names.Names.TheVariants.{OfSecond};
-ghost use Rattle.portal_tables.specs.Steps.{Reads, Commits, IsAfter, LeavesOnly, Stays};
+ghost use Rattle.portal_tables.specs.Steps.{Reads, Commits, IsAfter, LeavesOnly, OnlyLooks, Stays};
 ghost use Rattle.portal_tables.specs.inner.Reads.{Answers};
 ghost use Rattle.portal_list.specs.Rows.{HasEntries};
-ghost use Rattle.portal_store.specs.Kept.{HasGoodFirst, IsCleanStore, kept_world};
+ghost use Rattle.portal_store.specs.Kept.{HasGoodFirst, IsCleanStore, LeavesWorld, kept_world};
 ghost use Rattle.portal_store.specs.World.{world_in};
-ghost use Rattle.portal_store.specs.Crash.{RefusalSays, Bars};
+ghost use Rattle.portal_store.specs.Crash.{RefusalSays, Bars, ShowsVersion};
 ghost use Rattle.portal_store.specs.inner.Asked.{AdmitsAs};
 ghost use Rattle.portal_store.specs.inner.Reading.{IsSoundIfOpen, OverLive};
 
@@ -35,7 +36,9 @@ fn examine_first<S: Alter>(
     conn: &mut Connection<S>,
     own: bool,
 ) -> Result<Entries, OpenFault>
-    ensures idle { conn.old.in_transaction ≡ false → conn.new.in_transaction ≡ false }
+    ensures looks { OnlyLooks (state S.Store conn.old) (state S.Store conn.new) }
+    ensures shows { HasCleanDisk (state S.Store conn.new)
+        → OnOk result (ShowsVersion first_version (state S.Store conn.new)) }
     ensures reads { IsTrue own → Reads First S.Store (IsSoundIfOpen S.Store conn.old)
         (Answers (λ db e. AdmitsAs first_version db.trees
         × HasEntries e (world_in First db.trees))
@@ -55,6 +58,7 @@ fn upgraded<S: Alter>(
     is_taken: bool,
 ) -> Result<Entries, UpgradeFault>
     requires idle { conn.old.in_transaction ≡ false }
+    requires first { IsTrue own ↔ IsFirstSchema conn.old.schema }
     ensures idle { conn.new.in_transaction ≡ false }
     ensures made { IsTrue own → HasFirstSchema conn.old.schema
         → HasCleanDisk (state S.Store conn.new)
@@ -66,15 +70,15 @@ fn upgraded<S: Alter>(
         (IfErr result (λ fault. (fault ≡ UpgradeFault.Exists)
         ⊎ Bars fault (state S.Store conn.old).now.trees)) }
     ensures exists { result ≡ Err UpgradeFault.Exists → IsTrue is_taken }
+    ensures order { result ≡ Err UpgradeFault.Exists → HasCleanDisk (state S.Store conn.new)
+        → ShowsVersion first_version (state S.Store conn.new) }
     ensures free { OnOk result (is_taken ≡ false) }
-    ensures err { IsTrue own → HasFirstSchema conn.old.schema
-        → HasCleanDisk (state S.Store conn.new)
+    ensures err { HasCleanDisk (state S.Store conn.new)
         → IsTrue (state S.Store conn.new).is_open
         → OnErr result (Stays (state S.Store conn.old) (state S.Store conn.new)) }
     ensures durable { HasCleanDisk (state S.Store conn.new)
         → OnOk result (LeavesOnly (state S.Store conn.new)) }
-    ensures crash { IsTrue own → HasFirstSchema conn.old.schema
-        → Survives (state S.Store conn.old) (state S.Store conn.new)
+    ensures crash { Survives (state S.Store conn.old) (state S.Store conn.new)
         (IsAfter Upgrades (state S.Store conn.old)) }
 {
     settled(conn);
@@ -108,6 +112,7 @@ impl<S: Alter> Store<S> {
     ) -> Result<Store<S>, NotOpened<UpgradeFault, S>>
         requires idle { conn.in_transaction ≡ false }
         ensures own { IfOk result (λ s. IsTrue s.own ↔ IsFirstSchema conn.schema) }
+        ensures counted { IfOk result (λ s. s.faults ≡ 0) }
         ensures made { IfOk result (λ s. IsFirstSchema conn.schema
             → HasCleanDisk (state S.Store s.conn)
             → Commits Upgrades (state S.Store conn) (state S.Store s.conn)) }
@@ -117,6 +122,8 @@ impl<S: Alter> Store<S> {
         ensures world { IfOk result (λ s. IsCleanStore S.Store s
             → kept_world S.Store s ≡ world_in First (state S.Store conn).now.trees) }
         ensures good { IfOk result (λ s. IsCleanStore S.Store s → Good (kept_world S.Store s)) }
+        ensures settled { IfOk result (λ s. IsCleanStore S.Store s
+            → Settles (kept_world S.Store s) (LeavesWorld S.Store s)) }
         ensures durable { IfOk result (λ s. HasCleanDisk (state S.Store s.conn)
             → LeavesOnly (state S.Store s.conn)) }
         ensures refused { IfErr result (λ e. IsFirstSchema conn.schema
@@ -124,18 +131,20 @@ impl<S: Alter> Store<S> {
             → Bars e.fault (state S.Store conn).now.trees) }
         ensures exists { IfErr result (λ e. e.fault ≡ UpgradeFault.Exists
             → IsTrue (has_names OfSecond conn.schema)) }
-        ensures free { IfOk result (λ _. has_names OfSecond conn.schema ≡ false) }
-        ensures err { IfErr result (λ e. IsFirstSchema conn.schema
+        ensures order { IfErr result (λ e. e.fault ≡ UpgradeFault.Exists
             → HasCleanDisk (state S.Store e.connection)
+            → ShowsVersion first_version (state S.Store e.connection)) }
+        ensures free { IfOk result (λ _. has_names OfSecond conn.schema ≡ false) }
+        ensures err { IfErr result (λ e. HasCleanDisk (state S.Store e.connection)
             → IsTrue (state S.Store e.connection).is_open
             → Stays (state S.Store conn) (state S.Store e.connection)) }
+        ensures disk_err { IfErr result (λ e. HasCleanDisk (state S.Store e.connection)
+            → HasCleanDisk (state S.Store conn)) }
         ensures idle { IfErr result (λ e. e.connection.in_transaction ≡ false) }
-        ensures crash_ok { IfOk result (λ s. IsFirstSchema conn.schema
-            → Survives (state S.Store conn) (state S.Store s.conn)
+        ensures crash_ok { IfOk result (λ s. Survives (state S.Store conn) (state S.Store s.conn)
             (IsAfter Upgrades (state S.Store conn))) }
-        ensures crash_err { IfErr result (λ e. IsFirstSchema conn.schema
-            → Survives (state S.Store conn) (state S.Store e.connection)
-            (IsAfter Upgrades (state S.Store conn))) }
+        ensures crash_err { IfErr result (λ e. Survives (state S.Store conn)
+            (state S.Store e.connection) (IsAfter Upgrades (state S.Store conn))) }
     {
         settled(&conn);
         let pattern = match PortalSchema::new(alloc) {

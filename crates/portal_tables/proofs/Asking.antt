@@ -1,9 +1,5 @@
 -- A query before a change: what the change is, begun where the query began.
-use Rattle.portal_tables.proofs.Base.{◌≡◌, arith, IsTrue, sym, subst, ◌∙◌, Database, State, HasCleanDisk, IsUnchanged, Survives, survives_then, Commits, IsAfter}
-
--- all was committed
-abbrev pub IsSettled : State → Type 0
-IsSettled s = IsTrue s.is_open → s.now ≡ s.committed
+use Rattle.portal_tables.proofs.Base.{◌≡◌, arith, IsTrue, sym, subst, ◌∙◌, Database, State, HasCleanDisk, IsUnchanged, Survives, survives_then, Commits, IsAfter, IsSettled}
 
 -- nothing was done
 module _ (old mid new : State) (C D : Database → Database → Type 0) (more : HasCleanDisk mid → (after : Database) → C old.now after → D old.now after) where

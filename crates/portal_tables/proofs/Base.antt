@@ -35,7 +35,7 @@ pub use Rattle.portal_core.proofs.Puts.{after_other, before_trans, rise_put, les
 pub use Rattle.portal_core.specs.Words.{is_empty}
 pub use Rattle.portal_tables.specs.Making.{Creates, IsFresh, Upgrades, is_named_table, is_named_view}
 pub use Rattle.portal_tables.specs.Rows.{RowNumbersDiffer, has_text, row_key, Assigned, portal_cells, portal_row, second_cells, second_row, CountUp, IsWhole, by_place, chosen, list_in_order, named_by, of_key, place_key, place_of, placed_project, second_placement, HasOffice, number_of_phase}
-pub use Rattle.portal_tables.specs.Steps.{Commits, IsAfter, IsUnchangedOrUndone, Stays, Reading, Anyhow, Gives}
+pub use Rattle.portal_tables.specs.Steps.{Commits, IsAfter, IsSettled, IsUnchangedOrUndone, OnlyLooks, Stays, Reading, Anyhow, Gives}
 pub use Rattle.portal_tables.specs.Tables.{tree_of, HasRound, IsCurrentSchema, IsFirstSchema, HasFirstSchema, SameTable, assigned2, assigned2_tree, choice, choice2, choice2_names, choice2_tree, choice_names, choice_tree, column_of, first_schema, first_trees, first_version, lecturer_schema, lecturer_tree, list_table, no_schema, own_trees, portal, portal_schema, portal_tree, project_schema, project_tree, ranked2, ranked2_tree, ranking, ranking2, ranking2_names, ranking2_tree, ranking_names, ranking_tree, second, second_tree, second_trees, student_schema, student_tree, schema_of, version}
 pub use Rattle.portal_tables.specs.declared.fault.TableFault.{TableFault}
 pub use Rattle.portal_tables.specs.declared.fault.TableFault.TheVariants.{Damaged, Memory}
@@ -48,7 +48,7 @@ pub use Rattle.portal_tables.specs.declared.select.Table.{Table as Named}
 pub use Rattle.portal_tables.specs.declared.select.Table.TheVariants.{OfLists, OfPlaces, OfRanked, OfRoll}
 pub use Rattle.portal_tables.specs.inner.Base.{Person, put, Key, Rise, has, equals, is_before, Phase, Round, First, Second, LecturerRow, Listing, ProjectRow, StudentRow, is_key, created, Binary, id_in, is_taken, next_rowid, Database, IsDatabase, Held, state, Integer, Cells, Row, bytes, column, Schema, Begins, HasCleanDisk, IsRolledBack, IsUnchanged, KeepsCommit, Shows, State, Survives, Ghosts, Table, Term, col, lit, op2, Trees, put_row, rowid, bound, Error, Transaction, Value, Blob, Int, Null, Real, Words, Column, Index, Reference, key_cmp, Compare, Eq, number_in, ascending, Order, Bool, Err, IfOk, IsTrue, List, None, Ok, OnErr, OnOk, Option, Result, Some, Vec, [], codes, false, filter, length, map, not, option_map, pos, slice_index_or, take, true, ℕ, ℤ, slice_cmp, AllByRecursion, AllZip, filter_map, find, flat_map, list_any, IsPermutation, IsSorted, is_eq, is_lt, nat_cmp, ⊤, Global, IsStudent}
 pub use Rattle.portal_tables.specs.inner.Changes.{AreNew, Becomes, Drops, ListsBy, InsertsRows, Sets, columns, every, has_number, with_rows}
-pub use Rattle.portal_tables.specs.inner.Decoding.{FindsAny, FindsRow, Leaves, ReadsEach, ShowsAs, Refuses}
+pub use Rattle.portal_tables.specs.inner.Decoding.{FindsAny, FindsRow, IsPlainIfAny, Leaves, ReadsEach, ShowsAs, Refuses}
 pub use Rattle.portal_tables.specs.inner.MakingSteps.{Grown, Grows, Makes, MakesFirst, MakesSecond, with_second}
 pub use Rattle.portal_tables.specs.inner.Owners.{IsRead, choice_shown, entry, has_list, with_list, AreEntriesOf, IsFine, IsListOf}
 pub use Rattle.portal_tables.specs.inner.Placements.{pair_shown, placement_asked, placement_shown, result_shown, pair_told, HasKeys, HasPlacementAsked}
@@ -61,7 +61,7 @@ pub use Rattle.portal_tables.specs.inner.RowChanges.{IsOffice, IsSecond, Adds, A
 pub use Rattle.portal_tables.specs.inner.Running.{Does, GoesOn, Made, Ran}
 pub use Rattle.portal_tables.specs.inner.Shown.{as_list, first_cell, shown_name, shown_rank, shown_student}
 pub use Rattle.portal_tables.specs.inner.Texts.{add_eight_text, add_text, clear_text, names, place_among, round_of, assigned2_text, lecturer_text, list_table_text, portal_text, project_text, ranked2_text, second_text, student_text}
-pub use Rattle.sqlite.proofs.Callers.{EndsIn, IsPlain, begins_shown, begun_plain, command_of, given_begin, memory_is_clean, never_commits, one_permutation, one_step, reads_as, runs_as, statement_of, survives_begin, unchanged_then}
+pub use Rattle.sqlite.proofs.Callers.{EndsIn, IsPlain, begins_shown, shown_begins, command_of, given_begin, memory_is_clean, one_permutation, one_step, reads_as, runs_as, statement_of, survives_begin, unchanged_then}
 pub use Rattle.sqlite.proofs.InsideLemmas.{keeps_then as kept_then}
 pub use Rattle.sqlite.proofs.StateLemmas.{survives_then, survives_weaker, unchanged}
 pub use Rattle.sqlite.proofs.StreamLemmas.{rolled_back_since}

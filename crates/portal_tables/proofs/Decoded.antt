@@ -1,17 +1,34 @@
 -- Rows that are decoded one at a time, as they are read.
-use Rattle.portal_tables.proofs.Base.{◌≡◌, ◌∷◌, ◌++◌, ◌⊎◌, inl, inr, all_has, has_left, has_right, IsPlain, Refuses, Leaves, ReadsEach, FindsRow, ℕ, Bool, true, false, refl, List, [], None, Some, Option, sym, ap, subst, ◌∙◌, map-append, map-id, timed, Error, EndsIn, begins_shown, Compiled, Database, HasGiven, Advances, Held, state, understood, reads_listing, IsSourceOf, Row, State, Begins, Shown, ShowsRows, IsUnchanged, IsUnchangedOrUndone, HasCleanDisk, FailsToQuery, Survives, survives_weaker, survives_then, never_commits, begun_plain, given_begin, unchanged, unchanged_then, Ok, Err, Result, IfOk, OnOk, OnErr, option_copied, Bor, AllByRecursion, ShowsAs, FindsAny, IsRefused, IfErr-at_err, IfOk-from_err, IsErr, IsErrAnd, TableFault, Damaged, Vec, Global, is_some}
-use Rattle.sqlite.specs.Given.{HasBegun}
-use Rattle.sqlite.specs.State.{CommitsShowing, Fails}
+use Rattle.portal_tables.proofs.Base.{◌≡◌, ◌∷◌, ◌++◌, ◌⊎◌, inl, inr, all_has, has_left, has_right, IsPlainIfAny, Refuses, Leaves, ReadsEach, FindsRow, ℕ, Bool, true, false, refl, List, [], None, Some, Option, sym, ap, subst, ◌∙◌, map-append, map-id, timed, Error, EndsIn, begins_shown, Compiled, Database, HasGiven, Advances, Held, state, understood, reads_listing, IsSourceOf, Row, State, Begins, Shown, ShowsRows, IsUnchanged, IsUnchangedOrUndone, HasCleanDisk, FailsToQuery, Survives, survives_weaker, survives_then, given_begin, unchanged, unchanged_then, Ok, Err, Result, IfOk, OnOk, OnErr, option_copied, Bor, AllByRecursion, ShowsAs, FindsAny, IsRefused, IfErr-at_err, IfOk-from_err, IsErr, IsErrAnd, TableFault, Damaged, Vec, Global, is_some}
+use Rattle.sqlite.specs.Given.{HasBegun, Returns}
+use Rattle.sqlite.specs.Tree.{Trees}
+use Rattle.sqlite_resolve.specs.declared.error.CompileError.{CompileError}
+unfoldable use Rattle.sqlite.specs.State.{CommitsShowing}
+use Rattle.sqlite.specs.State.{Fails}
 use Rattle.sqlite_trees.specs.declared.store.Store.{Ghosts}
 use Rattle.portal_tables.proofs.InTurn.{clean_before, then_leaves}
 use Rattle.portal_tables.proofs.Queries.{failed_leaves, on_err, on_ok, none_ok}
 
+-- a plain query returns no rows of a write
+never_returns : (r : Result Compiled CompileError) → IsPlainIfAny r → Returns r → ⊥
+never_returns (Ok c) plain some = absurd (let none = rw plain.0 at some in cc)
+never_returns (Err e) plain some = some
+
+begun_plain : {S : Type 0} (g : Ghosts S) (sql : List ℕ) (params : Row) (old new : Held S) → IsPlainIfAny (understood old.schema sql) → HasBegun g sql params old new
+    → HasGiven g sql params new [] × IsUnchanged (state g old) (state g new)
+begun_plain g sql params old new plain (inl h) = h
+begun_plain g sql params old new plain (inr h) = absurd (never_returns _ plain h.0)
+
+pub never_commits : (sql : List ℕ) (params : Row) (s : State) (db : Trees) → IsPlainIfAny (understood s.now.schema sql) → CommitsShowing sql params s db → ⊥
+unfolding CommitsShowing
+never_commits sql params s db plain h = never_returns (Ok h.0) (subst IsPlainIfAny h.1.is plain) h.2
+
 -- what a connection shows that is as it was before is what it showed then
-pub shown_before : (sql : List ℕ) (params : Row) (a b c : State) (rows : List Row) → IsPlain (understood a.now.schema sql) → IsUnchanged a b → Shown sql params b c rows → Shown sql params a c rows
+pub shown_before : (sql : List ℕ) (params : Row) (a b c : State) (rows : List Row) → IsPlainIfAny (understood a.now.schema sql) → IsUnchanged a b → Shown sql params b c rows → Shown sql params a c rows
 unfolding Shown
 shown_before sql params a b c rows plain m h =
-    let there = subst (λ (d : Database). IsPlain (understood d.schema sql)) (sym m.0.now_is) plain in
-    let none = (subst IsPlain h.1.is there).0 in
+    let there = subst (λ (d : Database). IsPlainIfAny (understood d.schema sql)) (sym m.0.now_is) plain in
+    let none = (subst IsPlainIfAny h.1.is there).0 in
     let full = timed params h.0.formats h.1.now in
     let it = subst (ShowsRows b c sql h.0 full rows) none h.2 in (
       h.0,
@@ -24,10 +41,10 @@ module _ {S X : Type 0} (g : Ghosts S) (sql : List ℕ) (params : Row) (old new 
   it : IsRefused g sql params old r new
   it = IfErr-at_err (λ _. IsRefused g sql params old r new) is refused
 
-  refused_leaves : IsPlain (understood old.schema sql) → HasCleanDisk (state g new) → IsUnchangedOrUndone (state g old) (state g new)
+  refused_leaves : IsPlainIfAny (understood old.schema sql) → HasCleanDisk (state g new) → IsUnchangedOrUndone (state g old) (state g new)
   refused_leaves plain clean = failed_leaves sql params (state g old) (state g new) e plain (IfErr-at_err (FailsToQuery sql params (state g old) (state g new)) is (it.err clean))
 
-  refused_survives : Survives (state g old) (state g new) (λ _. IsPlain (understood old.schema sql) → ⊥)
+  refused_survives : Survives (state g old) (state g new) (λ _. IsPlainIfAny (understood old.schema sql) → ⊥)
   refused_survives = survives_weaker (state g old) (state g new) _ _ (λ _ db made plain. never_commits sql params (state g old) db plain made) it.survives
 
   pub leaves_refused : {V E : Type 0} (a : Result V E) → IsErr a → Leaves g sql a old new
@@ -41,9 +58,9 @@ module _ {S X : Type 0} (g : Ghosts S) (sql : List ℕ) (params : Row) (old new 
 -- A plain query is under way: nothing has changed, and this is known of its rows.
 pub record IsUnderWay {S : Type 0} (g : Ghosts S) (sql : List ℕ) (old mid : Held S) (Given : Type 0) : Type 0 where
   pub mode : old.in_transaction ≡ false → mid.in_transaction ≡ false
-  pub survives : Survives (state g old) (state g mid) (λ _. IsPlain (understood old.schema sql) → ⊥)
-  pub same : IsPlain (understood old.schema sql) → HasCleanDisk (state g mid) → IsUnchanged (state g old) (state g mid)
-  pub given : IsPlain (understood old.schema sql) → HasCleanDisk (state g mid) → Given
+  pub survives : Survives (state g old) (state g mid) (λ _. IsPlainIfAny (understood old.schema sql) → ⊥)
+  pub same : IsPlainIfAny (understood old.schema sql) → HasCleanDisk (state g mid) → IsUnchanged (state g old) (state g mid)
+  pub given : IsPlainIfAny (understood old.schema sql) → HasCleanDisk (state g mid) → Given
 
 -- it begins
 pub begun : {S : Type 0} (g : Ghosts S) (sql : List ℕ) (params : Row) (old mid : Held S) {Given : Type 0} → (HasCleanDisk (state g mid) → HasBegun g sql params old mid) → (old.in_transaction ≡ false → mid.in_transaction ≡ false)
@@ -69,12 +86,12 @@ module _ {S : Type 0} (g : Ghosts S) (sql : List ℕ) (old mid : Held S) {Given 
     before : HasCleanDisk (state g new) → HasCleanDisk (state g mid)
     before = clean_before (state g mid) (state g new) _ survives
 
-    after : Survives (state g old) (state g new) (λ _. IsPlain (understood old.schema sql) → ⊥)
+    after : Survives (state g old) (state g new) (λ _. IsPlainIfAny (understood old.schema sql) → ⊥)
     after = survives_then (state g old) (state g mid) (state g new) _ _ _ (λ clean db no. no) (λ clean db no plain. no) way.survives survives
 
     -- it goes on to its next row, or to its end
     pub goes_on : {More : Type 0} → (HasCleanDisk (state g new) → IsUnchanged (state g mid) (state g new))
-        → (IsPlain (understood old.schema sql) → HasCleanDisk (state g new) → IsUnchanged (state g old) (state g mid) → Given → More) → IsUnderWay g sql old new More
+        → (IsPlainIfAny (understood old.schema sql) → HasCleanDisk (state g new) → IsUnchanged (state g old) (state g mid) → Given → More) → IsUnderWay g sql old new More
     goes_on same more = record {
       mode = λ idle. mode (way.mode idle);
       survives = after;
@@ -129,7 +146,7 @@ module _ {S T : Type 0} (g : Ghosts S) (decode : Row → T) (is_fine : Row → T
 
 -- whether a row is found, by a step to the first
 module _ {S : Type 0} (g : Ghosts S) (sql : List ℕ) (params : Row) (old mid new : Held S) where
-  none_found : (found : Option (Bor Row)) → IsPlain (understood old.schema sql) → IsUnchanged (state g old) (state g mid) → HasGiven g sql params mid [] → Advances g mid new (option_copied found)
+  none_found : (found : Option (Bor Row)) → IsPlainIfAny (understood old.schema sql) → IsUnchanged (state g old) (state g mid) → HasGiven g sql params mid [] → Advances g mid new (option_copied found)
       → is_some found ≡ false → Shown sql params (state g old) (state g new) []
   none_found None plain same given on empty = shown_before sql params (state g old) (state g mid) (state g new) [] plain same (on sql params [] given)
   none_found (Some row) plain same given on empty = absurd (cc)
@@ -154,7 +171,7 @@ module _ {S : Type 0} (g : Ghosts S) (sql : List ℕ) (params : Row) (old mid ne
 
 module _ {S T : Type 0} (g : Ghosts S) (decode : Row → T) (sql : List ℕ) (params : Row) (old mid new : Held S) (all : List T) (so_far : ShowsAs decode (HasGiven g sql params mid) all) where
   -- no row is to come
-  pub ended : IsPlain (understood old.schema sql) → IsUnchanged (state g old) (state g mid) → Advances g mid new None → ShowsAs decode (Shown sql params (state g old) (state g new)) all
+  pub ended : IsPlainIfAny (understood old.schema sql) → IsUnchanged (state g old) (state g mid) → Advances g mid new None → ShowsAs decode (Shown sql params (state g old) (state g new)) all
   ended plain same on = record {
     rows = so_far.rows;
     shown = shown_before sql params (state g old) (state g mid) (state g new) so_far.rows plain same (on sql params so_far.rows so_far.shown);
@@ -177,7 +194,7 @@ pub shows_weaker : {T : Type 0} (decode : Row → T) (A B : List Row → Type 0)
 shows_weaker decode A B items more h = record { rows = h.rows; shown = more h.rows h.shown; decoded = h.decoded }
 
 -- whether a row is shown, by the first that is read
-pub found_any : (IsShown : List Row → Type 0) (sql : List ℕ) (params : Row) (old new : State) → IsPlain (understood old.now.schema sql) → ((rows : List Row) → Shown sql params old new rows → IsShown rows)
+pub found_any : (IsShown : List Row → Type 0) (sql : List ℕ) (params : Row) (old new : State) → IsPlainIfAny (understood old.now.schema sql) → ((rows : List Row) → Shown sql params old new rows → IsShown rows)
     → ((c : Compiled) → understood old.now.schema sql ≡ Ok c → (db : Database) (full : Row) → EndsIn c.command db full)
     → (r : Result Bool Error) → OnOk r (IsUnchanged old new) → IfOk r (λ found. found ≡ false → Shown sql params old new []) → IfOk r (λ found. found ≡ true → (first : Row) × Begins sql params new (first ∷ []))
     → IfOk r (FindsAny IsShown)
@@ -190,7 +207,7 @@ found_any IsShown sql params old new plain known ends (Ok true) same none some =
 found_any IsShown sql params old new plain known ends (Err e) same none some = tt
 
 -- a row that was refused is one of those that are shown
-pub none_refused : (is_fine : Row → Type 0) (IsShown : List Row → Type 0) (sql : List ℕ) (params : Row) (old new : State) → IsPlain (understood old.now.schema sql) → ((rows : List Row) → Shown sql params old new rows → IsShown rows)
+pub none_refused : (is_fine : Row → Type 0) (IsShown : List Row → Type 0) (sql : List ℕ) (params : Row) (old new : State) → IsPlainIfAny (understood old.now.schema sql) → ((rows : List Row) → Shown sql params old new rows → IsShown rows)
     → ((c : Compiled) → understood old.now.schema sql ≡ Ok c → (db : Database) (full : Row) → EndsIn c.command db full)
     → Refuses is_fine sql params old new → ((rows : List Row) → IsShown rows → AllByRecursion is_fine rows) → ⊥
 none_refused is_fine IsShown sql params old new plain known ends h fine =

@@ -1,5 +1,5 @@
 -- Reads in turn, and what follows of what they tell.
-use Rattle.portal_tables.proofs.Base.{◌≡◌, ◌<◌, ◌≤◌, arith, ℕ, length, get_or, ◌+◌, ◌++◌, ◌∷◌, [], map, option_map, None, Some, AllByRecursion, all-get_or, take, take_more, Option, cons_option, filter_map, filter_map-append, IsErr, List, IfOk, inl, inr, Ok, Err, Result, refl, sym, ap, ap₂, subst, ◌∙◌, Database, State, HasCleanDisk, IsUnchanged, Survives, survives_then, survives_weaker, unchanged, unchanged_then, rolled_back_since, Round, First, Second, HasRound, IsUnchangedOrUndone, on_ok_weaker, on_err_weaker, Reading, Anyhow, IfOpen, TableFault, Damaged, MatchResult, IsErrAnd, Memory, Blames}
+use Rattle.portal_tables.proofs.Base.{◌≡◌, ◌<◌, ◌≤◌, arith, ℕ, length, get_or, ◌+◌, ◌++◌, ◌∷◌, [], map, option_map, None, Some, AllByRecursion, all-get_or, take, take_more, Option, cons_option, filter_map, filter_map-append, IsErr, List, IfOk, inl, inr, Ok, Err, Result, refl, sym, ap, ap₂, subst, ◌∙◌, Database, State, HasCleanDisk, IsUnchanged, Survives, survives_then, unchanged, unchanged_then, rolled_back_since, Round, First, Second, HasRound, IsTrue, OnOk, OnErr, IsSettled, OnlyLooks, Stays, IsUnchangedOrUndone, on_ok_weaker, on_err_weaker, Reading, Anyhow, IfOpen, TableFault, Damaged, MatchResult, IsErrAnd, Memory, Blames}
 use Rattle.portal_tables.proofs.Owned.{current_own}
 use Rattle.portal_tables.proofs.Queries.{on_ok, on_err}
 
@@ -14,9 +14,9 @@ module _ {round : Round} {Right : Database → Type 0} {V E : Type 0} {Told : Da
   -- no query is made
   pub reads_self : {r : Result V E} {s : State} → (HasRound round s.now.schema → Right s.now → Told s.now r) → Reading round IfOpen Right Told r s s
   reads_self {r} {s} told = record {
-    same = λ own clean on. on_ok _ r (unchanged s on);
-    err = λ own clean on. on_err (IsUnchangedOrUndone s s) r (inl (unchanged s on));
-    now = λ own clean. on_ok _ r refl;
+    same = λ clean on. on_ok _ r (unchanged s on);
+    err = λ clean on. on_err (IsUnchangedOrUndone s s) r (inl (unchanged s on));
+    now = λ clean. on_ok _ r refl;
     mode = λ idle. idle;
     crash = record { clean = omega arith; shield = λ h. h; counts = omega arith; limit = refl; closes = λ clean on. inl on; crash = λ clean db h. inl h };
     told = λ own right clean. told own right;
@@ -25,17 +25,17 @@ module _ {round : Round} {Right : Database → Type 0} {V E : Type 0} {Told : Da
   module _ {r : Result V E} {a b : State} where
     -- a query is sure to be made, and perhaps none is
     pub reads_open : {On : State → Type 0} → Reading round Anyhow Right Told r a b → Reading round On Right Told r a b
-    reads_open h = record { same = λ own clean on. h.same own clean tt; err = λ own clean on. h.err own clean tt; now = h.now; mode = h.mode; crash = survives_weaker a b _ _ (λ clean db no own on. no own tt) h.crash; told = h.told }
+    reads_open h = record { same = λ clean on. h.same clean tt; err = λ clean on. h.err clean tt; now = h.now; mode = h.mode; crash = h.crash; told = h.told }
 
     -- of the tables of more rounds, and of a database of which more is known
     pub reads_of : {there : Round} {Known : Database → Type 0} {On : State → Type 0} → (HasRound there a.now.schema → HasRound round a.now.schema) → (HasRound there a.now.schema → Known a.now → Right a.now)
         → Reading round On Right Told r a b → Reading there On Known Told r a b
     reads_of wide right h = record {
-      same = λ own. h.same (wide own);
-      err = λ own. h.err (wide own);
-      now = λ own. h.now (wide own);
+      same = h.same;
+      err = h.err;
+      now = h.now;
       mode = h.mode;
-      crash = survives_weaker a b _ _ (λ clean db no own. no (wide own)) h.crash;
+      crash = h.crash;
       told = λ own known. h.told (wide own) (right own known);
     }
 
@@ -50,12 +50,12 @@ module _ {round : Round} {On : State → Type 0} {Right : Database → Type 0} {
   -- the same read, where something else is made of its result: an error of each error
   pub reads_as : {V E : Type 0} {Told : Database → Result V E → Type 0} {x : Result U D} {r : Result V E} {a b : State} → Reading round On Right T x a b → (IsErr x → IsErr r)
       → (HasRound round a.now.schema → Right a.now → T a.now x → Told a.now r) → Reading round On Right Told r a b
-  reads_as {x = Ok u} {r = Ok v} h fails so = record { same = h.same; err = λ own clean on. tt; now = h.now; mode = h.mode; crash = h.crash; told = λ own right clean. so own right (h.told own right clean) }
+  reads_as {x = Ok u} {r = Ok v} h fails so = record { same = h.same; err = λ clean on. tt; now = h.now; mode = h.mode; crash = h.crash; told = λ own right clean. so own right (h.told own right clean) }
   reads_as {x = Ok u} {r = Err e} h fails so =
-      record { same = λ own clean on. tt; err = λ own clean on. inl (h.same own clean on); now = λ own clean. tt; mode = h.mode; crash = h.crash; told = λ own right clean. so own right (h.told own right clean) }
+      record { same = λ clean on. tt; err = λ clean on. inl (h.same clean on); now = λ clean. tt; mode = h.mode; crash = h.crash; told = λ own right clean. so own right (h.told own right clean) }
   reads_as {x = Err d} {r = Ok v} h fails so = let no = fails refl in absurd (cc)
   reads_as {x = Err d} {r = Err e} h fails so =
-      record { same = λ own clean on. tt; err = h.err; now = λ own clean. tt; mode = h.mode; crash = h.crash; told = λ own right clean. so own right (h.told own right clean) }
+      record { same = λ clean on. tt; err = h.err; now = λ clean. tt; mode = h.mode; crash = h.crash; told = λ own right clean. so own right (h.told own right clean) }
 
   -- what was answered is worked on
   pub reads_more : {V E : Type 0} {Told : Database → Result V E → Type 0} {u : U} {r : Result V E} {a b : State} → Reading round On Right T (Ok u) a b
@@ -81,22 +81,65 @@ module _ {round : Round} {On : State → Type 0} {Right : Database → Type 0} {
         → Reading round On Right (λ db r. T db (Ok u) × N db r) r a c
     reads_then_of {Known} known p q =
         let before : HasCleanDisk c → HasCleanDisk b = clean_before b c _ q.crash in
-        let there : b.now ≡ a.now → HasRound round a.now.schema → HasRound round b.now.schema = λ same own. subst (λ (d : Database). HasRound round d.schema) (sym same) own in
-        let middle : HasRound round a.now.schema → HasCleanDisk c → On a → IsUnchanged a b = λ own clean on. p.same own (before clean) on in
+        let middle : HasCleanDisk c → On a → IsUnchanged a b = λ clean on. p.same (before clean) on in
         record {
-          same = λ own clean on. let m = middle own clean on in on_ok_weaker r (unchanged_then a b c m) (q.same (there m.0.now_is own) clean m.0.is_open);
-          err = λ own clean on. let m = middle own clean on in on_err_weaker r (then_leaves a b c p.crash.counts m) (q.err (there m.0.now_is own) clean m.0.is_open);
-          now = λ own clean. let m = p.now own (before clean) in on_ok_weaker r (λ e. e ∙ m) (q.now (there m own) clean);
+          same = λ clean on. let m = middle clean on in on_ok_weaker r (unchanged_then a b c m) (q.same clean m.0.is_open);
+          err = λ clean on. let m = middle clean on in on_err_weaker r (then_leaves a b c p.crash.counts m) (q.err clean m.0.is_open);
+          now = λ clean. let m = p.now (before clean) in on_ok_weaker r (λ e. e ∙ m) (q.now clean);
           mode = λ idle. q.mode (p.mode idle);
-          crash = survives_then a b c _ _ _ (λ clean db no. no) (λ clean db no own on. let m = middle own clean on in no (there m.0.now_is own) m.0.is_open) p.crash q.crash;
+          crash = survives_then a b c _ _ _ (λ clean db no. no) (λ clean db no. no) p.crash q.crash;
           told = λ own right clean.
               let early = before clean in
               let t = p.told own right early in
-              (t, subst (λ (d : Database). HasRound round d.schema → Known d → N d r) (p.now own early) (λ own known. q.told own known clean) own (known own (λ on. (p.same own early on).0.was_open) right t));
+              (t, subst (λ (d : Database). HasRound round d.schema → Known d → N d r) (p.now early) (λ own known. q.told own known clean) own (known own (λ on. (p.same early on).0.was_open) right t));
         }
 
     pub reads_then : Reading round On Right T (Ok u) a b → Reading round IfOpen Right N r b c → Reading round On Right (λ db r. T db (Ok u) × N db r) r a c
     reads_then p q = reads_then_of (λ own on right told. right) p q
+
+-- what at most undoes a transaction that is not there changes nothing
+pub stays_left : (old new : State) → IsSettled old → IsUnchangedOrUndone old new → IsTrue new.is_open → Stays old new
+stays_left old new settled (inl same) on = (same.0.was_open, same.0.now_is, same.0.committed_is)
+stays_left old new settled (inr undone) on =
+    let first = undone.was_open on in
+    let was = undone.undone on in
+    (first, was.0 ∙ sym (settled first), was.1)
+
+-- a read only looks, whatever it answers
+pub looks_by : {round : Round} {Right : Database → Type 0} {V E : Type 0} {Told : Database → Result V E → Type 0} (r : Result V E) {a b : State} → Reading round Anyhow Right Told r a b → OnlyLooks a b
+looks_by r {a} {b} h = record {
+  stays = λ settled clean on. stays_left a b settled (either r (h.same clean tt) (h.err clean tt)) on;
+  mode = h.mode;
+  crash = h.crash;
+}
+  where
+    either : {V E : Type 0} {a b : State} (r : Result V E) → OnOk r (IsUnchanged a b) → OnErr r (IsUnchangedOrUndone a b) → IsUnchangedOrUndone a b
+    either (Ok v) same err = inl same
+    either (Err e) same err = err
+
+-- no call only looks, and so do two in turn
+pub looks_never : (s : State) → OnlyLooks s s
+looks_never s = record {
+  stays = λ settled clean on. (on, refl, refl);
+  mode = λ idle. idle;
+  crash = record { clean = omega arith; shield = λ h. h; counts = omega arith; limit = refl; closes = λ clean on. inl on; crash = λ clean db h. inl h };
+}
+
+pub stays_then : (a b c : State) → Stays a b → Stays b c → Stays a c
+stays_then a b c p q = (p.0, q.1 ∙ p.1, q.2 ∙ p.2)
+
+pub settled_still : (a b : State) → IsSettled a → Stays a b → b.now ≡ b.committed
+settled_still a b settled p = p.1 ∙ settled p.0 ∙ sym p.2
+
+pub looks_then : (a b c : State) → OnlyLooks a b → OnlyLooks b c → OnlyLooks a c
+looks_then a b c p q = record {
+  stays = λ settled clean on.
+      let early = clean_before b c _ q.crash clean in
+      let here : Stays b c = q.stays (λ up. settled_still a b settled (p.stays settled early up)) clean on in
+      stays_then a b c (p.stays settled early here.0) here;
+  mode = λ idle. q.mode (p.mode idle);
+  crash = survives_then a b c _ _ _ (λ clean db no. no) (λ clean db no. no) p.crash q.crash;
+}
 
 -- an error that is handed on blames the rows if it did, and a shortage of memory never does
 pub blamed : {V W : Type 0} (r : Result V TableFault) (fault : TableFault) → IsErrAnd r (λ f. f ≡ fault) → r ≡ Err Damaged → ◌≡◌ {A = Result W TableFault} (Err fault) (Err Damaged)

@@ -1,5 +1,5 @@
 -- What a query of one table shows, in the order of a column.
-use Rattle.portal_tables.proofs.Base.{◌≡◌, ◌∷◌, inl, inr, Ok, Err, Result, OnErr, OnOk, IsErr, ℕ, List, [], map, filter, refl, ap, subst, ◌∙◌, IsPermutation, IsSorted, Null, Binary, ascending, Row, column, Term, col, Trees, Query, IsAnswer, output, Output, IsProgramAnswer, answer_alone, State, Shown, ShowsRows, IsUnchanged, FailsToQuery, FailsToShow, IsNotRun, Error, IsUnchangedOrUndone, timed, understood, IsPlain, ListsBy, columns, key_cmp, map-map}
+use Rattle.portal_tables.proofs.Base.{◌≡◌, ◌∷◌, inl, inr, Ok, Err, Result, OnErr, OnOk, IsErr, ℕ, List, [], map, filter, refl, ap, subst, ◌∙◌, IsPermutation, IsSorted, Null, Binary, ascending, Row, column, Term, col, Trees, Query, IsAnswer, output, Output, IsProgramAnswer, answer_alone, State, Shown, ShowsRows, IsUnchanged, FailsToQuery, FailsToShow, IsNotRun, Error, IsUnchangedOrUndone, timed, understood, IsPlainIfAny, ListsBy, columns, key_cmp, map-map}
 use Rattle.sqlite_value.specs.declared.keys.Key.{Key}
 use Rattle.portal_tables.proofs.Query.{one_table, passes, shown_as}
 use Rattle.portal_tables.proofs.Lists.{looped}
@@ -29,18 +29,18 @@ listed tree keys tests project db params rows h =
     }
 
 -- a plain query changes nothing and commits nothing
-pub shown_same : (sql : List ℕ) (params : Row) (old new : State) (rows : List Row) → IsPlain (understood old.now.schema sql) → Shown sql params old new rows → IsUnchanged old new
+pub shown_same : (sql : List ℕ) (params : Row) (old new : State) (rows : List Row) → IsPlainIfAny (understood old.now.schema sql) → Shown sql params old new rows → IsUnchanged old new
 unfolding Shown
 shown_same sql params old new rows plain h =
-    let none = (subst IsPlain h.1.is plain).0 in
+    let none = (subst IsPlainIfAny h.1.is plain).0 in
     (subst (ShowsRows old new sql h.0 (timed params h.0.formats h.1.now) rows) none h.2).3
 
-pub failed_leaves : (sql : List ℕ) (params : Row) (old new : State) (e : Error) → IsPlain (understood old.now.schema sql) → FailsToQuery sql params old new e → IsUnchangedOrUndone old new
+pub failed_leaves : (sql : List ℕ) (params : Row) (old new : State) (e : Error) → IsPlainIfAny (understood old.now.schema sql) → FailsToQuery sql params old new e → IsUnchangedOrUndone old new
 unfolding FailsToQuery IsNotRun
 failed_leaves sql params old new e plain (inl (inl none)) = inl none.1
 failed_leaves sql params old new e plain (inl (inr fails)) = inr fails.3
 failed_leaves sql params old new e plain (inr h) =
-    let none = (subst IsPlain h.1.is plain).0 in
+    let none = (subst IsPlainIfAny h.1.is plain).0 in
     inl (subst (FailsToShow old new sql h.0 (timed params h.0.formats h.1.now) e) none h.2).3
 
 -- what holds anyway holds at an error

@@ -1,8 +1,15 @@
 -- The meaning of each query's text, whatever the checks are, and so what a query shows and leaves.
-use Rattle.portal_tables.proofs.Base.{◌≡◌, if◌then◌else◌, ℕ, List, [], false, map, Err, Option, Some, None, refl, sym, ap, subst, subst₂, ◌∙◌, Ok, Result, OnOk, OnErr, Row, Term, col, Schema, Database, Answers, Command, Program, Compiled, State, Shown, HasCleanDisk, IsUnchanged, Survives, Select, everything, understood, reads_listing, lets_of, Ends, IsPlain, EndsIn, command_of, reads_as, survives_weaker, Choices, Whole, LecturerByCode, StudentByCode, LecturerByKey, StudentTold, AllLists, ListOf, Choosers, Listed, ProjectsOf, First, SecondRankedBy, SecondPlaceOf, Numbers, Lecturers, OfRoll, OfLists, ListsBy, HasRound, selection, round_asked, query_text, given, on_ok_weaker, Reading, Anyhow, IsUnchangedOrUndone, Reads, Always}
-use Rattle.sqlite.specs.Listing.{misses_table, if_select, listing_schema}
-use Rattle.sqlite_resolve.specs.Compile.{compiled}
+use Rattle.portal_tables.proofs.Base.{◌≡◌, if◌then◌else◌, ℕ, Bool, true, Begins, shown_begins, List, [], false, map, Err, Option, Some, None, refl, sym, ap, subst, subst₂, ◌∙◌, Ok, Result, OnOk, OnErr, Row, Term, col, Schema, Database, Answers, Command, Program, Compiled, State, Shown, HasCleanDisk, IsUnchanged, Survives, Select, everything, understood, reads_listing, lets_of, Ends, IsPlain, IsPlainIfAny, EndsIn, command_of, reads_as, survives_weaker, Choices, Whole, LecturerByCode, StudentByCode, LecturerByKey, StudentTold, AllLists, ListOf, Choosers, Listed, ProjectsOf, First, SecondRankedBy, SecondPlaceOf, Numbers, Lecturers, OfRoll, OfLists, ListsBy, HasRound, selection, round_asked, query_text, given, on_ok_weaker, Reading, Anyhow, IsUnchangedOrUndone, Reads, Always}
+use Rattle.sqlite.specs.Listing.{misses_table, if_select, is_select, listing_schema}
+use Rattle.sqlite_ast.specs.declared.Select as written_select
+use Rattle.sqlite_ast.specs.declared.Statement.{Statement}
+use Rattle.sqlite_ast.specs.declared.Statement.TheVariants as written
+use Rattle.sqlite_syntax.specs.declared.statement.Parsed.{Parsed}
+unfoldable use Rattle.sqlite_resolve.specs.Compile.{compiled, meaning, planned, returning, timed}
+use Rattle.sqlite_resolve.specs.Compile.{first, with_command}
+use Rattle.sqlite_resolve.specs.Lowering.{Checked, and_then}
 use Rattle.sqlite_resolve.specs.declared.error.CompileError.{CompileError}
+use Rattle.sqlite_resolve.specs.declared.error.CompileError.TheVariants.{NoSuchTable}
 use Rattle.portal_tables.specs.declared.select.Query.{Query}
 use Rattle.portal_tables.specs.inner.Queries.{Shows}
 use Rattle.portal_tables.proofs.Weak.{Open, schema_with, own_is}
@@ -85,6 +92,62 @@ is _ o = refl
 own_is_understood : (q : Query) (s : Schema) → HasRound (round_asked q) s → IsUnderstood q s
 own_is_understood q s own = let w = own_is (round_asked q) s own in subst (IsUnderstood q) (sym w.is) (understands q _ (is q w.o))
 
+-- a statement is a query alone, which reads no time
+abbrev is_query_alone : {F : Type 0} → Statement → List F → Bool
+is_query_alone (written.Select q) [] = true
+is_query_alone _ _ = false
+
+abbrev is_read_alone : Checked Parsed → Bool
+is_read_alone (Ok p) = is_query_alone p.statement p.formats
+is_read_alone (Err e) = false
+
+alone_parts : {F : Type 0} (statement : Statement) (formats : List F) → is_query_alone statement formats ≡ true → ((q : written_select.Select) × (statement ≡ written.Select q)) × (formats ≡ [])
+alone_parts (written.Select q) [] h = ((q, refl), refl)
+alone_parts _ _ h = absurd (cc)
+
+-- a query is plain over whatever schema, if it is understood there
+compiled_alone : (command : Checked Command) (p : Parsed) → IsPlainIfAny (and_then (and_then (and_then command (λ c. Ok (c, None))) (λ found. Ok ([], found))) (λ plan. Ok (with_command p plan)))
+compiled_alone (Ok c) p = (refl, refl)
+compiled_alone (Err e) p = tt
+
+planned_alone : (s : Schema) (p : Parsed) (q : written_select.Select) → IsPlainIfAny (and_then (planned s (record p { statement = written.Select q; formats = [] })) (λ plan. Ok (with_command (record p { statement = written.Select q; formats = [] }) plan)))
+unfolding planned meaning returning timed
+planned_alone s p q = compiled_alone _ (record p { statement = written.Select q; formats = [] })
+
+parsed_alone : (s : Schema) (p : Parsed) → is_query_alone p.statement p.formats ≡ true → IsPlainIfAny (and_then (planned s p) (λ plan. Ok (with_command p plan)))
+parsed_alone s p h =
+    let it = alone_parts p.statement p.formats h in
+    let is : record p { statement = written.Select it.0.0; formats = [] } ≡ p = λ i. record p { statement = sym it.0.1 i; formats = sym it.1 i } in
+    subst (λ x. IsPlainIfAny (and_then (planned s x) (λ plan. Ok (with_command x plan)))) is (planned_alone s p it.0.0)
+
+compiled_plain : (s : Schema) (sql : List ℕ) → is_read_alone (first sql) ≡ true → IsPlainIfAny (compiled s sql)
+unfolding compiled
+compiled_plain s sql =
+    elim (first sql) as (λ r. is_read_alone r ≡ true → IsPlainIfAny (and_then r (λ p. and_then (planned s p) (λ plan. Ok (with_command p plan)))))
+    [ Ok p ↦ parsed_alone s p | Err e ↦ λ h. tt ]
+
+listing_plain : (r : Checked Compiled) → IsPlainIfAny r → IsPlainIfAny (if_select r)
+listing_plain (Ok c) h = elim (is_select c.command) as (λ b. IsPlainIfAny (if b then Ok c else Err NoSuchTable)) [ true ↦ h | false ↦ tt ]
+listing_plain (Err e) h = tt
+
+plain_anywhere : (s : Schema) (sql : List ℕ) → is_read_alone (first sql) ≡ true → IsPlainIfAny (understood s sql)
+unfolding understood
+plain_anywhere s sql h =
+    elim (reads_listing s sql) as (λ b. IsPlainIfAny (if b then if_select (compiled listing_schema sql) else compiled s sql))
+    [ true ↦ listing_plain _ (compiled_plain listing_schema sql h) | false ↦ compiled_plain s sql h ]
+
+-- each case computes, as above
+is_alone : (q : Query) → is_read_alone (first (query_text q)) ≡ true
+unfolding everything
+is_alone (Whole Lecturers) = refl
+is_alone (AllLists Choices) = refl
+is_alone (ListOf Choices owner) = refl
+is_alone (Choosers First project) = refl
+is_alone (Listed First) = refl
+is_alone (Numbers (OfRoll Lecturers)) = refl
+is_alone (Numbers (OfLists Choices)) = refl
+is_alone _ = refl
+
 -- a command that is a query is that one
 program_is : (c : Command) (p : Program) (db : Database) (params : Row) (rows : List Row) → program_of c ≡ Some p → Reads c db params rows → Answers db p params rows
 program_is (Select p names) q db params rows is h = let same : p ≡ q = cc in subst (λ x. Answers db x params rows) same h
@@ -97,8 +160,8 @@ program_ends _ q db params is h = tt
 
 -- what a query comes to that was asked with this text and these values
 module _ (q : Query) (sql : List ℕ) (params : Row) (text : sql ≡ query_text q) (values : params ≡ given q) where
-  pub plain : (s : Schema) → HasRound (round_asked q) s → IsPlain (understood s sql)
-  plain s own = subst (λ t. IsPlain (understood s t)) (sym text) (own_is_understood q s own).1
+  pub plain : (s : Schema) → IsPlainIfAny (understood s sql)
+  plain s = subst (λ t. IsPlainIfAny (understood s t)) (sym text) (plain_anywhere s (query_text q) (is_alone q))
 
   pub ends : (s : Schema) → HasRound (round_asked q) s → (c : Compiled) → understood s sql ≡ Ok c → (db : Database) (full : Row) → EndsIn c.command db full
   ends s own c known db full =
@@ -112,14 +175,21 @@ module _ (q : Query) (sql : List ℕ) (params : Row) (text : sql ≡ query_text 
       let lists = listed (selection q).tree (selection q).by (tests q) (map (λ at. col 1 at) (selection q).shown) old.now.trees (given q) rows (program_is _ (asked q) old.now (given q) rows it.0 read).answer in
       subst₂ (λ p show. ListsBy (selection q).by p show (old.now.trees (selection q).tree) rows) (tested q) (λ i r. columns_are (selection q).shown (given q) r i) lists
 
-  pub asks : {V E : Type 0} {Told : Database → Result V E → Type 0} (r : Result V E) (old new : State) → (IsPlain (understood old.now.schema sql) → HasCleanDisk new → OnOk r (IsUnchanged old new))
-      → (IsPlain (understood old.now.schema sql) → HasCleanDisk new → OnErr r (IsUnchangedOrUndone old new)) → (old.in_transaction ≡ false → new.in_transaction ≡ false)
-      → Survives old new (λ _. IsPlain (understood old.now.schema sql) → ⊥) → (HasRound (round_asked q) old.now.schema → HasCleanDisk new → Told old.now r) → Reading (round_asked q) Anyhow Always Told r old new
+  -- what is shown is what the text itself begins with, under any schema
+  pub begins : (old new : State) (rows : List Row) → Shown sql params old new rows → Begins (query_text q) (given q) new rows
+  unfolding Shown
+  begins old new rows h =
+      let sure : IsPlain (understood old.now.schema sql) = subst IsPlain (sym h.1.is) (subst IsPlainIfAny h.1.is (plain old.now.schema)) in
+      subst₂ (λ t v. Begins t v new rows) text values (shown_begins sql params old new rows sure h)
+
+  pub asks : {V E : Type 0} {Told : Database → Result V E → Type 0} (r : Result V E) (old new : State) → (IsPlainIfAny (understood old.now.schema sql) → HasCleanDisk new → OnOk r (IsUnchanged old new))
+      → (IsPlainIfAny (understood old.now.schema sql) → HasCleanDisk new → OnErr r (IsUnchangedOrUndone old new)) → (old.in_transaction ≡ false → new.in_transaction ≡ false)
+      → Survives old new (λ _. IsPlainIfAny (understood old.now.schema sql) → ⊥) → (HasRound (round_asked q) old.now.schema → HasCleanDisk new → Told old.now r) → Reading (round_asked q) Anyhow Always Told r old new
   asks r old new same err mode survives told = record {
-    same = λ own clean on. same (plain old.now.schema own) clean;
-    err = λ own clean on. err (plain old.now.schema own) clean;
-    now = λ own clean. on_ok_weaker r (λ u. u.0.now_is) (same (plain old.now.schema own) clean);
+    same = λ clean on. same (plain old.now.schema) clean;
+    err = λ clean on. err (plain old.now.schema) clean;
+    now = λ clean. on_ok_weaker r (λ u. u.0.now_is) (same (plain old.now.schema) clean);
     mode = mode;
-    crash = survives_weaker old new _ _ (λ clean db no own on. no (plain old.now.schema own)) survives;
+    crash = survives_weaker old new _ _ (λ clean db no. no (plain old.now.schema)) survives;
     told = λ own right clean. told own clean;
   }

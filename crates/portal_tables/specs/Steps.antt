@@ -26,14 +26,26 @@ LeavesOnly s = (db : Trees) → s.may_leave db → db ≡ s.now.trees
 abbrev pub IsUnchangedOrUndone : State → State → Type 0
 IsUnchangedOrUndone old new = IsUnchanged old new ⊎ IsRolledBack old new
 
--- what a read leaves, if `On` holds of the connection; over a `Right` database `Told` holds too
+-- what a read leaves, if `On` holds of the connection, whatever the schema; over a `Right` database
+-- with the portal's own tables `Told` holds too
 pub record Reading (round : Round) (On : State → Type 0) (Right : Database → Type 0) {V E : Type 0} (Told : Database → Result V E → Type 0) (result : Result V E) (old new : State) : Type 0 where
-  pub same : HasRound round old.now.schema → HasCleanDisk new → On old → OnOk result (IsUnchanged old new)
-  pub err : HasRound round old.now.schema → HasCleanDisk new → On old → OnErr result (IsUnchangedOrUndone old new)
-  pub now : HasRound round old.now.schema → HasCleanDisk new → OnOk result (new.now ≡ old.now)
+  pub same : HasCleanDisk new → On old → OnOk result (IsUnchanged old new)
+  pub err : HasCleanDisk new → On old → OnErr result (IsUnchangedOrUndone old new)
+  pub now : HasCleanDisk new → OnOk result (new.now ≡ old.now)
   pub mode : old.in_transaction ≡ false → new.in_transaction ≡ false
-  pub crash : Survives old new (λ _. HasRound round old.now.schema → On old → ⊥)
+  pub crash : Survives old new (λ _. ⊥)
   pub told : HasRound round old.now.schema → Right old.now → HasCleanDisk new → Told old.now result
+
+-- all was committed
+abbrev pub IsSettled : State → Type 0
+IsSettled s = IsTrue s.is_open → s.now ≡ s.committed
+
+-- What a call leaves that only looks at the tables, whatever the schema and the answer: nothing has
+-- changed outside a transaction, and a crash leaves what it left before.
+pub record OnlyLooks (old new : State) : Type 0 where
+  pub stays : IsSettled old → HasCleanDisk new → IsTrue new.is_open → Stays old new
+  pub mode : old.in_transaction ≡ false → new.in_transaction ≡ false
+  pub crash : Survives old new (λ _. ⊥)
 
 -- no condition on the connection
 abbrev pub Anyhow : State → Type 0

@@ -1,7 +1,8 @@
 //! Defines all queries, and runs them. Each query reads one table.
 
 ghost use Rattle.std.specs.Prelude.{◌≡◌};
-ghost use Rattle.portal_tables.specs.inner.Base.{Err, List, AllByRecursion, Cells, bound};
+ghost use Rattle.portal_tables.specs.inner.Base.{Begins, Err, HasCleanDisk, IfOk, List};
+ghost use Rattle.portal_tables.specs.inner.Base.{AllByRecursion, Cells, bound, state};
 ghost use Rattle.portal_tables.specs.inner.Decoding.{ShowsAs, FindsAny};
 ghost use Rattle.portal_tables.specs.inner.Queries.{Shows, round_asked, query_text, given};
 ghost use Rattle.portal_tables.specs.Steps.{Reads, Gives};
@@ -213,10 +214,14 @@ fn values<'a>(value: &'a Option<ValueRef<'a>>) -> &'a [ValueRef<'a>]
     }
 }
 
-/// Runs one of the queries and returns its rows, or the store's own error.
+/// Runs one of the queries and returns its rows, or the store's own error. Under any schema the rows
+/// are those of the query's text.
 pub fn read<S: Alter>(conn: &mut Connection<S>, query: Query<'_>) -> Result<Vec<Row>, Error>
-    ensures { Reads (round_asked query.entry) S.Store Always
+    ensures reads { Reads (round_asked query.entry) S.Store Always
         (Gives (λ db rows. Shows query.entry db.trees rows.items)) result conn.old conn.new }
+    ensures begins { HasCleanDisk (state S.Store conn.new)
+        → IfOk result (λ rows. Begins (query_text query.entry) (given query.entry)
+        (state S.Store conn.new) rows.items) }
 {
     conn.query_all(query.text(), values(&query.value()))
 }

@@ -81,8 +81,8 @@ pub fn more_room_never_harms()
 {}
 
 /// Law: more places at a project, and none for its lecturer, may give a student a worse project. In
-/// the example, Tides gets a second place. Ann moves there, and Cem, whom Lee ranks last, loses
-/// Kites to the limit.
+/// the example, let Ann list Tides, then Bells, and let Tides get a second place. Ann moves there,
+/// and Cem, whom Lee ranks last, loses Kites to the limit.
 pub fn more_places_may_harm()
     ensures { MorePlacesNeverHarm → ⊥ }
 {}

@@ -2,7 +2,8 @@
 use Rattle.std.specs.Prelude.{◌≡◌, ℕ, Bool, false, List, [], ◌∷◌, Option, IfSome, IsTrue, refl}
 use Rattle.std.specs.Coded.{Coded, code_by, coded×, coded_bool, coded_ℕ}
 use Rattle.sqlite.specs.Effect.{Database}
-use Rattle.sqlite.specs.State.{State}
+use Rattle.sqlite.specs.State.{State, HasCleanDisk}
+use Rattle.sqlite.specs.Tree.{Trees}
 use Rattle.sqlite.specs.Store.{Ghosts}
 use Rattle.sqlite.specs.Held.{Held, held_code, state}
 use Rattle.portal_core.specs.declared.phase.Round.{Round}
@@ -13,7 +14,7 @@ use Rattle.portal_core.specs.declared.view_cache.ViewCache.{ViewCache}
 use Rattle.portal_list.specs.Rows.{AllEntries, HasEntries}
 use Rattle.portal_tables.specs.Tables.{lecturer_tree, project_tree, student_tree, choice_tree, ranking_tree}
 use Rattle.portal_store.specs.World.{world_in, world_of}
-use Rattle.portal_store.specs.Kept.{IsConsistentIn, IsConsistent, Seen}
+use Rattle.portal_store.specs.Kept.{AreConsistent, IsConsistentIn, IsConsistent, Seen}
 
 -- the tables of many rows: the rolls and the lists of the first round, and the lists and places of
 -- the second
@@ -52,6 +53,8 @@ pub record IsReady (s : State) : Type 0 where
 pub record IsKept {S : Type 0} (g : Ghosts S) (conn : Held S) (own : Bool) : Type 0 where
   pub idle : conn.in_transaction ≡ false
   pub ready : IsTrue own → IsTrue (state g conn).is_open → IsReady (state g conn)
+  -- also where the connection is shut
+  pub left : IsTrue own → HasCleanDisk (state g conn) → (db : Trees) → (state g conn).may_leave db → AreConsistent db
 
 -- the entries, if there are any, are the world's
 abbrev pub AreEntries : Option AllEntries → World → Type 0

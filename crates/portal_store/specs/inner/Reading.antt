@@ -1,5 +1,5 @@
 -- What is known of the tables while they are read, and what is remembered.
-use Rattle.std.specs.Prelude.{◌≡◌, List, Option, Result, IfOk, IsTrue}
+use Rattle.std.specs.Prelude.{◌≡◌, List, Option, Result, Ok, Err, IfOk, IsTrue}
 use Rattle.sqlite.specs.Order.{Row}
 use Rattle.sqlite.specs.Effect.{Database, IsDatabase}
 use Rattle.sqlite.specs.Held.{Held, state}
@@ -57,6 +57,11 @@ RemembersIn round cache db = IsConsistentIn round db × IsCacheOf cache (world_i
 
 abbrev pub ShowsIn : {V E : Type 0} → Round → ViewCache → (World → V → Type 0) → Database → Result V E → Type 0
 ShowsIn round cache Answer db result = IsCacheOf cache (world_in round db.trees) × IfOk result (Answer (world_in round db.trees))
+
+-- the same result, with another fault for a fault
+abbrev pub IsToldAs : {V E F : Type 0} → Result V E → Result V F → Type 0
+IsToldAs (Ok v) told = told ≡ Ok v
+IsToldAs (Err e) told = IfOk told (λ _. ⊥)
 
 -- the entries before were those of the world, so those after are
 abbrev pub KeepsEntries : Option AllEntries → Option AllEntries → State → State → Type 0

@@ -4,7 +4,7 @@ use Rattle.portal_desk.proofs.each.serve_each.Goals as goal
 
 pub loop-stream-preserved : goal.loop-stream-preserved
 loop-stream-preserved g c =
-    rw c.in-Ok-push.ensures.items (each_next (state_of g.K.Keeper.disk g.K.Keeper.clean g.K.Keeper.world) _ _ _ (λ stream. stream.now) (λ text. text.items)
+    rw c.in-Ok-push.ensures.items (each_next (state_of g.K.Keeper.disk g.K.Keeper.clean g.K.Keeper.world g.K.Keeper.broken g.K.Keeper.leaves) _ _ _ (λ stream. stream.now) (λ text. text.items)
     c.args.streams.now c.loop-stream.stream-index _ c.loop-stream.texts.items c.into_inner.result c.in-Ok.field-0.requests (last c.in-Ok.field-0.ending)
     c.loop-stream-test.true c.loop-stream.invariant
     (rw (c.new-source.ensures.inner, c.new-sink.ensures.inner, c.new.ensures.items, sym c.into_inner.ensures) at c.in-Ok.ensures.served))

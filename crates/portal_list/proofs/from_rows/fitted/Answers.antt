@@ -1,4 +1,4 @@
-use Rattle.portal_list.proofs.Base.{◌∙◌, sym, ap, subst, option_map, IsFitted}
+use Rattle.portal_list.proofs.Base.{◌∙◌, sym, ap, subst, option_map, IsFitted, world_with}
 use Rattle.portal_list.proofs.Parted.{fitted_rows, lecturers_of_sound, students_of_sound, nothing_made}
 use Rattle.portal_list.proofs.from_rows.fitted.Goals as goal
 
@@ -10,14 +10,12 @@ returns-in_default-2-clause-refused c refused w e sound = nothing_made (λ v. v.
 
 pub returns-clause-fitted : goal.returns-clause-fitted
 returns-clause-fitted c =
-    subst (λ rows. IsFitted rows (record {
+    subst (λ rows. IsFitted rows (world_with rows.phase rows.office (record {
       round = c.rows.inside.round;
-      phase = c.rows.inside.phase;
-      office = c.rows.inside.office;
       lecturers = c.in-Some.lecturers.items;
       projects = c.rows.inside.projects.items;
       students = c.in-Some-2.students.items;
-    })) c.rows.view_is
+    }))) c.rows.view_is
     (fitted_rows _ c.in-Some.lecturers.items c.in-Some-2.students.items
     (sym c.in_ok-lecturers.ensures ∙ ap (option_map (λ v. v.items)) c.in-Some.is)
     (sym c.in_ok-students.ensures ∙ ap (option_map (λ v. v.items)) c.in-Some-2.is))

@@ -1,5 +1,5 @@
-use Rattle.portal_store.proofs.Base.{Admits, Answers, Denies, HasEntries, HasGoodWorld, Held, MatchResult-weaker, Second, current_own, reads_as, reads_handed, reads_of, reads_open, reads_then_of, subst, world_of, Reads, IsSoundIfOpen}
-use Rattle.portal_store.proofs.Asked.{blamed, blames_more}
+use Rattle.portal_store.proofs.Base.{◌∙◌, Admits, Answers, Denies, HasEntries, HasGoodWorld, Held, MatchResult-weaker, Second, current_own, reads_as, reads_handed, reads_of, reads_open, reads_then_of, subst, world_of, Reads, IsSoundIfOpen, clean_before, looks_by, looks_then, on_ok_weaker, settled_still, state}
+use Rattle.portal_store.proofs.Asked.{blamed, blames_more, version_still}
 use Rattle.portal_store.proofs.open.examine.Goals as goal
 
 pub returns-in_err-see_first-clause-reads : goal.returns-in_err-see_first-clause-reads
@@ -16,3 +16,22 @@ returns-clause-reads g c mine =
     (c.in_ok-see_tables.ensures.same mine) c.judge_both.ensures in
     reads_as (reads_then_of (λ own on sound told. λ _. sound (on tt)) (reads_of (current_own _) (λ own sound. tt) (c.in_ok-see_first.ensures.reads mine)) (reads_open judged)) (λ no. no)
     (λ own sound told. MatchResult-weaker r told.1 (λ e it. it) (λ f no. blamed f _ _ _ told.0 no))
+
+pub returns-in_err-see_tables-clause-looks : goal.returns-in_err-see_tables-clause-looks
+returns-in_err-see_tables-clause-looks g c = looks_then _ _ _ c.see_first.ensures.looks c.see_tables.ensures.looks
+
+pub returns-clause-looks : goal.returns-clause-looks
+returns-clause-looks g c = looks_then _ _ _ c.see_first.ensures.looks (looks_then _ _ _ c.see_tables.ensures.looks (looks_by c.judge_both.result c.judge_both.ensures))
+
+pub returns-clause-shows : goal.returns-clause-shows
+returns-clause-shows g c settled clean =
+    let old = state g.S.Store c.args.conn.now in
+    let mid = state g.S.Store c.see_first.new.conn in
+    let seen = state g.S.Store c.see_tables.new.conn in
+    let new = state g.S.Store c.judge_both.new.conn in
+    let later = clean_before seen new _ c.judge_both.ensures.crash clean in
+    let early = clean_before mid seen _ c.see_tables.ensures.looks.crash later in
+    on_ok_weaker c.judge_both.result
+    (λ same.
+    let still = c.see_tables.ensures.looks.stays (λ on. settled_still old mid settled (c.see_first.ensures.looks.stays settled early on)) later same.0.was_open in
+    version_still _ mid new (same.0.now_is ∙ still.1) (c.in_ok-see_first.ensures.shows early)) (c.judge_both.ensures.same clean tt)

@@ -1,5 +1,5 @@
-use Rattle.portal_store.proofs.Base.{clean_before}
+use Rattle.portal_store.proofs.Base.{looks_by}
 use Rattle.portal_store.proofs.seeing.see_table.Goals as goal
 
-pub returns-clause-disk : goal.returns-clause-disk
-returns-clause-disk g c = clean_before _ _ _ c.read.ensures.crash
+pub returns-clause-looks : goal.returns-clause-looks
+returns-clause-looks g c = looks_by c.read.result c.read.ensures.reads

@@ -19,4 +19,4 @@ returns-in_err-rows-clause-reads g c = reads_handed c.from_residual.ensures.1 c.
 pub returns-in-Err-clause-reads : goal.returns-in-Err-clause-reads
 returns-in-Err-clause-reads g c =
     reads_more c.in_ok-rows.ensures
-    (λ own sound it is good. c.in-Err.ensures.err (ap Err (c.rows_fault_of.ensures.damaged.0 is)) (world_in First (state g.S.Store c.args.conn.now).now.trees) it.rows_are good.good.sound)
+    (λ own sound it is good. c.in-Err.ensures.err (ap Err (c.rows_fault_of.ensures.damaged.0 is)) (world_in First (state g.S.Store c.args.conn.now).now.trees) it.rows_are good.good.sound (λ second. (good.good.before second).sound))

@@ -20,4 +20,4 @@ returns-in-Err-clause-reads g c =
     reads_more c.in_ok-rows.ensures
     (λ own sound it apart is stands.
     let good = subst Good (sym (world_told stands.0 _ stands.1.second)) stands.1.good in
-    c.in-Err.ensures.err (ap Err (c.rows_fault_of.ensures.damaged.0 is)) (world_of (state g.S.Store c.args.conn.now).now.trees) it.rows_are good.sound)
+    c.in-Err.ensures.err (ap Err (c.rows_fault_of.ensures.damaged.0 is)) (world_of (state g.S.Store c.args.conn.now).now.trees) it.rows_are good.sound (λ second. (good.before second).sound))

@@ -1,5 +1,5 @@
-use Rattle.portal_store.proofs.Base.{MatchResult-weaker, reads_any, reads_as, reads_open, reads_then_of}
-use Rattle.portal_store.proofs.Asked.{blamed}
+use Rattle.portal_store.proofs.Base.{MatchResult-weaker, reads_any, reads_as, reads_open, reads_then_of, clean_before, looks_by, looks_then, on_ok_weaker, state}
+use Rattle.portal_store.proofs.Asked.{blamed, version_still}
 use Rattle.portal_store.proofs.upgrade.examine_first.Goals as goal
 
 pub returns-clause-reads : goal.returns-clause-reads
@@ -7,3 +7,12 @@ returns-clause-reads g c mine =
     let r = c.judge_first.result in
     reads_as (reads_then_of (λ own on sound told. λ _. sound (on tt)) (reads_any (c.in_ok-see_first.ensures.reads mine)) (reads_open c.judge_first.ensures)) (λ no. no)
     (λ own sound told. MatchResult-weaker r told.1 (λ e it. it) (λ f no. blamed f _ _ _ told.0 no))
+
+pub returns-clause-looks : goal.returns-clause-looks
+returns-clause-looks g c = looks_then _ _ _ c.see_first.ensures.looks (looks_by c.judge_first.result c.judge_first.ensures)
+
+pub returns-clause-shows : goal.returns-clause-shows
+returns-clause-shows g c clean =
+    let mid = state g.S.Store c.see_first.new.conn in
+    let new = state g.S.Store c.judge_first.new.conn in
+    on_ok_weaker c.judge_first.result (λ same. version_still _ mid new same (c.in_ok-see_first.ensures.shows (clean_before mid new _ c.judge_first.ensures.crash clean))) (c.judge_first.ensures.now clean)

@@ -13,7 +13,7 @@ returns-clause-reads g c =
     let it = c.read_each.ensures in
     asks c.args.query _ _ c.text.ensures values c.read_each.result old new it.leaves.same it.leaves.err it.leaves.mode it.leaves.survives
     (λ own clean.
-    let sure = plain c.args.query _ _ c.text.ensures values schema own in
+    let sure = plain c.args.query _ _ c.text.ensures values schema in
     answered c.read_each.result _ _ (IfOk-weaker c.read_each.result _ _ (λ v. shows_weaker _ _ _ v.items (λ rows. shows c.args.query _ _ c.text.ensures values old new rows own)) (it.rows sure clean))
     (λ e is blamed. none_refused g.T.FromCells.is_fine _ c.text.result.now (bound c.values.result.now) old new sure (λ rows. shows c.args.query _ _ c.text.ensures values old new rows own) (ends c.args.query _ _ c.text.ensures values schema own)
     (it.refused sure clean (is ∙ ap Err blamed))))

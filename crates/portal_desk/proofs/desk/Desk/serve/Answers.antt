@@ -1,7 +1,8 @@
-use Rattle.portal_desk.proofs.Base.{◌∙◌, sym, seen}
+use Rattle.portal_desk.proofs.Base.{◌∙◌, [], refl, rules, sym, seen}
 use Rattle.portal_desk.proofs.Failing.{fails_then, calm_before}
 use Rattle.portal_desk.proofs.Taking.{follows_taken, ended_taken, cut_taken, cut_held}
-use Rattle.portal_desk.proofs.Telling.{end_known, bad_known, cut_known, closes_known, more_known, broke_known, goes_on, still_failed}
+use Rattle.portal_desk.proofs.Telling.{so_far_none, end_known, bad_known, cut_known, closes_known, more_known, broke_known, goes_on, still_failed}
+use Rattle.portal_desk.proofs.Moving.{Moves-none, more_moves}
 use Rattle.portal_desk.proofs.desk.Desk.serve.Goals as goal
 
 pub returns-in-End-clause-served : goal.returns-in-End-clause-served
@@ -33,6 +34,23 @@ returns-then-closes-clause-served g c =
     (c.in-Ok-answer.ensures.ok.0, c.in-Ok-answer.ensures.ok.1, c.in-Ok-answer.ensures.ok.2.1) c.if-closes.true c.closes_now-closes.ensures in
     rw (c.served-then-closes.ensures.requests, c.served-then-closes.ensures.ending, c.ending_of.ensures) closed
 
+pub loop-found-init : goal.loop-found-init
+loop-found-init g c = record {
+  bound = search rules;
+  clean = λ on. on;
+  reader = refl;
+  writer = refl;
+  source = refl;
+  sink = refl;
+  counts = search rules;
+  calm = refl;
+  waits = search rules;
+  held = search rules;
+  taken = search rules;
+  moves = ([], Moves-none _);
+  told = so_far_none _ _ _ _ c.new-buffer.ensures.items;
+}
+
 pub loop-found-preserved : goal.loop-found-preserved
 loop-found-preserved g c =
     let x = c.loop-found.invariant in
@@ -48,6 +66,7 @@ loop-found-preserved g c =
       waits = λ f. absurd (still_failed _ _ _ (λ e. (x.waits e).1) c.answer.ensures.stays c.in-Ok-answer.ensures.ok.2.0 f);
       held = cut_held c.in-Request.used _ _ c.cut_front.ensures c.in-Ok.ensures.held;
       taken = cut_taken _ c.in-Request.used _ _ _ _ (rw c.in-Request.is at c.in-Ok.ensures.within).1 c.cut_front.ensures (follows_taken _ _ _ _ _ _ _ x.taken c.in-Ok.ensures.follows);
+      moves = more_moves _ _ _ _ _ x.moves c.answer.ensures.clean c.in-Ok-answer.ensures.ok.1;
       told = more_known _ _ _ _ _ _ _ _ _ _ _ c.cut_front.new.buffer.items c.loop-found.done c.in-Request.request c.in-Request.used c.closes_now-closes.result
           x.told c.answer.ensures.clean (rw c.in-Request.is at c.in-Ok.ensures.follows)
           (c.in-Ok-answer.ensures.ok.0, c.in-Ok-answer.ensures.ok.1, c.in-Ok-answer.ensures.ok.2.1) c.if-closes.false c.closes_now-closes.ensures c.cut_front.ensures;
@@ -80,3 +99,9 @@ pub returns-then-closes-clause-taken : goal.returns-then-closes-clause-taken
 returns-then-closes-clause-taken g c =
     let x = c.loop-found.invariant in
     ended_taken _ _ _ _ x.bound c.in-Ok.ensures.held (follows_taken _ _ _ _ _ _ _ x.taken c.in-Ok.ensures.follows)
+
+pub returns-in-Err-answer-clause-moves : goal.returns-in-Err-answer-clause-moves
+returns-in-Err-answer-clause-moves g c = more_moves _ _ _ _ _ c.loop-found.invariant.moves c.answer.ensures.clean c.in-Err-answer.ensures.err.1
+
+pub returns-then-closes-clause-moves : goal.returns-then-closes-clause-moves
+returns-then-closes-clause-moves g c = more_moves _ _ _ _ _ c.loop-found.invariant.moves c.answer.ensures.clean c.in-Ok-answer.ensures.ok.1

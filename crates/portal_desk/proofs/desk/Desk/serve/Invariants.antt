@@ -1,4 +1,4 @@
-use Rattle.portal_desk.proofs.Base.{◌≡◌, true, ◌-◌, ◌<◌, ◌≤◌, length, state_of, FailsByCount}
+use Rattle.portal_desk.proofs.Base.{◌≡◌, true, ◌-◌, ◌<◌, ◌≤◌, length, state_of, FailsByCount, List, Exchange, Moves}
 use Rattle.portal_desk.proofs.Taking.{TakenBy}
 use Rattle.portal_desk.proofs.Telling.{SoFar}
 use Rattle.portal_desk.proofs.desk.Desk.serve.Given as goal
@@ -19,6 +19,7 @@ invariant-loop-found g l = record {
   waits : l.initial.self.failed ≡ true → (l.done ≡ 0) × (l.self ≡ l.initial.self);
   held : length l.buffer.items ≤ 1064960;
   taken : TakenBy l.done (length l.buffer.items) (g.R.Source.remaining l.initial.source) (g.R.Source.remaining l.source);
+  moves : (es : List Exchange) × Moves (state_of g.K.Keeper.disk g.K.Keeper.clean g.K.Keeper.world g.K.Keeper.broken g.K.Keeper.leaves l.initial.self.keeper) (state_of g.K.Keeper.disk g.K.Keeper.clean g.K.Keeper.world g.K.Keeper.broken g.K.Keeper.leaves l.self.keeper) es;
   told : SoFar (g.R.Source.remaining l.initial.source) (g.R.Source.remaining l.source)
-      (state_of g.K.Keeper.disk g.K.Keeper.clean g.K.Keeper.world l.initial.self.keeper) (state_of g.K.Keeper.disk g.K.Keeper.clean g.K.Keeper.world l.self.keeper) (g.W.Sink.contents l.initial.sink) (g.W.Sink.contents l.sink) l.buffer.items l.done;
+      (state_of g.K.Keeper.disk g.K.Keeper.clean g.K.Keeper.world g.K.Keeper.broken g.K.Keeper.leaves l.initial.self.keeper) (state_of g.K.Keeper.disk g.K.Keeper.clean g.K.Keeper.world g.K.Keeper.broken g.K.Keeper.leaves l.self.keeper) (g.W.Sink.contents l.initial.sink) (g.W.Sink.contents l.sink) l.buffer.items l.done;
 }

@@ -1,4 +1,5 @@
 use Rattle.portal_store.proofs.Base.{Commits, Creates, IsAfter, IsTrue, Survives, sym, subst, ◌∙◌, HasCleanDisk, Held, state, IsFresh, clean_if_open}
+use Rattle.portal_store.proofs.Keeps.{rests_by}
 use Rattle.portal_store.proofs.First.{first_is, first_is_good, first_kept}
 use Rattle.portal_store.proofs.store.Store.create.Given.{Over}
 use Rattle.portal_store.proofs.store.Store.create.Goals as goal
@@ -10,7 +11,7 @@ pub invariant_of-result : goal.invariant_of-result
 invariant_of-result g c =
     let new = c.create_portal.new.conn in
     record {
-      kept = first_kept g.S.Store c.as_bytes.result.now c.is_empty-own.result c.args.conn new c.create_portal.ensures.idle (λ own. sym c.schema.ensures.value ∙ c.is_empty-own.ensures.0 own) (λ on. c.in_default.ensures.ok (law g new on));
+      kept = first_kept g.S.Store c.as_bytes.result.now c.is_empty-own.result c.args.conn new c.create_portal.ensures.idle (λ own. sym c.schema.ensures.value ∙ c.is_empty-own.ensures.0 own) (law g new) c.in_default.ensures.ok c.in_default.ensures.durable;
       shown = λ on. c.nothing.ensures _;
       entered = λ on. tt;
     }
@@ -35,3 +36,9 @@ returns-clause-made g c clean =
 pub returns-clause-crash_ok : goal.returns-clause-crash_ok
 returns-clause-crash_ok g c =
     subst (λ office. Survives (state g.S.Store c.args.conn) (state g.S.Store c.create_portal.new.conn) (IsAfter (Creates office) (state g.S.Store c.args.conn))) c.as_bytes.ensures.bytes c.create_portal.ensures.crash
+
+pub returns-clause-settled : goal.returns-clause-settled
+returns-clause-settled g c =
+    let new = c.create_portal.new.conn in
+    rests_by g.S.Store new c.is_empty-own.result 0 (g.met.S.Store.settled new.store)
+    (first_kept g.S.Store c.as_bytes.result.now c.is_empty-own.result c.args.conn new c.create_portal.ensures.idle (λ own. sym c.schema.ensures.value ∙ c.is_empty-own.ensures.0 own) (law g new) c.in_default.ensures.ok c.in_default.ensures.durable)

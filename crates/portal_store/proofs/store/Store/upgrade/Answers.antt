@@ -1,4 +1,5 @@
-use Rattle.portal_store.proofs.Base.{◌≡◌, inl, inr, false, Err, IsTrue, sym, ap, subst, ◌∙◌, HasCleanDisk, Held, state, HasEntries, has_names, OfSecond, clean_if_open}
+use Rattle.portal_store.proofs.Base.{◌≡◌, inl, inr, false, Err, IsTrue, sym, ap, subst, ◌∙◌, HasCleanDisk, Held, state, HasEntries, has_names, OfSecond, clean_before, clean_if_open}
+use Rattle.portal_store.proofs.Keeps.{rests_by}
 use Rattle.portal_store.proofs.Upgraded.{first_untaken, not_taken, upgraded_kept, same_world, still_good}
 use Rattle.portal_store.proofs.store.Store.upgrade.Given.{Over}
 use Rattle.portal_store.proofs.store.Store.upgrade.Goals as goal
@@ -13,12 +14,12 @@ invariant_of-result g c =
     let up = c.in-Ok-upgraded.ensures in
     record {
       kept = upgraded_kept g.S.Store own.result c.args.conn new own.ensures.first.0
-          (λ mine on. (up.made mine (own.ensures.own mine) (law g new on), (up.stands mine (own.ensures.own mine) c.settled.ensures.live (law g new on)).0)) c.upgraded.ensures.idle;
+          (λ mine clean. (up.made mine (own.ensures.own mine) clean, (up.stands mine (own.ensures.own mine) c.settled.ensures.live clean).0)) c.upgraded.ensures.idle (law g new) up.durable;
       shown = λ on. c.nothing.ensures _;
       entered = λ on.
           subst (HasEntries c.in-Ok-upgraded.entries)
           (sym (same_world g.S.Store own.result c.args.conn new own.ensures.first.0
-          (λ mine on. (up.made mine (own.ensures.own mine) (law g new on), (up.stands mine (own.ensures.own mine) c.settled.ensures.live (law g new on)).0)) on.0 on.1))
+          (λ mine clean. (up.made mine (own.ensures.own mine) clean, (up.stands mine (own.ensures.own mine) c.settled.ensures.live clean).0)) on.0 (law g new on.1)))
           (up.stands on.0 (own.ensures.own on.0) c.settled.ensures.live (law g new on.1)).1;
     }
 
@@ -28,7 +29,7 @@ returns-clause-world g c on =
     let own = c.fits_first-own in
     let up = c.in-Ok-upgraded.ensures in
     same_world g.S.Store own.result c.args.conn new own.ensures.first.0
-    (λ mine on. (up.made mine (own.ensures.own mine) (law g new on), (up.stands mine (own.ensures.own mine) c.settled.ensures.live (law g new on)).0)) on.0 on.1
+    (λ mine clean. (up.made mine (own.ensures.own mine) clean, (up.stands mine (own.ensures.own mine) c.settled.ensures.live clean).0)) on.0 (law g new on.1)
 
 pub returns-clause-good : goal.returns-clause-good
 returns-clause-good g c on =
@@ -36,7 +37,7 @@ returns-clause-good g c on =
     let own = c.fits_first-own in
     let up = c.in-Ok-upgraded.ensures in
     still_good g.S.Store own.result c.args.conn new own.ensures.first.0
-    (λ mine on. (up.made mine (own.ensures.own mine) (law g new on), (up.stands mine (own.ensures.own mine) c.settled.ensures.live (law g new on)).0)) on.0 on.1
+    (λ mine clean. (up.made mine (own.ensures.own mine) clean, (up.stands mine (own.ensures.own mine) c.settled.ensures.live clean).0)) on.0 (law g new on.1)
 
 -- that a name is taken is not told of tables of version 1 alone
 pub returns-in-Err-upgraded-clause-refused : goal.returns-in-Err-upgraded-clause-refused
@@ -58,17 +59,25 @@ returns-clause-stands g c first clean =
     let mine = c.fits_first-own.ensures.first.1 first in
     (c.in-Ok-upgraded.ensures.stands mine (c.fits_first-own.ensures.own mine) c.settled.ensures.live clean).0.stands
 
+pub returns-clause-settled : goal.returns-clause-settled
+returns-clause-settled g c =
+    let new = c.upgraded.new.conn in
+    let own = c.fits_first-own in
+    let up = c.in-Ok-upgraded.ensures in
+    rests_by g.S.Store new own.result 0 (g.met.S.Store.settled new.store) (upgraded_kept g.S.Store own.result c.args.conn new own.ensures.first.0
+    (λ mine clean. (up.made mine (own.ensures.own mine) clean, (up.stands mine (own.ensures.own mine) c.settled.ensures.live clean).0)) c.upgraded.ensures.idle (law g new) up.durable)
+
 pub returns-clause-crash_ok : goal.returns-clause-crash_ok
-returns-clause-crash_ok g c first =
-    let mine = c.fits_first-own.ensures.first.1 first in
-    c.upgraded.ensures.crash mine (c.fits_first-own.ensures.own mine)
+returns-clause-crash_ok g c = c.upgraded.ensures.crash
 
 pub returns-in-Err-upgraded-clause-err : goal.returns-in-Err-upgraded-clause-err
-returns-in-Err-upgraded-clause-err g c first clean on =
-    let mine = c.fits_first-own.ensures.first.1 first in
-    c.in-Err-upgraded.ensures.err mine (c.fits_first-own.ensures.own mine) clean on
+returns-in-Err-upgraded-clause-err g c clean on = c.in-Err-upgraded.ensures.err clean on
+
+pub returns-in-Err-upgraded-clause-disk_err : goal.returns-in-Err-upgraded-clause-disk_err
+returns-in-Err-upgraded-clause-disk_err g c = clean_before _ _ _ c.upgraded.ensures.crash
 
 pub returns-in-Err-upgraded-clause-crash_err : goal.returns-in-Err-upgraded-clause-crash_err
-returns-in-Err-upgraded-clause-crash_err g c first =
-    let mine = c.fits_first-own.ensures.first.1 first in
-    c.upgraded.ensures.crash mine (c.fits_first-own.ensures.own mine)
+returns-in-Err-upgraded-clause-crash_err g c = c.upgraded.ensures.crash
+
+pub returns-in-Err-upgraded-clause-order : goal.returns-in-Err-upgraded-clause-order
+returns-in-Err-upgraded-clause-order g c is clean = c.in-Err-upgraded.ensures.order (ap Err is) clean

@@ -1,0 +1,149 @@
+-- What one exchange more does to a keeper, and what a stop may leave after it.
+use Rattle.portal_desk.proofs.Base.{◌≡◌, ◌⊎◌, inl, inr, List, [], ◌∷◌, ◌++◌, refl, sym, ap, ◌∙◌, subst, append_assoc, World, Answer, Wanted, unavailable, Serves, AllAnswered, Exchange, asked_in, told_in, Run, end_of, Reaches, KeeperState, Moves, MayReach, Acted, Settles, IsSettled, LastsOrBreaks, LeavesBy, MayLeave, Bool, Asked, request_of}
+use Rattle.portal_desk.proofs.Failing.{lasts_then}
+use Rattle.portal_desk.proofs.Steps.{Reaches-snoc, answered_apart}
+
+unfoldable pub exchange : Wanted → Answer → Exchange
+exchange r a = record { request = r; reply = a }
+
+-- whether the reply closes does not matter to what may be left
+pub leaves_as : (old new : KeeperState) (b c : Bool) (a : Asked) (reply : Answer) → LeavesBy new.disk old.leaves new.leaves (MayLeave old new (request_of b a) reply)
+    → LeavesBy new.disk old.leaves new.leaves (MayLeave old new (request_of c a) reply)
+leaves_as old new b c a reply leaves = λ disk w left. elim (leaves disk w left) [
+  | inl was ↦ inl was
+  | inr may ↦ inr (record { alive = may.alive; untold = may.untold; turned = may.turned })
+]
+
+-- nothing was exchanged
+pub Moves-none : (s : KeeperState) → Moves s s []
+Moves-none s = record {
+  reaches = λ on. ([], tt, refl);
+  lasts = λ all disk. (disk, λ on. on);
+  breaks = λ disk. (disk, λ on. inl on, λ bad. bad);
+  settled = λ rest on. rest;
+  still = λ disk bad w. (([], tt, refl), λ left. left);
+  leaves = λ rest on disk w left. inl ([], tt, rest w left);
+}
+
+-- one more step that leaves each world as it is
+may_stay : (old w : World) (es : List Exchange) (e : Exchange) → ((v : World) → Serves v e.request e.reply v) → MayReach old es w → MayReach old (es ++ e ∷ []) w
+may_stay old w es e stays (inl run) = inl (Reaches-snoc old w w es e run (stays w))
+may_stay old w es e stays (inr (front, back, x, other, is, untold, run)) =
+    let y : Exchange = record x { reply = other } in
+    inr (
+      front,
+      back ++ e ∷ [],
+      x,
+      other,
+      ap (λ fs. fs ++ e ∷ []) is ∙ append_assoc front (x ∷ back) (e ∷ []),
+      untold,
+      subst (λ fs. Reaches old fs w) (append_assoc front (y ∷ back) (e ∷ [])) (Reaches-snoc old w w (front ++ y ∷ back) e run (stays w)),
+    )
+
+pub Moves-snoc : (old mid new : KeeperState) (es : List Exchange) (r : Wanted) (reply : Answer) → Moves old mid es → (new.clean → mid.clean) → Acted mid new r reply
+    → Moves old new (es ++ exchange r reply ∷ [])
+unfolding exchange
+Moves-snoc old mid new es r reply moves back acted = record {
+  reaches = λ on. Reaches-snoc old.world mid.world new.world es e (moves.reaches (back on)) (acted.serves on);
+  lasts = λ all. let apart = answered_apart es (e ∷ []) all in lasts_then _ _ _ _ _ _ (moves.lasts apart.0) (acted.lasts apart.1.0);
+  breaks = breaks;
+  settled = λ rest on. acted.settled (moves.settled rest (back on)) on;
+  still = λ disk bad w.
+      let before = (acted.breaks disk).0 in
+      let was = moves.still before bad w in (
+        Reaches-snoc w w w es e was.0 (acted.broken disk ((breaks disk).2 bad) w),
+        λ left. elim (acted.leaves disk w left) [ inl mid ↦ was.1 mid | inr may ↦ absurd (may.alive ((moves.breaks before).2 bad)) ],
+      );
+  leaves = λ rest on disk w left. elim ((breaks disk).1 on) [
+    | inl up ↦ inl (subst (Reaches old.world (es ++ e ∷ [])) (sym (acted.settled (moves.settled rest (back up)) up w left)) (Reaches-snoc old.world mid.world new.world es e (moves.reaches (back up)) (acted.serves up)))
+    | inr down ↦ elim (acted.leaves disk w left) [
+      | inl was ↦ may_stay old.world w es e (acted.broken disk down) (moves.leaves rest on (acted.breaks disk).0 w was)
+      | inr may ↦ elim ((moves.breaks (acted.breaks disk).0).1 on) [
+        | inl up ↦ let t = may.turned up in
+            inr (es, [], e, t.0, refl, may.untold down, Reaches-snoc old.world mid.world w es (exchange r t.0) (moves.reaches up) t.1)
+        | inr bad ↦ absurd (may.alive bad)
+      ]
+    ]
+  ];
+}
+  where
+    e : Exchange
+    e = exchange r reply
+
+    breaks : LastsOrBreaks old new
+    breaks = λ disk.
+        let after = acted.breaks disk in
+        let before = moves.breaks after.0 in
+        (before.0, λ on. elim (before.1 on) [ inl up ↦ after.1 up | inr bad ↦ inr (after.2 bad) ], λ bad. after.2 (before.2 bad))
+
+-- what these exchanges did, and one more
+pub more_moves : (old mid new : KeeperState) (r : Wanted) (reply : Answer) → (es : List Exchange) × Moves old mid es → (new.clean → mid.clean) → Acted mid new r reply
+    → (es : List Exchange) × Moves old new es
+more_moves old mid new r reply (es, moves) back acted = (es ++ exchange r reply ∷ [], Moves-snoc old mid new es r reply moves back acted)
+
+runs_on : (w u v : World) (es fs : List Exchange) (worlds : List World) → Run w (asked_in es) (told_in es) worlds → u ≡ end_of w worlds → Reaches u fs v → Reaches w (es ++ fs) v
+runs_on w u v [] fs [] run same more = subst (λ x. Reaches x fs v) same more
+runs_on w u v [] fs (x ∷ worlds) run same more = absurd run
+runs_on w u v (e ∷ es) fs [] run same more = absurd run
+runs_on w u v (e ∷ es) fs (y ∷ worlds) run same more = let r = runs_on y u v es fs worlds run.1 same more in (y ∷ r.0, (run.0, r.1), r.2)
+
+reach_on : (w u v : World) (es fs : List Exchange) → Reaches w es u → Reaches u fs v → Reaches w (es ++ fs) v
+reach_on w u v es fs (worlds, run, same) more = runs_on w u v es fs worlds run same more
+
+may_before : (w u v : World) (es fs : List Exchange) → Reaches w es u → MayReach u fs v → MayReach w (es ++ fs) v
+may_before w u v es fs first (inl run) = inl (reach_on w u v es fs first run)
+may_before w u v es fs first (inr (front, back, x, other, is, untold, run)) =
+    let y : Exchange = record x { reply = other } in
+    inr (
+      es ++ front,
+      back,
+      x,
+      other,
+      ap (λ l. es ++ l) is ∙ sym (append_assoc es front (x ∷ back)),
+      untold,
+      subst (λ l. Reaches w l v) (sym (append_assoc es front (y ∷ back))) (reach_on w u v es (front ++ y ∷ back) first run),
+    )
+
+may_after : (w v : World) (es fs : List Exchange) → MayReach w es v → Reaches v fs v → MayReach w (es ++ fs) v
+may_after w v es fs (inl run) stays = inl (reach_on w v v es fs run stays)
+may_after w v es fs (inr (front, back, x, other, is, untold, run)) stays =
+    let y : Exchange = record x { reply = other } in
+    inr (
+      front,
+      back ++ fs,
+      x,
+      other,
+      ap (λ l. l ++ fs) is ∙ append_assoc front (x ∷ back) fs,
+      untold,
+      subst (λ l. Reaches w l v) (append_assoc front (y ∷ back) fs) (reach_on w v v (front ++ y ∷ back) fs run stays),
+    )
+
+-- one list of exchanges after another, as of one connection after another
+pub Moves-append : (a b c : KeeperState) (es fs : List Exchange) → Moves a b es → Moves b c fs → (c.clean → b.clean) → Moves a c (es ++ fs)
+Moves-append a b c es fs h k back = record {
+  reaches = λ on. reach_on a.world b.world c.world es fs (h.reaches (back on)) (k.reaches on);
+  lasts = λ all. let apart = answered_apart es fs all in lasts_then _ _ _ _ _ _ (h.lasts apart.0) (k.lasts apart.1);
+  breaks = λ disk.
+      let after = k.breaks disk in
+      let before = h.breaks after.0 in
+      (before.0, λ on. elim (before.1 on) [ inl up ↦ after.1 up | inr bad ↦ inr (after.2 bad) ], λ bad. after.2 (before.2 bad));
+  settled = λ rest on. k.settled (h.settled rest (back on)) on;
+  still = λ disk bad w.
+      let mid = (k.breaks disk).0 in
+      let one = h.still mid bad w in
+      let two = k.still disk ((h.breaks mid).2 bad) w in
+      (reach_on w w w es fs one.0 two.0, λ left. one.1 (two.1 left));
+  leaves = λ rest on disk w left.
+      let mid = (k.breaks disk).0 in
+      elim ((h.breaks mid).1 on) [
+        | inl up ↦ may_before a.world b.world w es fs (h.reaches up) (k.leaves (h.settled rest up) up disk w left)
+        | inr bad ↦ let s = k.still disk bad w in may_after a.world w es fs (h.leaves rest on mid w (s.1 left)) s.0
+      ];
+}
+
+-- the same of some exchanges, whichever they are
+pub moves_then : (a b c : KeeperState) → (es : List Exchange) × Moves a b es → (fs : List Exchange) × Moves b c fs → (c.clean → b.clean) → (es : List Exchange) × Moves a c es
+moves_then a b c (es, h) (fs, k) back = (es ++ fs, Moves-append a b c es fs h k back)
+
+pub no_moves : (s : KeeperState) → (es : List Exchange) × Moves s s es
+no_moves s = ([], Moves-none s)
