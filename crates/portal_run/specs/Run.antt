@@ -6,14 +6,8 @@ use Rattle.portal_answer.specs.declared.answer.Task.{Task}
 use Rattle.portal_answer.specs.declared.answer.Task.TheVariants as task
 use Rattle.portal_words.specs.declared.command.Command.{Command}
 use Rattle.portal_words.specs.declared.command.Command.TheVariants as command
-use Rattle.sqlite.specs.State.{HasCleanDisk}
 use Rattle.sqlite.specs.Store.{Ghosts}
-use Rattle.sqlite.specs.Held.{Held, state}
-use Rattle.portal_tables.specs.Tables.{IsFirstSchema}
-use Rattle.portal_tables.specs.Making.{Upgrades, has_names}
-use Rattle.portal_tables.specs.declared.names.Names.TheVariants.{OfSecond}
-use Rattle.portal_tables.specs.Steps.{Commits, Stays}
-use Rattle.portal_store.specs.Crash.{Bars}
+use Rattle.portal_file.specs.Upgrading.{AnswersSome as AnswersForSome}
 use Rattle.portal_store.specs.declared.store.UpgradeFault.{UpgradeFault}
 use Rattle.portal_store.specs.declared.store.UpgradeFault.TheVariants.{NotPortal, OtherVersion, Damaged, Exists, Store, Memory}
 
@@ -64,28 +58,11 @@ upgrade_status (Some Memory) = 3
 upgrade_status (Some _) = 2
 
 module _ {S : Type 0} (g : Ghosts S) where
-  -- the store's promise for a connection that it upgrades; `left` is the connection afterwards
-  pub record IsUpgraded (conn left : Held S) : Type 0 where
-    pub made : IsFirstSchema conn.schema → HasCleanDisk (state g left) → Commits Upgrades (state g conn) (state g left)
-    pub free : has_names OfSecond conn.schema ≡ false
-
-  -- the same if it refuses the upgrade
-  pub record IsRefused (fault : UpgradeFault) (conn left : Held S) : Type 0 where
-    pub barred : IsFirstSchema conn.schema → HasCleanDisk (state g left) → Bars fault (state g conn).now.trees
-    pub taken : fault ≡ Exists → IsTrue (has_names OfSecond conn.schema)
-    pub stays : IsFirstSchema conn.schema → HasCleanDisk (state g left) → IsTrue (state g left).is_open → Stays (state g conn) (state g left)
-
-  -- the store's answer for a connection: success, or a fault
-  abbrev pub Answers : Option UpgradeFault → Held S → Held S → Type 0
-  Answers None conn left = IsUpgraded conn left
-  Answers (Some fault) conn left = IsRefused fault conn left
-
-  -- line and status report the store's answer for the connection
-  abbrev pub SaysAnswer : Held S → ℕ → Option Text → Option Text → Type 0
-  SaysAnswer conn status old new =
-      (left : Held S) × (answer : Option UpgradeFault) × Answers answer conn left × (status ≡ upgrade_status answer) × Appends old new (upgrade_line answer)
+  -- line and status report the store's answer for a connection
+  abbrev pub SaysAnswer : ℕ → Option Text → Option Text → Type 0
+  SaysAnswer status old new =
+      (answer : Option UpgradeFault) × AnswersForSome g answer × (status ≡ upgrade_status answer) × Appends old new (upgrade_line answer)
 
   -- line and status report the store's answer for a connection, or that there is no file
   abbrev pub SaysUpgrade : ℕ → Option Text → Option Text → Type 0
-  SaysUpgrade status old new =
-      ((status ≡ 2) × Appends old new (codes "refused not_portal\n")) ⊎ ((conn : Held S) × SaysAnswer conn status old new)
+  SaysUpgrade status old new = ((status ≡ 2) × Appends old new (codes "refused not_portal\n")) ⊎ SaysAnswer status old new

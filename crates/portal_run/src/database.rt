@@ -1,70 +1,62 @@
-//! Opens and closes a database file, and makes a desk over its store.
+//! Converts what the functions over a database file return, and looks for a missing file.
 
-ghost use Rattle.std.specs.Prelude.{◌≡◌, ◌⊎◌, false, IfErr, IfOk};
-ghost use Rattle.portal_run.specs.inner.Lines.{status_of};
+ghost use Rattle.std.specs.Prelude.{◌≡◌, Ok, Err, IfOk, IfErr, OnOk};
+ghost use Rattle.portal_run.specs.inner.Lines.{connect_refusal, open_refusal, create_refusal};
 
-use crate::refusal::{Refusal, not_opened};
-use portal_desk::Desk;
-use portal_store::{NotOpened, Store};
-use sqlite::{Alter, Connection, Error, ErrorCode, File, FileStore};
-use std::alloc::Global;
+use crate::refusal::{Refusal, not_made, not_opened};
+use portal_store::{CreateFault, OpenFault};
+use sqlite::{Error, ErrorCode};
 use std::fs;
 use std::io::ErrorKind;
 
-/// A connection to a database in a file. A function that has a store is generic over its tables,
-/// because proofs over `FileStore` are slow.
-pub(crate) type FileConnection = Connection<FileStore<File>>;
-
-/// Connects to a database file, which is created if it does not exist.
-pub(crate) fn connect(rt: &HostRuntime, path: &str) -> Result<FileConnection, Refusal>
-    ensures idle { IfOk result (λ conn. conn.in_transaction ≡ false) }
-    ensures fault { IfErr result (λ why. status_of why ≡ 3) }
+/// Converts an error of opening a file.
+pub(crate) fn not_connected(error: Error) -> Refusal
+    ensures { result ≡ connect_refusal error }
 {
-    match Connection::open(rt, path) {
-        Ok(conn) => Ok(conn),
-        Err(Error::SqliteFailure(ErrorCode::OutOfMemory)) => Err(Refusal::Memory),
-        Err(_) => Err(Refusal::Store),
+    match error {
+        Error::SqliteFailure(ErrorCode::OutOfMemory) => Refusal::Memory,
+        _ => Refusal::Store,
+    }
+}
+
+/// Returns what a command did over its database, or why the database was refused. The files are let
+/// go: committed changes last even if closing failed.
+pub(crate) fn opened<T, F: Drop>(
+    done: Result<(Result<T, OpenFault>, F), Error>,
+) -> Result<T, Refusal>
+    ensures ok { IfOk done (λ r. IfOk r.0 (λ x. result ≡ Ok x)) }
+    ensures refused { IfOk done (λ r. IfErr r.0 (λ fault. result ≡ Err (open_refusal fault))) }
+    ensures closed { IfErr done (λ error. result ≡ Err (connect_refusal error)) }
+{
+    let (opened, _files) = match done {
+        Ok(did) => did,
+        Err(error) => return Err(not_connected(error)),
+    };
+    match opened {
+        Ok(it) => Ok(it),
+        Err(fault) => Err(not_opened(fault)),
+    }
+}
+
+/// Returns whether the portal's tables were made in a file, or why not.
+pub(crate) fn made<F: Drop>(
+    done: Result<(Result<(), CreateFault>, F), Error>,
+) -> Result<(), Refusal>
+    ensures ok { IfOk done (λ r. IfOk r.0 (λ x. result ≡ Ok x)) }
+    ensures refused { IfOk done (λ r. IfErr r.0 (λ fault. result ≡ Err (create_refusal fault))) }
+    ensures closed { IfErr done (λ error. result ≡ Err (connect_refusal error)) }
+{
+    match done {
+        Ok((Ok(()), _files)) => Ok(()),
+        Ok((Err(fault), _files)) => Err(not_made(fault)),
+        Err(error) => Err(not_connected(error)),
     }
 }
 
 /// Returns whether a file does not exist.
-fn is_missing(rt: &HostRuntime, path: &str) -> bool {
+pub(crate) fn is_missing(rt: &HostRuntime, path: &str) -> bool {
     match fs::metadata(rt, path) {
         Ok(_) => false,
         Err(error) => error.kind() == ErrorKind::NotFound,
     }
-}
-
-/// Connects to an existing database file. A missing file is refused as `NotPortal`, not created.
-pub(crate) fn connect_there(rt: &HostRuntime, path: &str) -> Result<FileConnection, Refusal>
-    ensures idle { IfOk result (λ conn. conn.in_transaction ≡ false) }
-    ensures refused { IfErr result (λ why. (why ≡ Refusal.NotPortal) ⊎ (status_of why ≡ 3)) }
-{
-    if is_missing(rt, path) {
-        return Err(Refusal::NotPortal);
-    }
-    connect(rt, path)
-}
-
-/// Opens the store of a connection, and makes a desk over it.
-pub(crate) fn desk_over<S: Alter + Drop>(
-    alloc: Global,
-    conn: Connection<S>,
-) -> Result<Desk<Store<S>>, Refusal>
-    requires { conn.in_transaction ≡ false }
-{
-    match Store::open(alloc, conn) {
-        Ok(store) => Ok(Desk::new(store)),
-        Err(
-            NotOpened {
-                fault,
-                connection: _,
-            },
-        ) => Err(not_opened(fault)),
-    }
-}
-
-/// Closes a database. Committed changes last even if closing fails.
-pub(crate) fn close(conn: FileConnection) {
-    let _ = conn.close();
 }

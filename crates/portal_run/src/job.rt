@@ -1,15 +1,14 @@
-//! Runs `serve`, `pipe`, `report` or `upgrade` on a database file, then closes the database.
+//! Runs a command over an existing database file.
 
-ghost use Rattle.std.specs.Prelude.{◌≡◌, ◌*◌, ◌<◌, ◌≤◌, false};
-ghost use Rattle.sqlite.specs.Files.{over_files};
+ghost use Rattle.std.specs.Prelude.{◌≡◌, ◌*◌, ◌<◌, ◌≤◌};
 ghost use Rattle.portal_desk.specs.Kept.{TakesAtMost as TakesFew};
-ghost use Rattle.portal_run.specs.Run.{SaysAnswer, SaysUpgrade};
+ghost use Rattle.portal_run.specs.Run.{SaysUpgrade};
 
-use crate::database::{FileConnection, close, connect_there};
+use crate::database::is_missing;
 use crate::init::upgrade_over;
-use crate::refusal::refuse;
+use crate::refusal::{Refusal, refuse};
 use crate::serve::{pipe_over, report_over, serve_over};
-use sqlite::{Alter, Connection, File, FileStore};
+use sqlite::{File, FileStore};
 use sqlite_trees::store::Store as Tables;
 use std::io::{Read, Write};
 
@@ -26,55 +25,8 @@ pub(crate) enum Job {
     Upgrade,
 }
 
-/// Does the job over the connection to a database. Returns the exit status, and the connection if
-/// it is to be closed.
-#[tactic(auto, using(crate::proofs::Taken::same_left))]
-fn do_over<S: Alter + Drop, R: Read, W: Write>(
-    rt: &HostRuntime,
-    conn: Connection<S>,
-    job: Job,
-    reader: &mut R,
-    writer: &mut W,
-) -> (u8, Option<Connection<S>>)
-    requires { conn.in_transaction ≡ false }
-    ensures bound { result.0 ≤ 3 }
-    ensures takes { TakesFew (256 * 1064960) (R.remaining reader.old) (R.remaining reader.new) }
-    ensures says { job ≡ Job.Upgrade → result.0 < 3 → SaysAnswer S.Store conn result.0
-        (W.contents writer.old) (W.contents writer.new) }
-{
-    match job {
-        Job::Serve { port, connections } => serve_over(rt, conn, port, connections, writer),
-        Job::Pipe => pipe_over(rt.alloc(), conn, reader, writer),
-        Job::Report => report_over(rt.alloc(), conn, writer),
-        Job::Upgrade => {
-            let (status, conn) = upgrade_over(rt.alloc(), conn, writer);
-            (status, Some(conn))
-        }
-    }
-}
-
-/// Does the job over the connection to a database file, and closes it. Returns the exit status.
-fn do_closing<R: Read, W: Write>(
-    rt: &HostRuntime,
-    conn: FileConnection,
-    job: Job,
-    reader: &mut R,
-    writer: &mut W,
-) -> u8
-    requires { conn.in_transaction ≡ false }
-    ensures bound { result ≤ 3 }
-    ensures takes { TakesFew (256 * 1064960) (R.remaining reader.old) (R.remaining reader.new) }
-    ensures says { job ≡ Job.Upgrade → result < 3 → SaysAnswer over_files conn result
-        (W.contents writer.old) (W.contents writer.new) }
-{
-    let (status, left) = do_over(rt, conn, job, reader, writer);
-    if let Some(conn) = left {
-        close(conn);
-    }
-    status
-}
-
-/// Does the job with the database in an existing file. Returns the exit status.
+/// Does the job with the database in an existing file. A missing file is refused as `NotPortal`,
+/// not created. Returns the exit status.
 #[tactic(auto, using(crate::proofs::Taken::same_left))]
 pub(crate) fn do_job<R: Read, W: Write>(
     rt: &HostRuntime,
@@ -89,8 +41,13 @@ pub(crate) fn do_job<R: Read, W: Write>(
         → SaysUpgrade ⟦<FileStore<File> as Tables>⟧ result (W.contents writer.old)
         (W.contents writer.new) }
 {
-    match connect_there(rt, path) {
-        Ok(conn) => do_closing(rt, conn, job, reader, writer),
-        Err(why) => refuse(writer, why),
+    if is_missing(rt, path) {
+        return refuse(writer, Refusal::NotPortal);
+    }
+    match job {
+        Job::Serve { port, connections } => serve_over(rt, path, port, connections, writer),
+        Job::Pipe => pipe_over(rt, path, reader, writer),
+        Job::Report => report_over(rt, path, writer),
+        Job::Upgrade => upgrade_over(rt, path, writer),
     }
 }

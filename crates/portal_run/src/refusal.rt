@@ -2,7 +2,8 @@
 
 ghost use Rattle.std.specs.Prelude.{◌≡◌, ◌↔◌, IfErr, IfOk, Some};
 ghost use Rattle.portal_run.specs.Run.{upgrade_line, upgrade_status};
-ghost use Rattle.portal_run.specs.inner.Lines.{Says, refusal_line, status_of};
+ghost use Rattle.portal_run.specs.inner.Lines.{Says, create_refusal, open_refusal, refusal_line};
+ghost use Rattle.portal_run.specs.inner.Lines.{status_of};
 
 use crate::output::{say, say_memory, say_store};
 use portal_store::{CreateFault, OpenFault, UpgradeFault};
@@ -21,6 +22,7 @@ pub(crate) enum Refusal {
 
 /// Converts a fault of opening a database.
 pub(crate) fn not_opened(fault: OpenFault) -> Refusal
+    ensures refusal { result ≡ open_refusal fault }
     ensures not_portal { (result ≡ Refusal.NotPortal) ↔ (fault ≡ OpenFault.NotPortal) }
     ensures version { (result ≡ Refusal.OtherVersion) ↔ (fault ≡ OpenFault.OtherVersion) }
     ensures damaged { (result ≡ Refusal.Damaged) ↔ (fault ≡ OpenFault.Damaged) }
@@ -38,6 +40,7 @@ pub(crate) fn not_opened(fault: OpenFault) -> Refusal
 
 /// Converts a fault of creating a database.
 pub(crate) fn not_made(fault: CreateFault) -> Refusal
+    ensures refusal { result ≡ create_refusal fault }
     ensures exists { (result ≡ Refusal.Exists) ↔ (fault ≡ CreateFault.Exists) }
     ensures store { (result ≡ Refusal.Store) ↔ (fault ≡ CreateFault.Store) }
     ensures memory { (result ≡ Refusal.Memory) ↔ (fault ≡ CreateFault.Memory) }

@@ -1,17 +1,19 @@
-//! Runs `serve`, `pipe` and `report` over the connection to a database.
+//! Runs `serve`, `pipe` and `report` over a database file.
 
-ghost use Rattle.std.specs.Prelude.{◌≡◌, ◌*◌, ◌≤◌, false};
-ghost use Rattle.portal_desk.specs.Kept.{TakesAtMost as TakesFew};
+ghost use Rattle.std.specs.Prelude.{◌≡◌, ◌*◌, ◌≤◌};
+ghost use Rattle.portal_desk.specs.Kept.{TakesAtMost as TakesFew, state_of};
+ghost use Rattle.portal_serve.specs.Hall.{IsMoved};
+ghost use Rattle.portal_run.specs.inner.Lines.{SaysHall};
 
-use crate::database::desk_over;
+use crate::database::opened;
 use crate::output::{say, say_memory, say_read, say_store, say_write};
 use crate::refusal::refuse;
-use portal_core::KeepFault;
+use portal_core::Keeper;
 use portal_desk::{Cause, Desk, ServeFault, Served};
-use portal_serve::{Ended, Hall, Unreported, pipe, report, serve_on};
-use portal_store::Store;
-use sqlite::{Alter, Connection};
-use std::alloc::{AllocError, Global};
+use portal_file::{pipe_file, report_file, serve_file};
+use portal_serve::{Ended, Hall, Service, Unreported, serve_on};
+use sqlite::Unknown;
+use std::alloc::Global;
 use std::io::{Read, Write};
 use std::net::{Ipv4Addr, SocketAddr, SocketAddrV4, TcpListener};
 
@@ -27,7 +29,8 @@ fn say_port<W: Write>(alloc: Global, port: u16, writer: &mut W) -> u8
 
 /// Reports how many connections were served, or why serving stopped early.
 fn say_hall<W: Write>(alloc: Global, hall: Hall, writer: &mut W) -> u8
-    ensures { result ≤ 3 }
+    ensures bound { result ≤ 3 }
+    ensures says { SaysHall hall result (W.contents writer.old) (W.contents writer.new) }
 {
     match hall.ended {
         Ended::Full => {}
@@ -40,15 +43,18 @@ fn say_hall<W: Write>(alloc: Global, hall: Hall, writer: &mut W) -> u8
     }
 }
 
-/// Listens on a port of 127.0.0.1, and serves the connections.
-fn listen<S: Alter + Drop, W: Write>(
+/// Listens on a port of 127.0.0.1, and serves the connections. Returns the exit status.
+fn listen<K: Keeper, W: Write>(
     rt: &HostRuntime,
-    desk: &mut Desk<Store<S>>,
+    desk: &mut Desk<K>,
     port: u16,
     connections: u32,
     writer: &mut W,
 ) -> u8
-    ensures { result ≤ 3 }
+    ensures bound { result ≤ 3 }
+    ensures clean { K.clean desk.new.keeper → K.clean desk.old.keeper }
+    ensures moves { IsMoved (state_of K.disk K.clean K.world K.broken K.leaves desk.old.keeper)
+        (state_of K.disk K.clean K.world K.broken K.leaves desk.new.keeper) }
 {
     let address = SocketAddr::V4(SocketAddrV4::new(Ipv4Addr::new(127, 0, 0, 1), port));
     let Ok(listener) = TcpListener::bind(rt, address) else {
@@ -62,24 +68,48 @@ fn listen<S: Alter + Drop, W: Write>(
     say_hall(rt.alloc(), hall, writer)
 }
 
-/// Serves up to `connections` connections on a port, over the database of a connection. Returns the
-/// exit status, and the connection unless the database is refused.
-pub(crate) fn serve_over<S: Alter + Drop, W: Write>(
+/// The service of `serve`: a listener on a port, and where it reports.
+#[derive(Drop)]
+struct PortListener<'r, 'w, W> {
+    rt: &'r HostRuntime,
+    port: u16,
+    connections: u32,
+    writer: &'w mut W,
+    /// The exit status.
+    status: u8,
+    ghost in_range: { status ≤ 3 },
+}
+
+impl<'r, 'w, W: Write> Service for PortListener<'r, 'w, W> {
+    fn serve<K: Keeper>(&mut self, desk: &mut Desk<K>) {
+        let (port, connections) = (self.port, self.connections);
+        self.status = listen(self.rt, desk, port, connections, &mut *self.writer);
+    }
+}
+
+/// Serves up to `connections` connections on a port, over the database in a file. Returns the exit
+/// status.
+pub(crate) fn serve_over<W: Write>(
     rt: &HostRuntime,
-    conn: Connection<S>,
+    path: &str,
     port: u16,
     connections: u32,
     writer: &mut W,
-) -> (u8, Option<Connection<S>>)
-    requires { conn.in_transaction ≡ false }
-    ensures { result.0 ≤ 3 }
+) -> u8
+    ensures { result ≤ 3 }
 {
-    match desk_over(rt.alloc(), conn) {
-        Ok(mut desk) => {
-            let status = listen(rt, &mut desk, port, connections, writer);
-            (status, Some(desk.into_keeper().into_connection()))
-        }
-        Err(why) => (refuse(writer, why), None),
+    let mut listener = PortListener {
+        rt,
+        port,
+        connections,
+        writer: &mut *writer,
+        status: 0,
+    };
+    let done = opened(serve_file(rt, path, Unknown, &mut listener));
+    let status = listener.status;
+    match done {
+        Ok(()) => status,
+        Err(why) => refuse(writer, why),
     }
 }
 
@@ -115,35 +145,21 @@ fn say_ended<W: Write>(writer: &mut W, ended: Result<Served, ServeFault>) -> u8
     }
 }
 
-/// Serves the input and the output as one connection, over the database of another. Returns the
-/// exit status, and the database's connection unless the database is refused.
+/// Serves the input and the output as one connection, over the database in a file. Returns the exit
+/// status.
 #[tactic(auto, using(crate::proofs::Taken::same_left))]
-pub(crate) fn pipe_over<S: Alter + Drop, R: Read, W: Write>(
-    alloc: Global,
-    conn: Connection<S>,
+pub(crate) fn pipe_over<R: Read, W: Write>(
+    rt: &HostRuntime,
+    path: &str,
     reader: &mut R,
     writer: &mut W,
-) -> (u8, Option<Connection<S>>)
-    requires { conn.in_transaction ≡ false }
-    ensures bound { result.0 ≤ 3 }
+) -> u8
+    ensures bound { result ≤ 3 }
     ensures takes { TakesFew (256 * 1064960) (R.remaining reader.old) (R.remaining reader.new) }
 {
-    match desk_over(alloc, conn) {
-        Ok(mut desk) => {
-            let ended = pipe(alloc, &mut desk, reader, writer);
-            let status = say_ended(writer, ended);
-            (status, Some(desk.into_keeper().into_connection()))
-        }
-        Err(why) => (refuse(writer, why), None),
-    }
-}
-
-/// Gets the office's code from the store, and returns the office's report.
-fn report_of<S: Alter + Drop>(alloc: Global, store: &mut Store<S>) -> Result<Vec<u8>, Unreported> {
-    match store.office_code(alloc) {
-        Ok(office) => report(alloc, store, &office),
-        Err(KeepFault::Store) => Err(Unreported::Store),
-        Err(KeepFault::Memory) => Err(Unreported::Memory),
+    match opened(pipe_file(rt, path, Unknown, reader, writer)) {
+        Ok(ended) => say_ended(writer, ended),
+        Err(why) => refuse(writer, why),
     }
 }
 
@@ -158,23 +174,13 @@ fn say_report<W: Write>(writer: &mut W, told: Result<Vec<u8>, Unreported>) -> u8
     }
 }
 
-/// Prints the office's report on the database of a connection: the status of the round, then the
-/// result if there is one. Returns the exit status, and the connection unless the database is
-/// refused.
-pub(crate) fn report_over<S: Alter + Drop, W: Write>(
-    alloc: Global,
-    conn: Connection<S>,
-    writer: &mut W,
-) -> (u8, Option<Connection<S>>)
-    requires { conn.in_transaction ≡ false }
-    ensures { result.0 ≤ 3 }
+/// Prints the office's report on the database in a file: the status of the round, then the result
+/// if there is one. Returns the exit status.
+pub(crate) fn report_over<W: Write>(rt: &HostRuntime, path: &str, writer: &mut W) -> u8
+    ensures { result ≤ 3 }
 {
-    match desk_over(alloc, conn) {
-        Ok(desk) => {
-            let mut store = desk.into_keeper();
-            let told = report_of(alloc, &mut store);
-            (say_report(writer, told), Some(store.into_connection()))
-        }
-        Err(why) => (refuse(writer, why), None),
+    match opened(report_file(rt, path, Unknown)) {
+        Ok(told) => say_report(writer, told),
+        Err(why) => refuse(writer, why),
     }
 }

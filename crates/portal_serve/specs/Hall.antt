@@ -14,6 +14,16 @@ use Rattle.portal_core.specs.Bodies.{report_text, line_feed}
 use Rattle.portal_core.specs.declared.view.View.{View as Sight}
 use Rattle.portal_core.specs.declared.view.View.TheVariants.{Nobody, Office, Lecturer, Student}
 use Rattle.portal_reports.specs.Status.{status_text}
+use Rattle.portal_wire.specs.Conversation.{Exchange}
+use Rattle.portal_desk.specs.Kept.{KeeperState, Moves}
+
+-- requests were served, whatever is known of their bytes
+abbrev pub IsMoved : KeeperState → KeeperState → Type 0
+IsMoved old new = (es : List Exchange) × Moves old new es
+
+-- the same of requests of which this holds
+abbrev pub IsMovedBy : (List Exchange → Type 0) → KeeperState → KeeperState → Type 0
+IsMovedBy Told old new = (es : List Exchange) × Moves old new es × Told es
 
 abbrev pub is_store : Cause → Bool
 is_store Store = true

@@ -3,8 +3,8 @@
 ghost use Rattle.std.specs.Prelude.{◌≡◌, ◌≢◌, ◌+◌, ◌-◌, ◌^◌, ◌<◌, ◌≤◌, true, if◌then◌else◌, List};
 ghost use Rattle.std.specs.Prelude.{Option, None, IfSome};
 ghost use Rattle.std.specs.Option.{option_to_list};
-ghost use Rattle.portal_desk.specs.Kept.{FailsByCount};
-ghost use Rattle.portal_serve.specs.Hall.{is_own_fault, Adds, Settles, Tells};
+ghost use Rattle.portal_desk.specs.Kept.{FailsByCount, state_of};
+ghost use Rattle.portal_serve.specs.Hall.{is_own_fault, Adds, IsMoved, Settles, Tells};
 ghost use Rattle.portal_serve.specs.declared.hall.Outcome.{Outcome};
 
 use portal_core::Keeper;
@@ -51,6 +51,8 @@ pub trait Connections {
     /// Serves the next connection and returns its outcome, or `None` if none can be accepted.
     fn serve_next<K: Keeper>(&mut self, desk: &mut Desk<K>) -> Option<Outcome>
         ensures clean { K.clean desk.new.keeper → K.clean desk.old.keeper }
+        ensures moves { IsMoved (state_of K.disk K.clean K.world K.broken K.leaves desk.old.keeper)
+            (state_of K.disk K.clean K.world K.broken K.leaves desk.new.keeper) }
         ensures adds { Adds (outcomes self.old) (outcomes self.new) (option_to_list result) }
         ensures failed { IfSome result (λ outcome. outcome.failed ≡ desk.new.failed) }
         ensures settles { IfSome result (λ outcome.
@@ -94,6 +96,8 @@ pub fn serve_each<C: Connections, K: Keeper>(
         × Adds (C.outcomes connections.old) (C.outcomes connections.new) outcomes
         × Tells result outcomes }
     ensures clean { K.clean desk.new.keeper → K.clean desk.old.keeper }
+    ensures moves { IsMoved (state_of K.disk K.clean K.world K.broken K.leaves desk.old.keeper)
+        (state_of K.disk K.clean K.world K.broken K.leaves desk.new.keeper) }
     ensures faults { result.faults ≤ result.accepted }
     ensures accepted { result.accepted ≤ most }
     ensures full { result.ended ≡ Ended.Full → result.accepted ≡ most }

@@ -1,8 +1,8 @@
 //! `serve_stream` serves one stream within timeouts; `serve_on` serves a listener's connections.
 
 ghost use Rattle.std.specs.Prelude.{◌≡◌, ◌≢◌, ◌≤◌, true, List, IfOk, IfErr};
-ghost use Rattle.portal_desk.specs.Kept.{FailsByCount, AtFirst};
-ghost use Rattle.portal_serve.specs.Hall.{Settles, Tells};
+ghost use Rattle.portal_desk.specs.Kept.{FailsByCount, AtFirst, state_of};
+ghost use Rattle.portal_serve.specs.Hall.{IsMoved, Settles, Tells};
 ghost use Rattle.portal_serve.specs.declared.hall.Outcome.{Outcome};
 
 use crate::connection::{Connection, ConnectionReader, ConnectionWriter};
@@ -27,6 +27,8 @@ pub fn serve_stream<T: Clock + AllocGlobal, S: TimedStream, K: Keeper>(
     desk: &mut Desk<K>,
 ) -> Result<Served, ServeFault>
     ensures clean { K.clean desk.new.keeper → K.clean desk.old.keeper }
+    ensures moves { IsMoved (state_of K.disk K.clean K.world K.broken K.leaves desk.old.keeper)
+        (state_of K.disk K.clean K.world K.broken K.leaves desk.new.keeper) }
     ensures stays { desk.old.failed ≡ true → desk.new ≡ desk.old }
     ensures none { IfOk result (λ served. desk.old.failed ≡ true → served.requests ≡ 0) }
     ensures first { IfErr result (λ fault. desk.old.failed ≡ true
@@ -79,6 +81,8 @@ pub fn serve_on<T: Clock + AllocGlobal, K: Keeper>(
 ) -> Hall
     ensures told { (outcomes : List Outcome) × Tells result outcomes }
     ensures clean { K.clean desk.new.keeper → K.clean desk.old.keeper }
+    ensures moves { IsMoved (state_of K.disk K.clean K.world K.broken K.leaves desk.old.keeper)
+        (state_of K.disk K.clean K.world K.broken K.leaves desk.new.keeper) }
     ensures faults { result.faults ≤ result.accepted }
     ensures accepted { result.accepted ≤ connections }
     ensures full { result.ended ≡ Ended.Full → result.accepted ≡ connections }

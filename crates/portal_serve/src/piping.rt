@@ -3,6 +3,7 @@
 ghost use Rattle.std.specs.Prelude.{◌≡◌, ◌*◌, true, IfOk, OnOk, IfErr, IfSome};
 ghost use Rattle.portal_desk.specs.Kept.{ServesWhole, Stops, AtFirst, state_of, FailsByCount};
 ghost use Rattle.portal_desk.specs.Kept.{TakesAtMost};
+ghost use Rattle.portal_serve.specs.Hall.{IsMoved};
 ghost use Rattle.portal_desk.specs.declared.served.Cause.TheVariants.{Read as ReadFailed};
 ghost use Rattle.portal_desk.specs.declared.served.Cause.TheVariants.{Store as StoreFailed};
 ghost use Rattle.portal_wire.specs.Conversation.{last};
@@ -25,13 +26,16 @@ pub fn pipe<K: Keeper, R: Read, W: Write>(
     writer: &mut W,
 ) -> Result<Served, ServeFault>
     ensures clean { K.clean desk.new.keeper → K.clean desk.old.keeper }
+    ensures moves { IsMoved (state_of K.disk K.clean K.world K.broken K.leaves desk.old.keeper)
+        (state_of K.disk K.clean K.world K.broken K.leaves desk.new.keeper) }
     ensures served { IfOk result (λ served. IfSome (R.remaining reader.old) (λ bytes.
-        ServesWhole (state_of K.disk K.clean K.world desk.old.keeper)
-        (state_of K.disk K.clean K.world desk.new.keeper) (W.contents writer.old)
+        ServesWhole (state_of K.disk K.clean K.world K.broken K.leaves desk.old.keeper)
+        (state_of K.disk K.clean K.world K.broken K.leaves desk.new.keeper) (W.contents writer.old)
         (W.contents writer.new) bytes served.requests (last served.ending))) }
     ensures stopped { IfErr result (λ fault. IfSome (R.remaining reader.old) (λ bytes.
-        Stops fault.cause desk.new.failed (state_of K.disk K.clean K.world desk.old.keeper)
-        (state_of K.disk K.clean K.world desk.new.keeper) (R.remaining reader.new)
+        Stops fault.cause desk.new.failed
+        (state_of K.disk K.clean K.world K.broken K.leaves desk.old.keeper)
+        (state_of K.disk K.clean K.world K.broken K.leaves desk.new.keeper) (R.remaining reader.new)
         (W.contents writer.old) (W.contents writer.new) bytes fault.requests)) }
     ensures taken { TakesAtMost (256 * 1064960) (R.remaining reader.old) (R.remaining reader.new) }
     ensures stays { desk.old.failed ≡ true → desk.new ≡ desk.old }

@@ -1,7 +1,8 @@
 //! Writes the office's report from any keeper: the status, then the result if there is one.
 
-ghost use Rattle.std.specs.Prelude.{◌≡◌, ◌+◌, Err, IfOk};
+ghost use Rattle.std.specs.Prelude.{◌≡◌, ◌+◌, Err, IfOk, OnOk};
 ghost use Rattle.portal_core.specs.Good.{Good};
+ghost use Rattle.portal_core.specs.Meaning.{Breaks, LeavesBy, Settles, StaysClean};
 ghost use Rattle.portal_core.specs.View.{office_sees};
 ghost use Rattle.portal_serve.specs.Hall.{told_of, IsOfficeReport, IsOther};
 
@@ -57,6 +58,13 @@ pub fn report<K: Keeper>(
     office: &Code,
 ) -> Result<Vec<u8>, Unreported>
     ensures clean { K.clean keeper.new → K.clean keeper.old }
+    ensures lasts { OnOk result (StaysClean (K.disk keeper.old) (K.disk keeper.new)
+        (K.clean keeper.old) (K.clean keeper.new)) }
+    ensures breaks { Breaks result (K.disk keeper.old) (K.disk keeper.new) (K.clean keeper.old)
+        (K.clean keeper.new) (K.broken keeper.old) (K.broken keeper.new) }
+    ensures settled { K.clean keeper.new → Settles (K.world keeper.new) (K.leaves keeper.new) }
+    ensures leaves { LeavesBy (K.disk keeper.new) (K.leaves keeper.old) (K.leaves keeper.new)
+        (λ _. ⊥) }
     ensures same { K.clean keeper.new → K.world keeper.new ≡ K.world keeper.old }
     ensures text { IfOk result (λ text. K.clean keeper.new → Good (K.world keeper.old)
         → text.items ≡ told_of (office_sees (K.world keeper.old))) }

@@ -1,5 +1,5 @@
 -- The main promise of what `serve_each` wrote.
-use Rattle.std.proofs.Common.{◌≡◌, ℕ, List, [], ◌∷◌, ◌++◌, sym, ap, ◌∙◌, subst}
+use Rattle.std.proofs.Common.{◌≡◌, ℕ, List, [], ◌∷◌, ◌++◌, sym, ap, ◌∙◌, subst, inl, inr}
 use Rattle.std.specs.Prelude.{Option, Some, None, IfSome}
 use Rattle.std.specs.List.{AllByRecursion}
 use Rattle.portal_core.specs.World.{World}
@@ -7,8 +7,8 @@ use Rattle.portal_core.specs.Good.{Good}
 use Rattle.portal_core.specs.Run.{AllAnswered}
 use Rattle.portal_wire.specs.Conversation.{Exchange, told_in}
 use Rattle.portal_desk.specs.Kept.{KeeperState}
-use Rattle.portal_desk.specs.Headline.{Finish, Ended, Stopped, Tells, Visit, Session, AllTellOf, AreServedOn, exchanges_in, IsEnded, AreOf, ServesEach}
-use Rattle.portal_desk.proofs.Promised.{RunsGood, StepsBest, RunsBest, stays_served, same_exchanges, upheld}
+use Rattle.portal_desk.specs.Headline.{Finish, Ended, Stopped, Tells, Visit, Session, AllTellOf, AreServed, AreServedOn, exchanges_in, IsEnded, AreOf, ServesEach}
+use Rattle.portal_desk.proofs.Promised.{RunsGood, StepsBest, RunsBest, same_exchanges, upheld}
 use Rattle.portal_desk.proofs.Heeding.{session_done, are_visits, same_bytes}
 use Rattle.portal_whole.specs.Whole.{IsTold, AreTold, AreTheVisits, KeepsPromise}
 
@@ -43,39 +43,44 @@ unfolding each_told
 all_answered [] all = tt
 all_answered (s ∷ ss) all = answered_both s.exchanges (exchanges_in ss) all.0 (all_answered ss all.1)
 
-the_visits : {K : Type 0} (ss : List (Session K)) (vs : List Visit) (xs ts : List (List ℕ)) → AllTellOf ss vs → AreOf ss xs ts → AreTheVisits vs xs (each_told ss) ts
+the_visits : {K : Type 0} (state : K → KeeperState) (ss : List (Session K)) (vs : List Visit) (xs ts : List (List ℕ)) → AllTellOf state ss vs → AreOf ss xs ts → AreTheVisits vs xs (each_told ss) ts
 unfolding each_told
-the_visits [] [] [] [] tell are = tt
-the_visits [] [] [] (t ∷ ts) tell are = absurd are
-the_visits [] [] (x ∷ xs) ts tell are = absurd are
-the_visits [] (v ∷ vs) xs ts tell are = absurd tell
-the_visits (s ∷ ss) [] xs ts tell are = absurd tell
-the_visits (s ∷ ss) (v ∷ vs) [] ts tell are = absurd are
-the_visits (s ∷ ss) (v ∷ vs) (x ∷ xs) [] tell are = absurd are
-the_visits (s ∷ ss) (v ∷ vs) (x ∷ xs) (t ∷ ts) tell (bytes, before, after, ended, more) = (
+the_visits state [] [] [] [] tell are = tt
+the_visits state [] [] [] (t ∷ ts) tell are = absurd are
+the_visits state [] [] (x ∷ xs) ts tell are = absurd are
+the_visits state [] (v ∷ vs) xs ts tell are = absurd tell
+the_visits state (s ∷ ss) [] xs ts tell are = absurd tell
+the_visits state (s ∷ ss) (v ∷ vs) [] ts tell are = absurd are
+the_visits state (s ∷ ss) (v ∷ vs) (x ∷ xs) [] tell are = absurd are
+the_visits state (s ∷ ss) (v ∷ vs) (x ∷ xs) (t ∷ ts) tell (bytes, before, after, ended, more) = (
   tell.0.bytes ∙ bytes,
   tell.0.exchanges,
   sym (tell.0.written ∙ ap (λ b. b ++ v.written) before) ∙ after,
-  the_visits ss vs xs ts tell.1 more,
+  the_visits state ss vs xs ts tell.1 more,
 )
 
+-- over a keeper that cannot break, a 503 leaves it clean too
+stays_unbroken : {K : Type 0} (state : K → KeeperState) → ((k : K) → (state k).disk) → ((k : K) → (state k).broken → ⊥) → (k : K) (ss : List (Session K)) → AreServedOn state k ss
+    → (state k).clean → AreServed state k ss
+stays_unbroken state disk sound k [] served on = tt
+stays_unbroken state disk sound k (s ∷ ss) (resumes, serves, later) on =
+    let start = (resumes (disk s.old)).1 on in
+    let now : (state s.new).clean = elim (((session_done state s serves).deals.moves.breaks (disk s.new)).1 start.0) [ inl up ↦ up | inr bad ↦ absurd (sound s.new bad) ] in
+    (start.1, now, serves, stays_unbroken state disk sound s.new ss later now)
+
 pub promised : RunsGood → StepsBest → RunsBest → {K : Type 0} (state : K → KeeperState) (k last : K) (w : World) (xs ts : List (List ℕ)) → ServesEach state k last xs ts
-    → (state k).clean → Good (state k).world → (state last).disk → (state k).world ≡ w → KeepsPromise w xs ts
-promised run_good step_best run_best state k last w xs ts (ss, served, same, are) clean good disk is =
+    → (state k).clean → Good (state k).world → ((k : K) → (state k).disk) → ((k : K) → (state k).broken → ⊥) → (state k).world ≡ w → KeepsPromise w xs ts
+promised run_good step_best run_best state k last w xs ts (ss, served, same, are) clean good disk sound is =
+    let a = are_visits state k ss (stays_unbroken state disk sound k ss served clean) in
     subst (λ u. KeepsPromise u xs ts) is (
       each_told ss,
       are_told state k ss xs ts served are,
-      λ all.
-          let answered = all_answered ss all in
-          let a = are_visits state k ss ((stays_served state k ss served answered (subst (λ j. (state j).disk) (sym same) disk)).1 clean) in
-          let said = subst (λ es. AllAnswered (told_in es)) (same_exchanges ss a.0 a.1) answered in (
-            a.0,
-            the_visits ss a.0 xs ts a.1 are,
-            (
-              upheld run_good step_best run_best (state k).world a.0 good a.2,
-              λ v others also heard c items alike mine theirs. same_bytes c (state k).world v a.0 others items a.2 said mine also heard theirs alike,
-            ),
-          ),
+      a.0,
+      the_visits state ss a.0 xs ts a.1 are,
+      upheld run_good step_best run_best (state k).world a.0 good a.2,
+      λ all v others also heard c items alike mine theirs.
+          let said = subst (λ es. AllAnswered (told_in es)) (same_exchanges state ss a.0 a.1) (all_answered ss all) in
+          same_bytes c (state k).world v a.0 others items a.2 said mine also heard theirs alike,
     )
 
 pub on_some : {A : Type 0} (r : Option A) (P Q : A → Type 0) → ((x : A) → P x → Q x) → IfSome r P → IfSome r Q

@@ -1,4 +1,4 @@
--- The promise for streams that are served from a world. Its one premise is that no reply is 503.
+-- The promise for streams that are served from a world.
 use Rattle.std.specs.Prelude.{◌≡◌, ℕ, List, [], ◌∷◌, ◌++◌}
 use Rattle.std.specs.List.{AllByRecursion}
 use Rattle.portal_core.specs.World.{World}
@@ -24,13 +24,17 @@ AreTheVisits (v ∷ vs) (x ∷ streams) (es ∷ told) (t ∷ texts) =
     (v.bytes ≡ x) × (v.exchanges ≡ es) × (v.written ≡ t) × AreTheVisits vs streams told texts
 AreTheVisits _ _ _ _ = ⊥
 
+-- any other visits without a 503 give a caller who starts alike and hears the same the same replies
+abbrev pub IsLikeAll : World → List Visit → Type 0
+IsLikeAll w visits = (v : World) (others : List Visit) → AreVisits v others → AreAnswered others → AreEqual w v visits others
+
 -- the main promise holds of these visits, compared with any other visits without a 503
 abbrev pub HasPromise : World → List Visit → Type 0
-HasPromise w visits =
-    IsUpheld w visits × ((v : World) (others : List Visit) → AreVisits v others → AreAnswered others → AreEqual w v visits others)
+HasPromise w visits = IsUpheld w visits × IsLikeAll w visits
 
--- the texts reply to the streams; without a 503, visits with the main promise describe them
+-- the texts reply to the streams, and visits describe them, where a 503 leaves the world; without a
+-- 503 the visits have the whole main promise
 abbrev pub KeepsPromise : World → List (List ℕ) → List (List ℕ) → Type 0
 KeepsPromise w streams texts =
-    (told : List (List Exchange)) × AreTold streams told texts
-    × (AllByRecursion (λ es. AllAnswered (told_in es)) told → (visits : List Visit) × AreTheVisits visits streams told texts × HasPromise w visits)
+    (told : List (List Exchange)) × AreTold streams told texts × (visits : List Visit) × AreTheVisits visits streams told texts
+    × IsUpheld w visits × (AllByRecursion (λ es. AllAnswered (told_in es)) told → IsLikeAll w visits)

@@ -9,11 +9,12 @@ use portal_core::Code;
 use portal_core::laws::{published_best, run_good};
 use portal_desk::{Desk, serve_each};
 use portal_store::Store;
-use portal_store::laws::disk_in_memory;
+use portal_store::laws::{disk_in_memory, unbroken_in_memory};
 use std::alloc::Global;
 
 /// Serves streams one after another over a new store in memory, and returns what was written for
-/// each. Returns `None` if making the store or serving a stream fails, or memory runs out.
+/// each. A reply 503 leaves the world as it was. Returns `None` if making the store or serving a
+/// stream fails, or memory runs out.
 pub fn replies_in_memory(alloc: Global, office: Code, streams: &[&[u8]]) -> Option<Vec<Vec<u8>>>
     ensures promised { IfSome result (λ texts. KeepsPromise (first_world office)
         (map (λ stream. stream.now) streams.now) (map (λ text. text.items) texts.items)) }
@@ -21,6 +22,7 @@ pub fn replies_in_memory(alloc: Global, office: Code, streams: &[&[u8]]) -> Opti
     run_good();
     published_best();
     disk_in_memory();
+    unbroken_in_memory();
     let Ok(store) = Store::create_memory(alloc, office) else {
         return None;
     };

@@ -1,7 +1,16 @@
 -- The lines that tell what came of a database.
-use Rattle.std.specs.Prelude.{◌≡◌, ◌<◌, ◌⊎◌, ℕ, Option, codes, ◌≤◌, length, ◌++◌}
+use Rattle.std.specs.Prelude.{◌≡◌, ◌≢◌, ◌<◌, ◌⊎◌, ℕ, Option, codes, decimal, ◌≤◌, length, ◌++◌}
 use Rattle.std.specs.Io.KnownBytes.{Appends, Consumes, IsAtEnd}
 use Rattle.portal_answer.specs.Answer.{Text}
+use Rattle.sqlite.specs.declared.error.Error.{Error}
+use Rattle.sqlite.specs.declared.error.Error.TheVariants.{SqliteFailure}
+use Rattle.sqlite.specs.declared.error.ErrorCode.TheVariants.{OutOfMemory}
+use Rattle.portal_serve.specs.declared.hall.Hall.{Hall}
+use Rattle.portal_serve.specs.declared.hall.Ended.TheVariants.{Full}
+use Rattle.portal_store.specs.declared.store.CreateFault.{CreateFault}
+use Rattle.portal_store.specs.declared.store.CreateFault.TheVariants as creating
+use Rattle.portal_store.specs.declared.store.OpenFault.{OpenFault}
+use Rattle.portal_store.specs.declared.store.OpenFault.TheVariants as opening
 use Rattle.portal_run.specs.declared.refusal.Refusal.{Refusal}
 use Rattle.portal_run.specs.declared.refusal.Refusal.TheVariants.{NotPortal, OtherVersion, Damaged, Exists, Store, Memory}
 
@@ -18,6 +27,24 @@ refusal_line Exists = codes "refused exists\n"
 refusal_line Store = codes "fault store\n"
 refusal_line Memory = codes "fault memory\n"
 
+-- why no file was opened, no store, or none made
+
+abbrev pub connect_refusal : Error → Refusal
+connect_refusal (SqliteFailure OutOfMemory) = Memory
+connect_refusal _ = Store
+
+abbrev pub open_refusal : OpenFault → Refusal
+open_refusal opening.NotPortal = NotPortal
+open_refusal opening.OtherVersion = OtherVersion
+open_refusal opening.Damaged = Damaged
+open_refusal opening.Store = Store
+open_refusal opening.Memory = Memory
+
+abbrev pub create_refusal : CreateFault → Refusal
+create_refusal creating.Exists = Exists
+create_refusal creating.Store = Store
+create_refusal creating.Memory = Memory
+
 abbrev pub status_of : Refusal → ℕ
 status_of Store = 3
 status_of Memory = 3
@@ -32,3 +59,12 @@ pub record TakesMore (most n : ℕ) (old new : Option Text) (before after : Text
   pub consumed : Consumes old new taken
   pub added : after ≡ before ++ taken
   pub end : n ≡ 0 → 0 < most → IsAtEnd new
+
+-- the line of a hall in which all connections were served
+abbrev pub hall_line : Hall → Text
+hall_line hall = codes "served " ++ (decimal hall.accepted ++ (codes " faults " ++ (decimal hall.faults ++ codes "\n")))
+
+-- line and status tell how serving ended
+pub record SaysHall (hall : Hall) (status : ℕ) (old new : Option Text) : Type 0 where
+  pub full : hall.ended ≡ Full → Says (hall_line hall) 0 status old new
+  pub fault : hall.ended ≢ Full → status ≡ 3

@@ -1,11 +1,18 @@
+use Rattle.portal_run.proofs.Base.{inr, subst}
 use Rattle.portal_run.proofs.Known.{said_status}
+use Rattle.portal_run.proofs.Upgraded.{unconnected}
+use Rattle.portal_run.specs.inner.Lines.{Says, refusal_line, status_of}
 use Rattle.portal_run.proofs.init.upgrade_over.Goals as goal
 
-pub returns-clause-says : goal.returns-clause-says
-returns-clause-says g c small = (
-  c.upgraded-refused.result.1,
-  c.upgraded-refused.result.0,
-  c.upgraded-refused.ensures,
+pub returns-in-Ok-clause-says : goal.returns-in-Ok-clause-says
+returns-in-Ok-clause-says g c small = inr (
+  c.in-Ok.refused,
+  c.in-Ok.ensures.answers,
   said_status _ _ c.say_upgrade.ensures.given small,
   c.say_upgrade.ensures.written small,
 )
+
+pub returns-in-Err-clause-says : goal.returns-in-Err-clause-says
+returns-in-Err-clause-says g c small =
+    unconnected _ c.in-Err.error _ _ _
+    (subst (λ why. Says (refusal_line why) (status_of why) c.refuse.result (g.W.Write.contents c.args.writer.now) (g.W.Write.contents c.refuse.new.writer)) c.not_connected.ensures c.refuse.ensures) small

@@ -1,5 +1,6 @@
 use Rattle.portal_serve.proofs.Base.{◌∙◌, ◌+◌, rules, subst, sym}
 use Rattle.portal_serve.proofs.Outcomes.{Passed, passed_few, passed_more, told_failed}
+use Rattle.portal_desk.proofs.Moving.{moves_then, no_moves}
 use Rattle.portal_serve.proofs.hall.serve_each.Goals as goal
 
 pub returns-then-outcome-clause-told : goal.returns-then-outcome-clause-told
@@ -15,9 +16,24 @@ loop-accepted-preserved g c =
     c.in-Some.ensures.failed c.if-outcome.false) in
     record {
       clean = search rules;
+      moves = moves_then _ _ _ c.loop-accepted.invariant.moves c.serve_next.ensures.moves c.serve_next.ensures.clean;
       few = passed_few _ _ _ _ more;
       told = more;
       counts = search rules;
       shut = search rules;
       calm = search rules;
     }
+
+pub returns-then-outcome-clause-moves : goal.returns-then-outcome-clause-moves
+returns-then-outcome-clause-moves g c = moves_then _ _ _ c.loop-accepted.invariant.moves c.serve_next.ensures.moves c.serve_next.ensures.clean
+
+pub loop-accepted-init : goal.loop-accepted-init
+loop-accepted-init g c = record {
+  clean = λ on. on;
+  moves = no_moves _;
+  few = search rules;
+  told = search rules;
+  counts = search rules;
+  shut = search rules;
+  calm = search rules;
+}

@@ -1,0 +1,36 @@
+-- What a call that succeeded ensures.
+use Rattle.std.proofs.Common.{Ok, Err, Result, OnErr, OnOk, IfOk, Option, Some, None}
+use Rattle.std.specs.Prelude.{IfNone}
+use Rattle.portal_file.specs.Chain.{IfReported}
+
+pub on_ok : {A E : Type 0} (r : Result A E) (P Q : Type 0) → (P → Q) → OnOk r P → OnOk r Q
+on_ok (Ok x) P Q more h = more h
+on_ok (Err e) P Q more h = tt
+
+pub on_ok_both : {A E : Type 0} (r : Result A E) (P Q R : Type 0) → (P → Q → R) → OnOk r P → OnOk r Q → OnOk r R
+on_ok_both (Ok x) P Q R more h k = more h k
+on_ok_both (Err e) P Q R more h k = tt
+
+pub if_ok : {A E : Type 0} (r : Result A E) (P Q : A → Type 0) → ((x : A) → P x → Q x) → IfOk r P → IfOk r Q
+if_ok (Ok x) P Q more h = more x h
+if_ok (Err e) P Q more h = tt
+
+pub if_ok_both : {A E : Type 0} (r : Result A E) (P Q R : A → Type 0) → ((x : A) → P x → Q x → R x) → IfOk r P → IfOk r Q → IfOk r R
+if_ok_both (Ok x) P Q R more h k = more x h k
+if_ok_both (Err e) P Q R more h k = tt
+
+pub if_ok_on : {A E : Type 0} (r : Result A E) (L : Type 0) (P Q : A → Type 0) → ((x : A) → L → P x → Q x) → OnOk r L → IfOk r P → IfOk r Q
+if_ok_on (Ok x) L P Q more h k = more x h k
+if_ok_on (Err e) L P Q more h k = tt
+
+pub if_none : {A : Type 0} (o : Option A) (P Q : Type 0) → (P → Q) → IfNone o P → IfNone o Q
+if_none None P Q more h = more h
+if_none (Some x) P Q more h = tt
+
+pub if_reported : {A E F : Type 0} (r : Result (Result A E) F) (P Q : Type 0) → (P → Q) → IfOk r (λ told. OnOk told P) → OnErr r P → IfReported r Q
+if_reported (Ok told) P Q more h k = on_ok told P Q more h
+if_reported (Err e) P Q more h k = more k
+
+pub reported_more : {A E F : Type 0} (r : Result (Result A E) F) (P Q : Type 0) → (P → Q) → IfReported r P → IfReported r Q
+reported_more (Ok told) P Q more h = on_ok told P Q more h
+reported_more (Err e) P Q more h = more h

@@ -1,0 +1,122 @@
+-- From what the files hold to what a connection shows, and from what a connection leaves to what the files hold.
+use Rattle.std.proofs.Common.{◌≡◌, Option, List, [], length, IsTrue, refl, sym, ap, subst, ◌∙◌, arith, inl, inr}
+use Rattle.std.proofs.Math.Logic.{∥∥₁_elim, ∥∥₁_map}
+use Rattle.sqlite_disk.specs.declared.Disk.{Ghosts}
+use Rattle.sqlite_wal.specs.Recovery.{Image}
+use Rattle.sqlite_trees.specs.Tree.{Trees}
+use Rattle.sqlite_trees.specs.Sound.{is_sound_list}
+use Rattle.sqlite_store.specs.declared.store.FileStore.{FileStore}
+use Rattle.sqlite_store.specs.FileStore.{state, view, recovers}
+use Rattle.sqlite.specs.Effect.{Database}
+use Rattle.sqlite.specs.State.{State, HasCleanDisk, IsLive, Opens}
+use Rattle.sqlite.specs.Held.{Held, AreDatabases}
+use Rattle.sqlite.specs.Start.{FindsIn}
+use Rattle.sqlite.specs.Files.{HoldsDatabase, file_state}
+use Rattle.sqlite.proofs.Theorems.{opens_again}
+use Rattle.portal_core.specs.World.{World}
+use Rattle.portal_core.specs.Good.{Good}
+use Rattle.portal_wire.specs.Conversation.{Exchange}
+use Rattle.sqlite.specs.Order.{Row}
+use Rattle.sqlite_trees.specs.Objects.{catalog_tree}
+use Rattle.sqlite_catalog.specs.Listing.{Lists}
+use Rattle.sqlite_catalog.proofs.ReadLemmas.{lists_once}
+use Rattle.portal_tables.specs.Tables.{IsCurrentSchema, IsFirstSchema, no_schema}
+use Rattle.portal_tables.proofs.Owned.{own_again}
+use Rattle.portal_store.specs.World.{world_of}
+use Rattle.portal_file.specs.Tables.{StandsFor, StoodFor, AreOf, AllStand, ServesTables, ShowsFirst, ShowsWorld, Stream, TellsIn}
+use Rattle.portal_file.specs.Files.{HoldsFirst, HoldsWorld, HoldsSome, HoldsLeft, ComesOf, OpensOver}
+use Rattle.portal_file.specs.Chain.{Turns}
+use Rattle.portal_file.proofs.Sets.{World-set}
+
+module _ (found : Image) (s : State) (opens : Opens s) (live : IsLive s) (finds : FindsIn found s) where
+  same_trees : (db : Database) → HoldsDatabase found db.trees → s.now.trees ≡ db.trees
+  same_trees db holds = ap (λ (d : Database). d.trees) opens.clean ∙ finds.holds db.trees holds
+
+  pub found_world : (w : World) → HoldsWorld found w → ShowsWorld s w
+  found_world w holds = record {
+    is_open = opens.is_open;
+    stands = ∥∥₁_map holds (λ h. let r : AreOf StandsFor s.now.trees w = (h.0, sym (same_trees h.0 h.1), h.2) in r);
+    own = ∥∥₁_map holds (λ h. own_again IsCurrentSchema h.0 s.now h.2.consistent.1.sound (live opens.is_open).0 (same_trees h.0 h.1) h.2.consistent.1.current);
+    world = ∥∥₁_elim holds (World-set (world_of s.now.trees) w) (λ h. ap world_of (same_trees h.0 h.1) ∙ h.2.world);
+  }
+
+  pub found_first : (w : World) → HoldsFirst found w → ShowsFirst s w
+  found_first w holds = record {
+    is_open = opens.is_open;
+    own = ∥∥₁_map holds (λ h. own_again IsFirstSchema h.0 s.now h.2.sound (live opens.is_open).0 (same_trees h.0 h.1) h.2.schema);
+    stands = ∥∥₁_map holds (λ h. let r : AreOf StoodFor s.now.trees w = (h.0, sym (same_trees h.0 h.1), h.2) in r);
+  }
+
+-- from what a stop of a connection leaves to what the files hold
+
+pub held_some : (s : State) (left : Image) (Kind : World → Type 0) → AllStand s.may_leave Kind → HoldsLeft s left → HoldsSome left Kind
+held_some s left Kind stand holds =
+    ∥∥₁_elim holds squash₁ (λ h. ∥∥₁_map (stand h.0 h.1) (λ t.
+    let d = t.2 in
+    let is : (db : Database) × HoldsDatabase left db.trees × StandsFor db t.0 = (d.0, subst (HoldsDatabase left) (sym d.1) h.2, d.2) in
+    let r : (w : World) × Kind w × HoldsWorld left w = (t.0, t.1, ∣ is ∣₁) in
+    r))
+
+pub held_one : (left : Image) (w : World) → HoldsSome left (λ v. v ≡ w) → HoldsWorld left w
+held_one left w holds = ∥∥₁_elim holds squash₁ (λ t. subst (HoldsWorld left) t.1 t.2)
+
+module _ {D : Type 0} {g : Ghosts D} (it : FileStore D g) (numbered : IsTrue (view it).is_numbered) (sound : AreDatabases (recovers it)) (s : State) (quiet : (db : Trees) → recovers it db → s.may_leave db) where
+  pub left_of : (left : Image) → (state it).may_leave left → HoldsLeft s left
+  left_of left may = ∥∥₁_map (opens_again it numbered sound left may) (λ h. let r : (db : Trees) × s.may_leave db × HoldsDatabase left db = (h.0, quiet h.0 h.1, h.2) in r)
+
+-- a process over the files, from what its connection did
+pub turn : {D : Type 0} {g : Ghosts D} (found left : Image) (conn last : Held (FileStore D g)) (es : List Exchange) (stream : Option Stream) (Clean : Type 0) (Leaves : Image → Type 0)
+    → OpensOver found conn → ServesTables (file_state conn) (file_state last) es → TellsIn stream es → ComesOf (file_state last) Clean Leaves → Clean → Leaves left → Turns found left es stream
+turn found left conn last es stream Clean Leaves opened serves tells comes honest may =
+    let clean = comes.clean honest in
+    let first = opened (serves.clean clean) in
+    let holds = comes.holds honest left may in
+    record {
+      stops = λ w held. held_some (file_state last) left _ (serves.stops w clean (found_world found (file_state conn) first.0.0 first.0.1 first.1 w held)) holds;
+      turns = λ w held all.
+          let t = serves.turns w clean all (found_world found (file_state conn) first.0.0 first.0.1 first.1 w held) in
+          (t.0, t.1, held_one left _ (held_some (file_state last) left _ t.2 holds));
+      tells = tells;
+    }
+
+-- what a report is of
+pub told : {D : Type 0} {g : Ghosts D} (found : Image) (conn last : Held (FileStore D g)) (w : World) → OpensOver found conn → ServesTables (file_state conn) (file_state last) [] → HasCleanDisk (file_state last)
+    → HoldsWorld found w → ShowsWorld (file_state conn) w
+told found conn last w opened serves clean holds =
+    let first = opened (serves.clean clean) in
+    found_world found (file_state conn) first.0.0 first.0.1 first.1 w holds
+
+-- nothing is listed by no schema but the empty one
+none_listed : Lists [] no_schema
+unfolding is_sound_list
+none_listed = record { listed = record { tables = tt; indexes = tt; views = tt; owned = tt; named = tt; loads = refl }; guarded = tt }
+
+-- over a missing or an empty database file, a connection shows no table
+module _ (found : Image) (s : State) (opens : Opens s) (live : IsLive s) (finds : FindsIn found s) (none : found.db ≡ []) where
+  nothing : s.now.trees catalog_tree ≡ []
+  nothing = ap (λ (d : Database). d.trees catalog_tree) opens.clean ∙ elim finds.reads [
+    | inl some ↦ absurd (let few = ap length none in omega (arith, some.3.found.present, few))
+    | inr empty ↦ empty.1.1
+  ]
+
+  pub found_none : s.now.schema ≡ no_schema
+  found_none = lists_once [] s.now.schema no_schema (subst (λ (l : List Row). Lists l s.now.schema) nothing (live opens.is_open).0.lists) none_listed
+
+-- tables that were made where there were none
+pub made_world : {D : Type 0} {g : Ghosts D} (found left : Image) (conn last : Held (FileStore D g)) (w : World) (Clean : Type 0) (Leaves : Image → Type 0) → OpensOver found conn → found.db ≡ []
+    → (HasCleanDisk (file_state last) → HasCleanDisk (file_state conn)) → (HasCleanDisk (file_state last) → conn.schema ≡ no_schema → Good w × AllStand (file_state last).may_leave (λ v. v ≡ w))
+    → ComesOf (file_state last) Clean Leaves → Clean → Leaves left → Good w × HoldsWorld left w
+made_world found left conn last w Clean Leaves opened none disk made comes honest may =
+    let clean = comes.clean honest in
+    let first = opened (disk clean) in
+    let stands = made clean (found_none found (file_state conn) first.0.0 first.0.1 first.1 none) in
+    (stands.0, held_one left w (held_some (file_state last) left _ stands.1 (comes.holds honest left may)))
+
+-- tables of version 1 that were upgraded
+pub upgraded_world : {D : Type 0} {g : Ghosts D} (found left : Image) (conn last : Held (FileStore D g)) (w : World) (Clean : Type 0) (Leaves : Image → Type 0) → OpensOver found conn
+    → (HasCleanDisk (file_state last) → HasCleanDisk (file_state conn) × ((v : World) → ShowsFirst (file_state conn) v → AllStand (file_state last).may_leave (λ u. u ≡ v)))
+    → ComesOf (file_state last) Clean Leaves → Clean → Leaves left → HoldsFirst found w → HoldsWorld left w
+upgraded_world found left conn last w Clean Leaves opened upgraded comes honest may holds =
+    let did = upgraded (comes.clean honest) in
+    let first = opened did.0 in
+    held_one left w (held_some (file_state last) left _ (did.1 w (found_first found (file_state conn) first.0.0 first.0.1 first.1 w holds)) (comes.holds honest left may))

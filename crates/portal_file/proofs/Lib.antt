@@ -1,0 +1,7 @@
+pub mod Base
+pub mod Sets
+pub mod Taken
+pub mod Served
+pub mod Held
+pub mod Chained
+pub mod Made

@@ -1,0 +1,8 @@
+use Rattle.sqlite_wal.specs.Files.{image_at}
+use Rattle.portal_file.proofs.Base.{if_ok, if_none}
+use Rattle.portal_file.proofs.upgrading.upgrade_file.Goals as goal
+
+pub returns-in-Ok-clause-upgraded : goal.returns-in-Ok-clause-upgraded
+returns-in-Ok-clause-upgraded g c =
+    if_none c.upgrade_closing.result.0 _ _
+    (λ did. if_ok c.upgrade_closing.result.1 _ _ (λ files same left w honest may holds. same (image_at g.S.Start) left w c.in-Ok.ensures.found honest may holds) did) c.upgrade_closing.ensures.upgraded

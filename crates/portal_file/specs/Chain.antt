@@ -1,0 +1,113 @@
+-- Processes over one database file, each of which finds what the one before may leave, and what is
+-- promised of them.
+use Rattle.std.specs.Prelude.{◌≡◌, ◌⊎◌, ℕ, List, [], ◌∷◌, ◌++◌, Option, Some, None, IsSome, Result, Ok, Err, OnOk}
+use Rattle.std.specs.List.{AllByRecursion}
+use Rattle.sqlite_wal.specs.Recovery.{Image}
+use Rattle.portal_core.specs.Words.{Key}
+use Rattle.portal_core.specs.World.{World}
+use Rattle.portal_core.specs.Good.{Good}
+use Rattle.portal_core.specs.Honest.{ShowsBest}
+use Rattle.portal_core.specs.Run.{Run, AllAnswered, end_of, unavailable}
+use Rattle.portal_wire.specs.Conversation.{Exchange, asked_in, told_in}
+use Rattle.portal_desk.specs.Kept.{MayReach}
+use Rattle.portal_desk.specs.Headline.{Visit, AreVisits, worlds_of, AreUnseen, PublishesBest}
+use Rattle.portal_whole.specs.Whole.{HasPromise}
+use Rattle.portal_file.specs.Tables.{Stream, TellsIn}
+use Rattle.portal_file.specs.Files.{HoldsWorld, HoldsSome}
+
+-- a process over the files: what they hold before it and after it, its requests with their replies,
+-- and its stream, if the bytes are known
+pub record Process : Type 0 where
+  pub found : Image
+  pub left : Image
+  pub exchanges : List Exchange
+  pub stream : Option Stream
+
+-- whatever world the files held, they hold one that the requests may reach from there; if no reply
+-- is 503, the requests are a run to it. What is written tells the requests
+pub record IsProcess (p : Process) : Type 0 where
+  pub stops : (w : World) → HoldsWorld p.found w → HoldsSome p.left (MayReach w p.exchanges)
+  pub turns : (w : World) → HoldsWorld p.found w → AllAnswered (told_in p.exchanges)
+      → (worlds : List World) × Run w (asked_in p.exchanges) (told_in p.exchanges) worlds × HoldsWorld p.left (end_of w worlds)
+  pub tells : TellsIn p.stream p.exchanges
+
+-- processes in turn, each of which finds what the one before left
+abbrev pub AreProcesses : Image → List Process → Type 0
+AreProcesses image [] = Unit {0}
+AreProcesses image (p ∷ ps) = (p.found ≡ image) × IsProcess p × AreProcesses p.left ps
+
+abbrev pub left_after : Image → List Process → Image
+left_after image [] = image
+left_after image (p ∷ ps) = left_after p.left ps
+
+abbrev pub exchanges_by : List Process → List Exchange
+exchanges_by [] = []
+exchanges_by (p ∷ ps) = p.exchanges ++ exchanges_by ps
+
+-- any processes
+
+-- the same requests with the same replies, but one with the reply 503 may have been carried out
+abbrev pub MayStandFor : List Exchange → List Exchange → Type 0
+MayStandFor [] [] = Unit {0}
+MayStandFor (e ∷ es) (f ∷ fs) =
+    (f.request ≡ e.request) × ((f.reply ≡ e.reply) ⊎ (e.reply ≡ unavailable)) × MayStandFor es fs
+MayStandFor _ _ = ⊥
+
+-- a run, and what holds of it: good worlds, requests unseen by others, and the best results
+pub record IsKeptRun (w : World) (es : List Exchange) (worlds : List World) : Type 0 where
+  pub run : Run w (asked_in es) (told_in es) worlds
+  pub good : AllByRecursion Good worlds
+  pub unseen : (c : Key) → AreUnseen c w (asked_in es) worlds
+  pub published : PublishesBest w worlds
+  pub best : ShowsBest w → AllByRecursion ShowsBest worlds
+
+-- the requests of the processes are a run from the world that the files held, and they hold its end
+abbrev pub KeptOverFiles : Type 0
+KeptOverFiles =
+    (w : World) (image : Image) (ps : List Process) → Good w → HoldsWorld image w → AreProcesses image ps
+    → ∥ ((es : List Exchange) × MayStandFor (exchanges_by ps) es × (worlds : List World) × IsKeptRun w es worlds
+    × HoldsWorld (left_after image ps) (end_of w worlds)) ∥₁
+
+-- processes whose bytes are known
+
+-- the visit describes the process
+pub record TellsOfProcess (p : Process) (v : Visit) : Type 0 where
+  pub stream : p.stream ≡ Some (record { bytes = v.bytes; written = v.written; finish = v.finish })
+  pub exchanges : v.exchanges ≡ p.exchanges
+
+abbrev pub AllTellOfProcesses : List Process → List Visit → Type 0
+AllTellOfProcesses [] [] = Unit {0}
+AllTellOfProcesses (p ∷ ps) (v ∷ vs) = TellsOfProcess p v × AllTellOfProcesses ps vs
+AllTellOfProcesses _ _ = ⊥
+
+-- if no reply is 503, then visits with the main promise describe the processes, and the files hold
+-- the last world
+abbrev pub PromisedOverFiles : Type 0
+PromisedOverFiles =
+    (w : World) (image : Image) (ps : List Process) → Good w → HoldsWorld image w → AreProcesses image ps
+    → AllByRecursion (λ p. IsSome p.stream) ps → AllAnswered (told_in (exchanges_by ps))
+    → (visits : List Visit) × AllTellOfProcesses ps visits × AreVisits w visits × HasPromise w visits
+    × HoldsWorld (left_after image ps) (end_of w (worlds_of visits))
+
+-- what the functions of this crate say
+
+-- from the one contents of the files to the other by these requests
+abbrev pub Turns : Image → Image → List Exchange → Option Stream → Type 0
+Turns found left es stream = IsProcess (record { found = found; left = left; exchanges = es; stream = stream })
+
+-- some requests of which this is told, whatever is known of their bytes
+abbrev pub TurnsBySome : Image → Image → (List Exchange → Type 0) → Type 0
+TurnsBySome found left Told = (es : List Exchange) × Turns found left es None × Told es
+
+-- no request
+abbrev pub TurnsByNone : Image → Image → Type 0
+TurnsByNone found left = Turns found left [] None
+
+-- the requests of a stream
+abbrev pub TurnsByStream : Image → Image → (Option Stream → Type 0) → Type 0
+TurnsByStream found left Known = (es : List Exchange) × (stream : Option Stream) × Turns found left es stream × Known stream
+
+-- the report was returned, or the open was refused
+abbrev pub IfReported : {A E F : Type 0} → Result (Result A E) F → Type 0 → Type 0
+IfReported (Ok told) P = OnOk told P
+IfReported (Err fault) P = P

@@ -1,0 +1,4 @@
+pub mod Tables
+pub mod Files
+pub mod Chain
+pub mod Upgrading

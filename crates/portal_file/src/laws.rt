@@ -1,0 +1,28 @@
+//! Laws: what is promised of processes over one database file.
+
+ghost use Rattle.portal_file.specs.Chain.{KeptOverFiles, PromisedOverFiles};
+
+use portal_core::laws::{published_best, run_good};
+
+/// Law: processes work over one database file in turn, as the functions of this crate do, and each
+/// finds what the one before may leave. At first the files hold a good world, as `make_file` leaves
+/// them. Then the requests of all processes are a run from this world, with the replies that were
+/// given; but a request with the reply 503 may have been carried out. At the end the files hold the
+/// run's last world. Each world is good, so each published result is stable; it is the students'
+/// best, and no student's or lecturer's request changes another's view.
+pub fn kept_over_files()
+    ensures { KeptOverFiles }
+{
+    run_good();
+    published_best();
+}
+
+/// Law: the same of processes that serve streams whose bytes are known, as `pipe_file` does. If no
+/// reply is 503, then visits with the main promise describe the processes, and at the end the files
+/// hold the world after the last request.
+pub fn promised_over_files()
+    ensures { PromisedOverFiles }
+{
+    run_good();
+    published_best();
+}

@@ -1,0 +1,94 @@
+//! Makes the portal's tables in a database file.
+
+ghost use Rattle.std.specs.Prelude.{◌≡◌, [], false, IfOk, OnOk};
+ghost use Rattle.sqlite.specs.Held.{state};
+ghost use Rattle.sqlite.specs.State.{HasCleanDisk};
+ghost use Rattle.sqlite_wal.specs.Files.{image_at, outcomes};
+ghost use Rattle.sqlite_wal.specs.Reads.{AreClean};
+ghost use Rattle.sqlite_wal.specs.Recovery.{Image};
+ghost use Rattle.portal_tables.specs.Tables.{no_schema};
+ghost use Rattle.portal_core.specs.Good.{Good};
+ghost use Rattle.portal_store.specs.World.{first_world};
+ghost use Rattle.portal_file.specs.Tables.{AllStand, ServesTables};
+ghost use Rattle.portal_file.specs.Files.{HoldsWorld, OpensOver};
+ghost use Rattle.portal_file.specs.Chain.{TurnsByNone};
+
+use crate::closing::close_files;
+use crate::opening::open_file;
+use crate::tables::{close_tables, settled};
+use portal_core::Code;
+use portal_store::{CreateFault, NotOpened, Store};
+use sqlite::{Alter, Connection, Error, FileFrom, FileStore, Files, Start};
+use sqlite_disk::Disk;
+use std::alloc::Global;
+
+/// Makes the portal's tables in the database of a connection, and gives the connection back.
+pub fn create_tables<S: Alter>(
+    alloc: Global,
+    conn: Connection<S>,
+    office: Code,
+) -> (Result<(), CreateFault>, Connection<S>)
+    requires idle { conn.in_transaction ≡ false }
+    ensures idle { result.1.in_transaction ≡ false }
+    ensures disk { HasCleanDisk (state S.Store result.1) → HasCleanDisk (state S.Store conn) }
+    ensures made { OnOk result.0 (HasCleanDisk (state S.Store result.1) → conn.schema ≡ no_schema
+        → Good (first_world office)
+        × AllStand (state S.Store result.1).may_leave (λ w. w ≡ first_world office)) }
+    ensures serves { ServesTables (state S.Store conn) (state S.Store result.1) [] }
+{
+    settled(&conn);
+    match Store::create(alloc, conn, office) {
+        Ok(store) => (Ok(()), close_tables(store)),
+        Err(NotOpened { fault, connection }) => (Err(fault), connection),
+    }
+}
+
+/// Makes the portal's tables in the database of a connection to files, and closes the files.
+fn create_closing<D: Disk + Drop>(
+    alloc: Global,
+    conn: Connection<FileStore<D>>,
+    office: Code,
+) -> (Result<(), CreateFault>, Result<Files<D>, Files<D>>)
+    requires idle { conn.in_transaction ≡ false }
+    ensures made { OnOk result.0 (IfOk result.1 (λ files. (found left : Image) → found.db ≡ []
+        → OpensOver found conn
+        → AreClean D.Disk files.log files.db → outcomes D.Disk files.log files.db left
+        → Good (first_world office) × HoldsWorld left (first_world office))) }
+    ensures process { IfOk result.1 (λ files. (found left : Image) → OpensOver found conn
+        → AreClean D.Disk files.log files.db → outcomes D.Disk files.log files.db left
+        → TurnsByNone found left) }
+{
+    let (made, conn) = create_tables(alloc, conn, office);
+    (made, close_files(conn))
+}
+
+/// Makes the portal's tables in a database file, and closes the file. `S` stands for what the files
+/// held before. Gives the files back, as `Ok` unless closing failed. If there was no database file,
+/// or an empty one, and the disk was clean, then each thing that a crash may leave of the files
+/// holds the world that is empty and in setup. Files that hold a world keep it.
+pub fn make_file<S: Start>(
+    rt: &HostRuntime,
+    path: &str,
+    start: S,
+    office: Code,
+) -> Result<
+    (
+        Result<(), CreateFault>,
+        Result<Files<FileFrom<S>>, Files<FileFrom<S>>>,
+    ),
+    Error,
+>
+    ensures made { IfOk result (λ r. OnOk r.0 (IfOk r.1 (λ files. (left : Image) → S.Start.db ≡ []
+        → AreClean ⟦<FileFrom<S> as Disk>⟧ files.log files.db
+        → outcomes ⟦<FileFrom<S> as Disk>⟧ files.log files.db left
+        → Good (first_world office) × HoldsWorld left (first_world office)))) }
+    ensures process { IfOk result (λ r. IfOk r.1 (λ files. (left : Image)
+        → AreClean ⟦<FileFrom<S> as Disk>⟧ files.log files.db
+        → outcomes ⟦<FileFrom<S> as Disk>⟧ files.log files.db left
+        → TurnsByNone (image_at S.Start) left)) }
+{
+    match open_file(rt, path, start) {
+        Ok(conn) => Ok(create_closing(rt.alloc(), conn, office)),
+        Err(error) => Err(error),
+    }
+}
