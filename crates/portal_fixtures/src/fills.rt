@@ -43,6 +43,8 @@ bea     PUT /choices {"projects":["P1"]}   200 {"projects":["P1"]}
 office  POST /ranking/fill {}              409 {"error":"wrong_phase"}
 office  POST /phase {"phase":"ranking"}    200 {"phase":"ranking"}
 office  POST /phase {"phase":"published"}  409 {"error":"still_to_rank","lecturers":["L1"]}
+lee     PUT /ranking {"students":["S2","S1"]}  200 {"students":["S2","S1"]}
+office  POST /phase {"phase":"published"}  200 {"phase":"published"}
 "#;
 
 pub const ONE_IS_FILLED: &[&str] = &[ROLLS, LISTS, TO_RANKING, ONE_RANKED, BEA_FIRST];

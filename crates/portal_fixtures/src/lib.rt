@@ -17,4 +17,4 @@ pub mod years;
 
 pub use callers::{ANN, CYR, LEE, MOE, OFFICE};
 pub use desks::{SEEN, fresh_lists, office_code, seen, written};
-pub use script::{Line, ask, cut, lines, play, unescaped};
+pub use script::{Line, ask, cut, lines, play, responded, unescaped};

@@ -22,6 +22,8 @@ use crate::callers::code_of;
 use crate::desks::written;
 use portal_core::Keeper;
 use portal_desk::{Counted, Desk, Ending, ServeFault, Served};
+use portal_frame::{Frame, frame};
+use portal_wire::reply_bytes;
 use std::alloc::{AllocError, Global};
 
 /// A line of a script.
@@ -154,6 +156,22 @@ pub fn ask<K: Keeper>(
 ) -> Result<Vec<u8>, AllocError> {
     let request = line.request(alloc)?;
     Ok(written(alloc, desk, request.as_bytes()))
+}
+
+/// Passes the request of a line to `Desk::respond`, and returns the text of the reply.
+pub fn responded<K: Keeper>(
+    alloc: Global,
+    desk: &mut Desk<K>,
+    line: &Line,
+) -> Result<Vec<u8>, AllocError> {
+    let text = line.request(alloc)?;
+    match frame(alloc, text.as_bytes(), true)? {
+        Frame::Request(request, _) => {
+            let reply = desk.respond(alloc, &request);
+            reply_bytes(alloc, &reply, false, request.close)
+        }
+        _ => Ok(Vec::new(alloc)),
+    }
 }
 
 /// Plays a line on a new connection. If the reply is wrong, or the connection is not served to its

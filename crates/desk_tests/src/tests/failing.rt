@@ -52,6 +52,10 @@ impl Keeper for Failing {
 
     ghost disk = { λ failing. Unit {0} };
 
+    ghost broken = { λ failing. ⊥ };
+
+    ghost leaves = { λ failing _. ⊥ };
+
     ghost faults = { λ failing. failing.faults };
 
     fn view(&mut self, alloc: Global, code: &[u8]) -> Result<View, KeepFault> {

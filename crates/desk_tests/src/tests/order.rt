@@ -35,6 +35,10 @@ impl<'a> Keeper for Noting<'a> {
 
     ghost disk = { λ noting. Unit {0} };
 
+    ghost broken = { λ noting. ⊥ };
+
+    ghost leaves = { λ noting _. ⊥ };
+
     ghost faults = { λ noting. 0 };
 
     fn view(&mut self, alloc: Global, code: &[u8]) -> Result<View, KeepFault> {

@@ -1,6 +1,7 @@
 //! Tests the commands over texts in memory, files and databases.
 
 mod checks;
+mod databases;
 mod devices;
 mod files;
 mod generated;

@@ -1,9 +1,10 @@
-//! Plays long years with twenty rows in each roll, and a student who asks 1,000 times.
+//! Plays long years by `Desk::respond`, with twenty rows in each roll, and a student who asks 1,000
+//! times.
 
-use crate::tests::steps::{new_desk, new_lists, plays};
+use crate::tests::steps::{new_desk, new_lists};
 use portal_core::Keeper;
 use portal_desk::Desk;
-use portal_fixtures::{Line, written};
+use portal_fixtures::{Line, lines, responded};
 use std::process::Abort;
 
 /// The numbers of the students, the projects and the lecturers.
@@ -27,6 +28,22 @@ fn each(rt: &(impl Abort + AllocGlobal), template: &str, numbers: &[&str]) -> St
         text.push_str(one.as_str()).expect(rt, "memory");
     }
     text
+}
+
+/// Checks that the line's request gets its reply from `Desk::respond`.
+fn answers<K: Keeper>(rt: &(impl Abort + AllocGlobal), desk: &mut Desk<K>, line: &Line) {
+    let found = responded(rt.alloc(), desk, line).expect(rt, "memory");
+    let wanted = line.reply(rt.alloc()).expect(rt, "memory");
+    assert!(rt; found.as_slice() == wanted.as_bytes(), "{}", line.text);
+}
+
+/// Checks so each line of the scripts.
+fn plays<K: Keeper>(rt: &(impl Abort + AllocGlobal), desk: &mut Desk<K>, scripts: &[&str]) {
+    for script in scripts {
+        for line in &lines(rt.alloc(), script).expect(rt, "memory") {
+            answers(rt, desk, line);
+        }
+    }
 }
 
 /// Returns a line that uploads a roll of twenty rows.
@@ -82,17 +99,11 @@ const LIST: &str =
 const RANKING: &str =
     r#"{"students":["S01","S02","S03","S04","S05","S06","S07","S08","S09","S10","S11","S12","S13","S14","S15","S16","S17","S18","S19","S20"]}"#;
 
-/// Asks for the first student's result 250 times on each of four connections.
+/// Asks 1,000 times for the first student's result.
 fn asks_on<K: Keeper>(rt: &(impl Abort + AllocGlobal), desk: &mut Desk<K>) {
-    let alloc = rt.alloc();
     let line = Line::new(r#"stud-code-01  GET /result  200 {"project":"P01"}"#);
-    let asked = line.request(alloc).expect(rt, "memory");
-    let asked = asked.repeat(alloc, 250).expect(rt, "memory");
-    let wanted = line.reply(alloc).expect(rt, "memory");
-    let wanted = wanted.repeat(alloc, 250).expect(rt, "memory");
-    for _ in 0..4 {
-        let text = written(alloc, desk, asked.as_bytes());
-        assert!(rt; text.as_slice() == wanted.as_bytes());
+    for _ in 0..1_000 {
+        answers(rt, desk, &line);
     }
 }
 

@@ -1,6 +1,7 @@
 //! Tests the command `solve`.
 
-use super::{are_right, wrong};
+use super::{HEADER, are_right, is_told, put, told, wrong};
+use std::alloc::AllocError;
 use std::test::Fail;
 
 const WORKED: &str = r#"
@@ -13,5 +14,62 @@ const WORKED: &str = r#"
 #[test]
 fn worked_examples(rt: HostRuntime) -> Result<(), Fail> {
     are_right(&rt, wrong(&rt, "solve", "", WORKED)?.as_str());
+    Ok(())
+}
+
+/// Returns the keys of one kind with the numbers from 1 to `n`, in two digits, with blanks between.
+fn keys(rt: &HostRuntime, letter: &str, n: usize) -> Result<Vec<u8>, AllocError> {
+    let mut keys = Vec::new(rt.alloc());
+    for number in 1..=n {
+        let gap = if number > 1 { " " } else { "" };
+        put(
+            &mut keys,
+            format!(in rt.alloc(); "{gap}{letter}{number:02}"),
+        )?;
+    }
+    Ok(keys)
+}
+
+/// Returns the records of `n` students, projects and lecturers. Each lecturer offers one project,
+/// with one place. All lists are in the order of the numbers.
+fn family(rt: &HostRuntime, n: usize) -> Result<Vec<u8>, AllocError> {
+    let students = keys(rt, "S", n)?;
+    let projects = keys(rt, "P", n)?;
+    let mut records = Vec::new(rt.alloc());
+    for number in 1..=n {
+        put(&mut records, format!(in rt.alloc(); "L,L{number:02},1,"))?;
+        records.extend_from_slice(&students)?;
+        put(
+            &mut records,
+            format!(in rt.alloc(); "\nP,P{number:02},1,L{number:02}\nS,S{number:02},,"),
+        )?;
+        records.extend_from_slice(&projects)?;
+        records.extend_from_slice(b"\n")?;
+    }
+    Ok(records)
+}
+
+/// Returns what `solve` prints for the family: each student has the project of the same number.
+fn solution(rt: &HostRuntime, n: usize) -> Result<Vec<u8>, AllocError> {
+    let mut text = Vec::new(rt.alloc());
+    for number in 1..=n {
+        put(
+            &mut text,
+            format!(in rt.alloc(); "assign S{number:02} P{number:02}\n"),
+        )?;
+    }
+    put(
+        &mut text,
+        format!(in rt.alloc(); "assigned {n} unassigned 0\n"),
+    )?;
+    Ok(text)
+}
+
+#[test]
+fn each_student_of_a_family_is_placed(rt: HostRuntime) -> Result<(), Fail> {
+    for n in 1..=20 {
+        let found = told(&rt, "solve", HEADER, &family(&rt, n)?)?;
+        is_told(&rt, &found, 0, &solution(&rt, n)?, n);
+    }
     Ok(())
 }
