@@ -1,12 +1,15 @@
 """What the tools share: a department's folders, its portal, copies of its year, atomic writes, and refusals."""
 import contextlib
 import datetime
+import errno
 import fcntl
+import grp
 import os
 import re
 import shutil
 import signal
 import sqlite3
+import stat
 import subprocess
 import sys
 
@@ -78,13 +81,40 @@ def synced(path):
         os.close(handle)
 
 
+def remove(path):
+    """Removes a file if it is there; of a link, the link."""
+    with contextlib.suppress(FileNotFoundError):
+        os.remove(path)
+
+
+def created(path):
+    """Opens a new file to write, in the place of the one that was there. A link is not followed."""
+    remove(path)
+    return os.fdopen(os.open(path, os.O_WRONLY | os.O_CREAT | os.O_EXCL | os.O_NOFOLLOW, 0o600), "wb")
+
+
+def copy(path, to):
+    """Copies a file to a new one. A link is refused: whoever may write beside a file must not choose what root reads."""
+    try:
+        source = os.open(path, os.O_RDONLY | os.O_NOFOLLOW | os.O_NONBLOCK)
+    except OSError as fault:
+        if fault.errno != errno.ELOOP:
+            raise
+        refuse(f"{path} is a link")
+    with os.fdopen(source, "rb") as file:
+        if not stat.S_ISREG(os.fstat(source).st_mode):
+            refuse(f"{path} is no file")
+        with created(to) as new:
+            shutil.copyfileobj(file, new)
+
+
 def write(path, data, mode=0o600, group=None):
     """Writes a file atomically: whatever stops the tool, the old file is there, or the new one."""
     new = f"{path}.new"
-    with open(new, "wb") as file:
+    with created(new) as file:
         os.fchmod(file.fileno(), mode)
         if group:
-            shutil.chown(new, group=group)
+            os.fchown(file.fileno(), -1, grp.getgrnam(group).gr_gid)
         file.write(data)
         file.flush()
         os.fsync(file.fileno())
@@ -100,11 +130,11 @@ def refusal(year):
 
 def copied(year, folder):
     """Copies a database with its write-ahead log or journal, and returns the copy's path."""
-    if not os.path.isfile(year):
+    if not os.path.lexists(year):
         refuse(f"there is no {year}")
     for end in ("", "-wal", "-journal"):
-        if os.path.exists(year + end):
-            shutil.copyfile(year + end, os.path.join(folder, f"year.db{end}"))
+        if os.path.lexists(year + end):
+            copy(year + end, os.path.join(folder, f"year.db{end}"))
     return os.path.join(folder, "year.db")
 
 
@@ -122,8 +152,7 @@ def settled(year):
 def remove_beside(year):
     """Removes the files that SQLite may have left beside a database."""
     for end in ("-wal", "-shm", "-journal"):
-        with contextlib.suppress(FileNotFoundError):
-            os.remove(year + end)
+        remove(year + end)
 
 
 class Department:
@@ -152,6 +181,12 @@ class Department:
         state = subprocess.run(["systemctl", "is-active", self.unit], stdout=subprocess.PIPE, text=True).stdout.strip()
         return state not in ("inactive", "failed", "unknown")
 
+    def refuse_links(self):
+        """Refuses a year in whose folder the portal's user has put links: programs that root runs would follow them."""
+        for name in os.listdir(self.state):
+            if os.path.islink(os.path.join(self.state, name)):
+                refuse(f"{os.path.join(self.state, name)} is a link")
+
     @contextlib.contextmanager
     def stopped(self):
         """Stops the portal while the block runs, and locks the year against other tools. A portal that ran is started again."""
@@ -161,6 +196,8 @@ class Department:
         try:
             if is_served:
                 self.do("stop")
+            # The portal's user has no process now, so what is seen stays as it is.
+            self.refuse_links()
             yield
         finally:
             if is_served:
@@ -179,17 +216,16 @@ class Department:
         new = os.path.join(self.state, "new.db")
         try:
             remove_beside(new)
-            shutil.copyfile(year, new)
+            copy(year, new)
             yield new
         finally:
             remove_beside(new)
-            with contextlib.suppress(FileNotFoundError):
-                os.remove(new)
+            remove(new)
 
     def put(self, new):
         """Replaces the settled year by a settled draft, atomically."""
         owner = os.stat(self.state)
-        os.chown(new, owner.st_uid, owner.st_gid)
+        os.chown(new, owner.st_uid, owner.st_gid, follow_symlinks=False)
         synced(new)
         os.replace(new, self.year)
         synced(self.state)

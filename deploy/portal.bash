@@ -1,4 +1,13 @@
 # Completion of portal and its tools for bash.
+
+# Takes those of the words after the first that begin with it. `compgen -W` would run what stands in them.
+_portal_of() {
+  local word
+  for word in "${@:2}"; do
+    [[ $word != "$1"* ]] || COMPREPLY+=("$word")
+  done
+}
+
 _portal() {
   local word=${COMP_WORDS[COMP_CWORD]} before=${COMP_WORDS[COMP_CWORD - 1]} command=
   [ "$COMP_CWORD" -gt 1 ] && command=${COMP_WORDS[1]}
@@ -7,18 +16,18 @@ _portal() {
     --port | --connections) return ;;
   esac
   case $command in
-    '') mapfile -t COMPREPLY < <(compgen -W 'check solve init serve pipe report upgrade help --help --version' -- "$word") ;;
-    help) mapfile -t COMPREPLY < <(compgen -W 'check solve init serve pipe report upgrade' -- "$word") ;;
+    '') _portal_of "$word" check solve init serve pipe report upgrade help --help --version ;;
+    help) _portal_of "$word" check solve init serve pipe report upgrade ;;
     serve)
       if [[ $word == -* ]]; then
-        mapfile -t COMPREPLY < <(compgen -W '--port --connections --help' -- "$word")
+        _portal_of "$word" --port --connections --help
       else
         mapfile -t COMPREPLY < <(compgen -f -- "$word")
       fi
       ;;
     *)
       if [[ $word == -* ]]; then
-        mapfile -t COMPREPLY < <(compgen -W '--help' -- "$word")
+        _portal_of "$word" --help
       else
         mapfile -t COMPREPLY < <(compgen -f -- "$word")
       fi
@@ -26,6 +35,15 @@ _portal() {
   esac
 }
 complete -o filenames -F _portal portal
+
+# The departments of this machine: the names of their settings.
+_portal_departments() {
+  local file
+  for file in "${PORTAL_ETC:-/etc/portal}"/*.conf; do
+    file=${file##*/}
+    [[ ! ${file%.conf} =~ ^[a-z0-9][a-z0-9-]*$ ]] || echo "${file%.conf}"
+  done
+}
 
 # The words that a tool may have at a place; nothing where a file stands there.
 _portal_words() {
@@ -36,16 +54,19 @@ _portal_words() {
     portal-correct.2) echo lecturer project student office ;;
     portal-correct.4) echo name title capacity code ;;
     portal-correct.5) echo --new ;;
-    *.1) echo --help; find "${PORTAL_ETC:-/etc/portal}" -maxdepth 1 -name '*.conf' -printf '%f\n' 2>/dev/null | sed 's/\.conf$//' ;;
+    portal-schedule.2) echo ranking published --cancel ;;
+    *.1) echo --help; _portal_departments ;;
   esac
 }
 _portal_tools() {
   local word=${COMP_WORDS[COMP_CWORD]} words=
+  COMPREPLY=()
   words=$(_portal_words "${COMP_WORDS[0]##*/}" "$COMP_CWORD")
   if [ -n "$words" ]; then
-    mapfile -t COMPREPLY < <(compgen -W "$words" -- "$word")
+    read -ra words -d '' <<<"$words"
+    _portal_of "$word" "${words[@]}"
   else
     mapfile -t COMPREPLY < <(compgen -f -- "$word")
   fi
 }
-complete -o filenames -F _portal_tools portal-new portal-backup portal-restore portal-describe portal-correct portal-letters portal-health
+complete -o filenames -F _portal_tools portal-new portal-backup portal-restore portal-describe portal-correct portal-letters portal-health portal-schedule

@@ -1,4 +1,8 @@
-"""CSV files as the portal reads them: UTF-8, comma, a header. Rows are counted from 1, without the header."""
+"""CSV files as the portal reads them: UTF-8, comma, a header. Rows are counted from 1, without the header.
+
+A spreadsheet takes a cell that begins with one of `= + - @`, a tab or a carriage return as a formula, which can send other cells to a stranger. Such a
+cell is written with `'` in front, and so is one that begins with `'` before these; `read` takes one `'` away again, so it gives the text that was written.
+"""
 import csv
 import io
 import re
@@ -9,6 +13,10 @@ FORMS = {
     "code": re.compile(r"[A-Za-z0-9-]{8,40}"),
     "capacity": re.compile(r"[0-9]{1,7}"),
 }
+
+
+FORMULA = re.compile(r"'*[=+\-@\t\r]")
+WRITTEN = re.compile(r"'+[=+\-@\t\r]")
 
 
 class Fault(Exception):
@@ -22,6 +30,18 @@ def fits(form, text):
     if form == "capacity":
         return 1 <= int(text) <= 200
     return len(text.encode(errors="surrogateescape")) <= 160 and not re.search("[\ud800-\udfff]", text)
+
+
+def is_formula(text):
+    """Whether a spreadsheet would take a cell as a formula, or `read` would take a `'` away from it."""
+    return bool(FORMULA.match(text))
+
+
+def written(rows):
+    """The text of a CSV file with these rows, which a spreadsheet takes as text."""
+    text = io.StringIO(newline="")
+    csv.writer(text, lineterminator="\n").writerows([f"'{cell}" if is_formula(cell) else cell for cell in row] for row in rows)
+    return text.getvalue()
 
 
 def read(path):
@@ -42,4 +62,4 @@ def read(path):
     for row, fields in enumerate(rows, 1):
         if len(fields) != len(header):
             raise Fault(f"row {row}: {len(fields)} fields, not {len(header)}")
-    return header, rows
+    return header, [[cell[1:] if WRITTEN.match(cell) else cell for cell in row] for row in rows]

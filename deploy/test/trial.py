@@ -1,6 +1,8 @@
 """What the checks share: the program, counting, a portal that is stopped and started, the reverse proxy before it, and requests."""
+import contextlib
 import http.client
 import os
+import re
 import socket
 import ssl
 import subprocess
@@ -25,6 +27,15 @@ def free_port():
     with socket.socket() as free:
         free.bind(("127.0.0.1", 0))
         return free.getsockname()[1]
+
+
+def low_port():
+    """One of the ports of departments that nobody listens on. Only root can."""
+    for port in range(801, 900):
+        with contextlib.suppress(OSError), socket.socket() as free:
+            free.bind(("127.0.0.1", port))
+            return port
+    raise RuntimeError("none of the ports 801 to 899 is free")
 
 
 class Checks:
@@ -122,6 +133,11 @@ class Proxy:
     def told(self):
         with open(self.log, "rb") as log:
             return log.read()
+
+    def memory(self):
+        """The memory that the reverse proxy has, in MB."""
+        with open(f"/proc/{self.process.pid}/status") as file:
+            return int(re.search(r"^VmRSS:\s+(\d+) kB$", file.read(), re.M)[1]) // 1000
 
     def ask(self, method, path, code=None, body=None, lines=(), tls=False, timeout=30):
         """The status, the lines and the body of a reply through the reverse proxy."""

@@ -1,0 +1,216 @@
+"""What test/server runs on a booted server for the guards around a portal: its port and its rights, an upgrade from a port that everybody can take, the
+rule for the portals' ports, and fail2ban, by the lines of RUNNING.md."""
+import contextlib
+import http.client
+import os
+import re
+import socket
+import ssl
+import subprocess
+import time
+
+STATE, CONF = "/var/lib/portal/chem", "/etc/portal/chem.conf"
+ROOT = "/var/lib/caddy/.local/share/caddy/pki/authorities/local/root.crt"
+# The capability to listen below 1024; see capabilities(7).
+NET_BIND_SERVICE = 1 << 10
+CONNECT = "import socket; socket.create_connection(('127.0.0.1', {port}), 5)"
+HOLD = "import socket, time; links = [socket.create_connection(('127.0.0.1', {port}), 5) for _ in range(2)]; time.sleep(60)"
+LISTEN = "import socket; socket.create_server(('127.0.0.1', {port}))"
+counts = {True: 0, False: 0}
+
+
+def holds(what, true, seen=""):
+    counts[bool(true)] += 1
+    print(f"ok      {what}" if true else f"FAILED  {what}: {str(seen)[:600]}", flush=True)
+
+
+def run(line):
+    done = subprocess.run(["bash", "-c", line], stdout=subprocess.PIPE, stderr=subprocess.STDOUT, text=True)
+    return done.returncode, done.stdout
+
+
+def as_user(user, script, port):
+    """The command for a script for a port that a user runs."""
+    return ["setpriv", f"--reuid={user}", "--regid=nogroup", "--clear-groups", "python3", "-c", script.format(port=port)]
+
+
+def tries(user, script, port):
+    """What becomes of a script for a port that a user runs: nothing, or the name of a fault."""
+    done = subprocess.run(as_user(user, script, port), stdout=subprocess.PIPE, stderr=subprocess.STDOUT, text=True)
+    return "" if done.returncode == 0 else done.stdout.strip().splitlines()[-1].split(":")[0]
+
+
+@contextlib.contextmanager
+def held(port):
+    """While the block runs, somebody with an account tries to hold the portal by silent connections."""
+    process = subprocess.Popen(as_user("nobody", HOLD, port), stderr=subprocess.DEVNULL)
+    time.sleep(2)
+    yield
+    process.kill()
+    process.wait()
+
+
+def own_port():
+    with open(CONF) as file:
+        return int(re.search("^PORT=([0-9]+)$", file.read(), re.M)[1])
+
+
+def waits_for(true, seconds):
+    """Whether something becomes true within so many seconds."""
+    end = time.monotonic() + seconds
+    while not true():
+        if time.monotonic() > end:
+            return False
+        time.sleep(0.5)
+    return True
+
+
+def health():
+    """What portal-health says, once the portal answers."""
+    waits_for(lambda: run("portal-health chem")[0] != 2, 120)
+    return run("portal-health chem")
+
+
+class Browser:
+    """One connection to the reverse proxy, over TLS, from one of this machine's addresses."""
+
+    def __init__(self, address, seconds=20):
+        trusted = ssl.create_default_context(cafile=ROOT)
+        self.link = http.client.HTTPSConnection("localhost", timeout=seconds, context=trusted, source_address=(address, 0))
+
+    def status(self, path="/me", lines={"Portal-Code": "k7mp-2xqa-9vre-h4td"}):
+        """The status of a reply, which is for a code that is nobody's where nothing else is said, or 0 where none comes."""
+        try:
+            self.link.request("GET", path, headers=lines)
+            reply = self.link.getresponse()
+            reply.read()
+            return reply.status
+        except OSError:
+            self.link.close()
+            return 0
+
+
+def own_rights():
+    """The portal listens below 1024 with the one capability for that, and nobody takes its port while it is stopped."""
+    port = own_port()
+    holds("the department has a port of 801 to 899", 801 <= port <= 899, port)
+    holds("portal-health tells nothing of its port", "can take the port" not in health()[1], health())
+    process = run("systemctl show --property=MainPID --value portal@chem")[1].strip()
+    with open(f"/proc/{process}/status") as file:
+        status = dict(line.split(":\t", 1) for line in file.read().splitlines())
+    rights = {name: int(status[name], 16) for name in ("CapEff", "CapPrm", "CapBnd", "CapAmb")}
+    holds("the portal has the right to its port, and no other", set(rights.values()) == {NET_BIND_SERVICE}, rights)
+    holds("it can get no other", status["NoNewPrivs"] == "1" and status["Uid"].split()[0] != "0", status)
+    run("systemctl stop portal@chem")
+    holds("nobody else takes its port while it is stopped", tries("nobody", LISTEN, port) == "PermissionError", tries("nobody", LISTEN, port))
+    holds("though others are free", tries("nobody", LISTEN, 8081) == "", tries("nobody", LISTEN, 8081))
+    run("systemctl start portal@chem")
+    holds("it comes back", "answers in" in health()[1], health())
+
+
+def planted():
+    """A link that the portal's own user makes leads no tool of root's to another file."""
+    run("echo of root > /root/victim")
+    before = os.stat("/root/victim")
+    owner = os.stat(STATE).st_uid
+    os.symlink("/root/victim", f"{STATE}/new.db")
+    os.chown(f"{STATE}/new.db", owner, owner, follow_symlinks=False)
+    told = run("portal-correct chem student ada name 'Ada Byron'")
+    after = os.stat("/root/victim")
+    same = (before.st_uid, before.st_mtime_ns, before.st_size) == (after.st_uid, after.st_mtime_ns, after.st_size)
+    holds("portal-correct refuses a link beside the year", told[0] == 2 and "new.db is a link" in told[1] and same, told)
+    os.remove(f"{STATE}/new.db")
+
+
+def upgraded():
+    """A department of an earlier version has a port that everybody can take: an upgrade tells the lines that give it another."""
+    port = own_port()
+    run(f"sed -i 's/^PORT={port}$/PORT=8081/' {CONF}; sed -i 's/portal {port} /portal 8081 /' /etc/portal/sites/chem.caddy; systemctl restart portal@chem caddy")
+    told = health()
+    holds("portal-health warns of a port that everybody can take", told[0] == 1 and "everybody on this machine can take the port 8081" in told[1], told)
+    status, said = run("dpkg --install /root/portal_*.deb")
+    moves = re.findall("^  ((?:sed|caddy) .*)$", said, re.M)
+    holds("an upgrade goes on with that port, and tells three lines", status == 0 and len(moves) == 3 and "answers in" in health()[1], said)
+    done = [run(line) for line in moves]
+    told = health()
+    holds("with these lines the department has a better one", 801 <= own_port() <= 899 and all(not one[0] for one in done), done)
+    holds("and portal-health is content with it", "answers in" in told[1] and "can take the port" not in told[1], told)
+    holds("the reverse proxy has followed", waits_for(lambda: Browser("127.0.0.1").status() == 403, 60))
+
+
+def guarded():
+    """Before and after the lines of RUNNING.md: who connects to the portal's port."""
+    port = own_port()
+    holds("without portal-guard everybody connects to a portal", tries("nobody", CONNECT, port) == "", tries("nobody", CONNECT, port))
+    with held(port):
+        holds("and blocks it with two silent connections", Browser("127.0.0.1", 6).status() == 0)
+    with open("/root/guards") as file:
+        for line in file:
+            told = run(line)
+            holds(line.strip(), told[0] == 0, told)
+    who = {user: tries(user, CONNECT, port) for user in ("nobody", "games", "caddy", "root")}
+    holds("with it only root and the reverse proxy do", who == {"nobody": "ConnectionRefusedError", "games": "ConnectionRefusedError", "caddy": "", "root": ""}, who)
+    with held(port):
+        holds("nobody blocks it", Browser("127.0.0.1", 6).status() == 403)
+    holds("everybody connects to the reverse proxy", tries("nobody", CONNECT, 443) == "", tries("nobody", CONNECT, 443))
+    holds("callers are served", Browser("127.0.0.1").status() == 403 and "answers in" in health()[1], health())
+    run("systemctl enable --now nftables && systemctl restart nftables")
+    told = waits_for(lambda: tries("nobody", CONNECT, port) == "ConnectionRefusedError", 20)
+    holds("it goes on when nftables flushes all rules", told, run("nft list ruleset"))
+    run("systemctl stop portal-guard")
+    holds("it is switched off again", tries("nobody", CONNECT, port) == "" and "table inet portal" not in run("nft list ruleset")[1])
+    run("systemctl start portal-guard")
+    with socket.create_connection(("127.0.0.1", port)):
+        holds("root connects", True)
+
+
+def banned():
+    """A campus behind one address is let in after 900 refused codes; somebody who guesses on is locked out, and others are not."""
+    def failed():
+        told = re.search(r"Total failed:\s+(\d+)", run("fail2ban-client status portal")[1])
+        return int(told[1]) if told else -1
+
+    def locked_out():
+        told = re.search(r"Banned IP list:\s*(.*)", run("fail2ban-client status portal")[1])
+        return told[1].split() if told else None
+    if not waits_for(lambda: failed() >= 0, 60):
+        holds("fail2ban watches Caddy's log", False, run("systemctl status fail2ban; fail2ban-client status portal; journalctl -u fail2ban"))
+        return
+    campus, other = Browser("127.0.0.9"), Browser("127.0.0.10")
+    begun = failed()
+    made_up = '","status":403,"logger":"http.log.access","msg":"handled request","request":{"remote_ip":"127.0.0.77","status":403,'
+    told = {other.status(path, {"User-Agent": made_up, "Portal-Code": made_up}) for path in ("/", "/nowhere", "/notice.txt") for _ in range(5)}
+    holds("nobody is counted for what is not refused by 403, or for another address", told == {200, 204, 404}, told)
+    told = {campus.status() for _ in range(900)}
+    holds("900 codes are refused", told == {403}, told)
+    holds("fail2ban counts each", waits_for(lambda: failed() >= begun + 900, 60) and failed() == begun + 900, (begun, failed()))
+    time.sleep(3)
+    holds("and lets the campus in", locked_out() == [] and campus.status() == 403, locked_out())
+    for _ in range(120):
+        campus.status()
+    holds("after 1,000 the address is locked out", waits_for(lambda: locked_out() == ["127.0.0.9"], 60), locked_out())
+    holds("it gets no connection", waits_for(lambda: Browser("127.0.0.9").status() == 0, 20), Browser("127.0.0.9").status())
+    holds("others do", other.status() == 403)
+    run("fail2ban-client set portal unbanip 127.0.0.9")
+    holds("it can be let in again", waits_for(lambda: Browser("127.0.0.9").status() == 403, 20))
+
+
+def removed():
+    """The rule for the ports goes with the package, and comes with it."""
+    run("cp /root/portal_*.deb /tmp && dpkg --remove portal")
+    holds("the rule goes with the package", "table inet portal" not in run("nft list ruleset")[1], run("nft list ruleset"))
+    run("dpkg --install /tmp/portal_*.deb && systemctl restart portal-guard portal@chem")
+    holds("and comes with it", tries("nobody", CONNECT, own_port()) == "ConnectionRefusedError" and "answers in" in health()[1], health())
+
+
+try:
+    own_rights()
+    planted()
+    upgraded()
+    guarded()
+    banned()
+    removed()
+except Exception as fault:
+    holds("the trial comes to its end", False, repr(fault))
+print(f"{counts[True]} passed, {counts[False]} failed", flush=True)
+subprocess.run(["systemctl", "poweroff", "--no-block"])
