@@ -1,20 +1,69 @@
-// Codes by chance: 21 letters and digits in groups of three. Of 31 signs each, that is 104 bits.
+// Codes: their form, new ones by chance, and slips to cut and hand out.
 
-// Without 0, 1, i, l and o, which people take for one another on paper.
-const SIGNS = 'abcdefghjkmnpqrstuvwxyz23456789';
-const GROUPS = 7;
-const GROUP = 3;
+import { longestCode, shortestCode } from './config.js';
+import { given, make } from './dom.js';
+import { words } from './words.js';
 
-/** A new code. `fill` puts chance into an array of bytes; the tests hand in their own. */
+const CODE = new RegExp(`^[A-Za-z0-9-]{${shortestCode},${longestCode}}$`);
+
+/**
+ * A code has this form; another one is never sent.
+ * @param {string} text
+ */
+export const isCode = (text) => CODE.test(text);
+
+/**
+ * A code as it was meant: without blanks, and with the plain dash for those that letters and spreadsheets make of it.
+ * @param {string} text
+ */
+export const asCode = (text) => text.replace(/[\s\u00ad\u200b-\u200d\u2060\ufeff]/g, '').replace(/[\u2010-\u2015\u2212\ufe58\ufe63\uff0d]/g, '-');
+
+// The 32 signs of a code by chance, without l, o, 0 and 1, which people take for others on paper. 16 of them are 80 bits.
+const SIGNS = 'abcdefghijkmnpqrstuvwxyz23456789';
+const GROUPS = 4;
+const GROUP = 4;
+
+/**
+ * A new code.
+ * @param {(bytes: Uint8Array) => unknown} fill puts chance into an array of bytes; the tests hand in their own
+ */
 export function makeCode(fill = (bytes) => crypto.getRandomValues(bytes)) {
-  const groups = Array.from({ length: GROUPS }, () => Array.from({ length: GROUP }, () => sign(fill)).join(''));
-  return groups.join('-');
+  const bytes = new Uint8Array(GROUPS * GROUP);
+  fill(bytes);
+  // 256 is a multiple of 32, so that each sign is equally likely
+  return grouped(Array.from(bytes, (byte) => SIGNS[byte % SIGNS.length]).join(''));
 }
 
-// A byte from 248 on is thrown away, so that each of the 31 signs is equally likely.
-function sign(fill) {
-  const byte = new Uint8Array(1);
-  do fill(byte);
-  while (byte[0] >= SIGNS.length * 8);
-  return SIGNS[byte[0] % SIGNS.length];
+/** @param {string} signs */
+const grouped = (signs) => signs.match(new RegExp(`.{${GROUP}}`, 'g'))?.join('-') ?? '';
+
+/**
+ * The code by chance that was meant by a text in another case, with other dashes or with none; null where it is no such text.
+ * @param {string} text
+ */
+export function madeCodeOf(text) {
+  const signs = text.replaceAll('-', '').toLowerCase();
+  const isOne = signs.length === GROUPS * GROUP && [...signs].every((sign) => SIGNS.includes(sign));
+  return isOne ? grouped(signs) : null;
+}
+
+/** @type {Partial<Record<Roll, Role>>} */
+const ROLES = { lecturers: 'lecturer', students: 'student' };
+
+/**
+ * Slips with name, role, code and the page's address. They are seen in print alone.
+ * @param {Roll} roll
+ * @param {Entry[]} entries with a code each
+ */
+export function slipsOf(roll, entries) {
+  const role = words.roles[ROLES[roll] ?? 'student'];
+  return make('ul', { class: 'slips' }, entries.map(({ name = '', code }) =>
+    make('li', {}, [
+      make('p', { class: 'slip-name' }, [given(name)]),
+      make('p', { text: `${document.title}: ${role}` }),
+      make('p', { text: `${words.slipCode}:` }),
+      make('p', { class: 'slip-code', text: code }),
+      make('p', { text: `${words.slipAddress}: ${location.origin}` }),
+      make('p', { text: words.slipSecret }),
+    ])));
 }

@@ -6,24 +6,28 @@ const SEPARATORS = [',', ';', '\t'];
 const WORKBOOKS = [[0x50, 0x4b, 0x03, 0x04], [0xd0, 0xcf, 0x11, 0xe0]];
 
 /**
- * Reads a file.
+ * Reads a file: how it was read, or why it is no table of text.
  * @param {Uint8Array} bytes
- * @returns {{ fault?: string, encoding?: string, separator?: string, rows?: { row: number, fields: string[] }[] }} a `fault`, `workbook` or
- *   `noText`, or how it was read. Of each row that is not blank, `row` is its number in a spreadsheet, counted from 1.
+ * @returns {({ fault?: undefined } & FileTable) | { fault: 'workbook' | 'noText' }}
  */
 export function table(bytes) {
   if (WORKBOOKS.some((start) => start.every((byte, at) => bytes[at] === byte))) return { fault: 'workbook' };
   const { encoding, text } = decoded(bytes);
   if (/[\0-\x08]/.test(text)) return { fault: 'noText' };
   const { separator, rest } = separated(text);
-  const rows = [...records(rest, separator)].map((fields, at) => ({ row: at + 1, fields })).filter(({ fields }) => !isBlank(fields));
-  return { encoding, separator, rows };
+  const rows = [...records(rest, separator)].map((fields, at) => ({ row: at + 1, fields: fields.map(meant) }));
+  return { encoding, separator, rows: rows.filter(({ fields }) => !isBlank(fields)) };
 }
 
+/** @param {string[]} fields */
 const isBlank = (fields) => fields.every((field) => field.trim() === '');
 
-/** The records of a text, blank ones too: the fields of each. */
+/**
+ * The records of a text, blank ones too: the fields of each.
+ * @param {string} text
+ */
 export function* records(text, separator = ',') {
+  /** @type {string[]} */
   let fields = [];
   for (let at = 0; at < text.length || fields.length > 0; ) {
     const { field, end } = fieldAt(text, at, separator);
@@ -36,7 +40,12 @@ export function* records(text, separator = ',') {
   }
 }
 
-// One field from `at`, and where it ends: at a separator, a line's end or the end of the text.
+/**
+ * One field from `at`, and where it ends: at a separator, a line's end or the end of the text.
+ * @param {string} text
+ * @param {number} at
+ * @param {string} separator
+ */
 function fieldAt(text, at, separator) {
   let field = '';
   let isQuoted = text[at] === '"';
@@ -53,12 +62,16 @@ function fieldAt(text, at, separator) {
   return { field, end };
 }
 
-/** A text with a mark of its bytes' order is what the mark says. Without one it is UTF-16, UTF-8 or else Windows-1252, whichever it can be. */
+/**
+ * A text with a mark of its bytes' order is what the mark says. Without one it is UTF-16, UTF-8 or else Windows-1252, whichever it can be.
+ * @param {Uint8Array} bytes
+ */
 function decoded(bytes) {
   const encoding = encodingOf(bytes);
   return { encoding, text: new TextDecoder(encoding).decode(bytes) };
 }
 
+/** @param {Uint8Array} bytes */
 function encodingOf(bytes) {
   const [first, second] = bytes;
   if ((first === 0xff && second === 0xfe) || (first > 0 && second === 0)) return 'utf-16le';
@@ -71,17 +84,41 @@ function encodingOf(bytes) {
   }
 }
 
-// A first line `sep=;` names the separator and is no row. Else it is the one that gives the first row the most fields.
+/**
+ * A first line `sep=;` names the separator and is no row. Else it is the one that gives the first row the most fields.
+ * @param {string} text
+ */
 function separated(text) {
   const [line, separator] = /^sep=(.)(\r\n|\r|\n)/i.exec(text) ?? [];
   if (separator !== undefined) return { separator, rest: text.slice(line.length) };
+  /** @param {string} one */
   const width = (one) => [...records(text.trimStart().split(/[\r\n]/)[0], one)][0]?.length ?? 0;
   return { separator: SEPARATORS.reduce((best, one) => (width(one) > width(best) ? one : best)), rest: text };
 }
 
-/** Rows as text: commas, quotes where they are needed, lines ended by LF. */
+/**
+ * Rows as text: commas, quotes where they are needed, lines ended by LF.
+ * @param {string[][]} rows
+ */
 export function written(rows) {
   return rows.map((fields) => `${fields.map(quoted).join(',')}\n`).join('');
 }
 
+/** @param {string} field */
 const quoted = (field) => (/[",\r\n]/.test(field) ? `"${field.replaceAll('"', '""')}"` : field);
+
+/**
+ * Rows as text for a spreadsheet, which would take a cell that begins with one of these signs for a formula: it gets an apostrophe in front.
+ * `table` takes that away again.
+ * @param {string[][]} rows
+ */
+export const writtenForSpreadsheets = (rows) => written(rows.map((fields) => fields.map((field) => (/^'*[=+\-@\t\r]/.test(field) ? `'${field}` : field))));
+
+/** @param {string} field */
+const meant = (field) => (/^'+[=+\-@\t\r]/.test(field) ? field.slice(1) : field);
+
+/**
+ * A spreadsheet takes the text for a formula, where it stands in a cell as it is.
+ * @param {string} text
+ */
+export const isLikeFormula = (text) => /^[=+\-@\t\r]/.test(text);

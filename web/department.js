@@ -1,14 +1,22 @@
-// What the department tells everybody, also before signing in, in files beside the page: notice.txt, plain text; and department.json, its
-// name and perhaps a contact, links and languages.
+// What the department tells everybody, in files beside the page: a notice, notice.txt or one for each stage, plain text; and
+// department.json, its name and perhaps a contact, links, languages and until when each stage lasts.
 
 import { make } from './dom.js';
 import { words } from './words.js';
+import { stageOf } from './year.js';
 
 // A file that does not come within so many milliseconds is done without.
 const PATIENCE = 4_000;
-const LINKS = ['contact', 'privacy', 'accessibility'];
 
-// A page of another kind in its place, as some servers send where a file is missing, is no such file.
+/** @type {LinkName[]} */
+const LINKS = ['contact', 'privacy', 'accessibility'];
+const WITH_END = ['choosing', 'ranking', 'choosing-2', 'ranking-2'];
+
+/**
+ * A page of another kind in its place, as some servers send where a file is missing, is no such file.
+ * @param {string} name
+ * @param {string} type
+ */
 async function read(name, type) {
   const giveUp = new AbortController();
   const timer = setTimeout(() => giveUp.abort(), PATIENCE);
@@ -23,22 +31,32 @@ async function read(name, type) {
   }
 }
 
-export function notice() {
-  const element = make('p', { class: 'notice', dir: 'auto', hidden: true });
-  read('notice.txt', 'text/plain').then((text) => {
-    element.textContent = text;
-    element.hidden = text === '';
-  });
-  return element;
+/** The notice: that of the stage where somebody is signed in and the stage has one, else the general one. */
+export class Notice {
+  #general = read('notice.txt', 'text/plain');
+  #asked = 0;
+  element = make('p', { class: 'notice', dir: 'auto', hidden: true });
+
+  /** @param {Step | null} step where the year stands; null where nobody is signed in */
+  async show(step) {
+    const turn = ++this.#asked;
+    const own = step === null ? '' : await read(`notice-${stageOf(step)}.txt`, 'text/plain');
+    const text = own === '' ? await this.#general : own;
+    if (turn !== this.#asked) return;
+    this.element.textContent = text;
+    this.element.hidden = text === '';
+  }
 }
 
 export const department = async () => departmentOf(await read('department.json', 'application/json'));
 
 /**
  * What a text says of a department, as far as it is of the right form.
- * @returns {{ name: string, languages?: string[], contact?: string, privacy?: string, accessibility?: string }}
+ * @param {string} text
+ * @returns {Department}
  */
 export function departmentOf(text) {
+  /** @type {any} */
   let of = {};
   try {
     of = JSON.parse(text);
@@ -48,18 +66,37 @@ export function departmentOf(text) {
   if (typeof of?.name !== 'string') return { name: '' };
   const languages = Array.isArray(of.languages) ? { languages: of.languages } : {};
   const links = LINKS.map((name) => [name, addressOf(of[name])]).filter(([, address]) => address !== '');
-  return { name: of.name, ...languages, ...Object.fromEntries(links) };
+  return { name: of.name, ...languages, ...untilOf(of.until), ...Object.fromEntries(links) };
 }
 
-// A link leads to a page by https, or to a mail address.
+/**
+ * A link leads to a page by https, or to a mail address.
+ * @param {unknown} text
+ */
 function addressOf(text) {
   if (typeof text !== 'string') return '';
   if (text.startsWith('https://')) return text;
   return /^[^\s@:/?]+@[^\s@:/?]+$/.test(text) ? `mailto:${text}` : '';
 }
 
-/** The links, for the foot of the page. */
+// A moment with its zone, as 2027-05-12T12:00+02:00: one without is another moment for each reader.
+const MOMENT = /^\d{4}-\d\d-\d\dT\d\d:\d\d(:\d\d)?(Z|[+-]\d\d:\d\d)$/;
+
+/** @param {any} until */
+function untilOf(until) {
+  const ends = WITH_END.map((stage) => /** @type {[string, Date]} */ ([stage, momentOf(until?.[stage])])).filter(([, end]) => !Number.isNaN(end.getTime()));
+  return ends.length === 0 ? {} : { until: Object.fromEntries(ends) };
+}
+
+/** @param {unknown} text */
+const momentOf = (text) => new Date(typeof text === 'string' && MOMENT.test(text) ? text : NaN);
+
+/**
+ * The links, for the foot of the page.
+ * @param {Department} of
+ */
 export function departmentLinks(of) {
+  /** @param {LinkName} name */
   const link = (name) => make('a', { href: of[name], target: '_blank', rel: 'noopener noreferrer', text: words.departmentLinks[name] });
   return LINKS.filter((name) => of[name] !== undefined).map(link);
 }

@@ -1,101 +1,135 @@
 // The page: signing in and out, and the page of each role in its frame.
 
-import { ask } from './ask.js';
-import { attempts } from './attempt.js';
+import { asCode, isCode, madeCodeOf } from './codes.js';
 import { department } from './department.js';
 import { make } from './dom.js';
-import { frame } from './frame.js';
+import { Messages, ask, dismiss, frame } from './frame.js';
 import { knownProjects } from './known.js';
 import { lecturerPage } from './lecturer.js';
-import { Messages } from './messages.js';
 import { officePage } from './office.js';
-import { told } from './refusals.js';
-import { Lost, Portal, Refused, asCode, isCode } from './requests.js';
-import { signInForm } from './signin.js';
+import { Lost, Portal, Refused, attempts, told } from './requests.js';
+import { forgetCode, forgetIdle, keepCode, keptCode, signInForm, watch } from './signin.js';
+import { forgetDrafts } from './store.js';
 import { studentPage } from './student.js';
 import { chooseLanguage, firstLanguage, offeredLanguages, speak, words } from './words.js';
 import { yearPart } from './year.js';
 
-// The code is kept here alone, for as long as the browser's tab is open.
-const KEPT = 'portal-code';
 const PAGES = { student: studentPage, lecturer: lecturerPage, office: officePage };
 
+/** @type {Department} */
 let own;
+/** @type {ReturnType<typeof frame>} */
 let page;
+/** @type {() => void} */
+let tellOtherTabs;
 let isChanged = () => false;
+let isKept = false;
 // Counts what was shown, so that a reply that comes late is not shown over something newer.
 let shown = 0;
 
 async function start() {
   own = await department();
-  await speak(firstLanguage(offeredLanguages(own.languages), navigator.languages));
+  const offered = offeredLanguages(own.languages);
+  // where the files of one language do not come, another one is spoken
+  for (const language of [firstLanguage(offered, navigator.languages), ...offered]) if (await speak(language)) break;
   // a file that is dropped beside its field is not opened in place of the page
   for (const name of ['dragover', 'drop']) addEventListener(name, (event) => /** @type {DragEvent} */ (event).dataTransfer?.types.includes('Files') && event.preventDefault());
   addEventListener('beforeunload', (event) => isChanged() && event.preventDefault());
-  show();
+  tellOtherTabs = watch({ elsewhere: () => leave(words.signedOutElsewhere), idle: () => signIn({ message: words.signedOutIdle }) });
+  show(forgetIdle() ? words.signedOutIdle : '');
 }
 
-/** Puts the frame together, and shows the page of whoever is signed in. */
-function show() {
+/**
+ * Puts the frame together, and shows the page of whoever is signed in.
+ * @param {string} message is told where nobody is
+ */
+function show(message = '') {
   page = frame({ department: own, languages: offeredLanguages(own.languages), chosen: changeLanguage, signOut });
-  const code = sessionStorage.getItem(KEPT);
-  if (code === null) signIn();
+  const code = keptCode();
+  if (code === null) signIn({ message });
   else open(new Portal(code));
 }
 
+/** @param {string} language */
 async function changeLanguage(language) {
-  if (!(await mayLeave())) return;
+  if (!isKept && !(await mayLeave())) return;
   await speak(language);
   chooseLanguage(language);
   show();
 }
 
-const mayLeave = async () => !isChanged() || (await ask(words.unsavedLeave, [words.unsavedLost]));
+const mayLeave = async () => !isChanged() || ask({ title: words.unsavedLeave, risk: words.unsavedLost, verb: words.leave, stay: words.keepEditing });
 
-function signIn(said) {
+/** @param {Parameters<typeof signInForm>[1]} said */
+function signIn(said = {}) {
   shown++;
+  dismiss();
   isChanged = () => false;
-  sessionStorage.removeItem(KEPT);
+  forgetCode();
   page.showWho(null);
-  page.setAim(null, '');
+  page.setAims([]);
   const form = signInForm(enter, said);
   page.place.replaceChildren(form);
   page.dock.replaceChildren();
-  form.querySelector('input').focus();
+  /** @type {HTMLElement} */ (form.querySelector('#code')).focus();
 }
 
-/** Signs in, or answers why not. */
+/**
+ * Signs in, or answers why not. A code by chance may be typed in another case, or without its dashes.
+ * @param {string} typed
+ */
 async function enter(typed) {
   const code = asCode(typed);
   if (!isCode(code)) return words.noCodeForm;
+  const made = madeCodeOf(code);
+  const fault = await tryCode(code);
+  return fault === words.noSuchCode && made !== null && made !== code ? tryCode(made) : fault;
+}
+
+/** @param {string} code */
+async function tryCode(code) {
   const portal = new Portal(code);
   try {
     const me = await portal.get('/me');
-    sessionStorage.setItem(KEPT, code);
+    keepCode(code);
     open(portal, { me });
     return '';
   } catch (fault) {
+    if (fault instanceof Refused) return fault.word === 'no_caller' ? words.noSuchCode : told(fault);
     if (fault instanceof Lost) return words.lost;
-    return fault instanceof Refused && fault.word === 'no_caller' ? words.noSuchCode : told(fault);
+    throw fault;
   }
 }
 
 async function signOut() {
-  if (await mayLeave()) signIn({ message: words.signedOut });
+  if (!(await mayLeave())) return;
+  tellOtherTabs();
+  leave(words.signedOut);
 }
 
-/** Shows the page of whoever has the code: `me`, if that was asked already. `tell` tells a person about it. */
-async function open(portal, { me = null, tell = (..._) => {} } = {}) {
+/** @param {string} message */
+function leave(message) {
+  forgetDrafts();
+  signIn({ message });
+}
+
+/**
+ * Shows the page of whoever has the code.
+ * @param {Portal} portal
+ * @param {{ me?: Me | null, tell?: Tell }} how `me`, if that was asked already
+ */
+async function open(portal, { me = null, tell = () => {} } = {}) {
   const turn = ++shown;
   const isCurrent = () => turn === shown;
   const messages = new Messages();
+  /** @param {Tell} [tellNext] */
   const reload = (tellNext) => open(portal, { tell: tellNext });
   const attempt = attempts({ messages, reload, signIn, isCurrent, isChanged: () => isChanged() });
   isChanged = () => false;
   page.place.replaceChildren(make('p', { class: 'loading', text: words.loading }));
   page.dock.replaceChildren(messages.element);
   await attempt(async () => {
-    const caller = me ?? (await portal.get('/me'));
+    const caller = me ?? /** @type {Me} */ (await portal.get('/me'));
     if (!isCurrent()) return;
     page.showWho(caller);
     const known = await knownProjects(portal);
@@ -103,21 +137,26 @@ async function open(portal, { me = null, tell = (..._) => {} } = {}) {
     if (!isCurrent()) return;
     showContent(caller, content, messages);
     tell(messages, caller);
-  });
+  }, { isLoading: true });
   if (isCurrent()) page.place.querySelector(':scope > .loading')?.remove();
 }
 
 /**
- * @param {object} me
- * @param {object} content of the page: its `element`; `isChanged`; perhaps `year`, what is said to this person
- * of the year, the `bar` that stays in view, and the `own` part, which the skip link leads to
+ * @param {Me} me
+ * @param {Content} content
+ * @param {Messages} messages
  */
 function showContent(me, content, messages) {
-  const { own: part = null, bar } = content;
+  const { aims = [], bar } = content;
   isChanged = content.isChanged;
-  page.place.replaceChildren(yearPart(me, content.year), content.element);
-  page.dock.replaceChildren(messages.element, ...(bar ? [bar] : []));
-  page.setAim(part?.element ?? null, part?.skip ?? '');
+  isKept = content.isKept ?? false;
+  page.place.replaceChildren(yearPart(me, content.year, own.until), content.element);
+  page.dock.replaceChildren(messages.element);
+  if (bar) {
+    messages.tellIn(bar);
+    page.dock.append(bar);
+  }
+  page.setAims(aims);
   page.main.focus({ preventScroll: true });
 }
 

@@ -1,108 +1,273 @@
 // One ranking of everybody who chose a project of a lecturer: who is not ranked yet stands beside it, until it is saved.
 
-import { button, labelled, make, measure, part } from './dom.js';
-import { ListEditor } from './listeditor.js';
-import { applicant } from './people.js';
+import { table } from './csv.js';
+import { button, given, labelled, make, measure, part } from './dom.js';
+import { ListEditor } from './list.js';
+import { forget, keep, kept } from './store.js';
+import { compare, isFound } from './table.js';
 import { words } from './words.js';
+import { roundOf } from './year.js';
+
+/**
+ * Everybody who chose a project, by key as the portal has them.
+ * @param {Applied[]} applied
+ * @returns {Map<string, Applicant>}
+ */
+export function everybody(applied) {
+  /** @type {Map<string, Applicant>} */
+  const people = new Map();
+  for (const { id, applicants } of applied) {
+    for (const { key, name } of applicants) {
+      const person = people.get(key) ?? { key, name, projects: [] };
+      person.projects.push(id);
+      people.set(key, person);
+    }
+  }
+  return new Map(inIdOrder([...people.keys()]).map((key) => [key, /** @type {Applicant} */ (people.get(key))]));
+}
+
+/** @param {string[]} keys */
+const inIdOrder = (keys) => [...keys].sort((a, b) => (a < b ? -1 : 1));
+
+/**
+ * A person with the key, and with the titles of the own projects that this person chose.
+ * @param {Applicant} applicant
+ * @param {Known} known
+ * @param {Node[]} [more]
+ */
+export function shownApplicant({ key, name, projects }, known, more = []) {
+  const titles = projects.map((id) => given(known.titleOf(id)));
+  const chosen = make('span', { class: 'key chosen' }, [make('span', { text: `${key} · ${words.chose} ` }), ...titles]);
+  return make('span', { class: 'titled' }, [given(name), chosen, ...more]);
+}
+
+/**
+ * The order that a text or a file tells: the keys of a column `id`, or those at the beginning of each line.
+ * @param {Uint8Array} bytes
+ * @param {(key: string) => boolean} isApplicant
+ * @returns {{ keys: string[], others: string[] }} the applicants, each once, and what else stands there
+ */
+export function orderOf(bytes, isApplicant) {
+  const found = table(bytes);
+  const rows = 'rows' in found ? found.rows : [];
+  const lines = rows.map(({ fields }) => fields.map((field) => field.trim()));
+  const heads = lines[0]?.map((field) => field.toLowerCase()) ?? [];
+  const column = heads.indexOf('id');
+  const told = column < 0 ? lines.map(([first]) => first) : lines.slice(1).map((fields) => fields[column] ?? '');
+  const all = [...new Set(told.filter((key) => key !== ''))];
+  return { keys: all.filter(isApplicant), others: all.filter((key) => !isApplicant(key)) };
+}
+
+// Which rankings this browser has saved, by lecturer and round.
+const RANKED = 'portal-ranked';
+/** @param {Me} me */
+const rankedName = (me) => `${me.key} ${roundOf(me)}`;
+/** @param {Me} me */
+const isRankedHere = (me) => kept(RANKED, []).includes(rankedName(me));
+/** Before the first ranking of a year what this browser knows is of another year. */
+export const forgetRanked = () => forget(RANKED);
+
+/**
+ * What is said of a ranking that the office may have filled in: nothing, unless it is in the order of the keys and this browser did not save it.
+ * @param {Me} me
+ * @param {string[] | null} saved
+ */
+export function filledHint(me, saved) {
+  const isInOrder = saved !== null && saved.length > 1 && inIdOrder(saved).every((key, at) => key === saved[at]);
+  if (!isInOrder || isRankedHere(me)) return [];
+  return [make('p', { class: 'hint', text: me.phase === 'ranking' ? words.inIdOrderOpen : words.inIdOrder })];
+}
 
 export class RankingMaking {
   #messages;
   #people;
+  #known;
   #editor;
+  /** @type {Map<string, HTMLElement>} */
   #waiting;
-  #project = '';
+  #search = make('input', { type: 'search', autocomplete: 'off', spellcheck: 'false' });
+  #project = make('select');
+  #sort = make('select');
   #missing = make('ul', { class: 'people', role: 'list', 'aria-label': words.applicants, tabindex: '-1' });
   #none = make('p', { class: 'quiet', text: words.noneMissing });
+  #noMatch = make('p', { class: 'quiet', text: words.noApplicantMatches });
   #empty = make('p', { class: 'quiet', text: words.rankingEmpty });
-  #rest = button(words.addRest, () => this.#addRest());
+  // What helps to add applicants, as long as one is missing.
+  #adding = make('div');
   /** What the page shows. */
   content;
 
-  /** `places` is what the lecturer may take, in words; `tools` stand with the applicants. */
-  constructor({ portal, me, messages, attempt, known, people, saved, places, tools }) {
-    this.#messages = messages;
+  /**
+   * @param {PageOf} of
+   * @param {{ people: Map<string, Applicant>, saved: string[] | null, places: string, tools: Node }} what `places` is what the lecturer may
+   *   take, in words; `tools` stand with the applicants
+   */
+  constructor(of, { people, saved, places, tools }) {
+    this.#messages = of.messages;
     this.#people = people;
-    const show = (key) => applicant(people.get(key), known);
+    this.#known = of.known;
+    const hint = make('div', {}, filledHint(of.me, saved));
     this.#editor = new ListEditor({
-      portal,
-      me,
-      messages,
-      attempt,
+      page: of,
       path: '/ranking',
       member: 'students',
       saved,
-      texts: { ...words.ofRanking, count: (count) => words.ofRanking.count(count, people.size) },
-      show,
-      name: (key) => people.get(key).name,
+      texts: { ...words.ofRanking, count: (/** @type {number} */ count) => words.ofRanking.count(count, people.size) },
+      show: (key) => this.#shown(key),
+      name: (key) => people.get(key)?.name ?? key,
+      isThere: (key) => people.has(key),
       missing: (keys) => people.size - keys.length,
       changed: (keys) => this.#update(keys),
+      stored: () => {
+        keep(RANKED, [...new Set([...kept(RANKED, []), rankedName(of.me)])]);
+        hint.replaceChildren();
+      },
     });
-    this.#waiting = new Map([...people.keys()].map((key) => [key, this.#waitingEntry(key, show(key))]));
+    this.#waiting = new Map([...people.keys()].map((key) => [key, this.#waitingEntry(key)]));
     this.#missing.append(...this.#waiting.values());
-    const own = this.#rankingPart(places);
+    const own = this.#rankingPart(places, hint);
+    const aims = [{ text: words.skipToRanking, aim: () => own }, { text: words.skipToSaveRanking, aim: () => this.#editor.saveButton }];
     this.content = {
-      element: make('div', { class: 'columns' }, [this.#applicantsPart(known, tools), make('div', { class: 'own-side' }, [own])]),
+      element: make('div', { class: 'columns' }, [this.#applicantsPart(tools), make('div', { class: 'own-side' }, [own])]),
       bar: this.#editor.bar,
-      own: { element: own, skip: words.skipToRanking },
+      aims,
       isChanged: () => this.#editor.isChanged(),
+      isKept: true,
     };
     this.#editor.update();
   }
 
-  // Made once; who is in the ranking, or chose another project than is asked for, is hidden.
-  #waitingEntry(key, shown) {
-    return make('li', {}, [shown, button(words.add, () => this.#add(key), { name: words.addKey(key) })]);
+  /** @param {string} key */
+  #shown(key) {
+    return shownApplicant(this.#people.get(key) ?? { key, name: key, projects: [] }, this.#known);
   }
 
+  /** @param {string} key */
+  #nameOf(key) {
+    return this.#people.get(key)?.name ?? key;
+  }
+
+  /**
+   * Made once; who is in the ranking, or is not asked for, is hidden.
+   * @param {string} key
+   */
+  #waitingEntry(key) {
+    return make('li', {}, [this.#shown(key), button(words.add, () => this.#add(key), { name: words.addKey(words.named(this.#nameOf(key), key)) })]);
+  }
+
+  /** @param {string} key */
   #add(key) {
     const entry = this.#waiting.get(key);
     this.#editor.list.add(key);
-    const left = [...this.#waiting.values()].filter((other) => !other.hidden);
-    const isAfter = (other) => entry.compareDocumentPosition(other) & Node.DOCUMENT_POSITION_FOLLOWING;
+    const left = [...this.#missing.children].filter((other) => other instanceof HTMLElement && !other.hidden);
+    const isAfter = (/** @type {Element} */ other) => entry !== undefined && (entry.compareDocumentPosition(other) & Node.DOCUMENT_POSITION_FOLLOWING) !== 0;
     const next = left.find(isAfter) ?? left[0];
-    if (next) next.querySelector('button').focus();
-    else this.#editor.focusSave();
+    const isWhole = this.#editor.keys.length === this.#people.size;
+    (next?.querySelector('button') ?? (isWhole ? this.#editor.saveButton : this.#search)).focus();
   }
 
+  // What is added is brought into view, since the page is another one then.
   #addRest() {
-    this.#editor.list.addAll([...this.#people.keys()]);
+    const rest = [...this.#people.keys()].filter((key) => !this.#editor.keys.includes(key));
+    this.#editor.list.set([...this.#editor.keys, ...rest]);
+    this.#editor.saveButton.focus({ preventScroll: true });
+    // in the picture after the next one the style sheet knows the new height
+    requestAnimationFrame(() => requestAnimationFrame(() => this.#editor.list.look(rest[0])));
     this.#messages.say(words.restAdded);
-    this.#editor.focusSave();
   }
 
-  #applicantsPart(known, tools) {
-    const parts = [make('p', { class: 'quiet', text: words.applicantsHint }), ...this.#filter(known), this.#none, this.#missing];
-    return part(words.applicants, [...parts, make('div', { class: 'buttons' }, [this.#rest]), tools]);
+  async #addRestAndSave() {
+    this.#addRest();
+    await this.#editor.save();
   }
 
-  /** A choice of a project, where more than one was chosen by somebody. */
-  #filter(known) {
-    const keys = [...new Set([...this.#people.values()].flatMap(({ projects }) => projects))].sort();
-    if (keys.length < 2) return [];
-    const options = keys.map((key) => make('option', { value: key, text: known.titleOf(key) }));
-    const select = make('select', {}, [make('option', { value: '', text: words.allProjects }), ...options]);
-    select.addEventListener('change', () => {
-      this.#project = select.value;
-      this.#update(this.#editor.keys);
+  /** @param {Node} tools */
+  #applicantsPart(tools) {
+    const rest = make('div', { class: 'buttons' }, [button(words.addRest, () => this.#addRest()), button(words.addRestSave, () => this.#addRestAndSave())]);
+    const hints = [words.applicantsHint, words.laterHint].map((text) => make('p', { class: 'quiet', text }));
+    this.#adding.append(...hints, rest, this.#filters(), this.#noMatch, this.#missing);
+    return part(words.applicants, [this.#none, this.#adding, this.#orderFold(), tools]);
+  }
+
+  /** A search, a choice of a project where more than one was chosen by somebody, and a choice of the order. */
+  #filters() {
+    const keys = inIdOrder([...new Set([...this.#people.values()].flatMap(({ projects }) => projects))]);
+    const options = keys.map((key) => make('option', { value: key, text: this.#known.titleOf(key) }));
+    this.#project.append(make('option', { value: '', text: words.allProjects }), ...options);
+    this.#sort.append(...Object.entries(words.applicantSorts).map(([value, text]) => make('option', { value, text })));
+    this.#search.addEventListener('input', () => this.#update(this.#editor.keys));
+    this.#project.addEventListener('change', () => this.#update(this.#editor.keys));
+    this.#sort.addEventListener('change', () => this.#arrange());
+    const fields = [labelled(words.searchApplicants, this.#search)];
+    if (keys.length > 1) fields.push(labelled(words.applicantsOf, this.#project));
+    return make('div', { class: 'filters' }, [...fields, labelled(words.sortBy, this.#sort)]);
+  }
+
+  #arrange() {
+    /** @type {{ [sort: string]: (applicant: Applicant) => string }} */
+    const texts = { id: ({ key }) => key, name: ({ name }) => name, project: ({ projects }) => this.#known.titleOf(projects[0]) };
+    const text = texts[this.#sort.value];
+    const people = [...this.#people.values()];
+    if (this.#sort.value !== 'id') people.sort((a, b) => compare(text(a), text(b)));
+    this.#missing.append(...people.map(({ key }) => /** @type {HTMLElement} */ (this.#waiting.get(key))));
+  }
+
+  /** A field and a file for an order that was made elsewhere. */
+  #orderFold() {
+    const field = make('textarea', { rows: '6', spellcheck: 'false' });
+    const file = make('input', { type: 'file', accept: '.csv,.txt,text/csv,text/plain', 'aria-label': words.orderFile });
+    file.addEventListener('change', async () => {
+      const [chosen] = file.files ?? [];
+      if (chosen) this.#useOrder(new Uint8Array(await chosen.arrayBuffer()));
+      file.value = '';
     });
-    return [labelled(words.applicantsOf, select)];
+    const open = button(words.orderFile, () => file.click());
+    file.hidden = true;
+    return make('details', {}, [
+      make('summary', { text: words.orderTitle }),
+      make('p', { class: 'quiet', text: words.orderHow }),
+      make('label', { class: 'field' }, [make('span', { text: words.orderField }), field]),
+      make('div', { class: 'buttons' }, [button(words.useOrder, () => this.#useOrder(new TextEncoder().encode(field.value))), open, file]),
+    ]);
   }
 
-  #rankingPart(places) {
+  /** @param {Uint8Array} bytes */
+  #useOrder(bytes) {
+    const { keys, others } = orderOf(bytes, (key) => this.#people.has(key));
+    if (keys.length === 0) {
+      this.#messages.warn(words.orderEmpty);
+      return;
+    }
+    this.#editor.list.set(keys);
+    if (others.length > 0) this.#messages.warn(words.orderOthers(keys.length, words.listed(others)));
+    else this.#messages.say(words.orderUsed(keys.length));
+  }
+
+  /** @param {string} places @param {Node} hint */
+  #rankingPart(places, hint) {
     const { list, tools } = this.#editor;
-    const parts = [make('p', { text: places }), this.#empty, list.element, tools, make('p', { class: 'quiet', text: words.orderHint })];
+    const parts = [make('p', { text: places }), make('p', { class: 'quiet', text: words.rankingHint }), hint, this.#empty, list.element, tools, make('p', { class: 'quiet', text: words.orderHint })];
     const own = part(words.ofRanking.label, parts, { class: 'own', tabindex: '-1' });
     measure(own, '--own');
     return own;
   }
 
+  /** @param {string[]} keys */
   #update(keys) {
     const ranked = new Set(keys);
-    const isWanted = (key) => this.#project === '' || this.#people.get(key).projects.includes(this.#project);
-    for (const [key, entry] of this.#waiting) entry.hidden = ranked.has(key) || !isWanted(key);
+    const search = this.#search.value;
+    let shown = 0;
+    for (const [key, entry] of this.#waiting) {
+      const { name, projects } = this.#people.get(key) ?? { name: key, projects: [] };
+      const isWanted = ['', ...projects].includes(this.#project.value) && isFound(`${name} ${key}`, search);
+      entry.hidden = ranked.has(key) || !isWanted;
+      if (!entry.hidden) shown++;
+    }
     const isWhole = ranked.size === this.#people.size;
     this.#none.hidden = !isWhole;
-    this.#rest.hidden = isWhole;
+    this.#none.closest('section')?.classList.toggle('whole', isWhole);
+    this.#adding.hidden = isWhole;
+    this.#noMatch.hidden = shown > 0;
     this.#empty.hidden = ranked.size > 0;
   }
 }

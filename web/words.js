@@ -1,33 +1,44 @@
 // Every text of the page, in the language that was chosen. Each language has its texts in files of their own, words-LANGUAGE.js and
-// words-LANGUAGE-office.js, with the same keys. English is the source. A new text is written there; a new language is one more line of LANGUAGES.
+// words-LANGUAGE-office.js, with the same keys, and no browser loads another language. English is the source: a new text is written there.
+// A new language is one more line of LANGUAGES.
 
-import { words as english } from './words-en.js';
-import { words as englishOffice } from './words-en-office.js';
 import { keep, kept } from './store.js';
 
 const KEPT = 'portal-language';
 
-/** The languages, each by what it is called in itself, and where its texts are. */
+/**
+ * The languages, each by what it is called in itself, and where its texts are.
+ * @type {Record<string, { name: string, texts: () => Promise<{ words: object }>[] }>}
+ */
 export const LANGUAGES = {
-  en: { name: 'English', texts: async () => [english, englishOffice] },
-  de: { name: 'Deutsch', texts: () => textsOf(import('./words-de.js'), import('./words-de-office.js')) },
+  en: { name: 'English', texts: () => [import('./words-en.js'), import('./words-en-office.js')] },
+  de: { name: 'Deutsch', texts: () => [import('./words-de.js'), import('./words-de-office.js')] },
 };
 
-const textsOf = async (...modules) => (await Promise.all(modules)).map((module) => module.words);
+/**
+ * The texts, once a language is spoken. What is read here while the page is put together is in the language that was chosen last.
+ * @type {Words}
+ */
+export const words = Object.create(null);
 
-/** The texts. What is read here while the page is put together is in the language that was chosen last. */
-export const words = { ...english, ...englishOffice };
-
-/** From now on the texts are those of this language. Where its files do not come, they stay as they are. */
+/**
+ * From now on the texts are those of this language. Where its files do not come, they stay as they are.
+ * @param {string} language
+ * @returns whether they came
+ */
 export async function speak(language) {
   try {
-    for (const texts of await LANGUAGES[language].texts()) Object.assign(words, texts);
+    for (const texts of await Promise.all(LANGUAGES[language].texts())) Object.assign(words, texts.words);
+    return true;
   } catch {
-    // the page goes on in the language that it has
+    return false;
   }
 }
 
-/** Keeps the language for the next time. */
+/**
+ * Keeps the language for the next time.
+ * @param {string} language
+ */
 export const chooseLanguage = (language) => keep(KEPT, language);
 
 /**
@@ -45,3 +56,16 @@ export function offeredLanguages(department = Object.keys(LANGUAGES)) {
   const known = department.filter((one) => Object.hasOwn(LANGUAGES, one));
   return known.length > 0 ? known : Object.keys(LANGUAGES);
 }
+
+/**
+ * A name that people gave, set apart so that letters from right to left do not turn the sentence around it.
+ * @param {string} text
+ */
+export const given = (text) => `\u2068${text}\u2069`;
+
+/**
+ * The texts of a file as they are: by this, tsc knows that their parts need no types of their own.
+ * @template {Wording} Texts
+ * @param {Texts} all
+ */
+export const texts = (all) => all;

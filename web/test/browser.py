@@ -47,8 +47,17 @@ class Browser:
     def open(self, address):
         self.driver.get(address)
 
+    def whole(self, name):
+        """The name that begins and ends like this one, where that has a star for what is between: "Add *, rings"."""
+        if "*" not in name:
+            return name
+        before, after = name.split("*")
+        labels = self.script("[...document.querySelectorAll('[aria-label]')].map((e) => e.getAttribute('aria-label'))")
+        return next((label for label in labels if label.startswith(before) and label.endswith(after)), name)
+
     def find_all(self, role, name):
         """All elements with this role and accessible name, as the browser tells them to a screen reader."""
+        name = self.whole(name)
         root = self.cdp("DOM.getDocument", depth=0)["root"]["nodeId"]
         nodes = self.cdp("Accessibility.queryAXTree", nodeId=root, role=role, accessibleName=name)["nodes"]
         backend = [node["backendDOMNodeId"] for node in nodes if not node["ignored"]]
@@ -118,7 +127,7 @@ class Browser:
         return self.says(part, "alert", wait)
 
     def phase(self):
-        return self.script("document.querySelector('[aria-label=Year] [aria-current=step]')?.textContent")
+        return self.script("document.querySelector('.year [aria-current=step]')?.textContent")
 
     def in_phase(self, name, wait=WAIT):
         self.wait(lambda: self.phase() == name, f"phase {name}", wait)
@@ -139,8 +148,15 @@ class Browser:
         self.find("textbox", "Your code")
 
     def entries(self, name):
-        """The keys of an ordered list, as its buttons name them."""
-        return self.script("[...document.querySelectorAll(`ol[aria-label=\"${arguments[0]}\"] .remove`)].map((b) => b.getAttribute('aria-label').split(' ')[1])", name)
+        """The keys of an ordered list."""
+        return self.script("[...document.querySelectorAll(`ol[aria-label=\"${arguments[0]}\"] > li`)].map((e) => e.dataset.key)", name)
+
+    def announced(self, part, wait=WAIT):
+        """Waits until this is told to screen readers alone."""
+        self.wait(lambda: part in self.spoken(), f"{part!r} to be told to screen readers", wait)
+
+    def spoken(self):
+        return self.script("document.querySelector('.spoken')?.textContent ?? ''").replace("\u2068", "").replace("\u2069", "")
 
     # by keyboard alone
 

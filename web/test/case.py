@@ -65,24 +65,29 @@ class PageCase(unittest.TestCase):
 
     def file_field(self, name):
         fields = self.browser.driver.find_elements("css selector", "input[type=file]")
-        return next((field for field in fields if field.accessible_name == name), None)
+        return next((field for field in fields if name.lower() in field.accessible_name.lower()), None)
 
     def send_file(self, name, path):
-        """Opens a roll file, and sends what the page shows of it."""
+        """Opens a roll file, sends what the page shows of it, and says that this is meant."""
         self.choose_file(name, path)
         self.browser.press("Send")
+        self.confirm()
+
+    def confirm(self):
+        """Does what is asked: the first button of a question."""
+        self.browser.wait(lambda: self.browser.driver.find_element("css selector", "dialog .buttons button"), "a question").click()
 
     def write(self, name, data):
         path = self.door.path / name
         path.write_bytes(data if isinstance(data, bytes) else data.encode())
         return path
 
-    def answer(self, button, question, answer="Yes"):
-        """Presses a button, and answers its question."""
+    def answer(self, button, question, answer=None):
+        """Presses a button, and answers its question: by the button of the same name, if no other is told."""
         self.browser.press(button)
         dialog = self.browser.find("dialog", question)
         said = dialog.text
-        self.browser.press(answer)
+        self.browser.press(answer or button)
         return said
 
     def downloaded(self, name):

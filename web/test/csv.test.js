@@ -3,7 +3,7 @@
 import assert from 'node:assert/strict';
 import test from 'node:test';
 
-import { records, table, written } from '../csv.js';
+import { isLikeFormula, records, table, written, writtenForSpreadsheets } from '../csv.js';
 
 const utf8 = (text) => new TextEncoder().encode(text);
 const utf16 = (text, isBigEndian) => Uint8Array.from([...text].flatMap((letter) => {
@@ -76,4 +76,14 @@ test('what is written is read again', () => {
   const rows = [['a,b', 'c"d', 'e\nf'], ['', ' g ', 'h;i'], ['\r', '"', '']];
   assert.deepEqual([...records(written(rows))], rows);
   assert.equal(written([['a', 'b, c']]), 'a,"b, c"\n');
+});
+
+test('what is written for spreadsheets has no formula, and is read as it was meant', () => {
+  const cells = ['=1+1', '+49', '-1', '@a', '\ta', '\ra', "'=a", "''=a", "'a", "'", 'a=b', ' =a', '', '=', 'É'];
+  const text = writtenForSpreadsheets([cells]);
+  assert.deepEqual([...records(text)][0].filter(isLikeFormula), []);
+  assert.deepEqual([...records(text)][0].slice(0, 9), ["'=1+1", "'+49", "'-1", "'@a", "'\ta", "'\ra", "''=a", "'''=a", "'a"]);
+  assert.deepEqual(table(utf8(text)).rows[0].fields, cells);
+  assert.equal(table(utf8("id,name\na,'=a\n")).rows[1].fields[1], '=a');
+  assert.equal(written([['=1+1']]), '=1+1\n');
 });

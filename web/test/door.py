@@ -1,9 +1,12 @@
 """The portal over a file, and the door in front of it: what each test of the page begins with."""
 
+import atexit
 import json
 import os
+import shutil
 import socket
 import subprocess
+import sys
 import tempfile
 import time
 import urllib.error
@@ -13,6 +16,13 @@ from pathlib import Path
 WEB = Path(__file__).resolve().parent.parent
 TOP = WEB.parent
 OFFICE = "office-of-2026"
+
+sys.path.append(str(TOP / "examples"))
+from large import Large, STEPS  # noqa: E402
+
+# The databases of the large department, by the step to which each was played: once for all tests of a run.
+PLAYED = Path(tempfile.mkdtemp(prefix="portal-played-"))
+atexit.register(shutil.rmtree, PLAYED, ignore_errors=True)
 
 # One department at the door of deploy/Caddyfile, with a certificate of its own.
 SITE = """https://localhost:{port} {{
@@ -67,12 +77,16 @@ class Door:
     def make_year(self):
         subprocess.run([program(), "init", self.path / "year.db"], input=f"{OFFICE}\n", text=True, check=True, stdout=subprocess.DEVNULL)
 
-    def new_year(self):
-        """The portal of another year takes the place of this one, at the same address."""
+    def new_year(self, folder=None):
+        """The portal of another year takes the place of this one, at the same address: a new one, or the one whose database is in a folder."""
         self.stop_portal()
         for file in self.path.glob("year.db*"):
             file.unlink()
-        self.make_year()
+        if folder is None:
+            self.make_year()
+        else:
+            for file in folder.iterdir():
+                shutil.copy(file, self.path)
         self.start_portal()
 
     def start_portal(self):
@@ -120,6 +134,27 @@ class Door:
     def load_rolls(self, folder=TOP / "examples/year"):
         for roll in ("lecturers", "projects", "students"):
             self.do(OFFICE, "POST", f"/rolls/{roll}", (folder / f"{roll}.csv").read_bytes())
+
+    def load_large(self, phase="setup", round_=1):
+        """The department of examples/large.py, played up to a phase. Answers who is in it."""
+        large, aim = Large(), STEPS.index((phase, round_))
+        folders = [PLAYED / f"{phase_}-{turn}" for phase_, turn in STEPS[:aim + 1]]
+        found = next((at for at in range(aim, -1, -1) if folders[at].is_dir()), None)
+        if found is not None:
+            self.new_year(folders[found])
+        for at in range(0 if found is None else found + 1, aim + 1):
+            large.enter(self.do, OFFICE, *STEPS[at])
+            self.stop_portal()
+            part = PLAYED / f"part-{os.getpid()}"
+            part.mkdir()
+            for file in self.path.glob("year.db*"):
+                shutil.copy(file, part)
+            try:
+                part.rename(folders[at])
+            except OSError:  # another process was quicker
+                shutil.rmtree(part)
+            self.start_portal()
+        return large
 
     def move(self, phase):
         self.do(OFFICE, "POST", "/phase", {"phase": phase})

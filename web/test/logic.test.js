@@ -3,18 +3,19 @@
 import assert from 'node:assert/strict';
 import { readFileSync, readdirSync } from 'node:fs';
 import test from 'node:test';
+import { gzipSync } from 'node:zlib';
 
-import { makeCode } from '../codes.js';
+import { asCode, isCode, madeCodeOf, makeCode } from '../codes.js';
 import { departmentOf } from '../department.js';
-import { step } from '../drag.js';
 import { Known } from '../known.js';
-import { added, isSame, moved, removed } from '../order.js';
-import { everybody } from '../people.js';
-import { told } from '../refusals.js';
-import { Lost, Portal, Refused, asCode, isCode } from '../requests.js';
-import { canOpenSecond, countOfChoosers, hasResult, isSameStep, makesList, placeOf, roundOf, secondRound, steps, takesRolls } from '../rounds.js';
+import { added, isSame, moved, removed, step } from '../list.js';
+import { everybody } from '../ranking.js';
+import { Lost, Portal, Refused, told } from '../requests.js';
+import { canOpenSecond, countOfChoosers, deadlineText, hasResult, isSameStep, makesList, placeOf, roundOf, secondRound, stageOf, steps, takesRolls } from '../year.js';
 import { isFound } from '../table.js';
-import { words } from '../words.js';
+import { LANGUAGES, speak, words } from '../words.js';
+
+await speak('en');
 
 const web = new URL('../', import.meta.url);
 const sources = readdirSync(web).filter((name) => name.endsWith('.js'));
@@ -38,19 +39,27 @@ test('lists are the same in the same order alone', () => {
   assert.ok(!isSame(['a'], ['a', 'b']));
 });
 
-test('a code has its form and 104 bits of chance', () => {
+test('a code by chance has four groups of four signs without look-alikes, 80 bits', () => {
   const codes = Array.from({ length: 1000 }, () => makeCode());
-  assert.ok(codes.every((code) => /^([a-hjkmnp-z2-9]{3}-){6}[a-hjkmnp-z2-9]{3}$/.test(code) && isCode(code)));
+  assert.ok(codes.every((code) => /^[a-km-np-z2-9]{4}(-[a-km-np-z2-9]{4}){3}$/.test(code) && isCode(code)), codes[0]);
   assert.equal(new Set(codes).size, 1000);
-  assert.ok(21 * Math.log2(31) >= 100);
   const seen = new Set(codes.join('').replaceAll('-', ''));
-  assert.equal(seen.size, 31);
+  assert.equal(seen.size, 32);
+  assert.equal(16 * Math.log2(seen.size), 80);
   assert.throws(() => makeCode(() => { throw new Error('no chance'); }), /no chance/);
 });
 
-test('bytes that would make some signs likelier are thrown away', () => {
-  const drawn = [255, 248, 247, ...Array(20).fill(0)];
-  assert.equal(makeCode((to) => { to[0] = drawn.shift(); }), '9aa-aaa-aaa-aaa-aaa-aaa-aaa');
+test('each sign of a code is equally likely: it stands for 8 of the 256 bytes', () => {
+  const counts = new Map();
+  for (let from = 0; from < 256; from += 16) {
+    for (const sign of makeCode((bytes) => bytes.forEach((_, at) => { bytes[at] = from + at; })).replaceAll('-', '')) counts.set(sign, (counts.get(sign) ?? 0) + 1);
+  }
+  assert.deepEqual([...counts.values()], Array(32).fill(8));
+});
+
+test('a code by chance is known in another case, with blanks and without dashes', () => {
+  for (const typed of ['K7MP-2XQA-9VRE-H4TD', 'k7mp 2xqa 9vre h4td', 'K7mp2xqa9vreh4td', 'k7mp–2xqa–9vre–h4td']) assert.equal(madeCodeOf(asCode(typed)), 'k7mp-2xqa-9vre-h4td', typed);
+  for (const other of ['student-ada-1', 'k7mp-2xqa-9vre-h4t', 'k7mp-2xqa-9vre-h4tl', 'k7mp-2xqa-9vre-h4t0', 'office-of-2026-!']) assert.equal(madeCodeOf(asCode(other)), null, other);
 });
 
 /** A portal whose replies are these in turn, under a clock that only our own pauses move. */
@@ -166,9 +175,9 @@ const refused = (status, body) => new Refused(status, body);
 test('a refused list names its entry and the reason', () => {
   const list = (at, fault) => told(refused(422, { error: 'bad_list', at, fault }), ['Tides', 'Kites']);
   assert.match(list(2, 'repeated'), /Kites.*twice/);
-  assert.match(list(1, 'unknown_project'), /Tides.*no such project/);
-  assert.match(list(1, 'not_an_applicant'), /chose no project/);
-  assert.match(list(1, 'too_long'), /too long/);
+  assert.match(list(1, 'unknown_project'), /Tides.*isn’t available/);
+  assert.match(list(1, 'not_an_applicant'), /didn’t choose any of your projects/);
+  assert.match(list(1, 'too_long'), /at most 20 projects/);
   assert.equal(list(0, 'missing'), words.rankingMissing);
 });
 
@@ -200,7 +209,7 @@ test('the first round: no reply tells it, and the second is offered once it is p
   assert.ok(hasResult(me) && !hasResult({ phase: 'ranking' }));
   assert.ok(takesRolls({ phase: 'choosing' }) && !takesRolls({ phase: 'ranking' }));
   assert.ok(makesList({ phase: 'choosing' }, null) && !makesList({ phase: 'ranking' }, null));
-  assert.equal(placeOf(me), '“Published”');
+  assert.equal(placeOf(me), '“Results”');
   assert.equal(countOfChoosers({ ...me, students: 5 }), 5);
 });
 
@@ -211,8 +220,9 @@ test('the second round: it has no setup, no rolls, no third one, and is for thos
   assert.ok(hasResult(me) && !takesRolls(me));
   assert.ok(makesList(me, null) && !makesList(me, 'P1') && !makesList({ phase: 'ranking', round: 2 }, null));
   assert.equal(countOfChoosers({ ...me, students: 5, unassigned: ['a', 'b'] }), 2);
-  assert.equal(placeOf(me), '“Choosing” of round 2');
+  assert.equal(placeOf(me), '“Choosing” of the second round');
   assert.ok(isSameStep(me, { ...me }) && !isSameStep(me, { phase: 'choosing' }));
+  assert.deepEqual([stageOf(me), stageOf({ phase: 'choosing' }), stageOf({ phase: 'published', round: 1 })], ['choosing-2', 'choosing', 'published']);
 });
 
 /** What a browser keeps, as long as the test lasts. */
@@ -284,6 +294,33 @@ test('a department has its name, and links by https or to a mail address alone',
   for (const text of ['', 'none', '[]', 'null', '{"contact":"a@b"}', '{"name":7}']) assert.deepEqual(departmentOf(text), { name: '' });
 });
 
+test('a department may tell until when a stage lasts: a moment with its zone, and nothing else', () => {
+  const whole = { 'choosing': '2027-05-12T12:00+02:00', 'ranking': '2027-05-20T10:00:00Z', 'choosing-2': '2027-06-01T12:00-05:00', 'ranking-2': '2027-06-08T12:00+02:00' };
+  const { until } = departmentOf(JSON.stringify({ name: 'Chemistry', until: whole }));
+  assert.deepEqual(Object.entries(until).map(([stage, end]) => [stage, end.toISOString()]), [
+    ['choosing', '2027-05-12T10:00:00.000Z'], ['ranking', '2027-05-20T10:00:00.000Z'], ['choosing-2', '2027-06-01T17:00:00.000Z'], ['ranking-2', '2027-06-08T10:00:00.000Z'],
+  ]);
+  for (const wrong of [null, 7, 'soon', ['2027-05-12T12:00+02:00'], { choosing: '2027-05-12T12:00' }, { choosing: '2027-13-12T12:00Z' }, { choosing: 12 }, { setup: '2027-05-12T12:00Z' }]) {
+    assert.deepEqual(departmentOf(JSON.stringify({ name: 'Chemistry', until: wrong })), { name: 'Chemistry' }, JSON.stringify(wrong));
+  }
+});
+
+test('the end of a stage is told in the reader’s zone, and to the office once it is over', () => {
+  const zone = process.env.TZ;
+  process.env.TZ = 'Europe/Berlin';
+  const end = new Date('2027-05-12T12:00+02:00');
+  const told = (role, now) => deadlineText({ role, phase: 'choosing' }, end, new Date(now));
+  assert.equal(told('student', '2027-05-09T11:00+02:00'), 'Choosing closes on Wednesday 12 May at 12:00 (in 3 days).');
+  assert.equal(told('lecturer', '2027-05-11T11:59+02:00'), 'Choosing closes on Wednesday 12 May at 12:00 (in 24 hours).');
+  assert.equal(told('office', '2027-05-12T11:50+02:00'), 'Choosing closes on Wednesday 12 May at 12:00 (in 10 minutes).');
+  assert.equal(told('office', '2027-05-12T12:00+02:00'), 'Choosing should be closed by now.');
+  assert.equal(told('student', '2027-05-12T12:01+02:00'), '');
+  process.env.TZ = 'America/New_York';
+  assert.equal(told('student', '2027-05-09T11:00+02:00'), 'Choosing closes on Wednesday 12 May at 06:00 (in 3 days).');
+  if (zone === undefined) delete process.env.TZ;
+  else process.env.TZ = zone;
+});
+
 test('a typed code is taken as it was meant', () => {
   assert.equal(asCode('  abc–def—gh‑1 2\u00a0\u200b3−4\n'), 'abc-def-gh-123-4');
   assert.equal(asCode('office-of-2026'), 'office-of-2026');
@@ -308,10 +345,14 @@ test('nothing comes from elsewhere, nothing is read as HTML, nothing is kept for
   assert.doesNotMatch(source('index.html'), /<style|style=|<script(?![^>]*src=)| on\w+=/);
 });
 
-test('the page is small: 200 kB in all, no file above 300 lines', () => {
+test('all that a browser loads has at most 90,000 bytes, compressed, in each language', () => {
   const names = readdirSync(web).filter((name) => /\.(js|css|html|svg)$/.test(name));
-  assert.ok(names.reduce((sum, name) => sum + Buffer.byteLength(source(name)), 0) < 200_000);
-  for (const name of names) assert.ok(source(name).split('\n').length <= 301, name);
+  const size = (name) => gzipSync(readFileSync(new URL(name, web)), { level: 9 }).length;
+  for (const language of Object.keys(LANGUAGES)) {
+    const isLoaded = (name) => !name.startsWith('words-') || name.startsWith(`words-${language}`);
+    const whole = names.filter(isLoaded).reduce((sum, name) => sum + size(name), 0);
+    assert.ok(whole <= 90_000, `${language}: ${whole} bytes`);
+  }
 });
 
 test('every module that the page needs at first is fetched at once', () => {

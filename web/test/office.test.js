@@ -3,23 +3,23 @@
 import assert from 'node:assert/strict';
 import test from 'node:test';
 
-import { Known } from '../known.js';
-import { Names, thereOf } from '../names.js';
-import { lacksOf, placesFor, stepsFrom } from '../nextstep.js';
-import { told, toldOfRoll } from '../refusals.js';
-import { Refused } from '../requests.js';
+import { table } from '../csv.js';
+import { Known, Names, thereOf } from '../known.js';
+import { bars, lacksOf, missing, placesFor, placesLeft, stepsFrom } from '../office.js';
+import { Refused, told, toldOfRoll } from '../requests.js';
 import { usage } from '../result.js';
-import { doubtsOf, faultsOf, sorted } from '../rollcheck.js';
-import { columnsOf, entriesOf, extraOf, missingOf, rollOf, rollText } from '../rollfile.js';
-import { bars, missing } from '../state.js';
-import { words } from '../words.js';
+import { RollFile, columnsOf, doubtsOf, entriesOf, extraOf, faultsOf, fileText, likeness, missingOf, rollOf, rollText, sorted } from '../rollfile.js';
+import { speak, words } from '../words.js';
+
+await speak('en');
 
 const rows = (...lines) => lines.map((line, at) => ({ row: at + 1, fields: line.split(',') }));
 const entries = (roll, ...lines) => entriesOf(rows(...lines), columnsOf(roll, lines[0].split(',')));
 
 test('columns are found by name, in any case and order', () => {
-  assert.deepEqual(columnsOf('students', ['ID', ' Name', 'Code']), { id: 0, name: 1, code: 2 });
-  assert.deepEqual(columnsOf('lecturers', ['capacity', 'group', 'name', 'id']), { id: 3, name: 2, code: -1, capacity: 0 });
+  assert.deepEqual(columnsOf('students', ['ID', ' Name', 'Code', 'phone']), { id: 0, name: 1, code: 2, email: -1 });
+  assert.deepEqual(columnsOf('lecturers', ['capacity', 'Email', 'name', 'id']), { id: 3, name: 2, code: -1, capacity: 0, email: 1 });
+  assert.deepEqual(columnsOf('projects', ['id', 'email']), { id: 0, lecturer: -1, title: -1, capacity: -1 });
   assert.deepEqual(missingOf(columnsOf('lecturers', ['id', 'name'])), ['capacity']);
   assert.deepEqual(missingOf(columnsOf('students', ['id', 'name'])), []);
   assert.deepEqual(extraOf(columnsOf('students', ['id', 'group', 'name', '']), ['id', 'group', 'name', '']), ['group']);
@@ -40,6 +40,55 @@ test('entries of the roll are made from the columns that are taken', () => {
 
 /** Nobody is there; `more` says who is. */
 const nobody = (more = {}) => ({ lecturers: new Map(), projects: new Map(), students: new Map(), ...more });
+
+/** Which roll a file looks like, and why, by its rows. */
+const looks = (roll, there, ...lines) => {
+  const found = likeness(roll, lines[0].split(','), entries(roll, ...lines), nobody(there));
+  return found && `${found.roll} ${found.why}`;
+};
+
+test('the file of another roll is known by its header', () => {
+  assert.equal(looks('students', {}, 'id,name,code,capacity', 'l,Lee,code-of-l-1,2'), 'lecturers header');
+  assert.equal(looks('students', {}, 'Capacity,Name,ID,room', '2,Lee,l,1'), 'lecturers capacity');
+  assert.equal(looks('students', {}, 'id,lecturer,title,capacity', 'p,l,Tides,2'), 'projects header');
+  assert.equal(looks('students', {}, 'id,lecturer,title,capacity,room', 'p,l,Tides,2,1'), 'projects capacity');
+  assert.equal(looks('lecturers', {}, 'id,name,code,email', 's,Ann,code-of-s-1,ann@example.edu'), 'students header');
+  assert.equal(looks('lecturers', {}, 'id,lecturer,title,capacity', 'p,l,Tides,2'), 'projects header');
+  assert.equal(looks('projects', {}, 'id,name', 's,Ann'), 'students header');
+  assert.equal(looks('projects', {}, 'id,name,code,capacity', 'l,Lee,code-of-l-1,2'), 'lecturers header');
+});
+
+test('the right file is never taken for another one, also where a column was only mapped', () => {
+  assert.equal(looks('students', {}, 'id,name,code', 's,Ann,code-of-s-1'), null);
+  assert.equal(looks('students', {}, 'id,name,code,group,title,lecturer', 's,Ann,code-of-s-1,3,Ms,l'), null);
+  assert.equal(looks('lecturers', {}, 'id,name,code,capacity,email', 'l,Lee,code-of-l-1,2,lee@example.edu'), null);
+  assert.equal(looks('lecturers', {}, 'id,name,places', 'l,Lee,2'), null);
+  assert.equal(looks('lecturers', {}, 'Kennung,Wer,Plätze', 'l,Lee,2'), null);
+  assert.equal(looks('projects', {}, 'id,lecturer,title,capacity', 'p,l,Tides,2'), null);
+});
+
+test('the file of another roll is known by the people in it, where the header says nothing', () => {
+  const there = { lecturers: new Map([['l', { name: 'Lee' }], ['m', { name: 'Moe' }], ['n', {}]]) };
+  assert.equal(looks('students', there, 'id,name,places', 'l,Lee,2', 'm,Moe,1'), 'lecturers people');
+  assert.equal(looks('students', there, 'id,name,code', 'l,Ann,', 'm,Bea,', 'n,Cyr,'), null);
+  assert.equal(looks('students', { ...there, students: new Map([['l', { name: 'Lee' }]]) }, 'id,name,code', 'l,Lee,'), null);
+  assert.equal(looks('students', there, 'id,name,code', 'l,Lee,', 's,Ann,'), null);
+});
+
+test('a file that is used as that of another roll loses nothing', () => {
+  const { rows: read } = table(new TextEncoder().encode('id,name,code,capacity\nl,Lee,code-of-l-1,2\n'));
+  const file = new RollFile('students', 'l.csv', { encoding: 'utf-8', separator: ',' }, read).as('lecturers');
+  assert.equal(file.likeness(nobody()), null);
+  assert.deepEqual(file.entries, [{ row: 2, id: 'l', name: 'Lee', code: 'code-of-l-1', capacity: '2', email: '' }]);
+});
+
+test('a file to keep has no formulas, and what the portal gets has them as they are', () => {
+  const all = entries('students', 'id,name,code', '-a,=1+1,-code-of-a-1', "b,'=Bea,code-of-b-1");
+  assert.equal(fileText('students', all), "id,name,code\n'-a,'=1+1,'-code-of-a-1\nb,''=Bea,code-of-b-1\n");
+  assert.equal(rollText('students', all), "id,name,code\n-a,=1+1,-code-of-a-1\nb,'=Bea,code-of-b-1\n");
+  const { rows: read } = table(new TextEncoder().encode(fileText('students', all)));
+  assert.equal(rollText('students', entriesOf(read, columnsOf('students', read[0].fields))), rollText('students', all));
+});
 
 test('who is new, who needs a code, and who is left out', () => {
   const all = entries('students', 'id,name,code', 'a,Ann,', 'b,Bea,code-of-b-1', 'c,Cyr,', 'd,Dan,code-of-d-1');
@@ -116,6 +165,12 @@ test('codes that can be guessed', () => {
   assert.deepEqual(weak('a,Ann,'), []);
 });
 
+test('names and titles that a spreadsheet takes for formulas', () => {
+  assert.deepEqual(doubts('students', entries('students', 'id,name,code', 'a,=Ann,', 'b,@Bea,', "c,'=Cyr,", 'd,D=n,', 'e,+Eve,', 'f,-Fay,')), ['formula: 2,3,6,7']);
+  const there = nobody({ lecturers: new Map([['l', {}]]) });
+  assert.deepEqual(doubts('projects', entries('projects', 'id,lecturer,title,capacity', 'p,l,-1 as a square,1', 'q,l,Tides,1'), there), ['formula: 2']);
+});
+
 test('lecturers on no roll, titles that repeat, rows that differ from what is there', () => {
   const there = nobody({ lecturers: new Map([['l', {}]]), projects: new Map([['p', { title: 'Tides', lecturer: 'l', capacity: '1' }]]) });
   const projects = (...lines) => doubts('projects', entries('projects', 'id,lecturer,title,capacity', ...lines), there);
@@ -146,7 +201,7 @@ function withStorage(act) {
 
 test('names are kept, codes never, and they can be forgotten', () => withStorage((stored) => {
   const names = new Names(new Known());
-  names.learn('students', entries('students', 'id,name,code', 'a,Ann,secret-code-of-a', '__proto__,Bea,secret-code-of-b'), true);
+  names.learn('students', entries('students', 'id,name,code,email', 'a,Ann,secret-code-of-a,ann@example.edu', '__proto__,Bea,secret-code-of-b,'), true);
   names.learn('lecturers', entries('lecturers', 'id,name,code,capacity', 'l,Lee,secret-code-of-l,2'), false);
   names.learn('projects', entries('projects', 'id,lecturer,title,capacity', 'p,l,Tides,1'), true);
   assert.ok(![...stored.values()].join().includes('secret'));
@@ -156,6 +211,10 @@ test('names are kept, codes never, and they can be forgotten', () => withStorage
   assert.equal(again.nameOf('lecturers', 'l'), 'Lee');
   assert.equal(again.nameOf('students', 'l'), undefined);
   assert.equal(again.count, 3);
+  assert.deepEqual([again.emails, again.emailOf('students', 'a'), again.emailOf('students', '__proto__')], [1, 'ann@example.edu', '']);
+  assert.equal(again.capacityOf('l'), '2');
+  again.learn('students', entries('students', 'id,name', 'a,Ann'), false);
+  assert.equal(again.emailOf('students', 'a'), 'ann@example.edu');
   again.forget();
   assert.equal(stored.size, 0);
   assert.equal(again.nameOf('students', 'a'), undefined);
@@ -213,9 +272,9 @@ const refused = (status, body) => new Refused(status, body);
 test('a refused roll names the row of the spreadsheet, and shows no code', () => {
   const entry = { id: 'a', name: 'Ann', code: 'secret-code', row: 7 };
   const conflict = toldOfRoll(refused(409, { error: 'roll_conflict', row: 1 }), 'students', entry);
-  assert.match(conflict.text, /row 7/);
+  assert.match(conflict.text, /Row 7/);
   assert.equal(conflict.line, 'a, Ann');
-  assert.match(toldOfRoll(refused(422, { error: 'bad_row', row: 1 }), 'projects', { id: 'p', lecturer: 'm', title: 'Tides', capacity: '1', row: 3 }).text, /row 3.*no key.*m/);
+  assert.match(toldOfRoll(refused(422, { error: 'bad_row', row: 1 }), 'projects', { id: 'p', lecturer: 'm', title: 'Tides', capacity: '1', row: 3 }).text, /row 3.*No lecturer has the ID.*m/);
   assert.match(toldOfRoll(refused(422, { error: 'roll_full' }), 'students', undefined).text, /too many rows/);
 });
 
@@ -230,7 +289,7 @@ test('the report’s counts of the projects', () => {
 
 test('the bars and who is missing, in each phase; a bar’s text tells the numbers of the bar', () => {
   const status = { lecturers: 3, projects: 5, students: 5, still_to_rank: [], without_list: ['emil'] };
-  const shown = (of) => bars(of).map(([text, part, whole]) => {
+  const shown = (of) => bars(of).map(({ text, part, whole }) => {
     assert.match(text, new RegExp(`\\b${part} of ${whole}\\b`));
     return [part, whole];
   });
@@ -252,28 +311,52 @@ const project = (id, lecturer, capacity) => ({ id, lecturer, capacity });
 
 test('places are counted by project and by lecturer', () => {
   const projects = [project('p', 'l', 2), project('q', 'l', 2), project('r', 'm', 1)];
-  assert.equal(placesFor(projects, new Map()), 5);
-  assert.equal(placesFor(projects, new Map([['l', { capacity: '3' }], ['m', { capacity: '9' }]])), 4);
-  assert.equal(placesFor([], new Map()), 0);
+  const taking = (l, m) => new Map([['l', { capacity: l }], ['m', { capacity: m }]]);
+  assert.deepEqual(placesFor(projects, new Map()), { count: 5, isSure: false });
+  assert.deepEqual(placesFor(projects, taking('3', '9')), { count: 4, isSure: true });
+  assert.deepEqual(placesFor(projects, taking('3', undefined)), { count: 4, isSure: false });
+  assert.deepEqual(placesFor([], new Map()), { count: 0, isSure: true });
+});
+
+test('the places that are left are counted by project and by lecturer', () => {
+  const projects = [project('p', 'l', 3), project('q', 'l', 2), project('r', 'm', 2), project('s', 'n', 1)];
+  const used = [{ key: 'p', taken: 1, all: 3 }, { key: 'q', taken: 2, all: 2 }, { key: 'r', taken: 0, all: 2 }, { key: 's', taken: 1, all: 1 }];
+  const taking = (l, m, n) => new Map(Object.entries({ l: { capacity: l }, m: { capacity: m }, n: { capacity: n } }));
+  assert.deepEqual(placesLeft(used, projects, taking('3', '9', '4')), { least: 2, most: 2, unknown: 0 });
+  assert.deepEqual(placesLeft(used, projects, taking('4', '1', '4')), { least: 2, most: 2, unknown: 0 });
+  assert.deepEqual(placesLeft(used, projects, taking('9', '9', '4')), { least: 4, most: 4, unknown: 0 });
+  // whoever takes nobody yet takes one at least; n has no place, whatever n takes
+  assert.deepEqual(placesLeft(used, projects, new Map()), { least: 1, most: 4, unknown: 2 });
+  // 2 cannot be right of l, who has 3 students
+  assert.deepEqual(placesLeft(used, projects, taking('2', '2', undefined)), { least: 2, most: 4, unknown: 1 });
 });
 
 test('what stands in the way of each step', () => {
   const status = { lecturers: 2, projects: 1, students: 3, still_to_rank: [], without_list: ['a', 'b', 'c'], phase: 'setup' };
   const of = { status, projects: [project('p', 'l', 2)], toRank: [], lecturers: new Map([['l', {}], ['m', {}]]), nameOf: (key) => ({ m: 'Moe' })[key], used: [] };
   const lacks = (name, more = {}) => lacksOf(name, { ...of, ...more });
-  assert.deepEqual(lacks('openChoosing').map(({ text }) => text), [words.lacks.places(2, 3), words.lacks.offers(1, '\u2068Moe (m)\u2069')]);
-  assert.ok(lacks('openChoosing').every(({ stops }) => !stops));
-  assert.deepEqual(lacks('openChoosing', { status: { ...status, projects: 0, students: 0, lecturers: 0 }, projects: [] }).map(({ text, stops }) => [text, stops]), [[words.lacks.projects, true], [words.lacks.students, true]]);
-  assert.ok(lacks('openRanking').some(({ text, stops }) => text === words.lacks.lists && stops));
-  assert.ok(lacks('openRanking', { status: { ...status, without_list: ['a'] } }).every(({ stops }) => !stops));
-  assert.ok(lacks('publish', { toRank: ['Lee (l)'] })[0].stops);
+  assert.deepEqual(lacks('openChoosing'), [{ text: words.lacks.places(2, 3, false), isRisk: true }, { text: words.lacks.offers(1, '\u2068Moe (m)\u2069') }]);
+  assert.deepEqual(lacks('openChoosing', { status: { ...status, projects: 0, students: 0, lecturers: 0 }, projects: [] }), [{ text: words.lacks.projects, ends: true }]);
+  assert.equal(lacks('openChoosing', { status: { ...status, students: 0 } })[0].ends, true);
+  assert.deepEqual(lacks('openRanking')[0], { text: words.lacks.lists, isRisk: true });
+  assert.deepEqual(lacks('openRanking', { status: { ...status, without_list: ['a'] } })[0], { text: words.withoutList(1), isRisk: true });
+  assert.deepEqual(lacks('publish', { toRank: ['Lee (l)'] }), [{ text: words.publishMissing(1), names: '\u2068Lee (l)\u2069', ends: true }]);
   assert.deepEqual(lacks('publish'), []);
   assert.ok(lacks('fill')[0].ends);
   assert.ok(!lacks('fill', { toRank: ['Lee (l)'] })[0].ends);
-  const published = { ...status, unassigned: ['a'] };
-  assert.ok(!lacks('openSecond', { status: published, used: [{ taken: 1, all: 2 }] })[0].ends);
-  assert.ok(lacks('openSecond', { status: published, used: [{ taken: 2, all: 2 }] })[0].ends);
-  assert.ok(lacks('openSecond', { status: { ...status, unassigned: [] }, used: [{ taken: 1, all: 2 }] })[0].ends);
+});
+
+test('a second round is for somebody, and has a place', () => {
+  const status = { phase: 'published', unassigned: ['a', 'b'] };
+  const of = { status, projects: [project('p', 'l', 3), project('q', 'm', 1)], toRank: [], nameOf: () => undefined };
+  const lack = (used, lecturers, more = {}) => lacksOf('openSecond', { ...of, used, lecturers: new Map(lecturers), ...more });
+  const [p, q] = [{ key: 'p', taken: 1, all: 3 }, { key: 'q', taken: 0, all: 1 }];
+  assert.deepEqual(lack([p], [['l', { capacity: '2' }]]), [{ text: words.secondRoom(1, 2), isRisk: true }]);
+  assert.deepEqual(lack([p], [['l', { capacity: '9' }]]), [{ text: words.secondRoom(2, 2), isRisk: false }]);
+  assert.deepEqual(lack([p], [['l', { capacity: '1' }]]), [{ text: words.lacks.room(2), ends: true }]);
+  assert.deepEqual(lack([p], []), [{ text: words.secondRange(0, 2, 2, 1), isRisk: true, ends: true, needsLecturers: true }]);
+  assert.deepEqual(lack([p, q], []), [{ text: words.secondRange(1, 3, 2, 2), isRisk: true, ends: false, needsLecturers: true }]);
+  assert.deepEqual(lack([p], [], { status: { ...status, unassigned: [] } }), [{ text: words.secondFor, ends: true }]);
 });
 
 test('in the second round nothing is said of rolls, which are closed', () => {
@@ -285,7 +368,7 @@ test('in the second round nothing is said of rolls, which are closed', () => {
 test('the steps from each phase', () => {
   const names = (me) => stepsFrom(me).map(({ name }) => name);
   assert.deepEqual(names({ phase: 'setup' }), ['openChoosing']);
-  assert.deepEqual(names({ phase: 'ranking' }), ['fill', 'publish']);
+  assert.deepEqual(names({ phase: 'ranking' }), ['publish', 'fill']);
   assert.deepEqual(names({ phase: 'published' }), ['openSecond']);
   assert.deepEqual(names({ phase: 'published', round: 2 }), []);
 });

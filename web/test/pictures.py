@@ -37,7 +37,7 @@ def play(door, browser, folder):
     browser.open(door.address)  # the second visit, at which the advice is folded
     browser.in_phase("Choosing")
     for key in ("pulsars", "rings", "patterns"):
-        browser.press(f"Add {key}")
+        browser.press(f"Add *, {key}")
     take(browser, folder / "student-choosing.png")
     browser.press("Save list")
     browser.says("Saved")
@@ -48,18 +48,18 @@ def play(door, browser, folder):
     door.do(BELL, "PUT", "/ranking", {"students": ["ben", "ada"]})
     sign_in(browser, NOETHER, "Ranking")
     for key in ("cleo", "ada"):
-        browser.press(f"Add {key}")
+        browser.press(f"Add *, {key}")
     take(browser, folder / "lecturer-ranking.png")
     browser.press("Sign out")
-    browser.press("Yes")
+    browser.press("Leave")
     door.do(OFFICE, "POST", "/ranking/fill", {})
     door.move("published")
     for code, name in ((ADA, "student"), (NOETHER, "lecturer"), (OFFICE, "office")):
-        sign_in(browser, code, "Published")
+        sign_in(browser, code, "Results")
         take(browser, folder / f"{name}-published.png")
     door.do(OFFICE, "POST", "/phase", {"phase": "choosing", "round": 2})
     sign_in(browser, EMIL, "Choosing")
-    browser.press("Add comets")
+    browser.press("Add *, comets")
     take(browser, folder / "student-second.png")
 
 

@@ -3,9 +3,11 @@
 import base64
 import re
 
+from selenium.webdriver.common.keys import Keys
+
 from case import ADA, OFFICE, PageCase, YEAR
 
-CODE = re.compile("[a-hjkmnp-z2-9]{3}(?:-[a-hjkmnp-z2-9]{3}){6}")
+CODE = re.compile("[a-km-np-z2-9]{4}(?:-[a-km-np-z2-9]{4}){3}")
 MARK = "\ufeff"
 
 
@@ -20,6 +22,10 @@ class FileCase(PageCase):
     def sees(self, *parts):
         for part in parts:
             self.browser.wait(lambda: part in self.text(), part)
+
+    def send(self):
+        self.browser.press("Send")
+        self.confirm()
 
     def rows(self):
         """The first rows as the page shows them."""
@@ -45,7 +51,7 @@ class Preview(FileCase):
         rows = "".join(f"s{n},Person {n},k4mz-pq7w-9x{n}d\n" for n in range(2, 7))
         path = self.write("s.csv", f"id,name,code\n{rows}")
         self.choose_file("Students", path)
-        self.sees("Students: s.csv", "The file has 5 rows.", "New: 5. Already there: 0.", "Sending is final")
+        self.sees("Students: s.csv", "The file has 5 rows.", "New: 5. Already in the portal: 0.", "rows can’t be changed or removed here afterwards")
         self.assertEqual(self.rows(), [[str(n), f"s{n}", f"Person {n}", "k4…"] for n in (2, 3, 4)])
         self.assertEqual(self.focused(), "Students: \u2068s.csv\u2069")
         self.assertEqual(self.count("students"), 0)
@@ -54,11 +60,11 @@ class Preview(FileCase):
         self.assertEqual(self.focused(), "students-file")
         self.assertEqual(self.count("students"), 0)
         self.choose_file("Students", path)
-        self.browser.press("Send")
-        self.browser.says("Students: added 5, already there 0.")
+        self.send()
+        self.browser.says("Students: 5 added, 0 already there.")
         self.assertEqual(self.count("students"), 5)
         self.choose_file("Students", self.write("s.csv", f"id,name,code\n{rows}s7,Person 7,k4mz-pq7w-9x7d\n"))
-        self.sees("New: 1. Already there: 5.")
+        self.sees("New: 1. Already in the portal: 5.")
 
     def test_file_is_dropped(self):
         script = """
@@ -71,30 +77,30 @@ class Preview(FileCase):
         self.assertTrue(self.browser.driver.execute_script(script, (YEAR / "lecturers.csv").read_text()))
         self.sees("The file has 3 rows.")
         self.assertEqual(self.count("lecturers"), 0)
-        self.browser.press("Send")
-        self.browser.says("Lecturers: added 3, already there 0.")
+        self.send()
+        self.browser.says("Lecturers: 3 added, 0 already there.")
 
     def test_what_looks_wrong(self):
         self.send_file("Lecturers", YEAR / "lecturers.csv")
-        self.browser.says("Lecturers: added 3")
+        self.browser.says("Lecturers: 3 added")
         self.choose_file("Projects", self.write("p.csv", "id,lecturer,title,capacity\na,bell,Tides,1\nb,bell,tides,1\nc,lovelace,Looms,1\n"))
-        self.sees("Look at this before you send it:", "Another project has this title: rows 2, 3.", "The lecturer is not on the roll, as far as this page knows: row 4.")
+        self.sees("Check this before you send:", "Another project has the same title: rows 2, 3.", "Lecturer doesn’t seem to be in the portal. Add lecturers first: row 4.")
         self.assertTrue(self.sendable())
         self.choose_file("Students", self.write("s.csv", "id,name,code\nann,Ann Roe,k4mz-pq7w-9xyd\nbea,Bea,secret-of-bea\ncyr,Ann Roe,short-12\n"))
-        self.sees("The code is easy to guess: rows 3, 4.")
+        self.sees("Code is easy to guess: rows 3, 4.")
         self.choose_file("Lecturers", self.write("l.csv", "id,name,code,capacity\nbell,Jocelyn Bell Burnell,lecturer-bell-1,2\n"))
-        self.sees("Differs from what the portal has under this key, as far as this page knows. Then it refuses the file: row 2.")
+        self.sees("Seems to differ from what the portal has under the same ID. If so, the portal refuses the file: row 2.")
 
     def test_errors_name_the_row_and_the_field(self):
         self.choose_file("Students", self.write("s.csv", "ID;Name;Code\n\nann;Ann;k4mz-pq7w-9xyd\nb b;Bea;x\nann;Anna;k4mz-pq7w-9xya\ncyr;;k4mz-pq7w-9xyd\n"))
-        self.sees("The portal would refuse this file.", "Row 4, ID: a key has 1 to 16 letters", "Row 4, Code: a code has 8 to 40 letters",
-                  "Row 5, ID: row 3 has the same key with other fields.", "Row 6, Name: nothing is there.", "Row 6, Code: row 3 has the same code.")
+        self.sees("This file can’t be sent yet.", "Row 4, ID: use 1 to 16 letters", "Row 4, Code: use 8 to 40 letters",
+                  "Row 5, ID: row 3 has the same ID with different details.", "Row 6, Name: this cell is empty.", "Row 6, Code: row 3 has the same code.")
         self.assertFalse(self.sendable())
         self.choose_file("Lecturers", self.write("l.csv", "id,name,code,capacity\nl,Lee,k4mz-pq7w-9xyd,many\n"))
-        self.sees("Row 2, capacity: this has to be a number from 1 to 200.")
+        self.sees("Row 2, capacity: use a whole number from 1 to 200.")
         rows = "".join(f"s{n},Name {n},\n" for n in range(2001))
         self.choose_file("Students", self.write("full.csv", f"id,name,code\n{rows}"))
-        self.sees("Row 2002, id: from here on the rows are too many.")
+        self.sees("Row 2002, id: too many rows from here on.")
         self.assertFalse(self.browser.has("button", "Make codes"))
 
     def test_too_large(self):
@@ -123,9 +129,9 @@ class Spreadsheets(FileCase):
             self.assertFalse(self.browser.has("combobox", "Column for id"), form)
             self.browser.press("Cancel")
         self.choose_file("Students", self.write("form.csv", forms["semicolons in Windows-1252"]))
-        self.sees("The file is in Windows-1252 and separated by semicolons. The portal gets it in UTF-8, separated by commas.")
-        self.browser.press("Send")
-        self.browser.says("Students: added 2, already there 0.")
+        self.sees("This file is in Windows-1252 and separated by semicolons. That’s fine: it is converted when you send it.")
+        self.send()
+        self.browser.says("Students: 2 added, 0 already there.")
         self.browser.sign_out()
         self.sign_in("m7mz-pq7w-9xyd", "Setup")
         self.assertIn("Zoë; Müller, €", self.browser.page_text())
@@ -133,42 +139,144 @@ class Spreadsheets(FileCase):
     def test_other_order_and_blank_rows(self):
         self.choose_file("Students", self.write("order.csv", "Code;ID;Name\n;;\nk4mz-pq7w-9xyd; ann ;Ann\n"))
         self.browser.wait(lambda: self.rows() == [["3", "ann", "Ann", "k4…"]], "the row")
-        self.browser.press("Send")
-        self.browser.says("Students: added 1, already there 0.")
+        self.send()
+        self.browser.says("Students: 1 added, 0 already there.")
         self.assertEqual(self.door.do("k4mz-pq7w-9xyd", "GET", "/me")["key"], "ann")
 
     def test_columns_are_chosen(self):
         """Columns that the page does not know are chosen by the person, and what is not chosen is not sent."""
         self.choose_file("Lecturers", self.write("l.csv", "Kennung,Wer,Plätze,E-Mail\nlee,Ann Lee,3,lee@example.edu\n"))
-        self.sees("Choose where the file has: id, name, capacity.", "Not sent: Kennung, Wer, Plätze, E-Mail.")
+        self.sees("Choose the column for: id, name, capacity.", "Won’t be sent: Kennung, Wer, Plätze, E-Mail.")
         self.assertFalse(self.browser.has("button", "Send"))
         for column, name in (("id", "Kennung"), ("name", "Wer"), ("capacity", "Plätze")):
             self.browser.choose(f"Column for {column}", name)
-        self.sees("Not sent: E-Mail.")
+        self.sees("Won’t be sent: E-Mail.")
         self.assertEqual(self.rows(), [["2", "lee", "Ann Lee", "none yet", "3"]])
         self.browser.press("Make codes")
-        self.browser.press("Send")
-        self.browser.says("Lecturers: added 1, already there 0.")
+        self.send()
+        self.browser.says("Lecturers: 1 added, 0 already there.")
         saved = self.downloaded("lecturers-with-codes.csv").read_text()
         self.codes += CODE.findall(saved)
         self.assertRegex(saved, f"^{MARK}id,name,code,capacity\nlee,Ann Lee,{CODE.pattern},3\n$")
 
+    def test_formulas(self):
+        """A name that a spreadsheet takes for a formula is doubted; the file with the codes has it as a text, and is read as it was."""
+        name = '=HYPERLINK("http://example.edu","Open")'
+        quoted = name.replace('"', '""')
+        self.choose_file("Students", self.write("s.csv", f'id,name\nann,"{quoted}"\nbea,"\'=Bea"\ncyr,Cyr\n'))
+        self.sees("Name or title begins with =, +, - or @. A spreadsheet may take it for a formula: rows 2, 3.")
+        self.browser.press("Make codes")
+        self.send()
+        self.browser.says("Students: 3 added")
+        saved = self.downloaded("students-with-codes.csv")
+        codes = CODE.findall(saved.read_text())
+        self.codes += codes
+        self.assertIn(f'ann,"\'{quoted}",', saved.read_text())
+        self.assertEqual([self.door.do(code, "GET", "/me")["name"] for code in codes], [name, "=Bea", "Cyr"])
+        self.choose_file("Students", saved)
+        self.browser.wait(lambda: [row[2] for row in self.rows()] == [name, "=Bea", "Cyr"], "the names")
+        self.send()
+        self.browser.says("Students: 0 added, 3 already there.")
+
+    def test_template(self):
+        """Each roll's columns are explained, and a file with their names alone can be kept, filled in and sent."""
+        self.browser.script("document.querySelectorAll('.rolls details').forEach((fold) => { fold.open = true; })")
+        self.sees("How many students the lecturer takes in total: 1 to 200.", "How many students can have the project: 1 to 200.", "The ID of the lecturer, as in the lecturers file.")
+        for roll, header in (("lecturers", "id,name,code,capacity,email"), ("projects", "id,lecturer,title,capacity"), ("students", "id,name,code,email")):
+            self.browser.press(f"Download a template for {roll}")
+            self.assertEqual(self.downloaded(f"{roll}.csv").read_text(), f"{MARK}{header}\n")
+        path = self.downloads / "lecturers.csv"
+        path.write_text(path.read_text() + "lee,Ann Lee,k4mz-pq7w-9xyd,3,lee@example.edu\n")
+        self.send_file("Lecturers", path)
+        self.browser.says("Lecturers: 1 added, 0 already there.")
+
+    def test_file_field(self):
+        """The field's button speaks the page's language, is wide enough for its text, and is reached and pressed by keyboard."""
+        for language, names in (("Deutsch", ("Datei der Lehrenden wählen", "Datei der Projekte wählen", "Datei der Studierenden wählen")),
+                                ("English", ("Choose lecturers file", "Choose projects file", "Choose students file"))):
+            self.browser.choose("Sprache" if language == "English" else "Language", language)
+            for width in (1280, 390):
+                self.browser.resize(width, 844)
+                for name in names:
+                    self.browser.wait(lambda: self.file_field(name), name)
+                    label = self.browser.script("[...document.querySelectorAll('label.button')].find((e) => e.textContent === arguments[0])", name)
+                    self.assertTrue(self.browser.script("arguments[0].scrollWidth <= arguments[0].clientWidth && arguments[0].getBoundingClientRect().right <= innerWidth", label), name)
+        self.browser.script("document.querySelector('#lecturers-file').focus()")
+        self.browser.keys(Keys.TAB)
+        self.browser.keys(Keys.SHIFT + Keys.TAB)
+        outline = self.browser.script("getComputedStyle(document.querySelector('#lecturers-file + label')).outlineWidth")
+        self.assertEqual(outline, "3px")
+
     def test_extra_columns(self):
         """All columns are there, and more: the page takes those that it knows, and another one can be chosen."""
         self.choose_file("Students", self.write("s.csv", "group,id,name,code,short\n1,ann,Ann Roe,k4mz-pq7w-9xyd,Annie\n"))
-        self.sees("Not sent: group, short.")
+        self.sees("Won’t be sent: group, short.")
         self.assertTrue(self.sendable())
         self.browser.choose("Column for name", "short")
         self.browser.wait(lambda: self.rows() == [["2", "ann", "Annie", "k4…"]], "the other column")
 
     def test_file_of_another_roll(self):
+        """It cannot be sent where it does not belong: the page offers to use it where it does, and nothing is lost on the way."""
+        wrong = [("Students", "lecturers"), ("Lecturers", "students"), ("Projects", "lecturers"), ("Students", "projects"), ("Lecturers", "projects")]
+        for where, roll in wrong:
+            self.choose_file(where, YEAR / f"{roll}.csv")
+            name = roll.capitalize()
+            self.sees(f"This looks like the “{name}” file, not the “{where}” file. Nothing was sent.", f"Its columns are those of the “{name}” file.")
+            self.assertFalse(self.browser.has("button", "Send"), where)
+            self.assertFalse(self.browser.has("combobox", "Column for id"), where)
+            self.browser.press("Cancel")
         self.choose_file("Students", YEAR / "lecturers.csv")
-        self.sees("This looks like the file for “Lecturers”.", "Not sent: capacity.")
-        self.choose_file("Lecturers", YEAR / "students.csv")
-        self.sees("This looks like the file for “Students”.", "Choose where the file has: capacity.")
-        self.choose_file("Students", YEAR / "students.csv")
-        self.sees("The file has 5 rows.")
+        self.sees("This looks like the “Lecturers” file")
+        described = self.browser.script("document.getElementById(document.activeElement.getAttribute('aria-describedby')).textContent")
+        self.assertIn("This looks like the “Lecturers” file, not the “Students” file.", described)
+        self.browser.press("Use it as the “Lecturers” file")
+        self.sees("Lecturers: lecturers.csv", "The file has 3 rows.")
+        self.assertEqual(self.focused(), "Lecturers: \u2068lecturers.csv\u2069")
+        self.send()
+        self.browser.says("Lecturers: 3 added, 0 already there.")
+        self.assertEqual([self.count(roll) for roll in ("lecturers", "students")], [3, 0])
+        self.send_file("Students", YEAR / "students.csv")
+        self.browser.says("Students: 5 added, 0 already there.")
         self.assertNotIn("This looks like", self.text())
+
+    def test_people_of_another_roll(self):
+        """A file whose header says nothing is known by the people in it."""
+        self.send_file("Lecturers", YEAR / "lecturers.csv")
+        self.browser.says("Lecturers: 3 added")
+        self.choose_file("Students", self.write("l.csv", (YEAR / "lecturers.csv").read_text().replace("capacity", "places")))
+        self.sees("This looks like the “Lecturers” file", "3 of its 3 rows are already in the portal under “Lecturers”.")
+        self.assertFalse(self.browser.has("button", "Send"))
+
+    def test_column_that_is_only_mapped(self):
+        """Another name of a column does not make it the file of another roll."""
+        self.choose_file("Lecturers", self.write("l.csv", "id,name,places\nlee,Ann Lee,3\n"))
+        self.sees("Choose the column for: capacity.")
+        self.assertNotIn("This looks like", self.text())
+        self.browser.choose("Column for capacity", "places")
+        self.browser.wait(lambda: self.rows() == [["2", "lee", "Ann Lee", "none yet", "3"]], "the row")
+        self.assertNotIn("This looks like", self.text())
+
+    def test_each_send_is_confirmed(self):
+        """The question names what is added; the button that sends nothing is the blue one, and has the focus."""
+        self.choose_file("Students", YEAR / "students.csv")
+        said = self.answer("Send", "Add 5 students?", "Not now")
+        self.assertIn("You can’t remove or change them later.", said)
+        self.assertEqual(self.count("students"), 0)
+        self.browser.press("Send")
+        self.browser.find("dialog", "Add 5 students?")
+        self.assertEqual(self.focused(), "Not now")
+        self.assertEqual(self.browser.find("button", "Not now").get_attribute("class"), "main")
+        self.assertEqual(self.browser.script("getComputedStyle(document.querySelector('dialog .risk')).fontWeight"), "600")
+        self.browser.keys(Keys.ESCAPE)
+        self.assertEqual(self.count("students"), 0)
+        self.answer("Send", "Add 5 students?", "Add 5 students")
+        self.browser.says("Students: 5 added, 0 already there.")
+        self.choose_file("Students", self.write("s.csv", (YEAR / "students.csv").read_text() + "ann,Ann,k4mz-pq7w-9xyd\nann,Ann,k4mz-pq7w-9xyd\n"))
+        self.assertIn("Already in the portal: 5.", self.answer("Send", "Add 1 student?", "Not now"))
+        self.choose_file("Students", YEAR / "students.csv")
+        said = self.answer("Send", "Send 5 students again?", "Send again")
+        self.assertIn("they are all in the portal already", said)
+        self.browser.says("Students: 0 added, 5 already there.")
 
     def test_workbooks(self):
         for name, start in (("book.xlsx", b"PK\x03\x04\x14\x00\x06\x00"), ("book.xls", b"\xd0\xcf\x11\xe0\xa1\xb1\x1a\xe1")):
@@ -176,9 +284,9 @@ class Spreadsheets(FileCase):
             self.browser.warns(f"{name}: This is a workbook")
             self.browser.warns("CSV UTF-8")
         self.choose_file("Students", self.write("picture.csv", b"\x89PNG\r\n\x1a\n\x00\x00\x00\rIHDR"))
-        self.browser.warns("picture.csv: This is no text file.")
+        self.browser.warns("picture.csv: This isn’t a text file.")
         self.choose_file("Students", self.write("empty.csv", "id,name\n\n"))
-        self.browser.warns("empty.csv: This file has no rows under its header.")
+        self.browser.warns("empty.csv: This file has no rows below its header.")
         self.assertFalse(self.browser.has("button", "Send"))
 
 
@@ -202,8 +310,8 @@ class Codes(FileCase):
         self.browser.says("Made 2 codes.")
         self.assertFalse(self.browser.has("button", "Print slips"))
         self.assertFalse(list(self.downloads.iterdir()))
-        self.browser.press("Send")
-        self.browser.says("Students: added 2, already there 0.")
+        self.send()
+        self.browser.says("Students: 2 added, 0 already there.")
         made = self.saved()
         codes = CODE.findall(made)
         self.assertEqual(made, f'{MARK}id,name,code\nann,Ann,{codes[0]}\nbea,"Roe, Bea",{codes[1]}\n')
@@ -214,7 +322,7 @@ class Codes(FileCase):
             for part in (name, "Student", code, self.door.address):
                 self.assertIn(part, slip)
         self.downloads.joinpath("students-with-codes.csv").unlink()
-        self.browser.press("Save the file again")
+        self.browser.press("Download the codes again")
         self.assertEqual(self.saved(), made)
         self.browser.sign_out()
         self.sign_in(codes[1], "Setup")
@@ -222,18 +330,18 @@ class Codes(FileCase):
 
     def test_nobody_who_is_there_gets_a_code(self):
         self.send_file("Students", YEAR / "students.csv")
-        self.browser.says("Students: added 5")
+        self.browser.says("Students: 5 added")
         self.browser.driver.execute_script("localStorage.clear()")
         self.browser.open(self.door.address)
         self.browser.in_phase("Setup")
         self.make("id,name\nada,Ada Ames\nben,Ben Bode\nann,Ann\n")
-        self.sees("New: 1. Already there: 2.", "2 people are already there and keep the codes from before.")
-        self.browser.press("Send")
-        self.browser.says("Students: added 1, already there 0.")
+        self.sees("New: 1. Already in the portal: 2.", "2 people are already in the portal and keep their codes.")
+        self.send()
+        self.browser.says("Students: 1 added, 0 already there.")
         self.assertRegex(self.saved(), f"^{MARK}id,name,code\nann,Ann,{CODE.pattern}\n$")
         self.assertEqual(self.door.do(ADA, "GET", "/me")["key"], "ada")
         self.choose_file("Students", self.write("s.csv", "id,name\nada,Ada Ames\n"))
-        self.sees("New: 0. Already there: 1.")
+        self.sees("New: 0. Already in the portal: 1.")
         self.assertFalse(self.browser.has("button", "Make codes"))
         self.assertFalse(self.sendable())
 
@@ -245,45 +353,48 @@ class Codes(FileCase):
         self.browser.press("Refresh")
         self.browser.in_phase("Choosing")
         self.make("id,name\nada,Ada Ames\nann,Ann\n")
-        self.sees("This page does not know everybody who is there.")
-        self.browser.press("Send")
-        self.browser.warns("row 2 differs from what is there under its key")
+        self.sees("this browser doesn’t know everybody in the portal.")
+        self.send()
+        self.browser.warns("Row 2 differs from what the portal has under the same ID")
         self.browser.press("Leave this row out")
-        self.sees("New: 1. Already there: 1.")
-        self.browser.press("Send")
-        self.browser.says("Students: added 1, already there 0.")
+        self.sees("New: 1. Already in the portal: 1.")
+        self.send()
+        self.browser.says("Students: 1 added, 0 already there.")
         self.assertRegex(self.saved(), f"^{MARK}id,name,code\nann,Ann,{CODE.pattern}\n$")
 
     def test_some_have_codes(self):
         self.make("id,name,code\nann,Ann,k4mz-pq7w-9xyd\nbea,Bea,\n")
         self.browser.says("Made 1 code.")
-        self.browser.press("Send")
-        self.browser.says("Students: added 2, already there 0.")
+        self.send()
+        self.browser.says("Students: 2 added, 0 already there.")
         self.assertRegex(self.saved(), f"^{MARK}id,name,code\nann,Ann,k4mz-pq7w-9xyd\nbea,Bea,{CODE.pattern}\n$")
 
     def test_unsent_codes_are_never_given_up_unasked(self):
         """Another file, Cancel, a step of the year, signing out and leaving ask first; No leaves the codes as they are."""
+        self.door.load_rolls()
+        self.browser.press("Refresh")
+        self.browser.says("Up to date.")
         self.make()
-        question = "Give up the codes?"
+        question = "Discard the new codes?"
         self.choose_file("Lecturers", YEAR / "lecturers.csv")
-        self.assertIn("2 codes were made and not sent yet.", self.browser.find("dialog", question).text)
-        self.browser.press("No")
-        self.answer("Cancel", question, "No")
-        self.answer("Open choosing", question, "No")
+        self.assertIn("2 new codes have not been sent yet", self.browser.find("dialog", question).text)
+        self.browser.press("Keep codes")
+        self.answer("Cancel", question, "Keep codes")
+        self.answer("Open choosing", question, "Keep codes")
         self.assertEqual(self.browser.phase(), "Setup")
-        self.answer("Sign out", "Something here is not saved yet. Leave all the same?", "No")
+        self.answer("Sign out", "Leave without saving?", "Keep editing")
         event = "const event = new Event('beforeunload', { cancelable: true }); dispatchEvent(event); return event.defaultPrevented"
         self.assertTrue(self.browser.driver.execute_script(event))
         self.door.move("choosing")
-        self.answer("Refresh", question, "No")
-        self.browser.press("Send")
-        self.browser.says("Students: added 2, already there 0.")
+        self.answer("Refresh", question, "Keep codes")
+        self.send()
+        self.browser.says("Students: 2 added, 0 already there.")
         self.saved()
         self.assertFalse(self.browser.driver.execute_script(event))
         self.make("id,name\ncyr,Cyr\n")
-        self.answer("Cancel", question)
+        self.answer("Cancel", question, "Discard codes")
         self.assertFalse(self.browser.has("button", "Send"))
-        self.assertEqual(self.count("students"), 2)
+        self.assertEqual(self.count("students"), 7)
 
     def test_lost_reply(self):
         """Where no answer comes the same codes are sent again."""
@@ -299,10 +410,10 @@ class Codes(FileCase):
                 return reply;
             };
         """)
-        self.browser.press("Send")
-        self.browser.warns("we cannot know whether the roll was taken")
+        self.send()
+        self.browser.warns("we don’t know if the file arrived")
         self.browser.press("Send again")
-        self.browser.says("Students: added 0, already there 2.")
+        self.browser.says("Students: 0 added, 2 already there.")
         first, second = self.browser.script("window.sent")
         self.assertEqual(first, second)
         self.assertEqual(self.saved(), MARK + first)
@@ -321,12 +432,12 @@ class Slips(FileCase):
         for phase in ("choosing", "ranking", "published"):
             self.door.move(phase)
         self.browser.press("Refresh")
-        self.browser.in_phase("Published")
-        self.choose_file("Roll file", lecturers)
+        self.browser.in_phase("Results")
+        self.choose_file("Lecturer or student file", lecturers)
         self.sees("Lecturers: lecturers.csv", "The file has 3 rows.")
         self.slips("Lecturer", "Jocelyn Bell", "lecturer-bell-1", 3)
         self.assertFalse(self.browser.has("button", "Send"))
-        self.choose_file("Roll file", YEAR / "students.csv")
+        self.choose_file("Lecturer or student file", YEAR / "students.csv")
         self.sees("Students: students.csv")
         self.slips("Student", "Cruz, Cleo", "student-cleo-1", 5)
         self.browser.press("Read names only")

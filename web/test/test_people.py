@@ -49,20 +49,19 @@ class Results(PeopleCase):
         """The place on the own list, and why there is no project: no list, or no place on it. Lecturers see and take along who has what."""
         self.first_round()
         self.open(TURING, "Ranking")
-        self.sees("You take at most 1 student over all your projects.")
+        self.sees("You take up to 1 student in total, across all your projects.")
         self.browser.sign_out()
         self.door.move("published")
-        for code, parts in ((BEN, ["You have the project Pulsars in old sky surveys with Jocelyn Bell.", "It is your 1st choice. Only you see this."]),
-                            (CLEO, ["You have the project Rings and their ideals with Emmy Noether.", "It is your 2nd choice."]),
-                            (ADA, ["No project on your list had a place for you"]),
-                            (EMIL, ["There is no project for you this time, because you handed in no list."])):
-            self.sign_in(code, "Published")
+        for code, parts in ((BEN, ["Your project is Pulsars in old sky surveys, with Jocelyn Bell.", "first choice. Only you can see this."]),
+                            (CLEO, ["Your project is Rings and their ideals, with Emmy Noether.", "It was your 2nd choice."]),
+                            (ADA, ["You didn’t get a project this time.", "all its places, or all its lecturer’s places, went to students ranked above you"]),
+                            (EMIL, ["You didn’t get a project, because you didn’t save a list."])):
+            self.sign_in(code, "Results")
             self.sees(*parts)
-            self.assertEqual("more students wanted these places" in self.text(), code == ADA)
             self.browser.sign_out()
-        self.sign_in(BELL, "Published")
+        self.sign_in(BELL, "Results")
         self.browser.press("Copy results")
-        self.browser.says("Copied 1 line.")
+        self.browser.says("Copied 1 row.")
         self.assertEqual(self.browser.driver.execute_async_script("navigator.clipboard.readText().then(arguments[0])"), "ben\tBen Bode\tpulsars\tPulsars in old sky surveys")
         self.browser.press("Download results")
         self.assertEqual(self.downloaded("result.csv").read_bytes().decode(), "\ufeffstudent,name,project,title\nben,Ben Bode,pulsars,Pulsars in old sky surveys\n")
@@ -75,17 +74,17 @@ class Results(PeopleCase):
         self.browser.sign_out()
         self.door.move("ranking")
         self.sign_in(NOETHER, "Ranking")
-        self.sees("Nobody chose a project of yours. There is nothing that you have to do.")
-        self.assertNotIn("Put everybody who chose", self.text())
+        self.sees("You have no applicants. You don’t need to do anything.")
+        self.assertNotIn("Put all your applicants", self.text())
         self.browser.sign_out()
         self.door.do(OFFICE, "POST", "/ranking/fill", {})
         self.door.move("published")
         self.open_second()
         self.sign_in(BEN, "Choosing")
-        self.sees("You have the project Pulsars in old sky surveys with Jocelyn Bell.")
+        self.sees("Your project is Pulsars in old sky surveys, with Jocelyn Bell.")
         self.browser.sign_out()
         self.sign_in(BELL, "Choosing")
-        self.assertIn("Pulsars in old sky surveys", self.browser.find("region", "Who has which project").text)
+        self.assertIn("Pulsars in old sky surveys", self.browser.find("region", "Your students").text)
 
     def test_titles_from_the_file(self):
         """A browser that has never seen the first round takes titles and names from projects.json."""
@@ -94,7 +93,7 @@ class Results(PeopleCase):
         self.open_second()
         self.beside("projects.json", DESCRIBED)
         self.open(CLEO, "Choosing")
-        self.sees("You have the project Rings and their ideals with Emmy Noether.")
+        self.sees("Your project is Rings and their ideals, with Emmy Noether.")
         self.browser.sign_out()
         self.sign_in(TURING, "Choosing")
         self.assertIn("Patterns on shells", self.browser.find("region", "Your projects").text)
@@ -106,24 +105,24 @@ class Describing(PeopleCase):
         self.beside("projects.json", DESCRIBED)
         self.open(ADA, "Setup")
         self.assertNotIn("Plates from 1950.", self.text())
-        opener = self.browser.find("button", "Description of pulsars")
+        opener = self.browser.find("button", "Pulsars in old sky surveys")
         self.assertEqual(opener.get_attribute("aria-expanded"), "false")
         opener.click()
         self.sees("Plates from 1950.\n<b>Bring</b> patience.")
         self.assertEqual(opener.get_attribute("aria-expanded"), "true")
-        self.assertEqual(self.browser.find("link", "More about it").get_attribute("href"), "https://example.org/pulsars")
-        self.assertFalse(self.browser.has("button", "Description of rings"))  # nothing is said of it but a link that is none by https
+        self.assertEqual(self.browser.find("link", "More about this project (new tab)").get_attribute("href"), "https://example.org/pulsars")
+        self.assertFalse(self.browser.has("button", "Rings and their ideals"))  # nothing is said of it but a link that is none by https
         self.browser.find("searchbox", "Search projects").send_keys("stripes")
         self.browser.wait(lambda: "1 of 5 projects" in self.text(), "one project")
         self.sees("Patterns on shells")
         self.assertNotIn("Plates from 1950.", self.text())
-        self.browser.press("Description of patterns")
+        self.browser.press("Patterns on shells")
         self.sees("Why they have stripes.")
-        self.browser.press("Description of patterns")
+        self.browser.press("Patterns on shells")
         self.assertNotIn("Why they have stripes.", self.text())
 
     def test_department_and_language(self):
-        """The department's name and links stand on each page; the language is kept, and asks before changes are lost."""
+        """The department's name and links stand on each page; the language is kept, and what is not saved too."""
         self.beside("department.json", DEPARTMENT)
         self.door.move("choosing")
         self.open()
@@ -134,19 +133,16 @@ class Describing(PeopleCase):
         self.assertEqual(self.browser.find("link", "Privacy").get_attribute("href"), "https://example.org/privacy")
         self.assertFalse(self.browser.has("link", "Accessibility"))
         self.sign_in(ADA, "Choosing")
-        self.browser.press("Add rings")
-        self.browser.choose("Language", "Deutsch")
-        self.browser.find("dialog", "Something here is not saved yet. Leave all the same?")
-        self.browser.press("No")
-        self.assertEqual(self.browser.entries("Your list"), ["rings"])
-        self.browser.press("Save list")
-        self.browser.says("Saved")
+        self.browser.press("Add *, rings")
         self.browser.choose("Language", "Deutsch")
         self.browser.find("button", "Abmelden")
         self.browser.wait(lambda: "Setzen Sie die Projekte" in self.text(), "the page in German")
+        self.assertEqual(self.browser.entries("Ihre Liste"), ["rings"])
+        self.browser.press("Liste speichern")
+        self.browser.says("Gespeichert.")
         self.assertEqual(self.browser.script("document.documentElement.lang"), "de")
         self.browser.open(self.door.address)
-        self.browser.find("button", "comets hinzufügen").click()
+        self.browser.find("button", "*, comets hinzufügen").click()
         self.browser.find("button", "Liste speichern").click()
         self.browser.says("Gespeichert. Ihre Liste hat 2 Projekte.")
         self.browser.choose("Sprache", "English")
@@ -161,46 +157,48 @@ class Ways(PeopleCase):
         self.open()
         self.browser.sign_in("student–ada—1 ")  # as a letter or a spreadsheet writes it
         self.browser.in_phase("Choosing")
-        self.sees("Nobody else sees your list or its order.", "Waiting for a second round gains nothing.", "No group of students can agree on lists so that all of them gain.")
-        for name in ("Year", "Catalogue", "Your list"):
+        self.sees("Only you see your whole list and its order.", "Waiting for a second round never pays.", "no group of friends can agree on lists")
+        for name in ("Stages", "Projects", "Your list"):
             self.browser.find("region", name)
-        self.browser.tab_to("link", "Skip to your list", most=2)
+        self.browser.keys(Keys.TAB)
+        self.assertEqual(self.browser.focused().text, "Skip to your list")
         self.browser.keys(Keys.ENTER)
         self.assertEqual(self.browser.focused().accessible_name, "Your list")
-        self.browser.press("Add rings")
+        self.browser.press("Add *, rings")
         self.browser.press("Sign out")
-        dialog = self.browser.find("dialog", "Something here is not saved yet. Leave all the same?")
+        dialog = self.browser.find("dialog", "Leave without saving?")
         described = self.browser.script("document.getElementById(arguments[0].getAttribute('aria-describedby')).innerText", dialog)
-        self.assertEqual(described, "What you changed since you saved last would be lost.")
-        self.browser.press("Yes")
+        self.assertEqual(described, "Your unsaved changes will be lost.")
+        self.browser.press("Leave")
         self.sign_in(BEN, "Choosing")
-        self.assertNotIn("Nobody else sees your list", self.text())
+        self.assertNotIn("Only you see your whole list", self.text())
         self.browser.driver.find_element("css selector", "summary").click()
-        self.sees("Nobody else sees your list or its order.")
+        self.sees("Only you see your whole list and its order.")
         self.browser.sign_out()
         self.door.do(BEN, "PUT", "/choices", {"projects": ["comets"]})
         self.door.move("ranking")
         self.sign_in(BELL, "Ranking")
-        self.browser.tab_to("link", "Skip to your ranking", most=2)
+        self.browser.keys(Keys.TAB)
+        self.assertEqual(self.browser.focused().text, "Skip to your ranking")
+        self.browser.keys(Keys.TAB)
+        self.assertEqual(self.browser.focused().text, "Skip to “Save ranking”")
 
     def test_tables_on_phones(self):
         """On a phone the lecturer stands under the title, and no word is broken; on a desk the title has the most room."""
         self.beside("projects.json", DESCRIBED)
         self.door.move("choosing")
         self.open(ADA, "Choosing")
-        widths = "[...document.querySelectorAll('table[aria-label=Catalogue] thead th')].map((e) => e.offsetWidth)"
+        widths = "[...document.querySelectorAll('table[aria-label=Projects] thead th')].map((e) => e.offsetWidth)"
         self.browser.resize(1280)
         title, *others = self.browser.script(widths)
         self.assertGreater(title, max(others) * 1.3)
-        self.assertFalse(self.browser.script("[...document.querySelectorAll('td .under')].some((e) => e.offsetParent)"))
+        self.assertFalse(self.browser.script("[...document.querySelectorAll('table[aria-label=Projects] .under')].some((e) => e.offsetParent)"))
         self.browser.resize(390)
-        self.browser.press("Description of pulsars")
-        title, lecturer, *others = self.browser.script(widths)
-        self.assertEqual(lecturer, 0)
-        self.assertGreater(title, sum(others))
-        self.assertTrue(self.browser.script("[...document.querySelectorAll('td .under')].every((e) => e.offsetParent && e.innerText)"))
+        self.browser.press("Pulsars in old sky surveys")
+        self.assertFalse(self.browser.script("[...document.querySelectorAll('table[aria-label=Projects] td.beside')].some((e) => e.offsetWidth > 0)"))
+        self.assertTrue(self.browser.script("[...document.querySelectorAll('table[aria-label=Projects] .under')].every((e) => e.offsetParent && e.innerText)"))
         # each word stands on one line
-        broken = """[...document.querySelectorAll('table[aria-label=Catalogue] bdi')].filter((e) => e.offsetParent).flatMap((e) => [...e.firstChild.data.matchAll(/\\S+/g)].filter((m) => {
+        broken = """[...document.querySelectorAll('table[aria-label=Projects] bdi')].filter((e) => e.offsetParent).flatMap((e) => [...e.firstChild.data.matchAll(/\\S+/g)].filter((m) => {
           const range = document.createRange(); range.setStart(e.firstChild, m.index); range.setEnd(e.firstChild, m.index + m[0].length); return new Set([...range.getClientRects()].map((r) => r.top)).size > 1;
         }).map((m) => m[0]))"""
         self.assertEqual(self.browser.script(broken), [])

@@ -2,6 +2,8 @@
 
 import json
 
+from selenium.webdriver.common.keys import Keys
+
 from case import ADA, BELL, EMIL, NOETHER, OFFICE, PageCase
 
 STRANGE = {
@@ -33,11 +35,11 @@ class Texts(PageCase):
 
     def test_strange_texts(self):
         self.open("code-of-s-html", "Choosing")
-        self.assertEqual(self.given("table[aria-label=Catalogue] .titled > bdi"), [STRANGE[key] for key in sorted(STRANGE)])
-        self.assertEqual(self.given("table[aria-label=Catalogue] td:nth-child(2) bdi"), [STRANGE[key] for key in sorted(STRANGE)])
+        self.assertEqual(self.given("table[aria-label=Projects] .titled > .title"), [STRANGE[key] for key in sorted(STRANGE)])
+        self.assertEqual(self.given("table[aria-label=Projects] td:nth-child(2) bdi"), [STRANGE[key] for key in sorted(STRANGE)])
         for key in STRANGE:
-            self.browser.press(f"Add p-{key}")
-            self.browser.says(STRANGE[key])
+            self.browser.press(f"Add *, p-{key}")
+            self.browser.announced(STRANGE[key])
         self.assertEqual(self.given("ol[aria-label='Your list'] bdi"), list(STRANGE.values()))
         self.fits()
         self.browser.press("Save list")
@@ -52,9 +54,9 @@ class Texts(PageCase):
         self.assertIn(STRANGE["hebrew"], self.browser.page_text())
         self.answer("Fill missing rankings", "Fill the missing rankings now?")
         self.browser.says("Filled for")
-        self.answer("Publish", "Publish now?")
-        self.browser.in_phase("Published")
-        self.assertEqual(self.given("table[aria-label='Who has what'] td:first-child bdi"), [STRANGE[key] for key in sorted(STRANGE)])
+        self.answer("Publish results", "Publish the results now?")
+        self.browser.in_phase("Results")
+        self.assertEqual(self.given("table[aria-label='Results'] tbody tr > :first-child bdi"), [STRANGE[key] for key in sorted(STRANGE)])
         self.fits()
         self.assertEqual(self.browser.script("document.querySelectorAll('img, b, body script').length"), 0)
         self.assertIsNone(self.browser.script("window.hacked"))
@@ -67,8 +69,37 @@ class Texts(PageCase):
         for width in (360, 1280):
             self.browser.resize(width)
             self.assertLessEqual(self.browser.script("document.documentElement.scrollWidth"), width)
-            small = "[...document.querySelectorAll('button, input')].filter((e) => e.offsetParent).map((e) => e.getBoundingClientRect()).filter((r) => r.width < 24 || r.height < 24).length"
-            self.assertEqual(self.browser.script(small), 0)
+            small = "[...document.querySelectorAll('button, .button, input:not([type=file])')].filter((e) => e.offsetParent).filter((e) => { const r = e.getBoundingClientRect(); return r.width < 24 || r.height < 24; }).map((e) => [e.outerHTML, e.offsetWidth, e.offsetHeight])"
+            self.assertEqual(self.browser.script(small), [], f"in a window of {width}")
+
+
+class German(PageCase):
+    """German words are longer: no button is cut, and nothing stands out at the side."""
+
+    CUT = "[...document.querySelectorAll('button, .button, select, .state, .count')].filter((e) => e.offsetParent && e.scrollWidth > e.clientWidth + 1).map((e) => e.outerHTML)"
+
+    def test_buttons_are_whole(self):
+        large = self.door.load_large("ranking")
+        self.codes += large.codes.values()
+        self.open()
+        self.browser.choose("Language", "Deutsch")
+        self.browser.find("textbox", "Ihr Code")
+        lecturer = max(large.lecturers, key=lambda one: len(self.door.do(one["code"], "GET", "/applicants")["projects"]))
+        for step in ("Rangfolgen", "Wahl"):
+            if step == "Wahl":
+                large = self.door.load_large("choosing")
+            for code in (large.students[0]["code"], lecturer["code"], OFFICE):
+                self.browser.find("textbox", "Ihr Code").send_keys(code, Keys.ENTER)
+                self.browser.in_phase(step)
+                if step == "Wahl" and code == large.students[0]["code"]:
+                    self.browser.press("*, p001 hinzufügen")
+                for width in (1280, 390):
+                    self.browser.resize(width)
+                    self.assertEqual(self.browser.script(self.CUT), [], f"{code} in {step} at {width}")
+                    self.assertLessEqual(self.browser.script("document.documentElement.scrollWidth"), width)
+                self.browser.press("Abmelden")
+                if self.browser.has("button", "Verlassen"):
+                    self.browser.press("Verlassen")
 
 
 class Looks(PageCase):
@@ -97,50 +128,50 @@ class Looks(PageCase):
         (self.door.notice / "department.json").write_text(json.dumps({"name": "Mathematics", "contact": "office@example.org", "privacy": "https://example.org/privacy"}))
         self.open(OFFICE, "Setup")
         self.choose_file("Students", self.write("bad.csv", "id,name,code,group\n,Ann,student-ann-1,1\n"))
-        self.browser.wait(lambda: "The portal would refuse this file." in self.browser.page_text(), "the fault")
+        self.browser.wait(lambda: "This file can’t be sent yet." in self.browser.page_text(), "the fault")
         self.look()
         self.door.move("choosing")
         self.browser.sign_out()
         self.look()
         self.browser.sign_in("nobody-has-this")
-        self.browser.warns("Nobody has")
+        self.browser.warns("We don’t know")
         self.look()
         self.sign_in(ADA, "Choosing")
-        self.browser.press("Add rings")
+        self.browser.press("Add *, rings")
         self.look()
-        self.browser.press("Description of rings")
+        self.browser.press("Rings and their ideals")
         self.look()
         self.door.do(ADA, "PUT", "/choices", {"projects": ["comets"]})
         self.browser.press("Save list")
-        self.browser.find("dialog", "Which list do you keep?")
+        self.browser.find("dialog", "Which list do you want to keep?")
         self.look()
-        self.browser.press("Keep what is on this page")
+        self.browser.press("Save this page’s version")
         self.browser.says("Saved")
         self.browser.sign_out()
         self.door.move("ranking")
         self.sign_in(NOETHER, "Ranking")
         self.look()
-        self.browser.press("Add ada")
+        self.browser.press("Add *, ada")
         self.browser.press("Sign out")
-        self.browser.find("dialog", "Something here is not saved yet. Leave all the same?")
+        self.browser.find("dialog", "Leave without saving?")
         self.look()
-        self.browser.press("Yes")
+        self.browser.press("Leave")
         self.sign_in(OFFICE, "Ranking")
         self.bars_in_forced_colours()
         self.browser.press("Fill missing rankings")
-        self.browser.find("button", "Yes")
+        self.browser.find("button", "Not now")
         self.look()
-        self.browser.press("Yes")
+        self.browser.press("Fill missing rankings")
         self.browser.says("Filled")
         self.door.move("published")
         for code in (ADA, NOETHER, OFFICE):
             self.browser.sign_out()
-            self.sign_in(code, "Published")
+            self.sign_in(code, "Results")
             self.look()
         self.browser.press("Open second round")
-        self.browser.find("button", "Yes")
+        self.browser.find("button", "Not now")
         self.look()
-        self.browser.press("Yes")
+        self.browser.press("Open second round")
         self.browser.in_phase("Choosing")
         self.look()
         for code in (ADA, EMIL, BELL):

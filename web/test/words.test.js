@@ -9,7 +9,8 @@ import { LANGUAGES, firstLanguage, offeredLanguages, speak, words } from '../wor
 const web = new URL('../', import.meta.url);
 const sources = readdirSync(web).filter((name) => name.endsWith('.js'));
 const source = (name) => readFileSync(new URL(name, web), 'utf8');
-const textsOf = async (language) => Object.assign({}, ...(await LANGUAGES[language].texts()));
+const textsOf = async (language) => Object.assign({}, ...(await Promise.all(LANGUAGES[language].texts())).map((texts) => texts.words));
+await speak('en');
 
 /** Each text by the path of its keys. */
 function flat(texts, path = '') {
@@ -69,4 +70,13 @@ test('what a language says last is said', async () => {
 test('ordinal numbers in English', () => {
   const said = [1, 2, 3, 4, 11, 12, 13, 20].map((place) => words.choice(place).split(' ')[3]);
   assert.deepEqual(said, ['1st', '2nd', '3rd', '4th', '11th', '12th', '13th', '20th']);
+});
+
+test('days come before months, and hours go to 23', async () => {
+  const when = new Date(2027, 4, 12, 15, 5);
+  const said = { en: ['12 May 2027 at 15:05', 'Wednesday 12 May at 15:05'], de: ['12. Mai 2027 um 15:05', 'Mittwoch, 12. Mai um 15:05 Uhr'] };
+  for (const [language, expected] of Object.entries(said)) {
+    const { dates, moment } = await textsOf(language);
+    assert.deepEqual([when.toLocaleString(dates, { dateStyle: 'long', timeStyle: 'short' }), moment(when)], expected);
+  }
 });

@@ -1,0 +1,300 @@
+"""The frame around each page: signing in and out, messages, deadlines, notices, and broken files of a department."""
+
+import datetime
+import json
+import time
+
+from selenium.webdriver.common.keys import Keys
+
+from case import ADA, BELL, BEN, OFFICE, PageCase
+
+SIZES = ((1280, 900), (900, 600), (390, 844))
+IDLE = 30 * 60_000  # milliseconds
+GENERATED = "k7mp-2xqa-9vre-h4td"
+
+
+class SigningIn(PageCase):
+    def setUp(self):
+        super().setUp()
+        self.door.do(OFFICE, "POST", "/rolls/students", f"id,name,code\nada,Ada Ames,{GENERATED}\n".encode())
+        self.codes.append(GENERATED)
+
+    def test_the_field(self):
+        """Password managers may keep the code, and a person can look at what is typed."""
+        self.open()
+        field = self.browser.find("textbox", "Your code")
+        self.assertEqual((field.get_attribute("type"), field.get_attribute("autocomplete")), ("password", "current-password"))
+        self.browser.click("checkbox", "Show code")
+        self.assertEqual(field.get_attribute("type"), "text")
+        self.browser.click("checkbox", "Show code")
+        self.assertEqual(field.get_attribute("type"), "password")
+
+    def test_a_code_by_chance_as_people_type_it(self):
+        self.open()
+        for typed in (GENERATED, GENERATED.upper(), GENERATED.replace("-", " "), GENERATED.replace("-", "").upper(), f" {GENERATED.replace('-', '–')} "):
+            self.browser.sign_in(typed)
+            self.browser.in_phase("Setup")
+            self.browser.sign_out()
+        self.browser.sign_in(GENERATED[:-1] + "e")
+        self.browser.warns("We don’t know this code")
+
+    def test_a_code_of_another_kind_as_it_is(self):
+        """The office chose its code itself: capital and small letters differ."""
+        self.open()
+        self.browser.sign_in(OFFICE.upper())
+        self.browser.warns("We don’t know this code")
+        self.sign_in(OFFICE, "Setup")
+
+
+class SigningOut(PageCase):
+    def setUp(self):
+        super().setUp()
+        self.door.load_rolls()
+        self.door.move("choosing")
+
+    def in_new_tab(self, code):
+        self.browser.driver.switch_to.new_window("tab")
+        self.open(code, "Choosing")
+
+    def test_every_tab(self):
+        """Who signs out is signed out in each tab, and nothing of a draft is left."""
+        self.open(ADA, "Choosing")
+        first = self.browser.driver.current_window_handle
+        self.browser.press("Add *, rings")
+        self.browser.press("Sign out")
+        self.browser.find("dialog", "Leave without saving?")
+        self.in_new_tab(ADA)
+        self.browser.sign_out()
+        self.browser.driver.switch_to.window(first)
+        self.browser.find("textbox", "Your code")
+        self.browser.says("you signed out in another tab")
+        self.assertFalse(self.browser.has("dialog", "Leave without saving?"))
+        self.assertEqual(self.browser.script("sessionStorage.length"), 0)
+        self.browser.driver.refresh()
+        self.browser.find("textbox", "Your code")
+
+    def test_after_idle_minutes(self):
+        """After 30 idle minutes the page signs out, and who signs in next sees nothing of it."""
+        self.open(ADA, "Choosing")
+        self.browser.press("Add *, rings")
+        self.idle_for(IDLE - 60_000)
+        self.assertEqual(self.browser.phase(), "Choosing")
+        self.idle_for(IDLE + 1_000)
+        self.browser.find("textbox", "Your code")
+        self.browser.says("you did nothing for 30 minutes")
+        self.sign_in(BEN, "Choosing")
+        self.assertEqual(self.browser.entries("Your list"), [])
+        self.browser.sign_out()
+        self.sign_in(ADA, "Choosing")
+        self.assertEqual(self.browser.entries("Your list"), [])  # Ben has signed out himself, and left nothing
+
+    def test_the_draft_after_idle_minutes(self):
+        self.open(ADA, "Choosing")
+        self.browser.press("Add *, rings")
+        self.idle_for(IDLE + 1_000)
+        self.browser.find("textbox", "Your code")
+        self.sign_in(ADA, "Choosing")
+        self.assertEqual(self.browser.entries("Your list"), ["rings"])
+        self.assertEqual(self.door.do(ADA, "GET", "/choices"), {"projects": []})
+
+    def test_a_page_that_is_loaded_again_later(self):
+        self.open(ADA, "Choosing")
+        self.browser.driver.execute_script("sessionStorage.setItem('portal-active', Date.now() - arguments[0])", IDLE + 1_000)
+        self.browser.driver.refresh()
+        self.browser.find("textbox", "Your code")
+        self.browser.says("you did nothing for 30 minutes")
+
+    def idle_for(self, milliseconds):
+        """The last sign of life lies so far back when the page is looked at."""
+        self.browser.driver.execute_script("sessionStorage.setItem('portal-active', Date.now() - arguments[0]); dispatchEvent(new Event('focus'))", milliseconds)
+
+
+class Telling(PageCase):
+    """What the department tells: until when a stage lasts, and notices."""
+
+    def setUp(self):
+        super().setUp()
+        self.door.load_rolls()
+
+    def until(self, **ends):
+        (self.door.notice / "department.json").write_text(json.dumps({"name": "Mathematics", "until": {stage.replace("_", "-"): end.isoformat(timespec="minutes") for stage, end in ends.items()}}))
+
+    def text(self):
+        return self.browser.page_text()
+
+    def test_deadlines(self):
+        """Everybody reads until when the stage lasts, in the own zone and language; once it is over the office is told, and nobody else."""
+        now = datetime.datetime.now(datetime.timezone.utc).replace(second=0, microsecond=0)
+        end = now + datetime.timedelta(days=3, hours=2)
+        self.until(choosing=end, ranking=now - datetime.timedelta(hours=1))
+        self.door.move("choosing")
+        for hours, zone in ((0, "UTC"), (9, "Asia/Tokyo")):
+            self.browser.cdp("Emulation.setTimezoneOverride", timezoneId=zone)
+            there = end + datetime.timedelta(hours=hours)
+            said = f"Choosing closes on {there:%A} {there.day} {there:%B} at {there:%H:%M} (in 3 days)."
+            for code in (ADA, BELL, OFFICE):
+                self.open(code, "Choosing")
+                for width, height in SIZES:
+                    self.browser.resize(width, height)
+                    self.assertIn(said, self.text())
+                    self.assertLessEqual(self.browser.script("document.documentElement.scrollWidth"), width)
+                self.browser.sign_out()
+        self.door.do(ADA, "PUT", "/choices", {"projects": ["rings"]})
+        self.door.move("ranking")
+        for code in (ADA, BELL, OFFICE):
+            self.sign_in(code, "Ranking")
+            self.assertEqual("Ranking should be closed by now." in self.text(), code == OFFICE)
+            self.assertNotIn("closes on", self.text())
+            self.browser.sign_out()
+        self.until(ranking=end)
+        self.browser.choose("Language", "Deutsch")
+        self.browser.find("textbox", "Ihr Code")
+        self.browser.open(self.door.address)
+        self.browser.find("textbox", "Ihr Code").send_keys(BELL, Keys.ENTER)
+        self.browser.wait(lambda: "„Rangfolgen“ endet am" in self.text() and "(in 3 Tagen)" in self.text(), "the end in German")
+        self.browser.choose("Sprache", "English")
+
+    def test_notices(self):
+        """The notice of a stage stands in that stage alone, in the place of the general one."""
+        (self.door.notice / "notice.txt").write_text("Questions? Room 12.")
+        (self.door.notice / "notice-choosing.txt").write_text("Choose until 12 May, noon.")
+        (self.door.notice / "notice-choosing-2.txt").write_text("The second round is short.")
+        self.open()
+        self.browser.wait(lambda: "Questions? Room 12." in self.text(), "the general notice")
+        for phase, name, notice in (("setup", "Setup", "Questions? Room 12."), ("choosing", "Choosing", "Choose until 12 May, noon."), ("ranking", "Ranking", "Questions? Room 12.")):
+            if phase != "setup":
+                self.door.move(phase)
+            self.sign_in(ADA, name)
+            self.notice(notice)
+            self.browser.sign_out()
+            self.notice("Questions? Room 12.")
+        self.door.move("published")
+        self.door.do(OFFICE, "POST", "/phase", {"phase": "choosing", "round": 2})
+        self.sign_in(ADA, "Choosing")
+        self.notice("The second round is short.")
+
+    def notice(self, text):
+        self.browser.wait(lambda: self.browser.script("document.querySelector('.notice').innerText") == text, f"the notice {text}")
+
+    def test_broken_files(self):
+        """A file of the department that has not its form is done without."""
+        self.door.move("choosing")
+        broken = ([None], {"projects": [None]}, {"projects": [7, "rings", [], {"id": 3}, {"id": "rings", "title": 4, "description": {}, "link": 5}]}, {"projects": "none"}, 12)
+        for projects in broken:
+            (self.door.notice / "projects.json").write_text(json.dumps(projects))
+            (self.door.notice / "department.json").write_text(json.dumps(projects))
+            for code in (ADA, BELL, OFFICE):
+                self.open(code, "Choosing")
+                self.assertNotIn("Something went wrong", self.text())
+                if code == ADA:
+                    self.assertIn("Rings and their ideals", self.text())
+                self.browser.sign_out()
+
+
+class Messages(PageCase):
+    """Nothing that is told covers what is pressed next."""
+
+    def setUp(self):
+        super().setUp()
+        self.large = self.door.load_large("choosing")
+        self.codes += self.large.codes.values()
+
+    def test_the_bar_is_one_line(self):
+        """Moves within a list are told to screen readers alone, outcomes in the line of the bar, and for five seconds."""
+        for (width, height), student in zip(SIZES, self.large.students):
+            self.browser.resize(width, height)
+            self.open(student["code"], "Choosing")
+            self.one_line()
+            self.browser.press("Add *, p001")
+            self.browser.announced("is now number 1 of 1")
+            self.assertEqual(self.browser.text("status"), "")
+            self.browser.press("Save list")
+            self.browser.says("Saved. Your list has 1 project.")
+            self.one_line()
+            begun = time.monotonic()
+            self.browser.wait(lambda: self.browser.text("status") == "", "the message to go")
+            self.assertLess(time.monotonic() - begun, 6)
+            self.browser.sign_out()
+
+    def one_line(self):
+        """The bar is as high as its buttons, and on a phone one line of text more."""
+        height = self.browser.script("document.querySelector('.dock').offsetHeight")
+        self.assertLess(height, 80, self.browser.script("document.querySelector('.dock').innerText"))
+
+    def test_a_message_changes_nothing_of_the_bar(self):
+        """The dock is as high with a message as without, on the page of each role."""
+        lecturer = self.large.lecturers[0]["code"]
+        self.door.load_large("ranking")
+        for code in (OFFICE, lecturer):
+            self.open(code, "Ranking")
+            for width, height in SIZES:
+                self.browser.resize(width, height)
+                before = self.browser.script("document.querySelector('.dock').offsetHeight")
+                self.browser.press("Copy names" if code == OFFICE else "Copy applicants")
+                self.browser.says("Copied")
+                self.assertEqual(self.browser.script("document.querySelector('.dock').offsetHeight"), before)
+            self.browser.sign_out()
+
+    UNDER = """
+    const [e, dock] = [document.activeElement, document.querySelector('.dock')];
+    const isUnder = !dock.contains(e) && e !== document.body && e.getBoundingClientRect().bottom > dock.getBoundingClientRect().top + 1;
+    return isUnder ? e.outerHTML.slice(0, 80) : null;
+    """
+
+    def test_the_focus_is_never_under_the_bar(self):
+        """By the Tab key down the page, and with an alert in the bar too."""
+        student = self.large.students[3]["code"]
+        for code in (student, OFFICE):
+            self.open(code, "Choosing")
+            for width, height in SIZES:
+                self.browser.resize(width, height)
+                self.down_by_tab(40)
+            self.browser.sign_out()
+        self.sign_in(student, "Choosing")
+        self.browser.press("Add *, p001")
+        self.door.move("ranking")
+        self.browser.press("Save list")
+        self.browser.warns("The portal has moved on to")
+        self.down_by_tab(20)
+
+    def down_by_tab(self, count):
+        for _ in range(count):
+            self.browser.keys(Keys.TAB)
+            self.assertIsNone(self.browser.driver.execute_script(self.UNDER))
+
+    def test_one_moment_is_said_once(self):
+        """While a page is loaded slowly, once and in no colour of success."""
+        self.open()
+        self.browser.driver.execute_script("""
+            const real = window.fetch;
+            window.fetch = async (path, how) => {
+              if (path === '/catalogue') await new Promise((go) => { window.go = go; });
+              return real(path, how);
+            };
+        """)
+        self.browser.sign_in(self.large.students[4]["code"])
+        self.browser.wait(lambda: self.browser.script("typeof window.go") == "function", "the request")
+        time.sleep(1.5)
+        self.assertEqual(self.browser.page_text().count("One moment…"), 1)
+        self.browser.driver.execute_script("window.go()")
+        self.browser.in_phase("Choosing")
+
+
+class Questions(PageCase):
+    def test_verbs_and_risk(self):
+        """The buttons are verbs; with a risk, which is the bold line, the safe one is blue and has the focus."""
+        self.door.load_rolls()
+        self.door.move("choosing")
+        self.open(ADA, "Choosing")
+        self.browser.press("Add *, rings")
+        for width, height in SIZES:
+            self.browser.resize(width, height)
+            self.browser.press("Sign out")
+            dialog = self.browser.find("dialog", "Leave without saving?")
+            self.assertEqual([one.text for one in dialog.find_elements("css selector", "button")], ["Leave", "Keep editing"])
+            self.assertEqual(dialog.find_element("css selector", ".risk").text, "Your unsaved changes will be lost.")
+            self.assertGreaterEqual(int(dialog.find_element("css selector", ".risk").value_of_css_property("font-weight")), 600)
+            self.assertEqual(dialog.find_element("css selector", "button.main").text, "Keep editing")
+            self.assertEqual(self.browser.focused().text, "Keep editing")
+            self.browser.keys(Keys.ESCAPE)
+            self.assertEqual(self.browser.entries("Your list"), ["rings"])

@@ -1,0 +1,232 @@
+"""Lecturers of a department of 200 students, on a desk and on a phone: rankings of many applicants, drafts, filled rankings, results, the second round."""
+
+import json
+
+from case import OFFICE
+from largecase import LargeCase
+
+WAITING = "[...document.querySelectorAll('ul[aria-label=Applicants] li:not([hidden])')].map((e) => e.querySelector('.chosen').textContent.split(' ')[0])"
+FILLED = "This ranking is in ID order. If you did not make it, the office filled it in"
+
+
+class LecturerCase(LargeCase):
+    def applicants(self, key):
+        """What the portal itself tells: who chose a project of a lecturer, by key, with the name and the projects."""
+        found = {}
+        for project in self.ask(key, "/applicants")["projects"]:
+            for one in project["applicants"]:
+                found.setdefault(one["key"], (one["name"], []))[1].append(project["id"])
+        return dict(sorted(found.items()))
+
+    def saved(self, key):
+        return self.ask(key, "/ranking")["students"]
+
+
+class Rankings(LecturerCase):
+    def setUp(self):
+        super().setUp()
+        self.load("ranking")
+        self.key = "l01"
+        self.people = self.applicants(self.key)
+
+    def open_as(self, key):
+        self.open(self.large.codes[key], "Ranking")
+
+    def waiting(self):
+        return self.browser.script(WAITING)
+
+    def test_search_and_sort(self):
+        """Applicants are found by name, without accents too, shown for one project, and sorted by name and by project."""
+        self.open_as(self.key)
+        keys = list(self.people)
+        self.assertGreater(len(keys), 40)
+        for width, _ in self.sizes():
+            self.assertEqual(self.waiting(), keys)
+            field = self.browser.find("searchbox", "Search applicants")
+            field.send_keys("muller")
+            self.assertEqual(self.waiting(), [key for key in keys if "Müller" in self.people[key][0]])
+            found = self.waiting()[0]
+            for key in self.waiting():
+                self.browser.press(f"Add {self.people[key][0]}, {key}")
+            self.assertEqual(self.browser.focused().accessible_name, "Search applicants")  # those who are left are to be searched
+            self.assertEqual(self.browser.entries("Your ranking")[0], found)
+            self.browser.press("Discard changes")
+            field.clear()
+            field.send_keys("nobody has this name")
+            self.sees("No applicant matches.")
+            field.clear()
+            field.send_keys(" ")
+            self.browser.choose("Sort by", "Name")
+            surnames = [self.people[key][0] for key in self.waiting()]
+            latin = [name for name in surnames if name[0].isascii()]
+            self.assertEqual([name[0] for name in latin], sorted(name[0] for name in latin))
+            self.browser.choose("Sort by", "Project")
+            titles = [self.title(self.people[key][1][0]) for key in self.waiting()]
+            self.assertEqual(titles, sorted(titles))
+            project = self.people[keys[0]][1][0]
+            self.browser.choose("Show applicants for", self.title(project))
+            self.assertEqual(sorted(self.waiting()), [key for key in keys if project in self.people[key][1]])
+            self.browser.choose("Show applicants for", "All your projects")
+            self.browser.choose("Sort by", "ID")
+            self.assertLessEqual(self.browser.script("document.documentElement.scrollWidth"), width)
+
+    def test_rest(self):
+        """The rest is added in the order of the IDs and saved at once; the page then shows what was added; this browser knows that it saved it."""
+        self.open_as(self.key)
+        keys = list(self.people)
+        for _ in self.sizes():
+            self.assertFalse(self.browser.find("button", "Save ranking").is_enabled())
+            self.browser.press(f"Add {self.people[keys[3]][0]}, {keys[3]}")
+            self.browser.press("Add the rest in ID order")
+            self.assertEqual(self.browser.entries("Your ranking"), [keys[3], *keys[:3], *keys[4:]])
+            shown = "((r) => r.top >= 0 && r.bottom <= document.querySelector('.dock').getBoundingClientRect().top)(document.querySelector(`ol li[data-key='${arguments[0]}']`).getBoundingClientRect())"
+            self.browser.wait(lambda: self.browser.script(shown, keys[0]), "the first of the rest in view")
+            self.browser.press("Undo")
+            self.browser.press("Undo")
+            self.assertEqual(self.browser.entries("Your ranking"), [])
+        self.browser.press("Add the rest in ID order and save")
+        self.browser.says(f"Saved. Your ranking has {len(keys)} students.")
+        self.assertEqual(self.saved(self.key), keys)
+        self.browser.sign_out()
+        self.sign_in(self.large.codes[self.key], "Ranking")
+        self.assertNotIn(FILLED, self.text())
+
+    def test_order(self):
+        """An order is pasted, one ID a line, or opened as the sorted file of the applicants. What is no applicant is named."""
+        self.open_as(self.key)
+        keys = list(self.people)
+        self.browser.press("Download applicants")
+        head, *rows = self.downloaded("applicants.csv").read_text(encoding="utf-8-sig").splitlines()
+        self.assertEqual(head, "id,name,projects")
+        self.assertEqual([row.split(",")[0] for row in rows], keys)
+        self.browser.driver.execute_script("document.querySelector('details:has(textarea)').open = true")
+        field = self.browser.find("textbox", "IDs, best first")
+        others = [f"s99{n}" for n in range(10, 22)]
+        field.send_keys(f"{keys[5]}\n\n {keys[2]} \n{keys[5]}\n" + "\n".join(others))
+        self.browser.press("Use this order")
+        self.browser.warns("Your ranking now has 2 students, in the order that you gave. Left out, since no applicant of yours has this ID: " + ", ".join(others[:10]) + " and 2 more.")
+        self.assertEqual(self.browser.entries("Your ranking"), [keys[5], keys[2]])
+        field.clear()
+        field.send_keys("nothing\nof\nthis")
+        self.browser.press("Use this order")
+        self.browser.warns("No ID of an applicant was found. Your ranking is as it was.")
+        self.assertEqual(self.browser.entries("Your ranking"), [keys[5], keys[2]])
+        sorted_file = self.write("sorted.csv", "\ufeffname;id;projects\r\n" + "".join(f"{self.people[key][0]};{key};\r\n" for key in keys[::-1]))
+        self.browser.driver.find_element("css selector", "input[type=file]").send_keys(str(sorted_file))
+        self.browser.says(f"Your ranking now has {len(keys)} students, in the order that you gave.")
+        self.browser.press("Save ranking")
+        self.browser.says("Saved")
+        self.assertEqual(self.saved(self.key), keys[::-1])
+
+    def test_drafts_and_late(self):
+        """A ranking that is not whole survives a reload; one that was not saved before the results came stays to read."""
+        self.open_as(self.key)
+        keys = list(self.people)
+        for key in keys[3:5]:
+            self.browser.press(f"Add {self.people[key][0]}, {key}")
+        self.reload("Ranking")
+        self.browser.says("Your unsaved changes are still here.")
+        self.assertEqual(self.browser.entries("Your ranking"), keys[3:5])
+        self.browser.press("Add the rest in ID order")
+        self.door.do(OFFICE, "POST", "/ranking/fill", {})
+        self.door.move("published")
+        self.browser.press("Save ranking")
+        self.browser.warns("What you changed after it stays on this page, to read and copy.")
+        self.browser.in_phase("Results")
+        for _ in self.sizes():
+            self.assertEqual(self.parts(), ["Your students", "Not saved in time", "Your ranking", "Your projects"])
+            shown = self.browser.script("[...document.querySelectorAll(\"ol[aria-label='Not saved in time'] .titled\")].map((e) => e.querySelector('bdi').textContent)")
+            self.assertEqual(shown, [self.people[key][0] for key in [*keys[3:5], *keys[:3], *keys[5:]]])
+            self.sees(f"{FILLED}.")
+
+    def test_filled(self):
+        """A ranking that the office filled in is told from one that this browser saved."""
+        self.door.do(OFFICE, "POST", "/ranking/fill", {})
+        self.open_as(self.key)
+        for _ in self.sizes():
+            self.sees(f"{FILLED}; you can still change it.")
+        first, second = list(self.people)[:2]
+        self.browser.press(f"Move {self.people[second][0]}, {second} up")
+        self.browser.press("Save ranking")
+        self.browser.says("Saved")
+        self.assertNotIn(FILLED, self.text())
+        self.browser.press(f"Move {self.people[first][0]}, {first} up")
+        self.browser.press("Save ranking")
+        self.browser.says("Saved")
+        self.browser.open(self.door.address)
+        self.browser.in_phase("Ranking")
+        self.assertEqual(self.saved(self.key), list(self.people))
+        self.assertNotIn(FILLED, self.text())
+
+    def test_layout(self):
+        """No button is cut, in German too; what somebody chose stands beside the word; on a phone an entry has its arrows beside its name."""
+        self.open_as(self.key)
+        self.browser.choose("Language", "Deutsch")
+        self.browser.find("button", "Abmelden")
+        for _ in self.sizes():
+            cut = "[...document.querySelectorAll('button')].filter((e) => e.offsetParent && e.scrollWidth > e.clientWidth).map((e) => e.textContent)"
+            self.assertEqual(self.browser.script(cut), [])
+        first = list(self.people)[0]
+        line = "new Set([...document.querySelector('.chosen').querySelectorAll('span, bdi:first-of-type')].map((e) => Math.round(e.getClientRects()[0].top))).size"
+        self.assertEqual(self.browser.script(line), 1)
+        self.browser.press(f"{self.people[first][0]}, {first} hinzufügen")
+        parts = "((e) => ['.handle', '.titled', '.up', '.down', '.remove'].map((name) => e.querySelector(name).getBoundingClientRect()))(document.querySelector('ol.ordered > li'))"
+        handle, titled, up, down, remove = self.browser.script(parts)
+        self.assertGreaterEqual(handle["width"], 24)
+        for button in (up, down, remove):
+            self.assertGreaterEqual(button["left"], titled["right"])
+            self.assertTrue(min(button["width"], button["height"]) >= 24)
+        self.assertLessEqual(self.browser.script("document.querySelector('ol.ordered > li').offsetHeight"), 84)
+
+
+class Phases(LecturerCase):
+    def describe(self):
+        projects = [{**one, "description": f"<b>About</b> {one['title']}.", "link": "https://example.org/more"} for one in self.large.projects if one["id"] != "p061"]
+        (self.door.notice / "projects.json").write_text(json.dumps({"projects": projects}))
+
+    def test_checking_descriptions(self):
+        """While projects are entered lecturers read what students will read of theirs; afterwards it is folded."""
+        self.load("setup")
+        self.describe()
+        self.open(self.large.codes["l01"], "Setup")
+        for _ in self.sizes():
+            own = [one for one in self.large.projects if one["lecturer"] == "l01"]
+            self.assertEqual([one["id"] for one in own], ["p001", "p031", "p061"])
+            for one in own[:2]:
+                self.sees(one["title"], f"<b>About</b> {one['title']}.")
+            self.sees("Students see no description of this project.")
+        self.browser.sign_out()
+        self.door.move("choosing")
+        self.sign_in(self.large.codes["l01"], "Choosing")
+        self.assertEqual(self.browser.script("[...document.querySelectorAll('details')].map((e) => e.open)"), [False, False])
+
+    def test_results(self):
+        """The own students stand on top. Why another applicant is not among them is told, and who has what is marked."""
+        self.load("published")
+        placed = {one["id"]: [student["key"] for student in one["students"]] for one in self.ask("l01", "/result")["projects"]}
+        ranking = self.saved("l01")
+        self.open(self.large.codes["l01"], "Results")
+        for _ in self.sizes():
+            self.assertEqual(self.parts(), ["Your students", "Your ranking", "Your projects"])
+            self.sees("For each of your projects that they chose, they got a project they prefer, or all its places (or all yours) went to students ranked above them.")
+            marks = self.browser.script("[...document.querySelectorAll(\"ol[aria-label='Your ranking'] > li\")].map((e) => e.querySelector('.mark')?.textContent ?? '')")
+            has = {key: self.title(project) for project, keys in placed.items() for key in keys}
+            self.assertEqual([self.plain(mark) for mark in marks], [f"Has {has[key]}" if key in has else "" for key in ranking])
+
+    def test_second_round(self):
+        """A lecturer without an open project is told so in each phase; one with an open project ranks the applicants of this round."""
+        self.load("published")
+        self.large.play(self.door.do, OFFICE, "choosing", 2, ("published", 1))
+        open_ = {one["lecturer"] for one in self.door.do(OFFICE, "GET", "/catalogue")["projects"]}
+        full = next(one["id"] for one in self.large.lecturers if one["id"] not in open_)
+        for phase in ("Choosing", "Ranking"):
+            self.open(self.large.codes[full], phase)
+            for _ in self.sizes():
+                self.sees("None of your projects is open in this round, so you don’t need to do anything.", "Next: the office publishes the results of this round.")
+                for part in ("Next: you rank", "Put all your applicants"):
+                    self.assertNotIn(part, self.text())
+            self.browser.sign_out()
+            if phase == "Choosing":
+                self.large.play(self.door.do, OFFICE, "ranking", 2, ("choosing", 2))
+        self.sign_in(self.large.codes[min(open_)], "Ranking")
+        self.sees("Put all your applicants of this round in one ranking", f"0 of {len(self.applicants(min(open_)))} ranked")

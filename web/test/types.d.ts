@@ -1,0 +1,383 @@
+// The types that the page's modules share. tsc reads them beside the modules (tsconfig.json); no browser does.
+
+type Portal = import('../requests.js').Portal;
+type Refused = import('../requests.js').Refused;
+type Messages = import('../frame.js').Messages;
+type Known = import('../known.js').Known;
+type Names = import('../known.js').Names;
+type RollFile = import('../rollfile.js').RollFile;
+
+/** Every text of the page. */
+type Words = typeof import('../words-en.js').words & typeof import('../words-en-office.js').words;
+
+// ---- what the portal replies: docs/FORMATS.md
+
+type Phase = 'setup' | 'choosing' | 'ranking' | 'published';
+type Role = 'student' | 'lecturer' | 'office';
+type Roll = 'lecturers' | 'projects' | 'students';
+
+/** Where the year stands. The first round is not told. */
+type Step = { phase: Phase; round?: number };
+
+/** Who is signed in. The office has no key and no name; a lecturer alone has a capacity. */
+type Me = Step & { role: Role; key: string; name: string; capacity: number };
+
+/** A project of the catalogue. */
+type Project = { id: string; title: string; lecturer: string; lecturer_name: string; capacity: number };
+
+type Person = { key: string; name: string };
+
+/** Who chose a project. */
+type Applied = { id: string; applicants: Person[] };
+
+/** Who has a project. */
+type Placed = { id: string; students: Person[] };
+
+type Status = Step & Record<Roll, number> & { assigned: number; without_list: string[]; still_to_rank: string[]; unassigned: string[] };
+
+type RefusalBody = { error: string; at?: number; fault?: string; row?: number; lecturers?: string[] };
+
+// ---- elements
+
+type Listener = (event: any) => unknown;
+
+/** What an element has. */
+interface Has {
+  text?: string | number;
+  /** listeners by event */
+  on?: Record<string, Listener>;
+  /** all else is an attribute; true: without a value, false: not at all */
+  [attribute: string]: string | number | boolean | undefined | Record<string, Listener>;
+}
+
+// ---- the frame, messages and requests
+
+/** A request of the page. */
+type Call = { method: string; body?: string };
+
+type LinkName = 'contact' | 'privacy' | 'accessibility';
+
+/** What department.json says. `until`: the end of a stage, by the stage's name. */
+type Department = { name: string; languages?: string[]; until?: Record<string, Date> } & Partial<Record<LinkName, string>>;
+
+/** A text with a count in it. */
+type Counted = (count: number) => string;
+
+/** Texts by name: each is whole, or made of parts. */
+interface Wording {
+  [name: string]: string | string[] | Wording | ((...parts: any[]) => string);
+}
+
+/** Texts by role and phase. */
+type ByRole = Record<string, Partial<Record<string, string>>>;
+
+/** Where a skip link leads, and what it is called. */
+type Aim = { text: string; aim: () => HTMLElement | null };
+
+/** What stands with a warning. */
+interface Warning {
+  /** a line of a file */
+  line?: string;
+  /** what stands before it */
+  lead?: string;
+  /** a button */
+  again?: string;
+  /** what that does */
+  press?: () => unknown;
+}
+
+type Told = { text: string } & Warning;
+
+interface Question {
+  title: string;
+  /** What would be lost or could not be undone: the bold line. With a risk `stay` is the blue button, else `verb`. */
+  risk?: string;
+  /** what else is to be known; empty ones are left out */
+  lines?: string[];
+  /** the button that does it, by what it does */
+  verb: string;
+  /** the button that leaves all as it is. It has the focus first; the Escape key does the same. */
+  stay: string;
+}
+
+/** How something is attempted. */
+interface How {
+  /** puts a refusal in words */
+  refused?: (fault: Refused) => Told;
+  /** what is said where no answer came */
+  lost?: () => Told;
+  /** the page says itself that it needs a moment */
+  isLoading?: boolean;
+}
+
+type Attempt = (action: () => Promise<unknown>, how?: How) => Promise<boolean>;
+
+/** Tells a person something on the page that is shown next. */
+type Tell = (messages: Messages, me: Me) => void;
+
+/** What the page of a role is made of. */
+interface PageOf {
+  portal: Portal;
+  me: Me;
+  messages: Messages;
+  attempt: Attempt;
+  /** shows the page anew */
+  reload: (tell?: Tell) => Promise<void>;
+  known: Known;
+}
+
+/** The page of a role. */
+interface Content {
+  element: HTMLElement;
+  /** whether something would be lost by leaving */
+  isChanged: () => boolean;
+  /** what is not saved stands there again when the page is shown anew in this tab */
+  isKept?: boolean;
+  /** what is said to this person of the year */
+  year?: { now?: string; next?: string };
+  /** what stays in view */
+  bar?: HTMLElement;
+  /** where the skip links lead */
+  aims?: Aim[];
+}
+
+// ---- tables
+
+interface TableColumn {
+  title: string;
+  /** the table can be sorted by it */
+  isSorted?: boolean;
+  /** a class for its cells */
+  style?: string;
+}
+
+interface TableRow {
+  /** a node for each column; the first one is the row's header */
+  cells: Node[];
+  /** what each column is sorted and found by */
+  texts: string[];
+  /** what else is found */
+  more?: string;
+  /** by which `keep` knows the row */
+  key?: string;
+}
+
+/** A row as it was made. */
+type TableLine = { line: HTMLTableRowElement; texts: string[]; found: string; key: string };
+
+// ---- students and lecturers
+
+/** What is known of a project. A field that is no text is left out. */
+type KnownProject = { id: string } & Partial<Record<KnownField, string>>;
+
+type KnownField = 'title' | 'lecturer' | 'lecturer_name' | 'description' | 'link';
+
+/** The rolls of people, whose names are kept. */
+type PeopleRoll = 'lecturers' | 'students';
+
+/** What this browser keeps of a person. `isThere`: the portal has taken the row. */
+type KeptPerson = { name: string; capacity?: string; email?: string; isThere: boolean };
+
+/** Where a list is made beside the catalogue. */
+interface Making {
+  /** puts a project on the list */
+  add: (key: string) => void;
+  /** where the skip links lead */
+  aims: Aim[];
+}
+
+/** Shows the position of a project on the list, or the button. */
+type Adder = (place: number | undefined, isFull: boolean) => void;
+
+/** What the portal tells a student. */
+interface StudentState {
+  /** of the catalogue */
+  projects: Project[];
+  /** the own list of this round */
+  saved: string[];
+  /** the own project, where there is a result */
+  own: string | null;
+}
+
+/** What the portal tells a lecturer. */
+interface LecturerState {
+  /** the own projects of the catalogue; in a second round those alone that take part in it */
+  open: Map<string, Project>;
+  /** where there is a result */
+  placed: Placed[];
+  /** where it is told */
+  applied: Applied[] | null;
+  /** the own ranking of this round */
+  saved: string[] | null;
+}
+
+/** An applicant, with the keys of the own projects that this person chose. */
+type Applicant = Person & { projects: string[] };
+
+/** A list that is put in order. */
+interface ListOf {
+  /** the list's name */
+  label: string;
+  /** those that it begins with */
+  keys: string[];
+  /** a node for a key */
+  show: (key: string) => Node;
+  /** how a key is spoken of */
+  name: (key: string) => string;
+  /** called after each change, with the list before it */
+  changed: (before: string[]) => void;
+  /** tells screen readers what was done */
+  announce: (text: string) => void;
+}
+
+/** The texts of a list or ranking. */
+interface ListTexts {
+  label: string;
+  save: string;
+  show: string;
+  /** where nothing is saved */
+  none?: string;
+  /** which of two versions stays */
+  which: string;
+  saved: (count: number) => string;
+  count: (count: number) => string;
+  missing: (count: number) => string;
+}
+
+/** A list that is edited and saved. */
+interface EditorOf {
+  page: PageOf;
+  /** where the list is saved */
+  path: '/choices' | '/ranking';
+  /** what has it in a reply */
+  member: 'projects' | 'students';
+  saved: string[] | null;
+  texts: ListTexts;
+  /** a node for a key */
+  show: (key: string) => Node;
+  /** what a key is called */
+  name: (key: string) => string;
+  /** whether a key may stand on the list now */
+  isThere: (key: string) => boolean;
+  /** how many have to be added before it can be saved */
+  missing: (keys: string[]) => number;
+  /** called after each change */
+  changed: (keys: string[]) => void;
+  /** called when it is saved */
+  stored?: () => void;
+}
+
+/** A list that is not saved, and what was saved when it was begun. */
+type Draft = { base: string[]; keys: string[] };
+
+// ---- the office's files
+
+/** A row of a file that is not blank, with its number in a spreadsheet, counted from 1. */
+type FileRow = { row: number; fields: string[] };
+
+type FileTable = { encoding: string; separator: string; rows: FileRow[] };
+
+/** How a file was read. */
+type ReadAs = { encoding: string; separator: string };
+
+type Column = 'id' | 'name' | 'code' | 'capacity' | 'lecturer' | 'title' | 'email';
+
+/** Where the file has each column, counted from 0; -1 where it has it not. */
+type Columns = Partial<Record<Column, number>>;
+
+/** A row of a roll: its number in the spreadsheet, and its texts. */
+type Entry = { row: number; id: string } & Partial<Record<Column, string>>;
+
+/** What is known of those who are in the portal, by key. */
+type There = Record<Roll, Map<string, Partial<Record<Column, string>>>>;
+
+/** What the portal would refuse. `other` is the row that it differs from. */
+type Fault = { row: number; column: Column; fault: string; other?: number };
+
+type Doubt = { doubt: string; rows: number[] };
+
+/** Another roll that a file looks like, and why. */
+type Likeness = { roll: Roll; why: 'capacity' | 'header' | 'people'; count?: number; all?: number };
+
+type Plan = ReturnType<RollFile['plan']>;
+
+/** What the part for files is made of. */
+interface RollsOf {
+  portal: Portal;
+  messages: Messages;
+  attempt: Attempt;
+  names: Names;
+  /** files may be sent */
+  canSend: boolean;
+  /** is called after a file was taken or names were read */
+  sent: () => Promise<void>;
+}
+
+/** Takes a file and the field that it came from. */
+type Take = (file: File, from: HTMLElement) => unknown;
+
+// ---- the office's steps and result
+
+type StepName = 'openChoosing' | 'openRanking' | 'fill' | 'publish' | 'openSecond';
+
+/** A step of the year. `body` is what is sent to /phase, and a fill has none; `isMain`: the year cannot go on without it. */
+type Move = { name: StepName; body?: { phase: string; round?: number }; isMain?: boolean };
+
+/** What is known of the year before a step. */
+interface Standing {
+  status: Status;
+  /** those of the catalogue */
+  projects: Project[];
+  /** who is still to rank, in words */
+  toRank: string[];
+  /** what is known of those in the portal */
+  lecturers: There['lecturers'];
+  /** a lecturer's name */
+  nameOf: (lecturer: string) => string | undefined;
+  /** how many places of each project are taken */
+  used: Used[];
+}
+
+/** What stands in the way of a step. */
+interface Lack {
+  text: string;
+  /** who it is about */
+  names?: string;
+  /** the step can be taken, but some would regret it */
+  isRisk?: boolean;
+  /** the step cannot be taken, or would be for nobody */
+  ends?: boolean;
+  /** the question alone tells it: it stands above on the page */
+  isAskedOnly?: boolean;
+  /** the file of the lecturers would tell more */
+  needsLecturers?: boolean;
+}
+
+/** The places of a lecturer's projects that are free and that are taken. */
+type OwnPlaces = { free: number; taken: number };
+
+type ResultColumn = 'student' | 'project' | 'lecturer';
+
+/** A student, and what the student has. */
+type GivenRow = { student: string; name: string; project: string; title: string; lecturer: string };
+
+/** The places of a project. */
+type Used = { key: string; taken: number; all: number };
+
+/** The result as the portal tells it, and what that says. */
+type Result = { csv: string; report: string; rows: GivenRow[]; used: Used[] };
+
+type Shown = Result & { titleOf: (project: string) => string; nameOf: (lecturer: string) => string };
+
+/** What the office's tables of people and projects show. */
+interface OfficeData {
+  status: Status;
+  /** those of the catalogue */
+  projects: Project[];
+  there: There;
+  names: Names;
+  /** how many places of each project are taken, once that is known */
+  used: Used[];
+}
+
+type Sheet = { columns: TableColumn[]; rows: TableRow[] };
