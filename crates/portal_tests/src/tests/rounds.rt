@@ -196,6 +196,14 @@ const BAD: &[Sketch] = &[
         ..OPENED
     },
     Sketch {
+        earlier_choices: &[("S1", &["P1", "P1"]), ("S2", &["P1", "P3"]), ("S3", &[])],
+        ..OPENED
+    },
+    Sketch {
+        earlier_rankings: &[("L1", &["S2", "S1"])],
+        ..OPENED
+    },
+    Sketch {
         earlier_pairs: &[("S1", "P2")],
         ..AFTER_FIRST
     },
@@ -213,10 +221,6 @@ const NOT_GOOD: &[Sketch] = &[
     },
     Sketch {
         earlier_pairs: &[("S1", "P3"), ("S2", "P1")],
-        ..OPENED
-    },
-    Sketch {
-        earlier_rankings: &[("L1", &["S2", "S1"])],
         ..OPENED
     },
     Sketch {
