@@ -1,6 +1,6 @@
 """The requests of a department at the limits in two rounds: those of the first, which leaves a quarter of the students without a project, and
 those of the second, which are timed, each kind with the milliseconds that one of them may take, or None."""
-from asking import OFFICE, SECOND, chosen, moved, ranked, request
+from asking import FILL, OFFICE, SECOND, chosen, moved, ranked, request, roll, texts
 
 LECTURERS, PROJECTS, CHOICES, FEW = 300, 1000, 20, 40
 # the projects that the last students all list, those that the others list, and those that nobody lists in the first round
@@ -25,24 +25,20 @@ def walk(number, shift, among, many):
 
 
 def listed(number, projects):
-    return chosen(own(b"stud", number), b",".join(b'"P%04d"' % project for project in projects))
-
-
-def roll(kind, header, rows):
-    return request(b"POST", b"/rolls/" + kind, OFFICE, header + b"\n" + b"".join(rows))
+    return chosen(own(b"stud", number), texts(f"P{project:04}" for project in projects))
 
 
 def first_round(students):
     """Everything up to the first result; the first two lecturers have one project each, and the others share the rest."""
     owners = [0, 1, *(2 + k % (LECTURERS - 2) for k in range(PROJECTS - 2))]
     crowd = left(students).start - PLACES * len(CROWDED)
-    yield roll(b"lecturers", b"id,name,code,capacity", (b"L%04d,Lecturer %d,%s,20\n" % (k, k, own(b"lect", k)) for k in range(LECTURERS)))
-    yield roll(b"projects", b"id,lecturer,title,capacity", (b"P%04d,L%04d,Title %d,%d\n" % (k, owner, k, PLACES) for k, owner in enumerate(owners)))
-    yield roll(b"students", b"id,name,code", (b"S%04d,Student %d,%s\n" % (k, k, own(b"stud", k)) for k in range(students)))
+    yield roll(b"lecturers", [b"L%04d,Lecturer %d,%s,20" % (k, k, own(b"lect", k)) for k in range(LECTURERS)])
+    yield roll(b"projects", [b"P%04d,L%04d,Title %d,%d" % (k, owner, k, PLACES) for k, owner in enumerate(owners)])
+    yield roll(b"students", [b"S%04d,Student %d,%s" % (k, k, own(b"stud", k)) for k in range(students)])
     yield moved(b"choosing")
     yield from (listed(k, walk(k, 3, LISTED, CHOICES) if k < crowd else CROWDED) for k in range(students))
     yield moved(b"ranking")
-    yield request(b"POST", b"/ranking/fill", OFFICE, b"{}")
+    yield FILL
     yield moved(b"published")
 
 
@@ -98,10 +94,9 @@ def ranking(students):
     yield from by_students("ranking", students)
     yield from by_lecturers("ranking", students, [b"/applicants", b"/ranking"])
     for project, those in ((EMPTY[98], them[:FEW]), (EMPTY[99], them)):
-        listing = b",".join(b'"S%04d"' % k for k in reversed(those))
-        yield f"PUT /ranking, {len(those)} students", STAFF, [ranked(owner(project), listing)]
+        yield f"PUT /ranking, {len(those)} students", STAFF, [ranked(owner(project), texts(f"S{k:04}" for k in reversed(those)))]
     yield from by_office("ranking")
-    yield "the fill", None, [request(b"POST", b"/ranking/fill", OFFICE, b"{}")]
+    yield "the fill", None, [FILL]
     yield "the publication", PUBLICATION, [moved(b"published")]
 
 

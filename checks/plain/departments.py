@@ -1,13 +1,12 @@
 """Random years of small departments, in one round or in two: requests that are made from the world as it stands, legal ones and others."""
-from asking import OFFICE, PHASES, request
+from asking import FILL, OFFICE, PHASES, SECOND, chosen, moved, ranked, request, roll, texts
 
 OWN = {
     "office": [b"/me", b"/catalogue", b"/status", b"/allocation", b"/allocation.csv", b"/report"],
     "lecturer": [b"/me", b"/catalogue", b"/applicants", b"/ranking", b"/result"],
     "student": [b"/me", b"/catalogue", b"/choices", b"/result"],
 }
-HEADERS = {"lecturers": "id,name,code,capacity", "projects": "id,lecturer,title,capacity", "students": "id,name,code"}
-ROUNDS = [b"", b"", b',"round":1', b',"round":3', b',"round":2.0', b',"round":true', b',"round":2', b',"round":2', b',"round":2']
+ROUNDS = [b"", b"", b',"round":1', b',"round":3', b',"round":2.0', b',"round":true', SECOND, SECOND, SECOND]
 
 
 class Department:
@@ -17,26 +16,14 @@ class Department:
         self.chance, self.year = chance, year
         lecturers, projects, students = chance.randint(1, 5), chance.randint(1, 9), chance.randint(1, 18)
         self.rolls = {
-            "lecturers": ["L%d,Lecturer %d,lect-code-%d,%d" % (n, n, n, chance.choice([1, 2, 3, 5, 9])) for n in range(lecturers)],
-            "projects": ["P%d,L%d,Title %d,%d" % (n, chance.randrange(lecturers), n, chance.choice([1, 1, 1, 2, 4])) for n in range(projects)],
-            "students": ['S%d,"Student, %d",stud-code-%d' % (n, n, n) for n in range(students)],
+            b"lecturers": [b"L%d,Lecturer %d,lect-code-%d,%d" % (n, n, n, chance.choice([1, 2, 3, 5, 9])) for n in range(lecturers)],
+            b"projects": [b"P%d,L%d,Title %d,%d" % (n, chance.randrange(lecturers), n, chance.choice([1, 1, 1, 2, 4])) for n in range(projects)],
+            b"students": [b'S%d,"Student, %d",stud-code-%d' % (n, n, n) for n in range(students)],
         }
         self.takes_part = chance.choice([0.3, 0.6, 1])  # how many hand in a list in the first round
         self.favourites = chance.choice([1, 3, 9])  # among how many projects they choose
 
     # what is asked
-
-    def roll(self, kind, rows):
-        return request(b"POST", b"/rolls/" + kind.encode(), OFFICE, (HEADERS[kind] + "\n" + "".join(row + "\n" for row in rows)).encode())
-
-    def listed(self, path, name, code, keys):
-        return request(b"PUT", path, code.encode(), ('{"%s":[%s]}' % (name, ",".join('"%s"' % key for key in keys))).encode())
-
-    def move(self, phase, named=b""):
-        return request(b"POST", b"/phase", OFFICE, b'{"phase":"%s"%s}' % (phase.encode(), named))
-
-    def fill(self):
-        return request(b"POST", b"/ranking/fill", OFFICE, b"{}")
 
     def people(self):
         """Each role and code of the year as it stands."""
@@ -76,19 +63,19 @@ class Department:
         what = chance.choice(["move", "roll", "fill", "list", "ranking", "look"])
         if what == "move":
             later = [phase for phase in PHASES if PHASES.index(phase) != year.phase + 1]  # the next step comes in its time
-            return self.move(chance.choice(later), chance.choice(ROUNDS[:-3] if year.phase == 3 and year.round == 1 else ROUNDS))
+            return moved(chance.choice(later).encode(), chance.choice(ROUNDS[:-3] if year.phase == 3 and year.round == 1 else ROUNDS))
         if what == "roll":
-            kind = chance.choice(list(HEADERS))
-            rows = self.rolls[kind] + [chance.choice(["L0,Other,lect-code-0,1", "P99,L99,None,1", "S0,Ann,office-code-0", "x"])]
-            return self.roll(kind, chance.sample(rows, chance.randint(1, len(rows))))
+            kind = chance.choice(list(self.rolls))
+            rows = self.rolls[kind] + [chance.choice([b"L0,Other,lect-code-0,1", b"P99,L99,None,1", b"S0,Ann,office-code-0", b"x"])]
+            return roll(kind, chance.sample(rows, chance.randint(1, len(rows))))
         if what == "fill":
-            return self.fill()
+            return FILL
         if what == "list":
             code = chance.choice([code.decode(), *(row[1] for row in year.students.values())])
-            return self.listed(b"/choices", "projects", code, self.spoiled(self.wish(), sorted(year.projects)))
+            return chosen(code.encode(), texts(self.spoiled(self.wish(), sorted(year.projects))))
         if what == "ranking":
             key, code = chance.choice([("L0", code.decode()), *((key, row[1]) for key, row in year.lecturers.items())])
-            return self.listed(b"/ranking", "students", code, self.spoiled(self.order(key), sorted(year.students)))
+            return ranked(code.encode(), texts(self.spoiled(self.order(key), sorted(year.students))))
         return request(chance.choice([b"GET", b"HEAD"]), chance.choice(chance.choice(list(OWN.values()))), code)
 
     def wish(self):
@@ -113,30 +100,30 @@ class Department:
 
     def steps(self, second):
         yield from self.enrol(self.chance.random() < 0.7)
-        yield self.move("choosing")
+        yield moved(b"choosing")
         yield from self.enrol(True)
         yield from self.round(self.takes_part)
         if second:
-            yield self.move("choosing", b',"round":2')
+            yield moved(b"choosing", SECOND)
             yield from self.round(0.9)
 
     def enrol(self, whole):
         for kind, rows in self.rolls.items():
-            yield self.roll(kind, rows if whole else rows[:self.chance.randint(1, len(rows))])
+            yield roll(kind, rows if whole else rows[:self.chance.randint(1, len(rows))])
 
     def round(self, takes_part):
         chance, year = self.chance, self.year
         for student in year.left():
             if chance.random() < takes_part:
-                yield self.listed(b"/choices", "projects", year.students[student][1], self.wish())
+                yield chosen(year.students[student][1].encode(), texts(self.wish()))
         yield from chance.sample(self.shown(), min(20, len(self.shown())))
-        yield self.move("ranking")
+        yield moved(b"ranking")
         for lecturer in sorted(year.lecturers):
             if chance.random() < 0.8:
-                yield self.listed(b"/ranking", "students", year.lecturers[lecturer][1], self.order(lecturer))
+                yield ranked(year.lecturers[lecturer][1].encode(), texts(self.order(lecturer)))
         yield from chance.sample(self.shown(), min(10, len(self.shown())))
-        yield self.move("published")
+        yield moved(b"published")
         if year.phase == 2:
-            yield self.fill()
-            yield self.move("published")
+            yield FILL
+            yield moved(b"published")
         yield from self.shown()

@@ -1,18 +1,20 @@
-"""The reading of a stream of requests, written plainly from docs/FORMATS.md: what stands at the front of the bytes that have
-come, what call each request asks for, and how a stream that comes in given pieces ends."""
+"""The reading of a stream of requests, written plainly from docs/FORMATS.md: what stands at the front of the bytes that have come, and what
+call a request asks for. Like `httparse` and `csv` it takes lines that end in LF alone; like `serde_json` it limits nesting to 127, and numbers
+to the range of doubles."""
 import csv
 import io
 import json
 import re
 
-HEAD, BODY, LINES, MOST = 16384, 1048576, 32, 256
+from asking import PHASES
+
+HEAD, BODY, LINES = 16384, 1048576, 32
 TOKEN = rb"[A-Za-z0-9!#$%&'*+\-.^_`|~]"
 METHOD = re.compile(TOKEN + rb"*")
 TARGET = re.compile(rb"[\x21-\x7e\x80-\xff]*")
 VALUE = re.compile(rb"[\t\x20-\x7e\x80-\xff]*")
 KEY = re.compile(rb"[A-Za-z0-9._-]{1,16}\Z")
 CODE = re.compile(rb"[A-Za-z0-9-]{8,40}\Z")
-PHASES = ("setup", "choosing", "ranking", "published")
 csv.field_size_limit(1 << 24)
 
 
@@ -260,37 +262,3 @@ def call_of(request):
     if set(members) == {name} and type(value) is list and all(isinstance(text, str) for text in value):
         return before + call.replace("Show", "Set") + "".join("," + text.encode("utf-8").hex() for text in value)
     return bad
-
-
-def hash_of(data):
-    found = 14695981039346656037
-    for byte in data:
-        found = (found ^ byte) * 1099511628211 & 0xFFFFFFFFFFFFFFFF
-    return found
-
-
-def read_stream(pieces):
-    """What is told of a stream that comes in these pieces, each request and the ending with the piece that decides it."""
-    out, data, count = "", b"", 0
-    for number, piece in enumerate([*pieces, None], 1):
-        data += piece or b""
-        while True:
-            found = frame(data, piece is None)
-            if found[0] == "Need":
-                break
-            if found[0] == "End":
-                return out + f"End {number}"
-            if found[0] == "Bad":
-                (status, word), head_only = found[1:]
-                return out + f"Refused {number} {'head ' if head_only else ''}! {status} {word} []"
-            request, used = found[1:]
-            method, path, code, body = (request[it] for it in ("method", "path", "code", "body"))
-            out += f"Request {number} {used} {method.hex()} {path.hex()} {code.hex()} {'close' if request['close'] else 'open'}"
-            out += f" {len(body)} {hash_of(body)} {call_of(request)}; "
-            data = data[used:]
-            count += 1
-            if request["close"]:
-                return out + "Closed"
-            if count == MOST:
-                return out + "Limit"
-    return out + "Open"

@@ -1,13 +1,11 @@
 """A year of the portal, of one round or of two, written plainly from docs/RULES.md and docs/FORMATS.md: what each call does to the world, what
-is answered, the bytes of a reply, and the rows of the tables that the world stands in."""
+is answered, and the rows of the tables that the world stands in."""
 import collections
-import json
 
 from asking import PHASES
-from streams import call_of, frame
+from streams import call_of
+from talk import Talk, read_call, refusal_bytes, reply_bytes, status_of
 
-PHRASES = {200: "OK", 400: "Bad Request", 403: "Forbidden", 404: "Not Found", 405: "Method Not Allowed", 409: "Conflict",
-           413: "Content Too Large", 422: "Unprocessable Content", 501: "Not Implemented", 503: "Service Unavailable"}
 MOST = {"lecturers": 300, "projects": 1000, "students": 2000}
 Round = collections.namedtuple("Round", "choices rankings result")
 
@@ -277,8 +275,12 @@ class Year:
         out = f"{'phase':<16}{status['phase']}\n" + "".join(f"{label:<16}{number:>6}\n" for label, number in numbers)
         return out + ("\n" + self.report()[1] if self.has_result() else "")
 
+    def state(self):
+        """What `files.state` has to find of a file that holds this year."""
+        return (self.told().encode(), 0), self.rows()
+
     def rows(self):
-        """The rows of the eleven tables, as `asking.rows` gives them."""
+        """The rows of the eleven tables, as `files.rows` gives them."""
         now, none = Round(self.choices, self.rankings, self.result), Round({}, {}, {})
         first, second = (now, none) if self.round == 1 else (self.first, now)
         found = {
@@ -310,29 +312,13 @@ class Year:
             return reply_bytes(refused.status, refused.body, head_only, close)
 
     def talk(self, data):
-        """The requests of a connection are played in turn: the status and the bytes of each reply."""
-        count = 0
-        while True:
-            found = frame(data, True)
-            if found[0] == "End":
-                return
-            if found[0] == "Bad":
-                (status, word), head_only = found[1:]
-                yield status, reply_bytes(status, {"error": word}, head_only, True)
-                return
-            asked, used = found[1:]
-            count += 1
-            close = asked["close"] or count == 256
-            told = self.reply(asked, close)
-            yield int(told.split()[1]), told
-            if close:
-                return
-            data = data[used:]
+        """The requests of a connection are played in turn: the bytes of each reply."""
+        return Talk(self).hear(data, True)
 
     def replies(self, data):
         """The bytes that a connection is answered with, and the statuses."""
         told = list(self.talk(data))
-        return b"".join(reply for _, reply in told), [status for status, _ in told]
+        return b"".join(told), list(map(status_of, told))
 
 
 def entries(lists):
@@ -342,46 +328,3 @@ def entries(lists):
 
 def quoted(field):
     return '"' + field.replace('"', '""') + '"' if any(byte in field for byte in ',"\r\n') else field
-
-
-def text_of(digits):
-    return bytes.fromhex(digits).decode("utf-8")
-
-
-def read_call(said):
-    """The code, the call and what it was given, of the words of `streams.call_of`."""
-    code, _, words = said.partition(" ")
-    call, *given = words.split(",")
-    if call.startswith("Move "):
-        call, *given = call.split()
-    elif call.startswith("Add"):
-        given = [read_row(row) for row in given]
-    else:
-        given = [text_of(digits) for digits in given]
-    return text_of_code(code), call, given
-
-
-def text_of_code(digits):
-    return bytes.fromhex(digits).decode("latin-1")
-
-
-def read_row(row):
-    fields, _, capacity = row.partition(" ")
-    return [text_of(digits) for digits in fields.split("/")] + ([int(capacity)] if capacity else [])
-
-
-def refusal_bytes(said, head_only, close):
-    """The reply to a refusal of `streams.call_of`: `! STATUS WORD [ALLOW] ROW`."""
-    words, _, rest = said[2:].partition(" [")
-    status, word = words.split()
-    allow, _, row = rest.partition("]")
-    body = {"error": word} | ({"row": int(row)} if row else {})
-    return reply_bytes(int(status), body, head_only, close, allow)
-
-
-def reply_bytes(status, body, head_only, close, allow=""):
-    kind, text = body if isinstance(body, tuple) else ("application/json", json.dumps(body, sort_keys=True, separators=(",", ":"), ensure_ascii=False))
-    data = text.encode("utf-8")
-    head = f"HTTP/1.1 {status} {PHRASES[status]}\r\ncontent-type: {kind}\r\ncontent-length: {len(data)}\r\n"
-    head += (f"allow: {allow}\r\n" if status == 405 else "") + ("connection: close\r\n" if close else "") + "\r\n"
-    return head.encode() + (b"" if head_only else data)
