@@ -1,5 +1,5 @@
 -- Names from below that the proofs use.
-pub use Rattle.std.proofs.Common.{Bool, Err, List, None, Ok, Option, Result, Some, [], ap, append_assoc, arith, codes, false, get_or, inl, inr, is_none, is_some, length, refl, rules, subst, sym, take, true, ℕ, ◌++◌, ◌+◌, ◌<◌, ◌∙◌, ◌≡◌, ◌≤◌, ◌==◌, if◌then◌else◌, ◌⊎◌, zero, suc, cond, eqb, ◌∷◌}
+pub use Rattle.std.proofs.Common.{Bool, Err, List, None, Ok, Option, Result, Some, [], ap, append_assoc, arith, codes, false, get_or, inl, inr, is_none, is_some, length, refl, rules, subst, sym, take, true, ℕ, ◌++◌, ◌+◌, ◌<◌, ◌∙◌, ◌≡◌, ◌≤◌, ◌==◌, if◌then◌else◌, ◌⊎◌, zero, suc, ◌∷◌}
 pub use Rattle.std.proofs.lemmas.List.{take_more, append-nil, take_all, ext_get_or}
 pub use Rattle.std.specs.Fmt.{decimal}
 pub use Rattle.std.specs.List.{count_by, flat_map, zip}

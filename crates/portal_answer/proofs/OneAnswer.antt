@@ -1,16 +1,17 @@
 -- To the bytes of a file one text alone is told.
-use Rattle.portal_answer.proofs.Base.{◌≡◌, ◌∙◌, inl, inr, ℕ, ◌<◌, Bool, true, false, Result, Ok, Err, List, [], length, get_or, Option, Some, None, refl, sym, subst, ap, arith, Pair, InstanceFault, File, rows, RollFault, Spa, Text, Told, refused_instance, Tells, OfPairs, OfRead, IfLonger, IsAnswer, Task, Check, Solve, ◌⊎◌, zero, suc, cond, eqb, ◌∷◌, ext_get_or, Rows, Blocks, project_of, refused_matching, blocking, assignment, OfFile, file_rows, limit}
+use Rattle.portal_answer.proofs.Base.{◌≡◌, ◌∙◌, inl, inr, ℕ, ◌<◌, Bool, true, false, Result, Ok, Err, List, [], length, get_or, Option, Some, None, refl, sym, subst, ap, arith, Pair, InstanceFault, File, rows, RollFault, Spa, Text, Told, refused_instance, Tells, OfPairs, OfRead, IfLonger, IsAnswer, Task, Check, Solve, ◌⊎◌, zero, suc, ◌∷◌, ext_get_or, Rows, Blocks, project_of, refused_matching, blocking, assignment, OfFile, file_rows, limit}
 use Rattle.std.specs.Prelude.{AllPairs, Contains, nat_lt}
 use Rattle.std.proofs.lemmas.Bool.{cases_lt}
 use Rattle.spa_rows.specs.Faults.{HasNoneBefore, IsFirstFault, number_of}
 use Rattle.spa_rows.specs.declared.faults.InstanceFault.TheVariants as row
+use Rattle.spa_rows.proofs.FirstFault.{same_number}
 use Rattle.spa_model.specs.Pairs.{HasPairs, IsFirstPairFault, number_of_pair_fault, student_in, project_in}
 use Rattle.spa_model.specs.declared.matching.MatchingFault.{MatchingFault}
 use Rattle.spa_model.proofs.FirstFault.{fault_of, fault_of-number}
 use Rattle.spa_model.proofs.OneOnly.{best_is_one}
 use Rattle.spa_model.proofs.OneInstance.{instance_is_one}
 use Rattle.spa_check.specs.Listed.{AreAllBlocks, IsEarlier}
-use Rattle.spa_check.specs.declared.block.Block.{Block}
+use Rattle.spa_check.specs.declared.blocking.Block.{Block}
 
 -- ---- blocking pairs: two lists that rise and have the same members are one
 
@@ -134,32 +135,12 @@ told_is_one task i pairs t u a b = elim a [
 
 -- ---- the first fault of rows is one
 
-abbrev row_fault_of : ℕ → InstanceFault
-row_fault_of n =
-    cond (eqb n 1) row.TooMany (cond (eqb n 2) row.BadKey (cond (eqb n 3) row.KeyTwice (cond (eqb n 4) row.BadCapacity (cond (eqb n 5) row.NoSuchLecturer
-    (cond (eqb n 6) row.NoSuchProject (cond (eqb n 7) row.RepeatInList (cond (eqb n 8) row.ListTooLong (cond (eqb n 9) row.NotApplicant (cond (eqb n 10) row.ApplicantMissing row.Memory)))))))))
-
-row_fault_of-number : (f : InstanceFault) → row_fault_of (number_of f) ≡ f
-row_fault_of-number row.TooMany = refl
-row_fault_of-number row.BadKey = refl
-row_fault_of-number row.KeyTwice = refl
-row_fault_of-number row.BadCapacity = refl
-row_fault_of-number row.NoSuchLecturer = refl
-row_fault_of-number row.NoSuchProject = refl
-row_fault_of-number row.RepeatInList = refl
-row_fault_of-number row.ListTooLong = refl
-row_fault_of-number row.NotApplicant = refl
-row_fault_of-number row.ApplicantMissing = refl
-row_fault_of-number row.Memory = refl
-
 row_fault_one : (rows : Rows) (f g : InstanceFault) (r q : ℕ) → IsFirstFault rows f r → IsFirstFault rows g q → f ≡ g
 row_fault_one rows f g r q a b = elim (cases_lt (number_of f) (number_of g)) [
   | inl less ↦ absurd (b.none_before f less r a.here)
   | inr not ↦ elim (cases_lt (number_of g) (number_of f)) [
     | inl less ↦ absurd (a.none_before g less q b.here)
-    | inr same ↦
-        let number : number_of f ≡ number_of g = omega arith in
-        sym (row_fault_of-number f) ∙ ap row_fault_of number ∙ row_fault_of-number g
+    | inr same ↦ same_number f g (omega arith)
   ]
 ]
 

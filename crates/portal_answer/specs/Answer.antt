@@ -10,7 +10,7 @@ use Rattle.portal_rolls.specs.declared.fault.RollFault.TheVariants as file
 use Rattle.std.specs.List.{flat_map, zip}
 use Rattle.spa_model.specs.Spa.{Spa, text_of, IsBest, IsLawful, IsMatching}
 use Rattle.spa_check.specs.Listed.{AreAllBlocks}
-use Rattle.spa_check.specs.declared.block.Block.{Block}
+use Rattle.spa_check.specs.declared.blocking.Block.{Block}
 use Rattle.spa_rows.specs.Lines.{Pair, Rows}
 use Rattle.spa_rows.specs.Faults.{IsFirstFault, HasNoneBefore}
 use Rattle.spa_rows.specs.declared.faults.InstanceFault.TheVariants.{Memory}

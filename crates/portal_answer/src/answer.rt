@@ -1,15 +1,16 @@
-//! Computes the answer of `check` or `solve` to an instance file.
+//! Computes the answer of `check` or `solve` to an instance file: a text with an exit status.
 
 ghost use Rattle.std.specs.Prelude.{IfOk};
 ghost use Rattle.spa_model.specs.Spa.{IsMatching};
 ghost use Rattle.portal_answer.specs.Answer.{IsAnswer, OfPairs, Tells};
 
 use crate::blocking::checked;
+use crate::refusal::{plain, refused_file, refused_instance, refused_matching};
 use crate::solution::solved;
-use crate::told::{Told, plain, refused_file, refused_instance, refused_matching};
 use portal_rolls::read_instance;
 use spa_model::{Instance, Matching, PairLine};
 use std::alloc::{AllocError, Global};
+use std::marker::Model;
 
 /// What to compute for an instance file.
 #[derive(Clone, Copy, Debug, PartialEq, Eq)]
@@ -18,6 +19,21 @@ pub enum Task {
     Check,
     /// The student-optimal stable matching of the file's instance.
     Solve,
+}
+
+/// An output text with its exit status.
+#[derive(Drop)]
+pub struct Told {
+    pub text: Vec<u8>,
+    pub status: u8,
+}
+
+impl Model for Told {
+    ghost use Rattle.portal_answer.specs.Answer as spec;
+
+    ghost Value = { spec.Told };
+
+    ghost view = { λ t. record { text = t.text.items; status = t.status } };
 }
 
 /// The greatest size of a file, in bytes.

@@ -4,7 +4,7 @@ ghost use Rattle.std.specs.Prelude.{◌≡◌, ◌<◌, ◌++◌, All, OnOk, IfO
 ghost use Rattle.spa_model.specs.Spa.{IsMatching};
 ghost use Rattle.portal_answer.specs.Answer.{block_line, blocking, TellsBlocks};
 
-use crate::told::Told;
+use crate::answer::Told;
 use spa_check::{Block, blocking_pairs};
 use spa_model::{Instance, Matching};
 use std::alloc::{AllocError, Global};
@@ -57,7 +57,6 @@ pub(crate) fn checked(
     requires { IsMatching instance.now matching.now }
     ensures { IfOk result (λ t. TellsBlocks instance.now matching.now t) }
 {
-    instance.lawful();
     let blocks = blocking_pairs(alloc, instance, matching)?;
     lines(alloc, instance, &blocks)
 }

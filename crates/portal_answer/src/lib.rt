@@ -4,8 +4,7 @@
 mod answer;
 mod blocking;
 pub mod laws;
+mod refusal;
 mod solution;
-mod told;
 
-pub use answer::{LIMIT, Task, answer_to};
-pub use told::Told;
+pub use answer::{LIMIT, Task, Told, answer_to};

@@ -4,7 +4,7 @@ ghost use Rattle.std.specs.Prelude.{◌≡◌, ◌<◌, ◌++◌, IfOk, IfSome, 
 ghost use Rattle.spa_model.specs.Spa.{IsMatching};
 ghost use Rattle.portal_answer.specs.Answer.{assign_line, assignment, TellsBest};
 
-use crate::told::Told;
+use crate::answer::Told;
 use spa_model::{Instance, Matching};
 use spa_student::solve;
 use std::alloc::{AllocError, Global};

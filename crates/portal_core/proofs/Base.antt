@@ -19,7 +19,7 @@ pub use Rattle.std.specs.Prelude.{IfSome, None, Option, Some, codes, count_by, f
 pub use Rattle.std.specs.Slice.Iter.{iter_rest}
 pub use Rattle.portal_core.specs.Answer.{Act, Answer, Apply, Decision, Nothing, Publish, Render, Said, added, already_placed, answer, applies, decision, is_open_to_rolls, moves_in, moves_on, open_where, opens, refuses, to_lecturer, to_office, to_student, unless_faulty, own, unwritten, emptied, HasWholeNumbers, answered, renders, with_own}
 pub use Rattle.portal_core.specs.Bodies.{is_assigned, person, phase_body, projects_body, dictionary, several, students_at, texts_or_null, text_or_null, members, listing, round_member, status_body, applicants_body, placed_body, allocation_body, students_body, roll_body, filled_body}
-pub use Rattle.portal_core.specs.Faults.{ListFault, choice_fault, fault_at, in_catalogue, is_applicant, lacks_one, ranking_fault, Faulty, Roll, RollRefusal, Taken, Took, lecturer_roll, one_new, one_same, project_roll, student_roll, take_row, take_rows, AreFresh, conflict_at, roll_full, wrong_choice, wrong_rank, NoneWrong, IsFirstWrong, IsRefused, with_new, IsFirstRefused}
+pub use Rattle.portal_core.specs.Faults.{ListFault, choice_fault, fault_at, in_catalogue, is_applicant, lacks_one, ranking_fault, Faulty, RollRules, RollRefusal, Taken, Took, Verdict, Present, New, Rejected, verdict_beside, verdict, there_after, with_row, lecturer_roll, project_roll, student_roll, take_rows, AreFresh, or_later, first_wrong, or_missing, wrong_choice, wrong_rank, NoneWrong, IsFirstWrong, with_new, IsFirstRefused}
 pub use Rattle.portal_core.specs.Good.{Good, IsChoice, IsLecturer, IsProject, IsRanking, IsRound, IsStudent, Sound, codes_of, placed_to, placed_with, instance, instance_of, lecturer_keys, matching_of, places_of, project_keys, student_keys, KeepsCapacities, CanPublish}
 pub use Rattle.portal_core.specs.Heard.{ChangeSeen, Heard, HeardItem, SeenIf, Sees, is_move_or_add, replies_to, Reordered, SameButPlaces, own_item, may_show, SameStudent, Asked, HeardOf, IsMember, IsIdle, none, front, turn, chain, SameWish, equal, sets, SameRequest, has_places, moves_to_published, Unless, AlikeUntilPublished}
 pub use Rattle.portal_core.specs.Honest.{IsBusy, IsTaken, Prefers, StandsBefore, DifferInLists, DifferInOneList, HasBest, IsNoWorse, ListAlike, OrderAlike, RankAlike, ShowsBest, OneGainsNothing}

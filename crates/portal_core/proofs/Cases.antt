@@ -1,14 +1,14 @@
 -- Decisions, case by case: a fact of each decision follows from the cases that do something.
-use Rattle.portal_core.proofs.Base.{◌≡◌, ℕ, true, false, List, [], length, Option, Some, None, is_none, Key, is_empty, is_choosing, is_ranking, Setup, Choosing, Ranking, Published, Round, First, Second, LecturerRow, ProjectRow, StudentRow, Choices, Ranks, Lecturers, Projects, Students, To, Fill, SecondRound, StudentSees, LecturerSees, OfficeSees, AbstractCall, projects_body, phase_body, choice_fault, ranking_fault, Took, take_rows, lecturer_roll, project_roll, student_roll, Answer, Said, Decision, Publish, refuses, applies, is_open_to_rolls, to_student, to_lecturer, to_office, Calls, is_move_or_add, arith, students_body, roll_body, filled_body, answered, renders}
+use Rattle.portal_core.proofs.Base.{◌≡◌, ℕ, true, false, List, length, Option, Some, None, is_none, Key, is_empty, is_choosing, is_ranking, Setup, Choosing, Ranking, Published, Round, First, Second, LecturerRow, ProjectRow, StudentRow, Choices, Ranks, Lecturers, Projects, Students, To, Fill, SecondRound, StudentSees, LecturerSees, OfficeSees, AbstractCall, projects_body, phase_body, choice_fault, ranking_fault, Took, take_rows, lecturer_roll, project_roll, student_roll, Answer, Said, Decision, Publish, refuses, applies, is_open_to_rolls, to_student, to_lecturer, to_office, Calls, is_move_or_add, arith, students_body, roll_body, filled_body, answered, renders}
 use Rattle.portal_core.specs.declared.decision.Sheet.{Sheet}
 
 -- a list that is taken
 abbrev pub Chooses : (AbstractCall → Decision → Type 0) → StudentSees → Type 0
-Chooses P v = (list : List Key) → is_choosing v.phase ≡ true → is_none v.result ≡ true → choice_fault v.catalogue 1 [] list ≡ None
+Chooses P v = (list : List Key) → is_choosing v.phase ≡ true → is_none v.result ≡ true → choice_fault v.catalogue list ≡ None
     → P (AbstractCall.SetChoices list) (applies (projects_body list) (Choices v.me.key list))
 
 abbrev pub RanksAll : (AbstractCall → Decision → Type 0) → LecturerSees → Type 0
-RanksAll P v = (list : List Key) → is_ranking v.phase ≡ true → ranking_fault v.applicants 1 [] list ≡ None
+RanksAll P v = (list : List Key) → is_ranking v.phase ≡ true → ranking_fault v.applicants list ≡ None
     → P (AbstractCall.SetRanking list) (applies (students_body (Some list)) (Ranks v.me.key list))
 
 -- what the office may bring about

@@ -1,5 +1,5 @@
 -- Replies do not tell the order within students' lists before the result is open.
-use Rattle.portal_core.proofs.Base.{◌≡◌, Bool, true, false, cond, List, [], ◌∷◌, refl, sym, ◌∙◌, subst, inl, inr, ◌⊎◌, Option, Some, None, is_none, AllZip, Data, Key, World, is_choosing, Choices, changed, Listing, StudentSees, Student, view, AbstractCall, projects_body, ListFault, choice_fault, Answer, Act, Decision, Nothing, Apply, Publish, Render, open_where, unless_faulty, applies, already_placed, decision, answer, to_student, StepLeaves, Step, Wish, Calls, Refused, Request, Answers, Run, AllAnswered, Reordered, SameButPlaces, arith, Sight, SameWish, equal, sets, SameRequest, has_places, moves_to_published, Unless, AlikeUntilPublished}
+use Rattle.portal_core.proofs.Base.{◌≡◌, [], Bool, true, false, cond, List, ◌∷◌, refl, sym, ◌∙◌, subst, inl, inr, ◌⊎◌, Option, Some, None, is_none, AllZip, Data, Key, World, is_choosing, Choices, changed, Listing, StudentSees, Student, view, AbstractCall, projects_body, ListFault, choice_fault, Answer, Act, Decision, Nothing, Apply, Publish, Render, open_where, unless_faulty, applies, already_placed, decision, answer, to_student, StepLeaves, Step, Wish, Calls, Refused, Request, Answers, Run, AllAnswered, Reordered, SameButPlaces, arith, Sight, SameWish, equal, sets, SameRequest, has_places, moves_to_published, Unless, AlikeUntilPublished}
 use Rattle.portal_core.proofs.Hearing.{really}
 use Rattle.portal_core.proofs.Reorder.{accepted_reordered, reordered_back}
 use Rattle.portal_core.proofs.Similar.{SameSight, same_view, both_choose, both_changed}
@@ -34,7 +34,7 @@ same_ask x y s ask = by_path x y s ask
 
 -- lists in another order are both taken or both refused
 
-set_acts : (catalogue : List Listing) (me : Key) (ks ls : List Key) → Reordered ks ls → (b free : Bool) (e f : Option ListFault) → choice_fault catalogue 1 [] ks ≡ e → choice_fault catalogue 1 [] ls ≡ f → (c d : Data)
+set_acts : (catalogue : List Listing) (me : Key) (ks ls : List Key) → Reordered ks ls → (b free : Bool) (e f : Option ListFault) → choice_fault catalogue ks ≡ e → choice_fault catalogue ls ≡ f → (c d : Data)
     → SameAct (open_where b (cond free (unless_faulty e (applies c (Choices me ks))) already_placed)).act (open_where b (cond free (unless_faulty f (applies d (Choices me ls))) already_placed)).act
 set_acts catalogue me ks ls r false free e f ee ef c d = same_act Nothing
 set_acts catalogue me ks ls r true false e f ee ef c d = same_act Nothing
@@ -46,7 +46,7 @@ set_acts catalogue me ks ls r true true (Some x) None ee ef c d = let e : None �
 same_sets : (x y : Sight) → SameSight x y → (ks ls : List Key) → Reordered ks ls → SameAct (decision x (AbstractCall.SetChoices ks)).act (decision y (AbstractCall.SetChoices ls)).act
 same_sets (Student v) (Student u) s ks ls r =
     subst (λ z. SameAct (to_student v (AbstractCall.SetChoices ks)).act (to_student z (AbstractCall.SetChoices ls)).act) s
-    (set_acts v.catalogue v.me.key ks ls r (is_choosing v.phase) (is_none v.result) (choice_fault v.catalogue 1 [] ks) (choice_fault v.catalogue 1 [] ls) refl refl (projects_body ks) (projects_body ls))
+    (set_acts v.catalogue v.me.key ks ls r (is_choosing v.phase) (is_none v.result) (choice_fault v.catalogue ks) (choice_fault v.catalogue ls) refl refl (projects_body ks) (projects_body ls))
 same_sets (Student v) y s ks ls r = grind arith
 same_sets x y s ks ls r = subst (λ z. SameAct Nothing (decision z (AbstractCall.SetChoices ls)).act) s (same_act Nothing)
 

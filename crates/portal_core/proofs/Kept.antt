@@ -1,11 +1,12 @@
 -- A change that is decided keeps the rows sound.
-use Rattle.portal_core.proofs.Base.{◌≡◌, ℕ, ◌+◌, ◌≤◌, Bool, true, false, cond, List, [], ◌∷◌, ◌++◌, length, refl, sym, ◌∙◌, ap, subst, arith, append_assoc, append-nil, map, filter, Some, None, option_map, IfSome, not, ◌||◌, ◌&&◌, if◌then◌else◌, is_none, unwrap_or, list_any, AllByRecursion, nat_tests, length-map, IsBest, IsStable, number_in, Key, equals, has, is_empty, Rise, AreDistinct, World, project_key, student_key, applicants_to, projects_of, applicants_of, is_still_to_rank, is_setup, is_choosing, is_ranking, is_published, is_from_ranking, is_second, is_left, in_play, first, first_placed, first_published, Choices, Ranks, To, Placements, changed, with_choice, with_ranking, with_place, placement_in, instance, instance_of, matching_of, project_keys, student_keys, Phase, Setup, Choosing, Ranking, Listing, Person, ProjectRow, catalogue, listings, office_sees, persons, name_in, listing_with, choice_fault, ranking_fault, in_catalogue, is_applicant, lacks_one, Good, IsRound, Sound, IsChoice, IsRanking, IsStudent, Published}
+use Rattle.portal_core.proofs.Base.{◌≡◌, [], ◌≤◌, Bool, true, false, cond, List, ◌∷◌, ◌++◌, length, refl, sym, ◌∙◌, ap, subst, arith, map, filter, Some, None, option_map, IfSome, not, ◌||◌, ◌&&◌, if◌then◌else◌, is_none, unwrap_or, list_any, AllByRecursion, length-map, IsBest, IsStable, number_in, Key, equals, has, is_empty, Rise, AreDistinct, World, project_key, student_key, applicants_to, projects_of, applicants_of, is_still_to_rank, is_setup, is_choosing, is_ranking, is_published, is_from_ranking, is_second, is_left, in_play, first, first_placed, first_published, Choices, Ranks, To, Placements, changed, with_choice, with_ranking, with_place, placement_in, instance, instance_of, matching_of, project_keys, student_keys, Phase, Setup, Choosing, Ranking, Listing, Person, ProjectRow, catalogue, listings, office_sees, persons, name_in, listing_with, choice_fault, ranking_fault, in_catalogue, Good, IsRound, Sound, IsChoice, IsRanking, IsStudent, Published}
 use Rattle.portal_core.specs.World as rows
 use Rattle.portal_core.proofs.Keys.{is_same}
+use Rattle.portal_core.proofs.ListFaults.{chosen, ranked}
 use Rattle.portal_core.proofs.Reranked.{sound_kept}
 use Rattle.portal_core.proofs.Acts.{choice_row}
 use Rattle.portal_core.proofs.InPlay.{play_chosen, play_ranked, play_placed, ranking_row}
-use Rattle.portal_core.proofs.AllLaws.{kept_filtered, all_map, all_both, all_weaker, map_same, is_sym, none_is, split_append, any_map, any_shown, any_alike, any_or, any_nowhere, filtered_any, none_passes}
+use Rattle.portal_core.proofs.AllLaws.{kept_filtered, all_map, all_both, all_weaker, map_same, is_sym, any_map, any_shown, any_alike, any_or, any_nowhere, filtered_any, none_passes}
 
 -- before the result is published nothing has to be stable
 pub not_published : (w : World) → Sound w → is_published w.phase ≡ false → (is_second w.round ≡ true → IsRound (first w)) → Good w
@@ -118,25 +119,6 @@ all_ranked w closed none =
 
 -- a student's list
 
-pub record Chooses (cat : List Listing) (at : ℕ) (earlier list : List Key) : Type 0 where
-  pub few : length list + at ≤ 21
-  pub known : AllByRecursion (λ k. in_catalogue cat k ≡ true) list
-  pub once : AreDistinct list
-  pub new : AllByRecursion (λ k. has earlier k ≡ false) list
-
-pub no_fault : (cat : List Listing) (at : ℕ) (earlier list : List Key) → at ≤ 21 → choice_fault cat at earlier list ≡ None → Chooses cat at earlier list
-no_fault cat at earlier [] low e = record { few = omega arith; known = tt; once = tt; new = tt }
-no_fault cat at earlier (k ∷ ks) low e =
-    let here : (at + 1 ≤ 21) × (in_catalogue cat k ≡ true) × (has earlier k ≡ false) × (choice_fault cat (at + 1) (earlier ++ k ∷ []) ks ≡ None) = grind (arith, nat_tests) in
-    let rest : Chooses cat (at + 1) (earlier ++ k ∷ []) ks = no_fault cat (at + 1) (earlier ++ k ∷ []) ks here.0 here.3 in
-    let apart : AllByRecursion (λ l. (has earlier l ≡ false) × (equals l k ≡ false)) ks = all_weaker _ _ (λ l h. split_append earlier k l h) ks rest.new in
-    record {
-      few = let few = rest.few in omega arith;
-      known = (here.1, rest.known);
-      once = (none_is k ks (all_weaker _ _ (λ l h. h.1) ks apart), rest.once);
-      new = (here.2, all_weaker _ _ (λ l h. h.0) ks apart);
-    }
-
 -- the catalogue has the projects' keys
 listed_is_there : (w : World) (k : Key) → in_catalogue (listings w.lecturers w.projects) k ≡ true → has (map project_key w.projects) k ≡ true
 listed_is_there w k h = any_map (equals k) project_key w.projects ∙ any_shown (λ (l : Listing). equals l.key k) (λ p. equals k p.key) _ here w.projects h
@@ -144,14 +126,10 @@ listed_is_there w k h = any_map (equals k) project_key w.projects ∙ any_shown 
     here : (p : ProjectRow) (l : Listing) → option_map (listing_with p) (name_in w.lecturers p.lecturer) ≡ Some l → equals l.key k ≡ true → equals k p.key ≡ true
     here p l e t = grind (arith, is_sym k p.key)
 
-chosen_good : (w : World) (list : List Key) → choice_fault (catalogue w) 1 [] list ≡ None → IsChoice (project_keys (in_play w)) list
+chosen_good : (w : World) (list : List Key) → choice_fault (catalogue w) list ≡ None → IsChoice (project_keys (in_play w)) list
 chosen_good w list e =
-    let c : Chooses (catalogue w) 1 [] list = no_fault (catalogue w) 1 [] list (omega arith) e in
-    record {
-      few = let few = c.few in omega arith;
-      known = all_weaker _ _ (λ k h. listed_is_there (in_play w) k h) list c.known;
-      once = c.once;
-    }
+    let (few, fit) = chosen (catalogue w) list e in
+    record { few = few; known = all_weaker _ _ (λ k h. listed_is_there (in_play w) k h) list fit.only; once = fit.once }
 
 -- what holds of a row holds after its list is replaced
 choice_with : (P : List Key → Type 0) (k : Key) (list : List Key) → P list → (ss : List rows.Student) → AllByRecursion (λ s. P s.choice) ss → AllByRecursion (λ s. P s.choice) (map (with_choice k list) ss)
@@ -173,7 +151,7 @@ choice_out : (k : Key) (list : List Key) (s : rows.Student) → (equals s.row.ke
 choice_out k list s mine h = grind arith
 
 -- who makes a list has no project of the earlier round
-pub choosing : (w : World) (k : Key) (list : List Key) → Sound w → is_choosing w.phase ≡ true → AllByRecursion (λ s. equals s.row.key k ≡ true → is_left s ≡ true) w.students → choice_fault (catalogue w) 1 [] list ≡ None
+pub choosing : (w : World) (k : Key) (list : List Key) → Sound w → is_choosing w.phase ≡ true → AllByRecursion (λ s. equals s.row.key k ≡ true → is_left s ≡ true) w.students → choice_fault (catalogue w) list ≡ None
     → Sound (changed w (Choices k list))
 choosing w k list g e mine none =
     let keys : map student_key (map (with_choice k list) w.students) ≡ map student_key w.students = map_same student_key (with_choice k list) (λ s. ap (λ r. r.key) (choice_row k list s)) w.students in
@@ -220,25 +198,6 @@ union_any q ps ss =
     ∙ sym (filtered_any (λ s. q (student_key s)) (λ s. list_any (λ p. has s.choice p.key) ps) ss)
     ∙ sym (any_map q student_key (filter (λ s. list_any (λ p. has s.choice p.key) ps) ss))
 
-pub record Ranked (ps : List (Key × List Person)) (earlier list : List Key) : Type 0 where
-  pub only : AllByRecursion (λ k. is_applicant ps k ≡ true) list
-  pub once : AreDistinct list
-  pub new : AllByRecursion (λ k. has earlier k ≡ false) list
-  pub all : lacks_one ps (earlier ++ list) ≡ false
-
-no_rank_fault : (ps : List (Key × List Person)) (at : ℕ) (earlier list : List Key) → ranking_fault ps at earlier list ≡ None → Ranked ps earlier list
-no_rank_fault ps at earlier [] e = record { only = tt; once = tt; new = tt; all = rw append-nil (grind arith) }
-no_rank_fault ps at earlier (k ∷ ks) e =
-    let here : (is_applicant ps k ≡ true) × (has earlier k ≡ false) × (ranking_fault ps (at + 1) (earlier ++ k ∷ []) ks ≡ None) = grind arith in
-    let rest : Ranked ps (earlier ++ k ∷ []) ks = no_rank_fault ps (at + 1) (earlier ++ k ∷ []) ks here.2 in
-    let apart : AllByRecursion (λ l. (has earlier l ≡ false) × (equals l k ≡ false)) ks = all_weaker _ _ (λ l h. split_append earlier k l h) ks rest.new in
-    record {
-      only = (here.0, rest.only);
-      once = (none_is k ks (all_weaker _ _ (λ l h. h.1) ks apart), rest.once);
-      new = (here.1, all_weaker _ _ (λ l h. h.0) ks apart);
-      all = subst (λ xs. lacks_one ps xs ≡ false) (append_assoc earlier (k ∷ []) ks) rest.all;
-    }
-
 none_lacks : (list ks : List Key) → list_any (λ k. not (has list k)) ks ≡ false → AllByRecursion (λ k. has list k ≡ true) ks
 none_lacks list [] e = tt
 none_lacks list (k ∷ ks) e = grind (arith, none_lacks list ks)
@@ -247,16 +206,16 @@ none_lacks list (k ∷ ks) e = grind (arith, none_lacks list ks)
 abbrev pub shown_sets : World → Key → Bool → List (Key × List Person)
 shown_sets w l closed = map (λ p. (p.key, if closed then persons (applicants_to w p.key) else [])) (projects_of w l)
 
-ranks_all : (w : World) (l : Key) (list : List Key) → ranking_fault (shown_sets w l true) 1 [] list ≡ None → IsRanking (map student_key (applicants_of w l)) list
+ranks_all : (w : World) (l : Key) (list : List Key) → ranking_fault (shown_sets w l true) list ≡ None → IsRanking (map student_key (applicants_of w l)) list
 ranks_all w l list e =
-    let r : Ranked (shown_sets w l true) [] list = no_rank_fault (shown_sets w l true) 1 [] list e in
+    let (fit, all) = ranked (shown_sets w l true) list e in
     record {
       all = none_lacks list (map student_key (applicants_of w l))
-          (sym (any_map (λ (p : Key × List Person). list_any (λ s. not (has list s.key)) p.1) _ (projects_of w l) ∙ union_any (λ k. not (has list k)) (projects_of w l) w.students) ∙ r.all);
+          (sym (any_map (λ (p : Key × List Person). list_any (λ s. not (has list s.key)) p.1) _ (projects_of w l) ∙ union_any (λ k. not (has list k)) (projects_of w l) w.students) ∙ all);
       only = all_weaker _ _ (λ k h.
           any_alike (equals k) (λ s. equals s k) (λ s. is_sym k s) (map student_key (applicants_of w l))
-          ∙ sym (any_map (λ (p : Key × List Person). list_any (λ s. equals s.key k) p.1) _ (projects_of w l) ∙ union_any (λ s. equals s k) (projects_of w l) w.students) ∙ h) list r.only;
-      once = r.once;
+          ∙ sym (any_map (λ (p : Key × List Person). list_any (λ s. equals s.key k) p.1) _ (projects_of w l) ∙ union_any (λ s. equals s k) (projects_of w l) w.students) ∙ h) list fit.only;
+      once = fit.once;
     }
 
 -- the new ranking stands at its lecturer, and each other one stays
@@ -267,11 +226,11 @@ ranking_with P k list new (l ∷ ls) all = grind (arith, new, is_same l.row.key 
 pub ranking_first : (k : Key) (list : List Key) (l : rows.Lecturer) → first_published (with_ranking k list l) ≡ first_published l
 ranking_first k list l = elim (equals l.row.key k) as (λ b. first_published (cond b (record l { ranking = Some list }) l) ≡ first_published l) [ true ↦ refl | false ↦ refl ]
 
-pub ranking : (w : World) (k : Key) (list : List Key) → Sound w → is_ranking w.phase ≡ true → ranking_fault (shown_sets w k (is_from_ranking w.phase)) 1 [] list ≡ None → Sound (changed w (Ranks k list))
+pub ranking : (w : World) (k : Key) (list : List Key) → Sound w → is_ranking w.phase ≡ true → ranking_fault (shown_sets w k (is_from_ranking w.phase)) list ≡ None → Sound (changed w (Ranks k list))
 ranking w k list g e none =
     sound_kept (with_ranking k list) (ranking_row k list) w (λ l. ap (λ x. x.ranking) (ranking_first k list l)) (ap project_keys (play_ranked w k list)) g e
     (ranking_with (λ q. IsRanking (map student_key (applicants_of w q))) k list
-    (ranks_all w k list (subst (λ b. ranking_fault (shown_sets w k b) 1 [] list ≡ None) (closed w.phase e) none)) w.lecturers g.rankings)
+    (ranks_all w k list (subst (λ b. ranking_fault (shown_sets w k b) list ≡ None) (closed w.phase e) none)) w.lecturers g.rankings)
   where
     closed : (phase : Phase) → is_ranking phase ≡ true → is_from_ranking phase ≡ true
     closed phase e = grind arith

@@ -15,6 +15,8 @@ mod Cases
 pub mod Acts
 pub mod Hearing
 pub mod Unseen
+pub mod ListFaults
+pub mod RowFaults
 pub mod Kept
 pub mod Opened
 pub mod Adds
@@ -26,7 +28,6 @@ pub mod Once
 pub mod Refreshed
 pub mod Reorder
 mod Taken
-mod FirstBad
 pub mod Similar
 pub mod Disclosed
 pub mod Named
@@ -36,7 +37,6 @@ pub mod Published
 pub mod Capacities
 pub mod Alone
 pub mod Rooms
-pub mod Scan
 pub mod Pieces
 pub mod Tables
 pub mod HonestLists

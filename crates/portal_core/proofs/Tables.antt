@@ -1,5 +1,5 @@
 -- A table after one more text or row was put in.
-use Rattle.portal_core.proofs.Base.{◌≡◌, ℕ, ◌+◌, ◌<◌, Bool, true, List, [], ◌∷◌, ◌++◌, map, reverse, length, take, get_or, Option, Some, refl, sym, ◌∙◌, ap, subst, append_assoc, append-nil, add-one, reverse-append, list_any_more, ◌||◌, not, option_map, list_any, find, text_eq, Key, equals, has, Person, is_assigned, placement_in, HasTexts, HasRows, HasKeys, arith, Bor, or_assoc, map-append, is_some}
+use Rattle.portal_core.proofs.Base.{◌≡◌, ℕ, ◌+◌, ◌<◌, Bool, true, List, [], ◌∷◌, ◌++◌, map, reverse, length, take, get_or, Option, Some, refl, sym, ◌∙◌, ap, subst, append_assoc, append-nil, add-one, reverse-append, list_any_more, ◌||◌, not, option_map, list_any, find, text_eq, Key, equals, has, Person, is_assigned, placement_in, HasTexts, HasRows, HasKeys, arith, Bor, or_assoc, map-append, map-id, is_some}
 use Rattle.std.proofs.Math.Seq.{take-suc, take-length}
 use Rattle.std.specs.HashMap as hash
 use Rattle.std.specs.HashMap.{HashMap}
@@ -69,8 +69,8 @@ pub known_alike : {S : Type 0} (f g : Key → Bool) (t : HashMap (Bor Key) (Bor 
 known_alike f g t alike was = λ q. ((was q).0 ∙ alike q.now, (was q).1)
 
 -- whom a table of texts leaves out
-pub left_out : {S : Type 0} (ks : List Key) (table : HashSet (Bor Key) S) → HasTexts ks table → (persons : List Person) → list_any (λ s. not (set.contains_by (λ k. equals s.key k.now) table)) persons ≡ list_any (λ s. not (has ks s.key)) persons
-left_out ks table texts persons = any_alike _ _ (λ s. ap not (texts (record { ref_ptr = (0, 0); now = s.key }))) persons
+pub left_out : {S : Type 0} (ks : List Key) (table : HashSet (Bor Key) S) → HasTexts (map (λ k. k) ks) table → (persons : List Person) → list_any (λ s. not (set.contains_by (λ k. equals s.key k.now) table)) persons ≡ list_any (λ s. not (has ks s.key)) persons
+left_out ks table texts persons = any_alike _ _ (λ s. ap not (texts (record { ref_ptr = (0, 0); now = s.key }) ∙ ap (λ ts. has ts s.key) (map-id ks))) persons
 
 -- the key of the next person was put in
 module _ {S : Type 0} (known : Key → Bool) (persons : List Person) where

@@ -1,53 +1,41 @@
 -- What is legal is taken.
-use Rattle.portal_core.proofs.Base.{◌≡◌, ℕ, ◌+◌, ◌<◌, Bool, true, false, List, [], ◌∷◌, ◌++◌, length, refl, sym, ◌∙◌, ap, subst, arith, append_assoc, append-nil, map, Some, None, not, ◌||◌, nat_le, codes, if◌then◌else◌, list_any, find, AllByRecursion, nat_tests, Key, equals, has, World, student_key, applicants_of, projects_of, is_from_ranking, Listing, Person, lecturer_sees, fault_at, choice_fault, ranking_fault, lacks_one, Roll, Took, take_rows, IsChoice, IsRanking, AreFresh}
+use Rattle.portal_core.proofs.Base.{◌≡◌, [], ℕ, ◌+◌, ◌<◌, Bool, true, false, List, ◌∷◌, length, refl, sym, ◌∙◌, ap, subst, arith, map, None, not, ◌||◌, nat_le, list_any, find, AllByRecursion, nat_tests, Key, equals, has, World, student_key, applicants_of, projects_of, is_from_ranking, Listing, Person, lecturer_sees, choice_fault, ranking_fault, RollRules, Took, take_rows, IsChoice, IsRanking, AreFresh}
 use Rattle.portal_core.specs.World as rows
-use Rattle.portal_core.proofs.AllLaws.{all_weaker, all_both, any_map, any_alike, is_sym, none_after, none_yet, not_first}
-use Rattle.portal_core.proofs.Kept.{Ranked, shown_sets, union_any}
-use Rattle.portal_core.proofs.Reorder.{taken}
+use Rattle.portal_core.proofs.AllLaws.{all_weaker, any_map, any_alike, is_sym, none_yet}
+use Rattle.portal_core.proofs.Kept.{shown_sets, union_any}
+use Rattle.portal_core.proofs.ListFaults.{choice_taken, ranking_taken}
 
 -- a student's list
 
-pub choice_taken : (catalogue : List Listing) (list : List Key) → IsChoice (map (λ (l : Listing). l.key) catalogue) list → choice_fault catalogue 1 [] list ≡ None
-choice_taken catalogue list c =
-    taken catalogue 1 [] list
+pub choice_legal : (catalogue : List Listing) (list : List Key) → IsChoice (map (λ (l : Listing). l.key) catalogue) list → choice_fault catalogue list ≡ None
+choice_legal catalogue list c =
+    choice_taken catalogue list c.few
     (record {
-      few = let few = c.few in omega arith;
-      known = all_weaker _ _ (λ k h. sym (any_map (equals k) (λ (l : Listing). l.key) catalogue ∙ any_alike _ _ (λ l. is_sym k l.key) catalogue) ∙ h) list c.known;
+      only = all_weaker _ _ (λ k h. sym (any_map (equals k) (λ (l : Listing). l.key) catalogue ∙ any_alike _ _ (λ l. is_sym k l.key) catalogue) ∙ h) list c.known;
       once = c.once;
       new = none_yet list;
     })
 
 -- a lecturer's ranking
 
-ranking_fits : (ps : List (Key × List Person)) (at : ℕ) (earlier list : List Key) → Ranked ps earlier list → ranking_fault ps at earlier list ≡ None
-ranking_fits ps at earlier [] r = ap (λ b. if b then Some (fault_at 0 (codes "missing")) else None) (subst (λ ks. lacks_one ps ks ≡ false) (append-nil earlier) r.all)
-ranking_fits ps at earlier (k ∷ ks) r =
-    let rest : Ranked ps (earlier ++ k ∷ []) ks =
-    record {
-      only = r.only.1;
-      once = r.once.1;
-      new = all_weaker _ _ (λ l h. none_after earlier k l h.0 h.1) ks (all_both _ _ ks r.new.1 (not_first k ks r.once));
-      all = subst (λ xs. lacks_one ps xs ≡ false) (sym (append_assoc earlier (k ∷ []) ks)) r.all;
-    } in
-    rw (r.only.0, r.new.0) (ranking_fits ps (at + 1) (earlier ++ k ∷ []) ks rest)
-
 lacks_none : (list ks : List Key) → AllByRecursion (λ k. has list k ≡ true) ks → list_any (λ k. not (has list k)) ks ≡ false
 lacks_none list [] all = refl
 lacks_none list (k ∷ ks) all = ap (λ b. not b || list_any (λ k. not (has list k)) ks) all.0 ∙ lacks_none list ks all.1
 
-pub ranking_taken : (w : World) (l : rows.Lecturer) (list : List Key) → is_from_ranking w.phase ≡ true → IsRanking (map student_key (applicants_of w l.row.key)) list → ranking_fault (lecturer_sees w l).applicants 1 [] list ≡ None
-ranking_taken w l list closed r =
-    subst (λ b. ranking_fault (shown_sets w l.row.key b) 1 [] list ≡ None) (sym closed)
-    (ranking_fits (shown_sets w l.row.key true) 1 [] list (record {
+pub ranking_legal : (w : World) (l : rows.Lecturer) (list : List Key) → is_from_ranking w.phase ≡ true → IsRanking (map student_key (applicants_of w l.row.key)) list → ranking_fault (lecturer_sees w l).applicants list ≡ None
+ranking_legal w l list closed r =
+    subst (λ b. ranking_fault (shown_sets w l.row.key b) list ≡ None) (sym closed)
+    (ranking_taken (shown_sets w l.row.key true) list
+    (record {
       only = all_weaker _ _ (λ k h.
           (any_map (λ (p : Key × List Person). list_any (λ s. equals s.key k) p.1) _ (projects_of w l.row.key) ∙ union_any (λ s. equals s k) (projects_of w l.row.key) w.students)
           ∙ sym (any_alike (equals k) (λ s. equals s k) (λ s. is_sym k s) (map student_key (applicants_of w l.row.key))) ∙ h) list r.only;
       once = r.once;
       new = none_yet list;
-      all = any_map (λ (p : Key × List Person). list_any (λ s. not (has list s.key)) p.1) _ (projects_of w l.row.key)
-          ∙ union_any (λ k. not (has list k)) (projects_of w l.row.key) w.students
-          ∙ lacks_none list (map student_key (applicants_of w l.row.key)) r.all;
-    }))
+    })
+    (any_map (λ (p : Key × List Person). list_any (λ s. not (has list s.key)) p.1) _ (projects_of w l.row.key)
+    ∙ union_any (λ k. not (has list k)) (projects_of w l.row.key) w.students
+    ∙ lacks_none list (map student_key (applicants_of w l.row.key)) r.all))
 
 -- rows
 
@@ -58,7 +46,7 @@ none_found p (x ∷ xs) e = grind (arith, none_found p xs)
 has_room : (limit n : ℕ) → n < limit → nat_le limit n ≡ false
 has_room limit n h = grind (arith, nat_tests)
 
-pub rows_taken : {X : Type 0} (roll : Roll X) (at : ℕ) (there rows : List X) → AreFresh roll there rows → take_rows roll at there rows ≡ Took rows 0
+pub rows_taken : {X : Type 0} (roll : RollRules X) (at : ℕ) (there rows : List X) → AreFresh roll there rows → take_rows roll at there rows ≡ Took rows 0
 rows_taken roll at there [] f = refl
 rows_taken roll at there (r ∷ rs) f =
     rw (none_found (λ x. equals (roll.key x) (roll.key r)) there f.0, f.1, has_room roll.limit (length there) f.2, rows_taken roll (at + 1) (r ∷ there) rs f.3) refl

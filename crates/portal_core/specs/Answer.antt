@@ -87,7 +87,7 @@ to_student v AbstractCall.Catalogue = shows (catalogue_body v.catalogue)
 to_student v AbstractCall.ShowChoices = shows (projects_body v.choices)
 to_student v (AbstractCall.SetChoices list) =
     open_where (is_choosing v.phase) (
-    if is_none v.result then unless_faulty (choice_fault v.catalogue 1 [] list) (applies (projects_body list) (Choices v.me.key list)) else already_placed)
+    if is_none v.result then unless_faulty (choice_fault v.catalogue list) (applies (projects_body list) (Choices v.me.key list)) else already_placed)
 to_student v AbstractCall.Result = open_where (has_result v.round v.phase) (shows (project_body v.result))
 to_student v _ = not_yours
 
@@ -99,7 +99,7 @@ to_lecturer v AbstractCall.Catalogue = shows (catalogue_body v.catalogue)
 to_lecturer v AbstractCall.Applicants = open_where (is_from_ranking v.phase) (shows (applicants_body v.applicants))
 to_lecturer v AbstractCall.ShowRanking = open_where (is_from_ranking v.phase) (shows (students_body v.ranking))
 to_lecturer v (AbstractCall.SetRanking list) =
-    open_where (is_ranking v.phase) (unless_faulty (ranking_fault v.applicants 1 [] list) (applies (students_body (Some list)) (Ranks v.me.key list)))
+    open_where (is_ranking v.phase) (unless_faulty (ranking_fault v.applicants list) (applies (students_body (Some list)) (Ranks v.me.key list)))
 to_lecturer v AbstractCall.Result = open_where (has_result v.round v.phase) (shows (placed_body v.placed))
 to_lecturer v _ = not_yours
 

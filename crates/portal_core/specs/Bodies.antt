@@ -107,9 +107,12 @@ status_body v =
 abbrev pub filled_body : List Key → Data
 filled_body ks = dictionary ((codes "filled", texts ks) ∷ [])
 
+-- a pair of a student and a project
+abbrev pub pair : Key × Key → Data
+pair x = dictionary ((codes "project", string x.1) ∷ (codes "student", string x.0) ∷ [])
+
 abbrev pub allocation_body : List (Key × Key) → Data
-allocation_body pairs =
-    dictionary ((codes "pairs", several (map (λ (x : Key × Key). dictionary ((codes "project", string x.1) ∷ (codes "student", string x.0) ∷ [])) pairs)) ∷ [])
+allocation_body pairs = dictionary ((codes "pairs", several (map pair pairs)) ∷ [])
 
 abbrev pub project_with : List ProjectRow → Option Key → Option ProjectRow
 project_with projects None = None

@@ -2,8 +2,8 @@
 use Rattle.std.specs.Prelude.{ℕ, List, Vec, map, ◌≡◌, ◌⊎◌, ◌+◌, Result, Ok, Err, OnOk}
 use Rattle.std.specs.declared.alloc.Global.{Global}
 use Rattle.serde_json.specs.View as json
-use Rattle.portal_core.specs.declared.call.Call.{Call}
-use Rattle.portal_core.specs.declared.call.Call.TheVariants as call
+use Rattle.portal_core.specs.declared.decision.Call.{Call}
+use Rattle.portal_core.specs.declared.decision.Call.TheVariants as call
 use Rattle.portal_core.specs.declared.decision.Body.{Body}
 use Rattle.portal_core.specs.declared.decision.Body.TheVariants as body
 use Rattle.portal_core.specs.declared.decision.Reply.{Reply}

@@ -1,13 +1,41 @@
-//! The decision on a call: a reply, and an act such as a change.
+//! A call, and the decision on it: a reply, and an act such as a change.
 
 ghost use Rattle.std.specs.Prelude.{◌≡◌};
 ghost use Rattle.portal_core.specs.Meaning.{reply_model};
 ghost use Rattle.portal_core.specs.Run as run;
 
-use crate::phase::Phase;
+use crate::phase::{Phase, Round};
 use crate::rows::{LecturerRow, ProjectRow, StudentRow};
 use serde_json::Value;
 use spa_rows::Key;
+
+/// A call: what a request asks for.
+#[derive(Drop)]
+pub enum Call {
+    Me,
+    Catalogue,
+    ShowChoices,
+    /// Replaces the student's own list of projects, best first.
+    SetChoices(Vec<Vec<u8>>),
+    Applicants,
+    ShowRanking,
+    /// Replaces the lecturer's own ranking of all applicants, best first.
+    SetRanking(Vec<Vec<u8>>),
+    Result,
+    AddLecturers(Vec<LecturerRow>),
+    AddProjects(Vec<ProjectRow>),
+    AddStudents(Vec<StudentRow>),
+    /// Moves to this phase of the given round; `None` stands for the current round.
+    Move { phase: Phase, round: Option<Round> },
+    Status,
+    Allocation,
+    /// The result as CSV.
+    AllocationCsv,
+    /// The result as plain text.
+    Report,
+    /// Gives each lecturer who is still to rank a ranking: the applicants in the order of keys.
+    FillRankings,
+}
 
 /// The body of a reply.
 #[derive(Drop)]

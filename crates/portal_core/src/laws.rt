@@ -161,11 +161,11 @@ pub fn run_exists()
 pub fn legal_is_taken()
     ensures choices { (catalogue : List Listing) (list : List Key)
         → IsChoice (map (λ (l : Listing). l.key) catalogue) list
-        → choice_fault catalogue 1 [] list ≡ None }
+        → choice_fault catalogue list ≡ None }
     ensures rankings { (w : World) (l : Lecturer) (list : List Key)
         → is_from_ranking w.phase ≡ true
         → IsRanking (map student_key (applicants_of w l.row.key)) list
-        → ranking_fault (lecturer_sees w l).applicants 1 [] list ≡ None }
+        → ranking_fault (lecturer_sees w l).applicants list ≡ None }
     ensures lecturers { (v : OfficeSees) (rows : List LecturerRow)
         → AreFresh (lecturer_roll v) v.lecturers rows
         → take_rows (lecturer_roll v) 1 v.lecturers rows ≡ Took rows 0 }
@@ -182,10 +182,10 @@ pub fn legal_is_taken()
 /// is reported without a row.
 pub fn least_is_told()
     ensures choices { (catalogue : List Listing) (list : List Key) (fault : ListFault)
-        → choice_fault catalogue 1 [] list ≡ Some fault
+        → choice_fault catalogue list ≡ Some fault
         → IsFirstWrong (wrong_choice catalogue) list fault }
     ensures rankings { (applicants : List (Key × List Person)) (list : List Key) (fault : ListFault)
-        → ranking_fault applicants 1 [] list ≡ Some fault
+        → ranking_fault applicants list ≡ Some fault
         → IsFirstWrong (wrong_rank applicants) list fault
         ⊎ ((fault ≡ fault_at 0 (codes "missing")) × NoneWrong (wrong_rank applicants) list
         × (lacks_one applicants list ≡ true)) }

@@ -1,27 +1,21 @@
 //! Computes the capacities that the first round left.
 
-ghost use Rattle.std.specs.Prelude.{◌≡◌, IfOk, map};
+ghost use Rattle.std.specs.Prelude.{◌≡◌, IfOk, count_by, map};
 ghost use Rattle.std.specs.List.{list_any};
-ghost use Rattle.portal_core.specs.Words.{equals};
+ghost use Rattle.portal_core.specs.Words.{equals, Key};
 ghost use Rattle.portal_core.specs.inner.Room as meant;
-ghost use Rattle.portal_core.specs.inner.Room.{own_keys, pairs_among, room_of};
-ghost use Rattle.portal_core.specs.Bodies.{students_at};
+ghost use Rattle.portal_core.specs.inner.Room.{own_keys, room_of};
+ghost use Rattle.portal_core.specs.Bodies as sheet;
 
 use crate::rows::{LecturerRow, ProjectRow};
 use spa_rows::Key;
 use std::alloc::{AllocError, Global};
 
-/// Counts the first round's pairs with this project, to compute the capacity left.
-fn given_to(pairs: &[(Key, Key)], project: &Key) -> usize
-    ensures { result ≡ students_at pairs.now project.now }
+/// Returns how many students the pairs of a result give to the project.
+pub fn students_at(pairs: &[(Key, Key)], project: &Key) -> usize
+    ensures { result ≡ sheet.students_at pairs.now project.now }
 {
-    let mut count = 0usize;
-    for pair in pairs {
-        if pair.1 == *project {
-            count += 1;
-        }
-    }
-    count
+    pairs.iter().filter(|pair| pair.1 == *project).count()
 }
 
 /// Returns the keys of the lecturer's projects, which share the lecturer's capacity, in their
@@ -51,15 +45,13 @@ fn is_among(keys: &[&Key], key: &Key) -> bool
 
 /// Counts the first round's pairs with one of these projects, to compute the capacity left.
 fn given_among(pairs: &[(Key, Key)], projects: &[&Key]) -> usize
-    ensures { result ≡ pairs_among pairs.now (map (λ k. k.now) projects.now) }
+    ensures { result ≡ count_by
+        (λ (x : Key × Key). list_any (λ k. equals x.1 k.now) projects.now) pairs.now }
 {
-    let mut count = 0usize;
-    for pair in pairs {
-        if is_among(projects, &pair.1) {
-            count += 1;
-        }
-    }
-    count
+    pairs
+        .iter()
+        .filter(|pair| is_among(projects, &pair.1))
+        .count()
 }
 
 /// Returns the capacity that `given` placements of the first round leave, or `None` if none is
@@ -84,7 +76,7 @@ pub fn project_left(
 ) -> Result<Option<ProjectRow>, AllocError>
     ensures { IfOk result (λ row. row ≡ meant.project_left pairs.now project.now) }
 {
-    match room_of(project.capacity, given_to(pairs, &project.key)) {
+    match room_of(project.capacity, students_at(pairs, &project.key)) {
         Some(capacity) => {
             let mut row = project.copy(alloc)?;
             row.capacity = capacity;

@@ -3,9 +3,8 @@
 ghost use Rattle.std.specs.Prelude.{◌≡◌, IfOk};
 
 use crate::code::Code;
-use crate::copies::{copy_keys, copy_pairs};
 use crate::phase::{Phase, Round};
-use crate::rows::{LecturerRow, Listing, Person, ProjectRow, StudentRow};
+use crate::rows::{LecturerRow, Listing, Person, ProjectRow, StudentRow, copy_keys, copy_pairs};
 use spa_rows::Key;
 use std::alloc::{AllocError, Global};
 use std::marker::Model;

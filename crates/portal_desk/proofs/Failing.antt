@@ -1,5 +1,5 @@
 -- The desk fails exactly where its keeper's faults rise, and calls in turn keep a keeper clean.
-use Rattle.portal_desk.proofs.Base.{◌≡◌, ℕ, ◌+◌, inl, inr, Bool, true, false, refl, sym, ◌∙◌, ap, subst, World, FailsByCount, StaysClean, Breaks, LeavesBy, Result, Ok, Err, IfErr}
+use Rattle.portal_desk.proofs.Base.{◌≡◌, ℕ, ◌+◌, inl, inr, Bool, true, false, refl, sym, ◌∙◌, ap, subst, World, FailsByCount, StaysClean, LeavesBy, Result, Ok, Err, IfErr}
 use Rattle.std.specs.Prelude.{OnOk}
 use Rattle.portal_core.specs.Meaning.{CountsFaults}
 use Rattle.portal_core.specs.declared.keeper.KeepFault.{KeepFault}
@@ -31,13 +31,6 @@ fails_then false true false x y z h k = let e : false ≡ true = k.0 in absurd (
 pub calm_before : (a b : Bool) (x y : ℕ) → FailsByCount a b x y → b ≡ false → a ≡ false
 calm_before true b x y h e = sym h.0 ∙ e
 calm_before false b x y h e = refl
-
--- a call that returned `Ok`, and then another
-pub breaks_then : {A B E : Type 0} (r : Result A E) (s : Result B E) (a b c d e f x y z : Type 0) → Breaks r a b d e x y → Breaks s b c e f y z → Breaks s a c d f x z
-breaks_then r s a b c d e f x y z h k = λ now.
-    let after = k now in
-    let before = h after.0 in
-    (before.0, λ on. elim (before.1 on) [ inl up ↦ after.1 up | inr bad ↦ inr (after.2 bad) ], λ bad. after.2 (before.2 bad), after.3)
 
 -- a call that leaves nothing of its own, and then another
 pub leaves_then : (b c : Type 0) (old mid new made turned : World → Type 0) → (c → b) → LeavesBy b old mid (λ _. ⊥) → LeavesBy c mid new made

@@ -1,9 +1,7 @@
 -- What a frame of the buffer says of the stream.
-use Rattle.portal_desk.proofs.Base.{◌≡◌, ℕ, ◌<◌, inl, inr, Bool, true, false, List, [], ◌++◌, length, take, drop, refl, sym, ap, ◌∙◌, subst, append-nil, arith, Option, Some, None, nat_le, if◌then◌else◌, Frame, Opens, whole, fault, seen, refused, Asked, is_head, ReadsMore, Heads, Follows, NoneWhole, IsTrue, ◌≢◌, IfErr, Result, Ok, Err, leb-true, not_headless, Framed, IsWithinLimits, over, item_of, after_lines, asked_of, fields_of, body_length, bad_length, IsWithin, HoldsNone}
+use Rattle.portal_desk.proofs.Base.{◌≡◌, ℕ, ◌<◌, inl, inr, Bool, true, false, List, [], ◌++◌, length, take, drop, refl, sym, ap, ◌∙◌, subst, append-nil, arith, Option, Some, None, nat_le, if◌then◌else◌, Frame, Opens, whole, fault, seen, refused, Asked, is_head, ReadsMore, Heads, Follows, NoneWhole, IsTrue, ◌≢◌, Ok, Err, leb-true, not_headless, Framed, IsWithinLimits, over, item_of, after_lines, asked_of, fields_of, body_length, bad_length, IsWithin, Cause, Result, IfErr}
 use Rattle.httparse.specs.Grammar.{RequestHead}
 use Rattle.httparse.proofs.GrammarLemmas.{request_unique}
-use Rattle.portal_desk.specs.declared.reading.FrameFault.{FrameFault}
-use Rattle.portal_desk.specs.declared.reading.FrameFault.TheVariants as fault
 use Rattle.portal_frame.specs.declared.types.Frame.TheVariants as frame
 
 heads : (stream after rest : List ℕ) (ended : Bool) (f : Frame) → after ++ rest ≡ stream → (IsTrue ended → rest ≡ [])
@@ -19,9 +17,9 @@ heads stream after rest ended (frame.Bad refusal head_only) e last framed not_ne
 
 pub follows : (old new : Option (List ℕ)) (before after : List ℕ) (ended : Bool) (f : Frame) → ReadsMore old new before after ended
     → Framed after ended f → f ≢ frame.Need → Follows old new before after f
-follows None new before after ended f reads framed not_need = tt
+follows None new before after ended f reads framed not_need = record { goes = tt }
 follows (Some more) new before after ended f (rest, known, same, last) framed not_need =
-    (rest, known, same, heads (before ++ more) after rest ended f same last framed not_need)
+    record { goes = (rest, known, same, heads (before ++ more) after rest ended f same last framed not_need) }
 
 pub within : (buffer : List ℕ) (f : Frame) → IsWithinLimits buffer f → IsWithin buffer f
 within buffer frame.Need limits = tt
@@ -49,10 +47,6 @@ none_whole bytes ended (on, inr (h, rest, n, takes, size, short)) a after (inl (
     (subst (λ r. whole a after ≡ item_of h r) (sym same.1) (subst (λ (x : RequestHead). whole a after ≡ item_of x other) (sym same.0) e))
 none_whole bytes ended (on, inr (h, rest, n, takes, size, short)) a after (inr (nothing, e)) = nothing h rest takes
 
-pub holds_none : (l : FrameFault) (bytes : List ℕ) → NoneWhole bytes → HoldsNone l bytes
-holds_none fault.Read bytes none = none
-holds_none fault.Memory bytes none = tt
-
-pub holds_err : {A : Type 0} (r : Result A FrameFault) (bytes : List ℕ) → NoneWhole bytes → IfErr r (λ l. HoldsNone l bytes)
-holds_err (Ok a) bytes none = tt
-holds_err (Err l) bytes none = holds_none l bytes none
+pub none_err : {A : Type 0} (r : Result A Cause) (P : Cause → Type 0) (bytes : List ℕ) → NoneWhole bytes → IfErr r (λ why. P why → NoneWhole bytes)
+none_err (Ok a) P bytes none = tt
+none_err (Err why) P bytes none = λ is. none

@@ -1,9 +1,8 @@
 -- The bytes of the replies to one caller.
-use Rattle.portal_desk.proofs.Base.{◌≡◌, ℕ, inl, inr, Bool, true, false, List, [], ◌∷◌, ◌++◌, refl, sym, ap, ◌∙◌, subst, if◌then◌else◌, Option, Some, Key, World, view, Answer, Run, end_of, reply_text, Rest, Exchange, asked_in, told_in, text, exchange_text, KeeperState, Cause, Deals, Ended, Visit, AreVisits, exchanges_of, worlds_of, Session, IsSession, AreServed, AllTellOf, AllZip, equals, Sight, Wrote, Finish, Stopped, Tells, ServesUntil, IsVisit, AreAnswered, Hears, texts_to, replies_in, AlikeTexts}
+use Rattle.portal_desk.proofs.Base.{◌≡◌, ℕ, inl, inr, Bool, true, false, List, [], ◌∷◌, ◌++◌, refl, sym, ap, ◌∙◌, subst, if◌then◌else◌, Key, World, view, Answer, Run, end_of, reply_text, Exchange, asked_in, told_in, exchange_text, KeeperState, Visit, AreVisits, exchanges_of, worlds_of, Session, AreServed, AllTellOf, AllZip, equals, Sight, IsVisit, AreAnswered, Hears, texts_to, replies_in, AlikeTexts}
 use Rattle.portal_core.specs.Heard.{HeardItem, Asked, Sees, own_item, SeenIf, Heard, replies_to, SameButPlaces, SameRequest, AlikeUntilPublished, has_places, moves_to_published}
 use Rattle.portal_core.proofs.Hearing.{same_replies}
 use Rattle.portal_core.proofs.Disclosed.{places_unseen, unless_map}
-use Rattle.portal_desk.specs.declared.served.Cause.TheVariants as cause
 
 -- the marks of the caller's own requests
 marks : List HeardItem → List (Bool × Bool)
@@ -88,58 +87,18 @@ same_places w v visits others same zip are all were also =
     alike (exchanges_of visits) (exchanges_of others) zip
     (places_unseen w v _ _ _ _ (worlds_of visits) (worlds_of others) same zip (whole_run w visits are) all (whole_run v others were) also)
 
--- what a call of `serve` did, however it ended
-pub record Done (finish : Finish) (es : List Exchange) (old new : KeeperState) (before after bytes : List ℕ) (count : ℕ) : Type 0 where
-  pub rest : Rest
-  pub deals : Deals old new bytes count es rest
-  pub written : List ℕ
-  pub adds : after ≡ before ++ written
-  pub tells : Tells finish bytes es written
-
--- what was written after a fault, apart from what was there before
-record Apart (why : Cause) (failed : Bool) (es : List Exchange) (rest : Rest) (left : Option (List ℕ)) (before after : List ℕ) : Type 0 where
-  written : List ℕ
-  adds : after ≡ before ++ written
-  wrote : Wrote why failed es rest left (Some []) (Some written)
-
-apart : (why : Cause) (failed : Bool) (es : List Exchange) (rest : Rest) (left : Option (List ℕ)) (before after : List ℕ)
-    → Wrote why failed es rest left (Some before) (Some after) → Apart why failed es rest left before after
-apart cause.Read failed es rest left before after (seen, adds) = record { written = text es; adds = adds; wrote = (seen, refl) }
-apart cause.Write failed es rest left before after (inl (front, e, k, is, adds)) =
-    record { written = _; adds = adds; wrote = inl (front, e, k, is, refl) }
-apart cause.Write failed es rest left before after (inr (end, closing, k, ends, adds)) =
-    record { written = _; adds = adds; wrote = inr (end, closing, k, ends, refl) }
-apart cause.Memory failed es rest left before after (inl (front, e, is, adds)) =
-    record { written = _; adds = adds; wrote = inl (front, e, is, refl) }
-apart cause.Memory failed es rest left before after (inr adds) = record { written = text es; adds = adds; wrote = inr refl }
-apart cause.Store failed es rest left before after (fails, front, e, is, same, adds) =
-    record { written = _; adds = adds; wrote = (fails, front, e, is, same, refl) }
-
-pub done : (finish : Finish) (es : List Exchange) (old new : KeeperState) (before after bytes : List ℕ) (count : ℕ)
-    → ServesUntil finish es old new (Some before) (Some after) bytes count → Done finish es old new before after bytes count
-done (Ended ending) es old new before after bytes count (rest, closing, deals, ends, adds) =
-    record { rest = rest; deals = deals; written = text es ++ closing; adds = adds; tells = (closing, (rest, deals.leads, ends), refl) }
-done (Stopped why failed left) es old new before after bytes count (rest, deals, wrote) =
-    let w = apart why failed es rest left before after wrote in
-    record { rest = rest; deals = deals; written = w.written; adds = w.adds; tells = (rest, deals.leads, w.wrote) }
-
-pub session_done : {K : Type 0} (state : K → KeeperState) (s : Session K) → IsSession state s
-    → Done s.finish s.exchanges (state s.old) (state s.new) s.before s.after s.bytes s.count
-session_done state s serves = done s.finish s.exchanges (state s.old) (state s.new) s.before s.after s.bytes s.count serves
-
 -- what was told of streams that were served one after another
 pub are_visits : {K : Type 0} (state : K → KeeperState) (k : K) (ss : List (Session K)) → AreServed state k ss
     → (vs : List Visit) × AllTellOf state ss vs × AreVisits (state k).world vs
 are_visits state k [] served = ([], tt, tt)
 are_visits state k (s ∷ ss) (same, is_clean, serves, later) =
-    let d = session_done state s serves in
-    let r = d.deals.moves.reaches is_clean in
-    let v : Visit = record { bytes = s.bytes; written = d.written; finish = s.finish; exchanges = s.exchanges; worlds = r.0 } in
+    let r = serves.moves.reaches is_clean in
+    let v : Visit = record { bytes = s.bytes; written = serves.written; finish = s.finish; exchanges = s.exchanges; worlds = r.0 } in
     let more = are_visits state s.new ss later in (
       v ∷ more.0,
-      (record { bytes = refl; finish = refl; exchanges = refl; count = d.deals.counted; written = d.adds; left = r.2 }, more.1),
+      (record { bytes = refl; finish = refl; exchanges = refl; count = serves.counted; written = serves.adds; left = r.2 }, more.1),
       (
-        subst (λ w. IsVisit w v) same (record { tells = d.tells; run = r.1 }),
+        subst (λ w. IsVisit w v) same (record { tells = serves.tells; run = r.1 }),
         subst (λ w. AreVisits w more.0) (r.2 ∙ ap (λ w. end_of w r.0) same) more.2,
       ),
     )

@@ -1,5 +1,5 @@
 -- What one exchange more does to a keeper, and what a stop may leave after it.
-use Rattle.portal_desk.proofs.Base.{◌≡◌, ◌⊎◌, inl, inr, List, [], ◌∷◌, ◌++◌, refl, sym, ap, ◌∙◌, subst, append_assoc, World, Answer, Wanted, unavailable, Serves, AllAnswered, Exchange, asked_in, told_in, Run, end_of, Reaches, KeeperState, Moves, MayReach, Acted, Settles, IsSettled, LastsOrBreaks, LeavesBy, MayLeave, Bool, Asked, request_of}
+use Rattle.portal_desk.proofs.Base.{◌≡◌, inl, inr, List, [], ◌∷◌, ◌++◌, refl, sym, ap, ◌∙◌, subst, append_assoc, World, Answer, Wanted, Serves, Exchange, asked_in, told_in, Run, end_of, Reaches, KeeperState, Moves, IsMoved, MayReach, Acted, LastsOrBreaks, LeavesBy, MayLeave, Bool, Asked, request_of}
 use Rattle.portal_desk.proofs.Failing.{lasts_then}
 use Rattle.portal_desk.proofs.Steps.{Reaches-snoc, answered_apart}
 
@@ -13,6 +13,12 @@ leaves_as old new b c a reply leaves = λ disk w left. elim (leaves disk w left)
   | inl was ↦ inl was
   | inr may ↦ inr (record { alive = may.alive; untold = may.untold; turned = may.turned })
 ]
+
+breaks_then : (a b c : KeeperState) → LastsOrBreaks a b → LastsOrBreaks b c → LastsOrBreaks a c
+breaks_then a b c h k = λ disk.
+    let after = k disk in
+    let before = h after.0 in
+    (before.0, λ on. elim (before.1 on) [ inl up ↦ after.1 up | inr bad ↦ inr (after.2 bad) ], λ bad. after.2 (before.2 bad))
 
 -- nothing was exchanged
 pub Moves-none : (s : KeeperState) → Moves s s []
@@ -71,14 +77,10 @@ Moves-snoc old mid new es r reply moves back acted = record {
     e = exchange r reply
 
     breaks : LastsOrBreaks old new
-    breaks = λ disk.
-        let after = acted.breaks disk in
-        let before = moves.breaks after.0 in
-        (before.0, λ on. elim (before.1 on) [ inl up ↦ after.1 up | inr bad ↦ inr (after.2 bad) ], λ bad. after.2 (before.2 bad))
+    breaks = breaks_then old mid new moves.breaks acted.breaks
 
 -- what these exchanges did, and one more
-pub more_moves : (old mid new : KeeperState) (r : Wanted) (reply : Answer) → (es : List Exchange) × Moves old mid es → (new.clean → mid.clean) → Acted mid new r reply
-    → (es : List Exchange) × Moves old new es
+pub more_moves : (old mid new : KeeperState) (r : Wanted) (reply : Answer) → IsMoved old mid → (new.clean → mid.clean) → Acted mid new r reply → IsMoved old new
 more_moves old mid new r reply (es, moves) back acted = (es ++ exchange r reply ∷ [], Moves-snoc old mid new es r reply moves back acted)
 
 runs_on : (w u v : World) (es fs : List Exchange) (worlds : List World) → Run w (asked_in es) (told_in es) worlds → u ≡ end_of w worlds → Reaches u fs v → Reaches w (es ++ fs) v
@@ -123,10 +125,7 @@ pub Moves-append : (a b c : KeeperState) (es fs : List Exchange) → Moves a b e
 Moves-append a b c es fs h k back = record {
   reaches = λ on. reach_on a.world b.world c.world es fs (h.reaches (back on)) (k.reaches on);
   lasts = λ all. let apart = answered_apart es fs all in lasts_then _ _ _ _ _ _ (h.lasts apart.0) (k.lasts apart.1);
-  breaks = λ disk.
-      let after = k.breaks disk in
-      let before = h.breaks after.0 in
-      (before.0, λ on. elim (before.1 on) [ inl up ↦ after.1 up | inr bad ↦ inr (after.2 bad) ], λ bad. after.2 (before.2 bad));
+  breaks = breaks_then a b c h.breaks k.breaks;
   settled = λ rest on. k.settled (h.settled rest (back on)) on;
   still = λ disk bad w.
       let mid = (k.breaks disk).0 in
@@ -142,8 +141,8 @@ Moves-append a b c es fs h k back = record {
 }
 
 -- the same of some exchanges, whichever they are
-pub moves_then : (a b c : KeeperState) → (es : List Exchange) × Moves a b es → (fs : List Exchange) × Moves b c fs → (c.clean → b.clean) → (es : List Exchange) × Moves a c es
+pub moves_then : (a b c : KeeperState) → IsMoved a b → IsMoved b c → (c.clean → b.clean) → IsMoved a c
 moves_then a b c (es, h) (fs, k) back = (es ++ fs, Moves-append a b c es fs h k back)
 
-pub no_moves : (s : KeeperState) → (es : List Exchange) × Moves s s es
+pub no_moves : (s : KeeperState) → IsMoved s s
 no_moves s = ([], Moves-none s)

@@ -1,9 +1,10 @@
 -- The main promise, from what each call of `serve` tells.
-use Rattle.portal_desk.proofs.Base.{Some, ◌≡◌, ℕ, ◌+◌, ◌<◌, length, take, map, get_or, add-one, inl, inr, true, false, List, [], ◌∷◌, ◌++◌, refl, sym, ap, ◌∙◌, subst, both_ways, Key, World, view, AbstractCall, Answer, Good, Request, Step, Run, Serves, AllAnswered, asked_in, told_in, KeeperState, ServesWhole, Ended, Visit, AreVisits, exchanges_of, worlds_of, Session, IsSession, AreServed, AllTellOf, ServesEach, take-suc, map-append, AllByRecursion, is_published, Wish, Calls, Refused, Answers, Last, AreServedOn, left_by, exchanges_in, IsServed, IsUnseen, AreUnseen, PublishesBest, IsUpheld, MainPromise, IsEnded, AreOf}
+use Rattle.portal_desk.proofs.Base.{Some, ◌≡◌, ℕ, ◌+◌, ◌<◌, length, take, map, get_or, add-one, inl, inr, true, false, List, [], ◌∷◌, ◌++◌, refl, sym, ap, ◌∙◌, subst, both_ways, Key, World, view, AbstractCall, Answer, Good, Request, Step, Run, Serves, AllAnswered, asked_in, told_in, KeeperState, Ended, Visit, AreVisits, exchanges_of, worlds_of, Session, IsSession, AreServed, AllTellOf, ServesEach, take-suc, map-append, AllByRecursion, is_published, Wish, Calls, Refused, Answers, Last, AreServedOn, left_by, exchanges_in, IsServed, IsUnseen, AreUnseen, PublishesBest, IsUpheld, MainPromise, IsEnded, AreOf}
 use Rattle.portal_core.specs.Honest.{HasBest, ShowsBest}
 use Rattle.portal_core.proofs.Unseen.{others}
-use Rattle.portal_desk.proofs.Heeding.{session_done, are_visits, whole_run, same_bytes}
+use Rattle.portal_desk.proofs.Heeding.{are_visits, whole_run, same_bytes}
 use Rattle.portal_desk.proofs.Steps.{answered_apart}
+use Rattle.portal_desk.proofs.Telling.{SomeSession}
 
 -- what the last disk returned keeps each keeper clean
 pub stays_served : {K : Type 0} (state : K → KeeperState) (k : K) (ss : List (Session K)) → AreServedOn state k ss → AllAnswered (told_in (exchanges_in ss))
@@ -12,7 +13,7 @@ stays_served state k [] served all last = (last, λ on. tt)
 stays_served state k (s ∷ ss) (resumes, serves, later) all last =
     let apart = answered_apart s.exchanges (exchanges_in ss) all in
     let next = stays_served state s.new ss later apart.1 last in
-    let own = (session_done state s serves).deals.moves.lasts apart.0 next.0 in
+    let own = serves.moves.lasts apart.0 next.0 in
     let before = resumes own.0 in (
       before.0,
       λ on. let start = before.1 on in let now = own.1 start.0 in (start.1, now, serves, next.1 now),
@@ -63,13 +64,13 @@ one_best step_best w v r a good (inr none) off on = not_published w v none.1 off
 
 -- a run
 
-are_unseen : (c : Key) (w : World) (rs : List Request) (told : List Answer) (vs : List World) → Good w → AllByRecursion Good vs → Run w rs told vs → AreUnseen c w rs vs
+pub are_unseen : (c : Key) (w : World) (rs : List Request) (told : List Answer) (vs : List World) → Good w → AllByRecursion Good vs → Run w rs told vs → AreUnseen c w rs vs
 are_unseen c w [] told vs good all run = tt
 are_unseen c w (r ∷ rs) told [] good all run = tt
 are_unseen c w (r ∷ rs) [] (v ∷ vs) good all run = absurd run
 are_unseen c w (r ∷ rs) (a ∷ told) (v ∷ vs) good all run = (one_unseen c w v r a good run.0, are_unseen c v rs told vs all.0 all.1 run.1)
 
-publishes_best : StepsBest → (w : World) (rs : List Request) (told : List Answer) (vs : List World) → Good w → AllByRecursion Good vs → Run w rs told vs
+pub publishes_best : StepsBest → (w : World) (rs : List Request) (told : List Answer) (vs : List World) → Good w → AllByRecursion Good vs → Run w rs told vs
     → PublishesBest w vs
 publishes_best step_best w rs told [] good all run = tt
 publishes_best step_best w [] [] (v ∷ vs) good all run = absurd run
@@ -117,24 +118,24 @@ left_more : {K : Type 0} (k : K) (ss : List (Session K)) (s : Session K) → lef
 left_more k [] s = refl
 left_more k (x ∷ ss) s = left_more x.new ss s
 
-of_more : {K : Type 0} (ss : List (Session K)) (xs ts : List (List ℕ)) (s : Session K) → AreOf ss xs ts → s.before ≡ [] → IsEnded s.finish
-    → AreOf (ss ++ s ∷ []) (xs ++ s.bytes ∷ []) (ts ++ s.after ∷ [])
-of_more [] [] [] s are none ended = (refl, none, refl, ended, tt)
-of_more [] (x ∷ xs) ts s are none ended = absurd are
-of_more [] [] (t ∷ ts) s are none ended = absurd are
-of_more (r ∷ ss) [] ts s are none ended = absurd are
-of_more (r ∷ ss) (x ∷ xs) [] s are none ended = absurd are
-of_more (r ∷ ss) (x ∷ xs) (t ∷ ts) s are none ended = (are.0, are.1, are.2, are.3, of_more ss xs ts s are.4 none ended)
+of_more : {K : Type 0} (ss : List (Session K)) (xs ts : List (List ℕ)) (s : Session K) (t : List ℕ) → AreOf ss xs ts → s.before ≡ Some [] → s.after ≡ Some t → IsEnded s.finish
+    → AreOf (ss ++ s ∷ []) (xs ++ s.bytes ∷ []) (ts ++ t ∷ [])
+of_more [] [] [] s t are none all ended = (refl, none, all, ended, tt)
+of_more [] (x ∷ xs) ts s t are none all ended = absurd are
+of_more [] [] (u ∷ ts) s t are none all ended = absurd are
+of_more (r ∷ ss) [] ts s t are none all ended = absurd are
+of_more (r ∷ ss) (x ∷ xs) [] s t are none all ended = absurd are
+of_more (r ∷ ss) (x ∷ xs) (u ∷ ts) s t are none all ended = (are.0, are.1, are.2, are.3, of_more ss xs ts s t are.4 none all ended)
 
 pub each_more : {K : Type 0} (state : K → KeeperState) (k old new : K) (xs ts : List (List ℕ)) (x t : List ℕ) (count : ℕ) (ending : Last) → ServesEach state k old xs ts
-    → ServesWhole (state old) (state new) (Some []) (Some t) x count ending → ServesEach state k new (xs ++ x ∷ []) (ts ++ t ∷ [])
+    → SomeSession state old new (Some []) (Some t) count (Ended ending) x → ServesEach state k new (xs ++ x ∷ []) (ts ++ t ∷ [])
 each_more {K = K} state k old new xs ts x t count ending (ss, served, same, are) (es, did) =
-    let s : Session K = record { old = old; new = new; bytes = x; before = []; after = t; count = count; finish = Ended ending; exchanges = es } in
-    (ss ++ s ∷ [], one_more state k ss s served same did, left_more k ss s, of_more ss xs ts s are refl tt)
+    let s : Session K = record { old = old; new = new; bytes = x; before = Some []; after = Some t; count = count; finish = Ended ending; exchanges = es } in
+    (ss ++ s ∷ [], one_more state k ss s served same did, left_more k ss s, of_more ss xs ts s t are refl refl tt)
 
 pub each_next : {K A B : Type 0} (state : K → KeeperState) (k old new : K) (f : A → List ℕ) (h : B → List ℕ) (xs : List A) (i : ℕ) (d : A) (ts : List B) (t : B)
     (count : ℕ) (ending : Last) → i < length xs → ServesEach state k old (map f (take i xs)) (map h ts)
-    → ServesWhole (state old) (state new) (Some []) (Some (h t)) (f (get_or xs i d)) count ending
+    → SomeSession state old new (Some []) (Some (h t)) count (Ended ending) (f (get_or xs i d))
     → ServesEach state k new (map f (take (i + 1) xs)) (map h (ts ++ t ∷ []))
 each_next state k old new f h xs i d ts t count ending within served did =
     rw (add-one i, take-suc xs i d within, map-append f (take i xs) (get_or xs i d ∷ []), map-append h ts (t ∷ []))

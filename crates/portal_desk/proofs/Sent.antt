@@ -1,5 +1,5 @@
 -- What was written of one reply.
-use Rattle.portal_desk.proofs.Base.{◌≡◌, ℕ, Bool, true, false, List, subst, Option, ◌||◌, Appends, Answer, Cause, reply_text, Partly, Broke, unavailable}
+use Rattle.portal_desk.proofs.Base.{◌≡◌, ℕ, Bool, true, false, List, subst, Option, ◌||◌, Appends, Answer, Cause, reply_text, Partly, Broke}
 use Rattle.portal_desk.specs.declared.served.Cause.TheVariants as cause
 
 pub broke : (why : Cause) (failed : Bool) (reply : Answer) (head closes : Bool) (before after : Option (List ℕ))
@@ -13,9 +13,3 @@ pub still : (before after : Option (List ℕ)) (reply : Answer) (head closes fai
     → Appends before after (reply_text reply head (closes || failed)) → Appends before after (reply_text reply head closes)
 still before after reply head true failed e adds = adds
 still before after reply head false failed e adds = subst (λ b. Appends before after (reply_text reply head b)) e adds
-
-pub shut : (before after : Option (List ℕ)) (reply : Answer) (head closes failed : Bool) → failed ≡ true → reply ≡ unavailable
-    → Appends before after (reply_text reply head (closes || failed)) → Appends before after (reply_text unavailable head true)
-shut before after reply head true failed e same adds = subst (λ r. Appends before after (reply_text r head true)) same adds
-shut before after reply head false failed e same adds =
-    subst (λ r. Appends before after (reply_text r head true)) same (subst (λ b. Appends before after (reply_text reply head b)) e adds)

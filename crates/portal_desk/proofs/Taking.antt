@@ -1,5 +1,5 @@
 -- How many bytes a reader gave.
-use Rattle.portal_desk.proofs.Base.{◌≡◌, ℕ, Bool, ◌+◌, ◌-◌, ◌<◌, ◌≤◌, List, ◌++◌, length, drop, sym, ap, ◌∙◌, subst, arith, Option, Some, None, Result, Ok, Err, length-append, Frame, Follows, ◌*◌, length-drop, TakesAtMost, ReadsMore}
+use Rattle.portal_desk.proofs.Base.{◌≡◌, ℕ, Bool, ◌+◌, ◌-◌, ◌<◌, ◌≤◌, List, ◌++◌, length, drop, refl, sym, ap, ◌∙◌, subst, arith, Option, Some, None, Result, Ok, Err, length-append, Frame, Follows, ◌*◌, length-drop, TakesAtMost, ReadsMore, LONGEST_REQUEST, MOST_REQUESTS, MOST_BYTES}
 use Rattle.std.specs.Prelude.{OnErr}
 
 pub at_err : {A E P : Type 0} (r : Result A E) → P → OnErr r P
@@ -11,17 +11,22 @@ one_stream : (before after more rest : List ℕ) → after ++ rest ≡ before ++
 one_stream before after more rest e = sym (length-append after rest) ∙ (ap length e ∙ length-append before more)
 
 -- so many requests before, and what the buffer holds
-abbrev pub TakenBy : ℕ → ℕ → Option (List ℕ) → Option (List ℕ) → Type 0
-TakenBy done held old new = TakesAtMost (done * 1064960 + held) old new
+pub record TakenBy (done held : ℕ) (old new : Option (List ℕ)) : Type 0 where
+  pub few : TakesAtMost (done * LONGEST_REQUEST + held) old new
 
-pub follows_taken : (done : ℕ) (old mid new : Option (List ℕ)) (before after : List ℕ) (f : Frame) → TakenBy done (length before) old mid → Follows mid new before after f
+pub none_taken : (old : Option (List ℕ)) (held : ℕ) → TakenBy 0 held old old
+none_taken None held = record { few = tt }
+none_taken (Some bytes) held = record { few = (bytes, refl, omega arith) }
+
+pub follows_taken : {done : ℕ} {old mid new : Option (List ℕ)} {before after : List ℕ} {f : Frame} → TakenBy done (length before) old mid → Follows mid new before after f
     → TakenBy done (length after) old new
-follows_taken done None mid new before after f taken follows = tt
-follows_taken done (Some bytes) mid new before after f (left, known, fits) follows =
-    let g = subst (λ o. Follows o new before after f) known follows in
-    (g.0, g.1, few (length before) (length after) (length left) (length g.0) (length bytes) (one_stream before after left g.0 g.2) fits)
+follows_taken {old = None} taken follows = record { few = tt }
+follows_taken {done = done} {old = Some bytes} {new = new} {before = before} {after = after} {f = f} taken follows =
+    let x = taken.few in
+    let g = (subst (λ o. Follows o new before after f) x.1 follows).goes in
+    record { few = (g.0, g.1, few (length before) (length after) (length x.0) (length g.0) (length bytes) (one_stream before after x.0 g.0 g.2) x.2) }
   where
-    few : (b a m r x : ℕ) → a + r ≡ b + m → x ≤ m + (done * 1064960 + b) → x ≤ r + (done * 1064960 + a)
+    few : (b a m r x : ℕ) → a + r ≡ b + m → x ≤ m + (done * LONGEST_REQUEST + b) → x ≤ r + (done * LONGEST_REQUEST + a)
     few b a m r x same fits = omega (arith, same, fits)
 
 -- what a buffer with room for so many bytes took
@@ -45,25 +50,41 @@ more_taken room (Some bytes) mid new before during ended (left, known, same, las
     few : (b a r x s : ℕ) → a + r ≡ b + x → a ≤ room → r ≤ s + (room - a) → x ≤ s + (room - b)
     few b a r x s same held taken = omega (arith, same, held, taken)
 
-pub ended_taken : (done : ℕ) (old new : Option (List ℕ)) (held : List ℕ) → done < 256 → length held ≤ 1064960
-    → TakenBy done (length held) old new → TakesAtMost (256 * 1064960) old new
-ended_taken done None new held small low taken = tt
-ended_taken done (Some bytes) new held small low (left, known, fits) = (left, known, few (length held) (length left) (length bytes) low fits)
+-- where serving ends after this frame
+pub ended_taken : {done : ℕ} {old mid new : Option (List ℕ)} {before after : List ℕ} {f : Frame} → done < MOST_REQUESTS → length after ≤ LONGEST_REQUEST
+    → TakenBy done (length before) old mid → Follows mid new before after f → TakesAtMost MOST_BYTES old new
+ended_taken {old = None} small low taken follows = tt
+ended_taken {done = done} {old = Some bytes} {after = after} small low taken follows =
+    let x = (follows_taken taken follows).few in
+    (x.0, x.1, few (length after) (length x.0) (length bytes) low x.2)
   where
-    few : (b m x : ℕ) → b ≤ 1064960 → x ≤ m + (done * 1064960 + b) → x ≤ m + 256 * 1064960
+    few : (b m x : ℕ) → b ≤ LONGEST_REQUEST → x ≤ m + (done * LONGEST_REQUEST + b) → x ≤ m + MOST_BYTES
     few b m x low fits = omega (arith, small, low, fits)
 
-pub cut_taken : (done used : ℕ) (old new : Option (List ℕ)) (held kept : List ℕ) → used ≤ 1064960 → kept ≡ drop used held
-    → TakenBy done (length held) old new → TakenBy (done + 1) (length kept) old new
-cut_taken done used None new held kept few cut taken = tt
-cut_taken done used (Some bytes) new held kept few cut (left, known, fits) =
-    (left, known, fewer (length held) (length kept) (length left) (length bytes) (ap length cut ∙ length-drop used held) fits)
+-- where no frame was found
+pub missed_taken : {done : ℕ} {old mid : Option (List ℕ)} (new : Option (List ℕ)) (before : List ℕ) → done < MOST_REQUESTS → length before ≤ LONGEST_REQUEST
+    → TakenBy done (length before) old mid → TakesAtMost (LONGEST_REQUEST - length before) mid new → TakesAtMost MOST_BYTES old new
+missed_taken {old = None} new before small held taken last = tt
+missed_taken {done = done} {old = Some bytes} new before small held taken last =
+    let x = taken.few in
+    let y = subst (λ o. TakesAtMost (LONGEST_REQUEST - length before) o new) x.1 last in
+    (y.0, y.1, few (length before) (length x.0) (length y.0) (length bytes) held x.2 y.2)
   where
-    fewer : (b k m x : ℕ) → k ≡ b - used → x ≤ m + (done * 1064960 + b) → x ≤ m + ((done + 1) * 1064960 + k)
+    few : (h m r x : ℕ) → h ≤ LONGEST_REQUEST → x ≤ m + (done * LONGEST_REQUEST + h) → m ≤ r + (LONGEST_REQUEST - h) → x ≤ r + MOST_BYTES
+    few h m r x low fits last = omega (arith, small, low, fits, last)
+
+pub cut_taken : {done : ℕ} {old new : Option (List ℕ)} (used : ℕ) (held kept : List ℕ) → used ≤ LONGEST_REQUEST → kept ≡ drop used held
+    → TakenBy done (length held) old new → TakenBy (done + 1) (length kept) old new
+cut_taken {old = None} used held kept few cut taken = record { few = tt }
+cut_taken {done = done} {old = Some bytes} used held kept few cut taken =
+    let x = taken.few in
+    record { few = (x.0, x.1, fewer (length held) (length kept) (length x.0) (length bytes) (ap length cut ∙ length-drop used held) x.2) }
+  where
+    fewer : (b k m x : ℕ) → k ≡ b - used → x ≤ m + (done * LONGEST_REQUEST + b) → x ≤ m + ((done + 1) * LONGEST_REQUEST + k)
     fewer b k m x cut fits = omega (arith, few, cut, fits)
 
-pub cut_held : (used : ℕ) (held kept : List ℕ) → kept ≡ drop used held → length held ≤ 1064960 → length kept ≤ 1064960
+pub cut_held : (used : ℕ) (held kept : List ℕ) → kept ≡ drop used held → length held ≤ LONGEST_REQUEST → length kept ≤ LONGEST_REQUEST
 cut_held used held kept cut low = fewer (length held) (length kept) (ap length cut ∙ length-drop used held) low
   where
-    fewer : (b k : ℕ) → k ≡ b - used → b ≤ 1064960 → k ≤ 1064960
+    fewer : (b k : ℕ) → k ≡ b - used → b ≤ LONGEST_REQUEST → k ≤ LONGEST_REQUEST
     fewer b k e low = omega (arith, e, low)

@@ -1,5 +1,5 @@
 -- What is known at each exit of the serving loop.
-use Rattle.portal_desk.proofs.Base.{◌≡◌, ℕ, ◌+◌, ◌-◌, ◌<◌, inl, inr, Bool, true, false, List, [], ◌∷◌, ◌++◌, length, drop, take, refl, sym, ap, ◌∙◌, subst, arith, append-nil, Option, Some, None, nat_le, ◌||◌, Appends, length-append, both_ways, Answer, Frame, Asked, Opens, whole, fault, is_head, seen, refused, Cause, reply_text, Heads, Follows, request_of, closes_at, more, shut, Leads, Exchange, asked_in, text, exchange_text, Deals, ServesWhole, Partly, Broke, KeeperState, IfSome, leb-false, Wanted, shut_ends, Stops, Kept, ServesPart, Acted, Replied}
+use Rattle.portal_desk.proofs.Base.{◌≡◌, ℕ, ◌+◌, ◌-◌, ◌<◌, inl, inr, Bool, true, false, List, [], ◌∷◌, ◌++◌, length, drop, take, refl, sym, ap, ◌∙◌, subst, arith, append-nil, Option, Some, None, nat_le, ◌||◌, Appends, length-append, both_ways, Answer, Frame, Asked, Opens, whole, is_head, seen, refused, Cause, reply_text, Heads, Follows, request_of, closes_at, Rest, more, shut, Leads, Exchange, asked_in, text, exchange_text, Partly, Broke, unavailable, KeeperState, Moves, IfSome, leb-false, shut_ends, Kept, Acted, Replied, KeepsStream, NoneWhole, ◌⊎◌, IsSession, Finish, Ended, Stopped, Tells, fault, MOST_REQUESTS}
 use Rattle.portal_frame.specs.declared.types.Frame.TheVariants as frame
 use Rattle.portal_frame.specs.declared.types.Refusal.{Refusal}
 use Rattle.portal_frame.specs.declared.types.Request.{Request}
@@ -11,84 +11,72 @@ use Rattle.portal_desk.proofs.Known.{Appends-append}
 use Rattle.portal_desk.proofs.Moving.{exchange, Moves-none, Moves-snoc}
 use Rattle.portal_desk.proofs.Steps.{text-snoc, after_one, Leads-snoc}
 
+-- these are the first requests of the bytes, and this is what they did to the keeper
+pub record Deals (old new : KeeperState) (bytes : List ℕ) (count : ℕ) (es : List Exchange) (rest : Rest) : Type 0 where
+  pub leads : Leads MOST_REQUESTS bytes (asked_in es) rest
+  pub moves : Moves old new es
+  pub counted : count ≡ length es
+
+-- some first requests, whose replies are written
+pub record Dealt (old new : KeeperState) (before after : Option (List ℕ)) (bytes : List ℕ) (count : ℕ) (rest : Rest) : Type 0 where
+  pub es : List Exchange
+  pub deals : Deals old new bytes count es rest
+  pub adds : Appends before after (text es)
+
 -- what the loop knows before a turn
-abbrev pub SoFar : Option (List ℕ) → Option (List ℕ) → KeeperState → KeeperState → Option (List ℕ) → Option (List ℕ) → List ℕ → ℕ → Type 0
-SoFar src rem old mid before w front count =
-    IfSome src (λ bytes. (rest : List ℕ) × (rem ≡ Some rest) × ServesPart old mid before w bytes (front ++ rest) count)
+pub record SoFar {K : Type 0} (state : K → KeeperState) (src rem : Option (List ℕ)) (old mid : K) (before w : Option (List ℕ)) (front : List ℕ) (count : ℕ) : Type 0 where
+  pub dealt : IfSome src (λ bytes. (rest : List ℕ) × (rem ≡ Some rest) × Dealt (state old) (state mid) before w bytes count (more (front ++ rest)))
 
 -- before the first turn
-pub so_far_none : (src : Option (List ℕ)) (s : KeeperState) (w : Option (List ℕ)) (front : List ℕ) → front ≡ [] → SoFar src src s s w w front 0
-so_far_none None s w front empty = tt
-so_far_none (Some bytes) s w front empty =
-    (bytes, refl, subst (λ f. ServesPart s s w w bytes (f ++ bytes) 0) (sym empty) ([], record { leads = refl; moves = Moves-none s; counted = refl }, nothing w))
+pub so_far_none : {K : Type 0} (state : K → KeeperState) (src : Option (List ℕ)) (k : K) (w : Option (List ℕ)) (front : List ℕ) → front ≡ [] → SoFar state src src k k w w front 0
+so_far_none state None k w front empty = record { dealt = tt }
+so_far_none state (Some bytes) k w front empty = record {
+  dealt = (
+    bytes,
+    refl,
+    subst (λ f. Dealt (state k) (state k) w w bytes 0 (more (f ++ bytes))) (sym empty) (record {
+      es = [];
+      deals = record { leads = refl; moves = Moves-none (state k); counted = refl };
+      adds = nothing w;
+    }),
+  );
+}
   where
     nothing : (w : Option (List ℕ)) → Appends w w []
     nothing None = tt
     nothing (Some x) = sym (append-nil x)
 
+-- some exchanges make a call a session
+abbrev pub SomeSession : {K : Type 0} → (K → KeeperState) → K → K → Option (List ℕ) → Option (List ℕ) → ℕ → Finish → List ℕ → Type 0
+SomeSession state old new before after count finish bytes =
+    (es : List Exchange) × IsSession state (record { old = old; new = new; bytes = bytes; before = before; after = after; count = count; finish = finish; exchanges = es })
+
 -- what was told, and what the rest of the stream opens with
-abbrev pub Joined : KeeperState → KeeperState → Option (List ℕ) → Option (List ℕ) → Option (List ℕ) → ℕ → List ℕ → Frame → List ℕ → Type 0
-Joined old mid before w known count buffer found bytes =
-    (stream : List ℕ) × (rest : List ℕ) × ServesPart old mid before w bytes stream count × (known ≡ Some rest)
-    × (buffer ++ rest ≡ stream) × Heads stream buffer rest found
+turn : {K : Type 0} (state : K → KeeperState) (src rem known : Option (List ℕ)) (old mid : K) (before w : Option (List ℕ)) (front buffer : List ℕ) (count : ℕ) (found : Frame) (P : List ℕ → Type 0)
+    → SoFar state src rem old mid before w front count → Follows rem known front buffer found
+    → ((bytes stream rest : List ℕ) → Dealt (state old) (state mid) before w bytes count (more stream) → known ≡ Some rest → Heads stream buffer rest found → P bytes)
+    → IfSome src P
+turn state None rem known old mid before w front buffer count found P so follows then = tt
+turn state (Some bytes) rem known old mid before w front buffer count found P so follows then =
+    let x = so.dealt in
+    let f = (subst (λ o. Follows o known front buffer found) x.1 follows).goes in
+    then bytes (front ++ x.0) f.0 x.2 f.1 f.3
 
-joined : (bytes : List ℕ) (rem known : Option (List ℕ)) (old mid : KeeperState) (before w : Option (List ℕ)) (front buffer : List ℕ) (count : ℕ) (found : Frame)
-    → SoFar (Some bytes) rem old mid before w front count → Follows rem known front buffer found
-    → Joined old mid before w known count buffer found bytes
-joined bytes rem known old mid before w front buffer count found (rest, e, told) follows =
-    let f = subst (λ o. Follows o known front buffer found) e follows in
-    (front ++ rest, f.0, told, f.1, f.2, f.3)
-
-pub end_known : (src rem known : Option (List ℕ)) (old mid : KeeperState) (before w : Option (List ℕ)) (front buffer : List ℕ) (count : ℕ)
-    → SoFar src rem old mid before w front count → Follows rem known front buffer frame.End
-    → IfSome src (λ bytes. ServesWhole old mid before w bytes count talk.End)
-end_known None rem known old mid before w front buffer count told follows = tt
-end_known (Some bytes) rem known old mid before w front buffer count told follows =
-    let x = joined bytes rem known old mid before w front buffer count frame.End told follows in
-    (x.2.0, (more x.0, [], x.2.1, (x.5, refl), subst (Appends before w) (sym (append-nil (text x.2.0))) x.2.2))
-
-pub bad_known : (src rem known : Option (List ℕ)) (old mid : KeeperState) (before w now : Option (List ℕ)) (front buffer : List ℕ) (count : ℕ)
-    (refusal : Refusal) (head_only : Bool)
-    → SoFar src rem old mid before w front count → Follows rem known front buffer (frame.Bad refusal head_only)
-    → Appends w now (reply_text (answer_to (refused refusal)) head_only true)
-    → IfSome src (λ bytes. ServesWhole old mid before now bytes count (talk.Refused refusal.word.now))
-bad_known None rem known old mid before w now front buffer count refusal head_only told follows adds = tt
-bad_known (Some bytes) rem known old mid before w now front buffer count refusal head_only told follows adds =
-    let x = joined bytes rem known old mid before w front buffer count (frame.Bad refusal head_only) told follows in
-    let closing = reply_text (answer_to (refused refusal)) head_only true in
-    (x.2.0, (more x.0, closing, x.2.1, (refused refusal, head_only, x.5, refl, refl), Appends-append before w now (text x.2.0) closing x.2.2 adds))
-
-cut_by : (why : Cause) (failed : Bool) (old mid : KeeperState) (left before w now : Option (List ℕ)) (bytes stream : List ℕ) (count : ℕ) (refusal : Refusal) (head_only : Bool)
-    → ServesPart old mid before w bytes stream count → Opens stream (fault (refused refusal) head_only) → Partly why w now (reply_text (answer_to (refused refusal)) head_only true)
-    → Stops why failed old mid left before now bytes count
-cut_by cause.Read failed old mid left before w now bytes stream count refusal head_only told opens part = absurd part
-cut_by cause.Write failed old mid left before w now bytes stream count refusal head_only (es, deals, written) opens (k, adds) =
-    let closing = reply_text (answer_to (refused refusal)) head_only true in
-    (es, (more stream, deals, inr (talk.Refused refusal.word.now, closing, k, (refused refusal, head_only, opens, refl, refl), Appends-append before w now (text es) (take k closing) written adds)))
-cut_by cause.Memory failed old mid left before w now bytes stream count refusal head_only (es, deals, written) opens adds =
-    (es, (more stream, deals, inr (subst (Appends before now) (append-nil (text es)) (Appends-append before w now (text es) [] written adds))))
-cut_by cause.Store failed old mid left before w now bytes stream count refusal head_only told opens part = absurd part
-
-pub cut_known : (src rem known : Option (List ℕ)) (why : Cause) (failed : Bool) (old mid : KeeperState) (left before w now : Option (List ℕ)) (front buffer : List ℕ) (count : ℕ)
-    (refusal : Refusal) (head_only : Bool)
-    → SoFar src rem old mid before w front count → Follows rem known front buffer (frame.Bad refusal head_only)
-    → Partly why w now (reply_text (answer_to (refused refusal)) head_only true)
-    → IfSome src (λ bytes. Stops why failed old mid left before now bytes count)
-cut_known None rem known why failed old mid left before w now front buffer count refusal head_only told follows part = tt
-cut_known (Some bytes) rem known why failed old mid left before w now front buffer count refusal head_only told follows part =
-    let x = joined bytes rem known old mid before w front buffer count (frame.Bad refusal head_only) told follows in
-    cut_by why failed old mid left before w now bytes x.0 count refusal head_only x.2 x.5 part
+-- what one answer did
+abbrev pub Did : KeeperState → KeeperState → Asked → Bool → Option (List ℕ) → Option (List ℕ) → Type 0
+Did mid new a closes w now =
+    Replied mid new (request_of closes a) (λ reply. Appends w now (reply_text reply (is_head a.method) closes))
 
 Deals-snoc : (old mid new : KeeperState) (bytes left after : List ℕ) (count : ℕ) (es : List Exchange) (a : Asked) (closes : Bool) (reply : Answer)
-    → Deals old mid bytes count es (more left) → (new.clean → mid.clean) → Opens left (whole a after) → closes ≡ closes_at (256 - count) a
+    → Deals old mid bytes count es (more left) → (new.clean → mid.clean) → Opens left (whole a after) → closes ≡ closes_at (MOST_REQUESTS - count) a
     → Acted mid new (request_of closes a) reply
     → Deals old new bytes (count + 1) (es ++ exchange (request_of closes a) reply ∷ []) (after_one closes a after)
 unfolding exchange
 Deals-snoc old mid new bytes left after count es a closes reply deals back opens at acted =
     let e : Exchange = exchange (request_of closes a) reply in
     record {
-      leads = subst (λ b. Leads 256 bytes (asked_in (es ++ e ∷ [])) (after_one b a after)) (sym at)
-          (Leads-snoc 256 (256 - count) bytes es left e a after deals.leads opens (ap (λ n. 256 - n) deals.counted) (ap (λ b. request_of b a) at));
+      leads = subst (λ b. Leads MOST_REQUESTS bytes (asked_in (es ++ e ∷ [])) (after_one b a after)) (sym at)
+          (Leads-snoc MOST_REQUESTS (MOST_REQUESTS - count) bytes es left e a after deals.leads opens (ap (λ n. MOST_REQUESTS - n) deals.counted) (ap (λ b. request_of b a) at));
       moves = Moves-snoc old mid new es (request_of closes a) reply deals.moves back acted;
       counted = one_longer count es e deals.counted;
     }
@@ -96,114 +84,131 @@ Deals-snoc old mid new bytes left after count es a closes reply deals back opens
     one_longer : (n : ℕ) (es : List Exchange) (e : Exchange) → n ≡ length es → n + 1 ≡ length (es ++ e ∷ [])
     one_longer n es e same = rw (length-append es (e ∷ [])) (omega (arith, same))
 
--- what one answer did
-abbrev pub Did : KeeperState → KeeperState → Asked → Bool → Option (List ℕ) → Option (List ℕ) → Type 0
-Did mid new a closes w now =
-    Replied mid new (request_of closes a) (λ reply. Appends w now (reply_text reply (is_head a.method) closes))
-
-Told-snoc : (old mid new : KeeperState) (before w now : Option (List ℕ)) (bytes left after : List ℕ) (count : ℕ) (a : Asked) (closes : Bool)
-    → ServesPart old mid before w bytes left count → (new.clean → mid.clean) → Opens left (whole a after) → closes ≡ closes_at (256 - count) a
-    → Did mid new a closes w now
-    → (es : List Exchange) × Deals old new bytes (count + 1) es (after_one closes a after) × Appends before now (text es)
+Dealt-snoc : (old mid new : KeeperState) (before w now : Option (List ℕ)) (bytes left after : List ℕ) (count : ℕ) (a : Asked) (closes : Bool)
+    → Dealt old mid before w bytes count (more left) → (new.clean → mid.clean) → Opens left (whole a after) → closes ≡ closes_at (MOST_REQUESTS - count) a
+    → Did mid new a closes w now → Dealt old new before now bytes (count + 1) (after_one closes a after)
 unfolding exchange
-Told-snoc old mid new before w now bytes left after count a closes (es, deals, written) back opens at (reply, acted, adds) =
-    let e : Exchange = exchange (request_of closes a) reply in (
-      es ++ e ∷ [],
-      Deals-snoc old mid new bytes left after count es a closes reply deals back opens at acted,
-      subst (Appends before now) (sym (text-snoc es e)) (Appends-append before w now (text es) (exchange_text e) written adds),
-    )
+Dealt-snoc old mid new before w now bytes left after count a closes d back opens at (reply, acted, adds) =
+    let e : Exchange = exchange (request_of closes a) reply in
+    record {
+      es = d.es ++ e ∷ [];
+      deals = Deals-snoc old mid new bytes left after count d.es a closes reply d.deals back opens at acted;
+      adds = subst (Appends before now) (sym (text-snoc d.es e)) (Appends-append before w now (text d.es) (exchange_text e) d.adds adds);
+    }
 
-pub closes_known : (src rem known : Option (List ℕ)) (old mid new : KeeperState) (before w now : Option (List ℕ)) (front buffer : List ℕ) (count : ℕ)
-    (request : Request) (used : ℕ) (closes : Bool)
-    → SoFar src rem old mid before w front count → (new.clean → mid.clean) → Follows rem known front buffer (frame.Request request used)
-    → Did mid new (seen request) closes w now → closes ≡ true → closes ≡ closes_at (256 - count) (seen request)
-    → IfSome src (λ bytes. ServesWhole old new before now bytes (count + 1) (last_for request.close))
-closes_known None rem known old mid new before w now front buffer count request used closes told back follows did shuts at = tt
-closes_known (Some bytes) rem known old mid new before w now front buffer count request used closes told back follows did shuts at =
-    let x = joined bytes rem known old mid before w front buffer count (frame.Request request used) told follows in
-    let a : Asked = seen request in
-    let after = drop used buffer ++ x.1 in
-    let t = Told-snoc old mid new before w now bytes x.0 after count a closes x.2 back x.5 at did in (
-      t.0,
-      (
-        shut a.close,
-        [],
-        subst (λ b. Deals old new bytes (count + 1) t.0 (after_one b a after)) shuts t.1,
-        shut_ends a.close,
-        subst (Appends before now) (sym (append-nil (text t.0))) t.2,
-      ),
-    )
+module _ {K : Type 0} {state : K → KeeperState} {src rem : Option (List ℕ)} {old mid : K} {before w : Option (List ℕ)} {front : List ℕ} {count : ℕ} (so : SoFar state src rem old mid before w front count) where
+  made : (new : K) (after : Option (List ℕ)) (n : ℕ) (finish : Finish) {bytes : List ℕ} {es : List Exchange} {rest : Rest} (written : List ℕ) → Deals (state old) (state new) bytes n es rest
+      → Appends before after written → Tells finish bytes es written → SomeSession state old new before after n finish bytes
+  made new after n finish {es = es} written deals adds tells =
+      (es, record { moves = deals.moves; counted = deals.counted; written = written; adds = adds; tells = tells })
 
-pub more_known : (src rem known : Option (List ℕ)) (old mid new : KeeperState) (before w now : Option (List ℕ)) (front buffer kept : List ℕ) (count : ℕ)
-    (request : Request) (used : ℕ) (closes : Bool)
-    → SoFar src rem old mid before w front count → (new.clean → mid.clean) → Follows rem known front buffer (frame.Request request used)
-    → Did mid new (seen request) closes w now → closes ≡ false → closes ≡ closes_at (256 - count) (seen request)
-    → kept ≡ drop used buffer
-    → SoFar src known old new before now kept (count + 1)
-more_known None rem known old mid new before w now front buffer kept count request used closes told back follows did stays at e = tt
-more_known (Some bytes) rem known old mid new before w now front buffer kept count request used closes told back follows did stays at e =
-    let x = joined bytes rem known old mid before w front buffer count (frame.Request request used) told follows in
-    let a : Asked = seen request in
-    let after = drop used buffer ++ x.1 in
-    let t = Told-snoc old mid new before w now bytes x.0 after count a closes x.2 back x.5 at did in (
-      x.1,
-      x.3,
-      subst (λ k. ServesPart old new before now bytes (k ++ x.1) (count + 1)) (sym e)
-          (t.0, subst (λ b. Deals old new bytes (count + 1) t.0 (after_one b a after)) stays t.1, t.2),
-    )
+  pub missed : (known : Option (List ℕ)) (buffer : List ℕ) (why : Cause) (failed : Bool) → (why ≡ cause.Read) ⊎ (why ≡ cause.Memory)
+      → (why ≡ cause.Read → KeepsStream rem known front buffer) → (why ≡ cause.Read → NoneWhole buffer) → IfSome src (SomeSession state old mid before w count (Stopped why failed known))
+  missed known buffer why failed causes stays none = go src so.dealt why causes stays none
+    where
+      go : (src : Option (List ℕ)) → IfSome src (λ bytes. (rest : List ℕ) × (rem ≡ Some rest) × Dealt (state old) (state mid) before w bytes count (more (front ++ rest)))
+          → (why : Cause) → (why ≡ cause.Read) ⊎ (why ≡ cause.Memory) → (why ≡ cause.Read → KeepsStream rem known front buffer) → (why ≡ cause.Read → NoneWhole buffer)
+          → IfSome src (SomeSession state old mid before w count (Stopped why failed known))
+      go None x why causes stays none = tt
+      go (Some bytes) (rest, is, d) cause.Read causes stays none =
+          let m = subst (λ o. KeepsStream o known front buffer) is (stays refl) in
+          made mid w count _ (text d.es) d.deals d.adds (more (front ++ rest), d.deals.leads, ((buffer, m.0, ap more (sym m.2), m.1, none refl), refl))
+      go (Some bytes) (rest, is, d) cause.Memory causes stays none = made mid w count _ (text d.es) d.deals d.adds (more (front ++ rest), d.deals.leads, inr refl)
+      go (Some bytes) x cause.Write causes stays none = absurd (elim causes [ inl e ↦ cc | inr e ↦ cc ])
+      go (Some bytes) x cause.Store causes stays none = absurd (elim causes [ inl e ↦ cc | inr e ↦ cc ])
 
-broke_by : (why : Cause) (failed : Bool) (old mid new : KeeperState) (left before w now : Option (List ℕ)) (bytes stream after : List ℕ) (count : ℕ) (a : Asked) (closes : Bool) (reply : Answer)
-    → ServesPart old mid before w bytes stream count → (new.clean → mid.clean) → Opens stream (whole a after) → closes ≡ closes_at (256 - count) a
-    → Acted mid new (request_of closes a) reply → Broke why failed reply (is_head a.method) closes w now
-    → Stops why failed old new left before now bytes (count + 1)
-unfolding exchange
-broke_by cause.Read failed old mid new left before w now bytes stream after count a closes reply told back opens at acted broke = absurd broke
-broke_by cause.Write failed old mid new left before w now bytes stream after count a closes reply (es, deals, written) back opens at acted (k, adds) =
-    let e : Exchange = exchange (request_of closes a) reply in (
-      es ++ e ∷ [],
-      (
-        after_one closes a after,
-        Deals-snoc old mid new bytes stream after count es a closes reply deals back opens at acted,
-        inl (es, e, k, refl, Appends-append before w now (text es) _ written adds),
-      ),
-    )
-broke_by cause.Memory failed old mid new left before w now bytes stream after count a closes reply (es, deals, written) back opens at acted adds =
-    let e : Exchange = exchange (request_of closes a) reply in (
-      es ++ e ∷ [],
-      (
-        after_one closes a after,
-        Deals-snoc old mid new bytes stream after count es a closes reply deals back opens at acted,
-        inl (es, e, refl, subst (Appends before now) (append-nil (text es)) (Appends-append before w now (text es) [] written adds)),
-      ),
-    )
-broke_by cause.Store failed old mid new left before w now bytes stream after count a closes reply (es, deals, written) back opens at acted (is_failed, same, adds) =
-    let e : Exchange = exchange (request_of closes a) reply in (
-      es ++ e ∷ [],
-      (
-        after_one closes a after,
-        Deals-snoc old mid new bytes stream after count es a closes reply deals back opens at acted,
-        (is_failed, es, e, refl, same, Appends-append before w now (text es) _ written adds),
-      ),
-    )
+  pub end_known : (known : Option (List ℕ)) (buffer : List ℕ) → Follows rem known front buffer frame.End
+      → IfSome src (SomeSession state old mid before w count (Ended talk.End))
+  end_known known buffer follows =
+      turn state src rem known old mid before w front buffer count frame.End (SomeSession state old mid before w count (Ended talk.End)) so follows
+      (λ bytes stream rest d is opens. made mid w count _ (text d.es) d.deals d.adds ([], (more stream, d.deals.leads, (opens, refl)), sym (append-nil (text d.es))))
 
-pub broke_known : (src rem known : Option (List ℕ)) (why : Cause) (failed : Bool) (old mid new : KeeperState) (left before w now : Option (List ℕ)) (front buffer : List ℕ) (count : ℕ)
-    (request : Request) (used : ℕ) (closes : Bool)
-    → SoFar src rem old mid before w front count → (new.clean → mid.clean) → Follows rem known front buffer (frame.Request request used)
-    → closes ≡ closes_at (256 - count) (seen request)
-    → Replied mid new (request_of closes (seen request)) (λ reply. Broke why failed reply (is_head request.method.items) closes w now)
-    → IfSome src (λ bytes. Stops why failed old new left before now bytes (count + 1))
-broke_known None rem known why failed old mid new left before w now front buffer count request used closes told back follows at did = tt
-broke_known (Some bytes) rem known why failed old mid new left before w now front buffer count request used closes told back follows at (reply, acted, broke) =
-    let x = joined bytes rem known old mid before w front buffer count (frame.Request request used) told follows in
-    broke_by why failed old mid new left before w now bytes x.0 (drop used buffer ++ x.1) count (seen request) closes reply x.2 back x.5 at acted broke
+  module _ (known now : Option (List ℕ)) (buffer : List ℕ) (refusal : Refusal) (head_only : Bool) (follows : Follows rem known front buffer (frame.Bad refusal head_only)) where
+    abbrev closing : List ℕ
+    closing = reply_text (answer_to (refused refusal)) head_only true
 
-pub goes_on : (count : ℕ) (asked : Asked) (closes : Bool) → count < 256 → closes ≡ false → closes ≡ closes_at (256 - count) asked → count + 1 < 256
-goes_on count asked closes small stays at = last asked.close (nat_le (256 - count) 1) refl (sym at ∙ stays)
+    pub bad_known : Appends w now closing → IfSome src (SomeSession state old mid before now count (Ended (talk.Refused refusal.word.now)))
+    bad_known adds =
+        turn state src rem known old mid before w front buffer count (frame.Bad refusal head_only) (SomeSession state old mid before now count (Ended (talk.Refused refusal.word.now))) so follows
+        (λ bytes stream rest d is opens. made mid now count _ (text d.es ++ closing) d.deals (Appends-append before w now (text d.es) closing d.adds adds)
+        (closing, (more stream, d.deals.leads, (refused refusal, head_only, opens, refl, refl)), refl))
+
+    pub cut_known : (why : Cause) (failed : Bool) (left : Option (List ℕ)) → Partly why w now closing → IfSome src (SomeSession state old mid before now count (Stopped why failed left))
+    cut_known why failed left part =
+        turn state src rem known old mid before w front buffer count (frame.Bad refusal head_only) (SomeSession state old mid before now count (Stopped why failed left)) so follows
+        (λ bytes stream rest d is opens. go bytes stream d opens why part)
+      where
+        go : (bytes stream : List ℕ) → Dealt (state old) (state mid) before w bytes count (more stream) → Opens stream (fault (refused refusal) head_only) → (why : Cause)
+            → Partly why w now closing → SomeSession state old mid before now count (Stopped why failed left) bytes
+        go bytes stream d opens cause.Read part = absurd part
+        go bytes stream d opens cause.Write (k, adds) =
+            made mid now count _ (text d.es ++ take k closing) d.deals (Appends-append before w now (text d.es) (take k closing) d.adds adds)
+            (more stream, d.deals.leads, inr (talk.Refused refusal.word.now, closing, k, (refused refusal, head_only, opens, refl, refl), refl))
+        go bytes stream d opens cause.Memory adds =
+            made mid now count _ (text d.es ++ []) d.deals (Appends-append before w now (text d.es) [] d.adds adds) (more stream, d.deals.leads, inr (append-nil (text d.es)))
+        go bytes stream d opens cause.Store part = absurd part
+
+  module _ (known now : Option (List ℕ)) (buffer : List ℕ) (new : K) (request : Request) (used : ℕ) (closes : Bool) (follows : Follows rem known front buffer (frame.Request request used))
+      (back : (state new).clean → (state mid).clean) (at : closes ≡ closes_at (MOST_REQUESTS - count) (seen request)) where
+    pub closes_known : Did (state mid) (state new) (seen request) closes w now → closes ≡ true
+        → IfSome src (SomeSession state old new before now (count + 1) (Ended (last_for request.close)))
+    closes_known did shuts =
+        turn state src rem known old mid before w front buffer count (frame.Request request used) (SomeSession state old new before now (count + 1) (Ended (last_for request.close))) so follows
+        (λ bytes stream rest d is opens.
+        let after = drop used buffer ++ rest in
+        let t = subst (λ b. Dealt (state old) (state new) before now bytes (count + 1) (after_one b (seen request) after)) shuts
+        (Dealt-snoc (state old) (state mid) (state new) before w now bytes stream after count (seen request) closes d back opens at did) in
+        made new now (count + 1) _ (text t.es) t.deals t.adds ([], (shut request.close, t.deals.leads, shut_ends request.close), sym (append-nil (text t.es))))
+
+    pub more_known : (kept : List ℕ) → Did (state mid) (state new) (seen request) closes w now → closes ≡ false → kept ≡ drop used buffer
+        → SoFar state src known old new before now kept (count + 1)
+    more_known kept did stays e = record {
+      dealt = turn state src rem known old mid before w front buffer count (frame.Request request used)
+          (λ bytes. (rest : List ℕ) × (known ≡ Some rest) × Dealt (state old) (state new) before now bytes (count + 1) (more (kept ++ rest))) so follows
+          (λ bytes stream rest d is opens. (
+            rest,
+            is,
+            subst (λ k. Dealt (state old) (state new) before now bytes (count + 1) (more (k ++ rest))) (sym e)
+                (subst (λ b. Dealt (state old) (state new) before now bytes (count + 1) (after_one b (seen request) (drop used buffer ++ rest))) stays
+                (Dealt-snoc (state old) (state mid) (state new) before w now bytes stream (drop used buffer ++ rest) count (seen request) closes d back opens at did)),
+          ));
+    }
+
+    pub broke_known : (why : Cause) (failed : Bool) (left : Option (List ℕ))
+        → Replied (state mid) (state new) (request_of closes (seen request)) (λ reply. Broke why failed reply (is_head request.method.items) closes w now)
+        → IfSome src (SomeSession state old new before now (count + 1) (Stopped why failed left))
+    unfolding exchange
+    broke_known why failed left (reply, acted, broke) =
+        turn state src rem known old mid before w front buffer count (frame.Request request used) (SomeSession state old new before now (count + 1) (Stopped why failed left)) so follows
+        (λ bytes stream rest d is opens. go bytes stream rest d
+        (Deals-snoc (state old) (state mid) (state new) bytes stream (drop used buffer ++ rest) count d.es (seen request) closes reply d.deals back opens at acted) why broke)
+      where
+        e : Exchange
+        e = record { request = request_of closes (seen request); reply = reply }
+
+        after : List ℕ → Rest
+        after rest = after_one closes (seen request) (drop used buffer ++ rest)
+
+        go : (bytes stream rest : List ℕ) (d : Dealt (state old) (state mid) before w bytes count (more stream)) → Deals (state old) (state new) bytes (count + 1) (d.es ++ e ∷ []) (after rest)
+            → (why : Cause) → Broke why failed reply (is_head request.method.items) closes w now → SomeSession state old new before now (count + 1) (Stopped why failed left) bytes
+        go bytes stream rest d deals cause.Read broke = absurd broke
+        go bytes stream rest d deals cause.Write (k, adds) =
+            made new now (count + 1) _ (text d.es ++ take k (reply_text reply (is_head request.method.items) (closes || failed))) deals (Appends-append before w now (text d.es) _ d.adds adds)
+            (after rest, deals.leads, inl (d.es, e, k, refl, refl))
+        go bytes stream rest d deals cause.Memory adds =
+            made new now (count + 1) _ (text d.es ++ []) deals (Appends-append before w now (text d.es) [] d.adds adds)
+            (after rest, deals.leads, inl (d.es, e, refl, append-nil (text d.es)))
+        go bytes stream rest d deals cause.Store (is_failed, same, adds) =
+            made new now (count + 1) _ (text d.es ++ reply_text unavailable (is_head request.method.items) true) deals (Appends-append before w now (text d.es) _ d.adds adds)
+            (after rest, deals.leads, (is_failed, d.es, e, refl, same, refl))
+
+pub goes_on : (count : ℕ) (asked : Asked) (closes : Bool) → count < MOST_REQUESTS → closes ≡ false → closes ≡ closes_at (MOST_REQUESTS - count) asked → count + 1 < MOST_REQUESTS
+goes_on count asked closes small stays at = last asked.close (nat_le (MOST_REQUESTS - count) 1) refl (sym at ∙ stays)
   where
-    last : (close few : Bool) → nat_le (256 - count) 1 ≡ few → (close || few) ≡ false → count + 1 < 256
+    last : (close few : Bool) → nat_le (MOST_REQUESTS - count) 1 ≡ few → (close || few) ≡ false → count + 1 < MOST_REQUESTS
     last true few e f = absurd (cc)
     last false true e f = absurd (cc)
-    last false false e f = omega (arith, small, leb-false (256 - count) 1 e)
+    last false false e f = omega (arith, small, leb-false (MOST_REQUESTS - count) 1 e)
 
 -- a desk that had failed is as it was, and so it cannot have answered
 pub still_failed : {K : Type 0} (first now next : Kept K) → (first.failed ≡ true → now ≡ first) → (now.failed ≡ true → next ≡ now) → next.failed ≡ false

@@ -1,22 +1,18 @@
 -- Streams served one after another, and the main promise: what a caller may learn from them, over
 -- any keeper.
-use Rattle.std.specs.Prelude.{◌≡◌, if◌then◌else◌, ℕ, Bool, List, [], ◌∷◌, ◌++◌, length, Option, Some, true, false}
+use Rattle.std.specs.Prelude.{◌≡◌, if◌then◌else◌, ℕ, List, [], ◌∷◌, ◌++◌, length, Some, true, false}
+use Rattle.std.specs.List.{AllByRecursion}
+use Rattle.std.specs.Io.KnownBytes.{Appends}
 use Rattle.portal_core.specs.Words.{Key, equals}
 use Rattle.portal_core.specs.World.{World, is_published}
-use Rattle.portal_core.specs.Run.{Run, AllAnswered, end_of, Request}
-use Rattle.portal_core.specs.Heard.{HeardItem, Heard, Unless, has_places, moves_to_published, IsMember}
-use Rattle.portal_wire.specs.Conversation.{Rest, Leads, Last, Requests, Exchange, asked_in, told_in, text, exchange_text}
-use Rattle.portal_desk.specs.Kept.{KeeperState, Wrote, ServesBy, StopsBy}
-use Rattle.portal_desk.specs.declared.served.Cause.{Cause}
-use Rattle.std.specs.List.{AllByRecursion}
 use Rattle.portal_core.specs.View.{view}
 use Rattle.portal_core.specs.Good.{Good}
 use Rattle.portal_core.specs.Honest.{HasBest, ShowsBest}
-
--- how `serve` ends: as the stream does, or stopped (cause, has the store failed, unread bytes)
-pub data Finish : Type 0 where
-  Ended : Last → Finish
-  Stopped : Cause → Bool → Option (List ℕ) → Finish
+use Rattle.portal_core.specs.Run.{Run, AllAnswered, end_of, Request}
+use Rattle.portal_core.specs.Heard.{HeardItem, Heard, Unless, has_places, moves_to_published, IsMember}
+use Rattle.portal_wire.specs.Conversation.{Exchange, asked_in, told_in, exchange_text}
+use Rattle.portal_desk.specs.Kept.{KeeperState}
+use Rattle.portal_desk.specs.Session.{Finish, Ended, Stopped, Tells, Session, IsSession}
 
 -- a stream, what is written for it, how serving it ends, its exchanges, and the world after each
 pub record Visit : Type 0 where
@@ -25,13 +21,6 @@ pub record Visit : Type 0 where
   pub finish : Finish
   pub exchanges : List Exchange
   pub worlds : List World
-
--- the requests are the stream's; the text is all replies, or what the cause of a fault leaves
-abbrev pub Tells : Finish → List ℕ → List Exchange → List ℕ → Type 0
-Tells (Ended ending) bytes es written =
-    (closing : List ℕ) × Requests bytes (asked_in es) ending closing × (written ≡ text es ++ closing)
-Tells (Stopped why failed left) bytes es written =
-    (rest : Rest) × Leads 256 bytes (asked_in es) rest × Wrote why failed es rest left (Some []) (Some written)
 
 -- the visit is what a desk does for the stream in world w
 pub record IsVisit (w : World) (v : Visit) : Type 0 where
@@ -73,25 +62,6 @@ AlikeTexts (e ∷ es) (f ∷ fs) =
     Unless (has_places e.request.wish) (exchange_text e ≡ exchange_text f) × Unless (moves_to_published e.request.wish e.reply) (AlikeTexts es fs)
 AlikeTexts _ _ = Unit {0}
 
--- a call of `serve`; `before` and `after` are what the writer holds, `count` counts the requests
-pub record Session (K : Type 0) : Type 0 where
-  pub old : K
-  pub new : K
-  pub bytes : List ℕ
-  pub before : List ℕ
-  pub after : List ℕ
-  pub count : ℕ
-  pub finish : Finish
-  pub exchanges : List Exchange
-
--- what `serve` promises for each ending
-abbrev pub ServesUntil : Finish → List Exchange → KeeperState → KeeperState → Option (List ℕ) → Option (List ℕ) → List ℕ → ℕ → Type 0
-ServesUntil (Ended ending) es old new before after bytes count = ServesBy es old new before after bytes count ending
-ServesUntil (Stopped why failed left) es old new before after bytes count = StopsBy es why failed old new left before after bytes count
-
-abbrev pub IsSession : {K : Type 0} → (K → KeeperState) → Session K → Type 0
-IsSession state s = ServesUntil s.finish s.exchanges (state s.old) (state s.new) (Some s.before) (Some s.after) s.bytes s.count
-
 -- sessions one after another, from the world of keeper k; each leaves its keeper clean
 abbrev pub AreServed : {K : Type 0} → (K → KeeperState) → K → List (Session K) → Type 0
 AreServed state k [] = Unit {0}
@@ -104,7 +74,7 @@ pub record TellsOf {K : Type 0} (state : K → KeeperState) (s : Session K) (v :
   pub finish : v.finish ≡ s.finish
   pub exchanges : v.exchanges ≡ s.exchanges
   pub count : s.count ≡ length v.exchanges
-  pub written : s.after ≡ s.before ++ v.written
+  pub written : Appends s.before s.after v.written
   pub left : (state s.new).world ≡ end_of (state s.old).world v.worlds
 
 abbrev pub AllTellOf : {K : Type 0} → (K → KeeperState) → List (Session K) → List Visit → Type 0
@@ -178,7 +148,7 @@ IsEnded (Stopped why failed left) = ⊥
 
 abbrev pub AreOf : {K : Type 0} → List (Session K) → List (List ℕ) → List (List ℕ) → Type 0
 AreOf [] [] [] = Unit {0}
-AreOf (s ∷ ss) (x ∷ xs) (t ∷ ts) = (s.bytes ≡ x) × (s.before ≡ []) × (s.after ≡ t) × IsEnded s.finish × AreOf ss xs ts
+AreOf (s ∷ ss) (x ∷ xs) (t ∷ ts) = (s.bytes ≡ x) × (s.before ≡ Some []) × (s.after ≡ Some t) × IsEnded s.finish × AreOf ss xs ts
 AreOf _ _ _ = ⊥
 
 -- from `old` to `new`, keepers serve the streams in turn and write these texts

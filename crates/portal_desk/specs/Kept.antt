@@ -1,16 +1,14 @@
--- What a desk, a metered device and a keeper hold, how they count failed calls, and what a desk did
--- for a stream.
-use Rattle.std.specs.Prelude.{ℕ, Bool, ◌≡◌, ◌⊎◌, ◌+◌, ◌-◌, ◌^◌, ◌<◌, ◌≤◌, min, List, length, Option, Some, IfSome, Result, MatchResult, true, false, ◌||◌, [], ◌∷◌, ◌++◌, take}
+-- What a desk, a metered device and a keeper hold, how they count failed calls, and what requests
+-- with their replies do to a keeper.
+use Rattle.std.specs.Prelude.{ℕ, Bool, ◌≡◌, ◌⊎◌, ◌+◌, ◌-◌, ◌^◌, ◌<◌, ◌≤◌, min, List, length, Option, Some, IfSome, Result, MatchResult, true, false, ◌∷◌, ◌++◌}
+use Rattle.serde_json.specs.Written.{has_float}
 use Rattle.portal_core.specs.World.{World}
 use Rattle.portal_core.specs.Answer.{Answer, Said, Json, Unavailable}
-use Rattle.serde_json.specs.Written.{has_float}
-use Rattle.std.specs.Io.KnownBytes.{Appends}
 use Rattle.portal_core.specs.Meaning.{StaysClean, Settles}
 use Rattle.portal_core.specs.Run.{AllAnswered, unavailable}
-use Rattle.portal_frame.specs.Stream.{Asked, Opens, whole}
+use Rattle.portal_wire.specs.Conversation.{Exchange, told_in, Reaches}
 use Rattle.portal_desk.specs.declared.served.Cause.{Cause}
 use Rattle.portal_desk.specs.declared.served.Cause.TheVariants as cause
-use Rattle.portal_wire.specs.Conversation.{reply_text, Rest, more, Leads, Last, Ends, Exchange, asked_in, told_in, text, Reaches}
 
 -- a desk: what keeps the world, and whether the store has failed
 pub record Kept (K : Type 0) : Type 0 where
@@ -86,57 +84,9 @@ pub record Moves (old new : KeeperState) (es : List Exchange) : Type 0 where
   pub still : new.disk → old.broken → (w : World) → Reaches w es w × (new.leaves w → old.leaves w)
   pub leaves : IsSettled old → old.clean → new.disk → (w : World) → new.leaves w → MayReach old.world es w
 
--- the first requests of these bytes, and what they did to the keeper
-pub record Deals (old new : KeeperState) (bytes : List ℕ) (count : ℕ) (es : List Exchange) (rest : Rest) : Type 0 where
-  pub leads : Leads 256 bytes (asked_in es) rest
-  pub moves : Moves old new es
-  pub counted : count ≡ length es
-
--- these exchanges serve the whole stream, and the text of all replies is written
-abbrev pub ServesBy : List Exchange → KeeperState → KeeperState → Option (List ℕ) → Option (List ℕ) → List ℕ → ℕ → Last → Type 0
-ServesBy es old new before after bytes count end =
-    (rest : Rest) × (closing : List ℕ) × Deals old new bytes count es rest × Ends rest end closing × Appends before after (text es ++ closing)
-
-abbrev pub ServesWhole : KeeperState → KeeperState → Option (List ℕ) → Option (List ℕ) → List ℕ → ℕ → Last → Type 0
-ServesWhole old new before after bytes count end = (es : List Exchange) × ServesBy es old new before after bytes count end
-
--- all replies but the last, and a first part of the last, which closes after a fault of the store
-abbrev pub CutsLast : Bool → List Exchange → Option (List ℕ) → Option (List ℕ) → Type 0
-CutsLast failed es before after =
-    (front : List Exchange) × (e : Exchange) × (k : ℕ) × (es ≡ front ++ e ∷ [])
-    × Appends before after (text front ++ take k (reply_text e.reply e.request.head (e.request.closes || failed)))
-
--- all replies but the last are written
-abbrev pub LacksLast : List Exchange → Option (List ℕ) → Option (List ℕ) → Type 0
-LacksLast es before after = (front : List Exchange) × (e : Exchange) × (es ≡ front ++ e ∷ []) × Appends before after (text front)
-
--- all replies are written, and a first part of the refusal that follows
-abbrev pub CutsClosing : List Exchange → Rest → Option (List ℕ) → Option (List ℕ) → Type 0
-CutsClosing es rest before after =
-    (end : Last) × (closing : List ℕ) × (k : ℕ) × Ends rest end closing × Appends before after (text es ++ take k closing)
-
--- the bytes that were read hold no further whole request, and the others are still unread
-abbrev pub AllSeen : Rest → Option (List ℕ) → Type 0
-AllSeen rest left =
-    (held unread : List ℕ) × (rest ≡ more (held ++ unread)) × (left ≡ Some unread)
-    × ((a : Asked) → (after : List ℕ) → ¬ (Opens held (whole a after)))
-
--- what is written, by the cause of the fault
-abbrev pub Wrote : Cause → Bool → List Exchange → Rest → Option (List ℕ) → Option (List ℕ) → Option (List ℕ) → Type 0
-Wrote cause.Read failed es rest left before after = AllSeen rest left × Appends before after (text es)
-Wrote cause.Write failed es rest left before after = CutsLast failed es before after ⊎ CutsClosing es rest before after
-Wrote cause.Memory failed es rest left before after = LacksLast es before after ⊎ Appends before after (text es)
-Wrote cause.Store failed es rest left before after =
-    (failed ≡ true) × (front : List Exchange) × (e : Exchange) × (es ≡ front ++ e ∷ []) × (e.reply ≡ unavailable)
-    × Appends before after (text front ++ reply_text unavailable e.request.head true)
-
--- these exchanges serve a first part of the stream
-abbrev pub StopsBy : List Exchange → Cause → Bool → KeeperState → KeeperState → Option (List ℕ) → Option (List ℕ) → Option (List ℕ) → List ℕ → ℕ → Type 0
-StopsBy es why failed old new left before after bytes count =
-    (rest : Rest) × Deals old new bytes count es rest × Wrote why failed es rest left before after
-
-abbrev pub Stops : Cause → Bool → KeeperState → KeeperState → Option (List ℕ) → Option (List ℕ) → Option (List ℕ) → List ℕ → ℕ → Type 0
-Stops why failed old new left before after bytes count = (es : List Exchange) × StopsBy es why failed old new left before after bytes count
+-- some exchanges did, whatever is known of their bytes
+abbrev pub IsMoved : KeeperState → KeeperState → Type 0
+IsMoved old new = (es : List Exchange) × Moves old new es
 
 -- the blamed device has failed in this call
 abbrev pub Blames : Cause → ℕ → ℕ → ℕ → ℕ → Type 0

@@ -1,3 +1,4 @@
 pub mod Kept
+pub mod Session
 pub mod Headline
 pub mod inner

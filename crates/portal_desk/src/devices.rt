@@ -1,12 +1,14 @@
-//! Traits for sources and sinks that count failures; `write_whole` writes all bytes to a sink.
+//! Sources and sinks that count failed calls, over any reader or writer of std.
 
-ghost use Rattle.std.specs.Prelude.{◌≡◌, ℕ, ◌<◌, List, Option, take, length, OnOk, OnErr, IfOk};
+ghost use Rattle.std.specs.Prelude.{◌≡◌, ◌≢◌, ℕ, ◌<◌, List, Option, take, length};
+ghost use Rattle.std.specs.Prelude.{OnOk, OnErr, IfOk, IfErr};
 ghost use Rattle.std.specs.Io.KnownBytes.{ReadConsumes, WriteAppends, Appends};
 ghost use Rattle.std.specs.Io.{ReadsAtMost, WritesAtMost};
+ghost use Rattle.std.specs.IoError.{error_kind};
 ghost use Rattle.portal_desk.specs.Kept.{Counts, FailsAfter};
 
-use crate::again::{read_again, write_again};
-use std::io::{Read, Write};
+use std::io;
+use std::io::{ErrorKind, Read, Write};
 use std::marker::Model;
 
 /// The error of a failed read or write.
@@ -62,6 +64,89 @@ pub trait Sink {
         ensures { result ≡ failed self.now };
 }
 
+/// Reads once, and retries if a signal interrupts the read.
+///
+/// # Errors
+///
+/// The reader returned an error other than `Interrupted`.
+pub fn read_again<R: Read>(reader: &mut R, buf: &mut [u8]) -> io::Result<usize>
+    ensures bound { ReadsAtMost result buf.new }
+    ensures bytes { ReadConsumes (R.remaining reader.old) (R.remaining reader.new) result buf.new }
+    ensures retried { IfErr result (λ e. error_kind e ≢ ErrorKind.Interrupted) }
+{
+    // a bound, so that the function is proved to return
+    for _ in 0..u64::MAX {
+        match reader.read(buf) {
+            Ok(n) => return Ok(n),
+            Err(e) => {
+                if e.kind() != ErrorKind::Interrupted {
+                    return Err(e);
+                }
+            }
+        }
+    }
+    Err(io::Error::from(ErrorKind::Other))
+}
+
+/// Writes once, and retries if a signal interrupts the write.
+///
+/// # Errors
+///
+/// The writer returned an error other than `Interrupted`.
+pub fn write_again<W: Write>(writer: &mut W, buf: &[u8]) -> io::Result<usize>
+    ensures bound { WritesAtMost result buf.now }
+    ensures bytes { WriteAppends (W.contents writer.old) (W.contents writer.new) result buf.now }
+    ensures retried { IfErr result (λ e. error_kind e ≢ ErrorKind.Interrupted) }
+{
+    // a bound, so that the function is proved to return
+    for _ in 0..u64::MAX {
+        match writer.write(buf) {
+            Ok(n) => return Ok(n),
+            Err(e) => {
+                if e.kind() != ErrorKind::Interrupted {
+                    return Err(e);
+                }
+            }
+        }
+    }
+    Err(io::Error::from(ErrorKind::Other))
+}
+
+/// Reads once, and adds 1 to the count if the read fails.
+fn read_counted<R: Read>(
+    reader: &mut R,
+    failures: &mut u64,
+    buf: &mut [u8],
+) -> Result<usize, Failed>
+    ensures bound { ReadsAtMost result buf.new }
+    ensures bytes { ReadConsumes (R.remaining reader.old) (R.remaining reader.new) result buf.new }
+    ensures counts { Counts result failures.old failures.new }
+{
+    match read_again(reader, buf) {
+        Ok(n) => Ok(n),
+        Err(_) => {
+            *failures = failures.saturating_add(1);
+            Err(Failed)
+        }
+    }
+}
+
+/// Writes once, and adds 1 to the count if the write fails or takes no byte of a non-empty buffer.
+fn write_counted<W: Write>(writer: &mut W, failures: &mut u64, buf: &[u8]) -> Result<usize, Failed>
+    ensures bound { WritesAtMost result buf.now }
+    ensures some { IfOk result (λ n. 0 < length buf.now → 0 < n) }
+    ensures bytes { WriteAppends (W.contents writer.old) (W.contents writer.new) result buf.now }
+    ensures counts { Counts result failures.old failures.new }
+{
+    match write_again(writer, buf) {
+        Ok(n) if n > 0 || buf.is_empty() => Ok(n),
+        _ => {
+            *failures = failures.saturating_add(1);
+            Err(Failed)
+        }
+    }
+}
+
 /// A reader or writer of std that counts its failed calls. It retries a call that a signal
 /// interrupts. Any other error is `Failed`, and so is a write that takes no byte of a non-empty
 /// buffer.
@@ -103,13 +188,7 @@ impl<T: Read> Source for Counted<T> {
     ghost failed = { λ c. c.failures };
 
     fn read(&mut self, buf: &mut [u8]) -> Result<usize, Failed> {
-        match read_again(&mut self.inner, buf) {
-            Ok(n) => Ok(n),
-            Err(_) => {
-                self.failures = self.failures.saturating_add(1);
-                Err(Failed)
-            }
-        }
+        read_counted(&mut self.inner, &mut self.failures, buf)
     }
 
     fn failures(&self) -> u64 {
@@ -123,19 +202,59 @@ impl<T: Write> Sink for Counted<T> {
     ghost failed = { λ c. c.failures };
 
     fn write(&mut self, buf: &[u8]) -> Result<usize, Failed> {
-        match write_again(&mut self.inner, buf) {
-            Ok(n) => {
-                if n == 0 && !buf.is_empty() {
-                    self.failures = self.failures.saturating_add(1);
-                    return Err(Failed);
-                }
-                Ok(n)
-            }
-            Err(_) => {
-                self.failures = self.failures.saturating_add(1);
-                Err(Failed)
-            }
+        write_counted(&mut self.inner, &mut self.failures, buf)
+    }
+
+    fn failures(&self) -> u64 {
+        self.failures
+    }
+}
+
+/// A `Counted` over a borrowed reader or writer, of which contracts say that it stays the same one.
+#[derive(Drop)]
+pub(crate) struct Borrowed<'a, T> {
+    device: &'a mut T,
+    failures: u64,
+}
+
+impl<'a, T> Borrowed<'a, T> {
+    /// Borrows a reader or writer, and starts the count of failed calls at 0.
+    pub(crate) fn new(device: &'a mut T) -> Borrowed<'a, T>
+        ensures same_device { result.device.ghost_name ≡ device.entry.ghost_name }
+        ensures device { result.device.now ≡ device.old }
+    {
+        Borrowed {
+            device,
+            failures: 0,
         }
+    }
+}
+
+impl<'a, T: Read> Source for Borrowed<'a, T> {
+    ghost remaining = { λ borrowed. T.remaining borrowed.device.now };
+
+    ghost name = { λ borrowed. borrowed.device.ghost_name };
+
+    ghost failed = { λ borrowed. borrowed.failures };
+
+    fn read(&mut self, buf: &mut [u8]) -> Result<usize, Failed> {
+        read_counted(&mut *self.device, &mut self.failures, buf)
+    }
+
+    fn failures(&self) -> u64 {
+        self.failures
+    }
+}
+
+impl<'a, T: Write> Sink for Borrowed<'a, T> {
+    ghost contents = { λ borrowed. T.contents borrowed.device.now };
+
+    ghost name = { λ borrowed. borrowed.device.ghost_name };
+
+    ghost failed = { λ borrowed. borrowed.failures };
+
+    fn write(&mut self, buf: &[u8]) -> Result<usize, Failed> {
+        write_counted(&mut *self.device, &mut self.failures, buf)
     }
 
     fn failures(&self) -> u64 {

@@ -1,6 +1,6 @@
 //! Laws on the bytes of replies: privacy, and "The headline" of PROMISES.md.
 
-ghost use Rattle.std.specs.Prelude.{◌≡◌, ℕ, List, Some, ◌++◌};
+ghost use Rattle.std.specs.Prelude.{◌≡◌, List};
 ghost use Rattle.std.specs.List.{AllZip};
 ghost use Rattle.portal_core.specs.Words.{Key};
 ghost use Rattle.portal_core.specs.World.{World};
@@ -10,7 +10,8 @@ ghost use Rattle.portal_core.specs.Heard.{HeardItem, SameButPlaces, SameRequest}
 ghost use Rattle.portal_wire.specs.Conversation.{asked_in};
 ghost use Rattle.portal_desk.specs.Headline.{IsServed, MainPromise, Visit, AreVisits, AreAnswered};
 ghost use Rattle.portal_desk.specs.Headline.{exchanges_of, worlds_of, Hears, replies_in};
-ghost use Rattle.portal_desk.specs.Headline.{AlikeTexts, Session, AreServed, AllTellOf};
+ghost use Rattle.portal_desk.specs.Headline.{AlikeTexts, AreServed, AllTellOf};
+ghost use Rattle.portal_desk.specs.Session.{Session};
 ghost use Rattle.portal_desk.specs.Kept.{state_of};
 
 use portal_core::Keeper;

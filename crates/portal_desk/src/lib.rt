@@ -1,20 +1,18 @@
 //! The desk: serves streams of requests over any keeper.
 #![tactic(auto)]
 
-mod again;
 mod desk;
 mod devices;
-mod each;
 pub mod laws;
 mod playing;
 mod reading;
 mod sending;
 mod served;
+mod serving;
 
-pub use crate::again::{read_again, write_again};
 pub use crate::desk::Desk;
-pub use crate::devices::{Counted, Failed, Sink, Source};
-pub use crate::each::serve_each;
+pub use crate::devices::{Counted, Failed, Sink, Source, read_again, write_again};
 pub use crate::playing::play;
 pub use crate::served::{Cause, ServeFault, Served};
+pub use crate::serving::{MOST_BYTES, pipe, serve_streams};
 pub use portal_wire::Ending;

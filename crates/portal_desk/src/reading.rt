@@ -1,71 +1,50 @@
 //! Buffers a stream until its next request is complete; removes answered requests.
 
-ghost use Rattle.std.specs.Prelude.{◌≡◌, ◌≢◌, ℕ, ◌+◌, ◌-◌, ◌<◌, ◌≤◌, List, length, drop, IfOk};
+ghost use Rattle.std.specs.Prelude.{◌≡◌, ◌⊎◌, ◌≢◌, ◌+◌, ◌-◌, ◌<◌, ◌≤◌, length, drop, IfOk};
 ghost use Rattle.std.specs.Prelude.{OnErr, IfErr, OnOk, if◌then◌else◌};
 ghost use Rattle.portal_desk.specs.Kept.{FailsAfter, TakesAtMost};
-ghost use Rattle.portal_desk.specs.inner.Reading.{ReadsMore, Follows, IsWithin, KeepsStream};
-ghost use Rattle.portal_desk.specs.inner.Reading.{HoldsNone};
-ghost use Rattle.portal_desk.specs.declared.reading.FrameFault.TheVariants.{Memory as OutOfMemory};
-ghost use Rattle.portal_desk.specs.declared.reading.FrameFault.TheVariants.{Read as ReadFailed};
+ghost use Rattle.portal_desk.specs.inner.Reading.{ReadsMore, Follows, IsWithin, KeepsStream, NoneWhole};
+ghost use Rattle.portal_desk.specs.declared.served.Cause.TheVariants.{Memory as OutOfMemory};
+ghost use Rattle.portal_desk.specs.declared.served.Cause.TheVariants.{Read as ReadFailed};
 
-use crate::devices::{Failed, Source};
-use portal_frame::{Frame, frame};
-use std::alloc::{AllocError, Global};
-
-/// The length of the longest head and the longest body together, in bytes.
-const LONGEST: usize = 1_064_960;
-
-/// Why no frame was found.
-#[derive(Clone, Copy, Drop)]
-pub(crate) enum FrameFault {
-    Read,
-    Memory,
-}
-
-impl From<AllocError> for FrameFault {
-    ghost from_gives = { λ _ fault. fault ≡ OutOfMemory };
-
-    fn from(_: AllocError) -> FrameFault {
-        FrameFault::Memory
-    }
-}
-
-impl From<Failed> for FrameFault {
-    ghost from_gives = { λ _ fault. fault ≡ ReadFailed };
-
-    fn from(_: Failed) -> FrameFault {
-        FrameFault::Read
-    }
-}
+use crate::devices::Source;
+use crate::served::Cause;
+use portal_frame::{Frame, LONGEST_REQUEST, frame};
+use std::alloc::Global;
 
 /// Reads a stream's next bytes into the buffer, and returns whether the source has ended.
-fn read_piece<R: Source>(source: &mut R, buffer: &mut Vec<u8>) -> Result<bool, FrameFault>
-    requires { length buffer.old.items < 1064960 }
+fn read_piece<R: Source>(source: &mut R, buffer: &mut Vec<u8>) -> Result<bool, Cause>
+    requires { length buffer.old.items < LONGEST_REQUEST }
     ensures bytes { IfOk result (ReadsMore (R.remaining source.old)
         (R.remaining source.new) buffer.old.items buffer.new.items) }
     ensures more { IfOk result (λ ended. length buffer.old.items + (if ended then 0 else 1)
         ≤ length buffer.new.items) }
-    ensures held { length buffer.new.items ≤ 1064960 }
+    ensures held { length buffer.new.items ≤ LONGEST_REQUEST }
     ensures none_lost { OnErr result (buffer.new.items ≡ buffer.old.items) }
-    ensures left { IfErr result (λ fault. fault ≡ ReadFailed
+    ensures causes { IfErr result (λ cause. (cause ≡ ReadFailed) ⊎ (cause ≡ OutOfMemory)) }
+    ensures left { IfErr result (λ cause. cause ≡ ReadFailed
         → KeepsStream (R.remaining source.old)
         (R.remaining source.new) buffer.old.items buffer.new.items) }
-    ensures taken { OnErr result (TakesAtMost (1064960 - length buffer.old.items)
+    ensures taken { OnErr result (TakesAtMost (LONGEST_REQUEST - length buffer.old.items)
         (R.remaining source.old) (R.remaining source.new)) }
     ensures calm { OnOk result (R.failed source.new ≡ R.failed source.old) }
-    ensures counts { IfErr result (λ fault. fault ≡ ReadFailed
+    ensures counts { IfErr result (λ cause. cause ≡ ReadFailed
         → FailsAfter (R.failed source.old) (R.failed source.new)) }
-    ensures spared { IfErr result (λ fault. fault ≢ ReadFailed
+    ensures spared { IfErr result (λ cause. cause ≢ ReadFailed
         → R.failed source.new ≡ R.failed source.old) }
     ensures same_device { R.name source.new ≡ R.name source.old }
 {
     let mut piece = [0u8; 4096];
-    let room = (LONGEST - buffer.len()).min(4096);
-    let n = source.read(&mut piece[..room])?;
+    let room = (LONGEST_REQUEST - buffer.len()).min(4096);
+    let Ok(n) = source.read(&mut piece[..room]) else {
+        return Err(Cause::Read);
+    };
     if n == 0 {
         return Ok(true);
     }
-    buffer.extend_from_slice(&piece[..n])?;
+    let Ok(()) = buffer.extend_from_slice(&piece[..n]) else {
+        return Err(Cause::Memory);
+    };
     Ok(false)
 }
 
@@ -74,29 +53,33 @@ pub(crate) fn next_frame<R: Source>(
     alloc: Global,
     source: &mut R,
     buffer: &mut Vec<u8>,
-) -> Result<Frame, FrameFault>
-    requires { length buffer.old.items ≤ 1064960 }
+) -> Result<Frame, Cause>
+    requires { length buffer.old.items ≤ LONGEST_REQUEST }
     ensures follows { IfOk result (Follows (R.remaining source.old)
         (R.remaining source.new) buffer.old.items buffer.new.items) }
     ensures found { IfOk result (λ f. f ≢ Frame.Need) }
-    ensures held { length buffer.new.items ≤ 1064960 }
+    ensures held { length buffer.new.items ≤ LONGEST_REQUEST }
     ensures within { IfOk result (IsWithin buffer.new.items) }
-    ensures stays { IfErr result (λ fault. fault ≡ ReadFailed
+    ensures causes { IfErr result (λ cause. (cause ≡ ReadFailed) ⊎ (cause ≡ OutOfMemory)) }
+    ensures stays { IfErr result (λ cause. cause ≡ ReadFailed
         → KeepsStream (R.remaining source.old)
         (R.remaining source.new) buffer.old.items buffer.new.items) }
-    ensures none { IfErr result (λ fault. HoldsNone fault buffer.new.items) }
-    ensures taken { OnErr result (TakesAtMost (1064960 - length buffer.old.items)
+    ensures none { IfErr result (λ cause. cause ≡ ReadFailed → NoneWhole buffer.new.items) }
+    ensures taken { OnErr result (TakesAtMost (LONGEST_REQUEST - length buffer.old.items)
         (R.remaining source.old) (R.remaining source.new)) }
     ensures calm { OnOk result (R.failed source.new ≡ R.failed source.old) }
-    ensures counts { IfErr result (λ fault. fault ≡ ReadFailed
+    ensures counts { IfErr result (λ cause. cause ≡ ReadFailed
         → FailsAfter (R.failed source.old) (R.failed source.new)) }
-    ensures spared { IfErr result (λ fault. fault ≢ ReadFailed
+    ensures spared { IfErr result (λ cause. cause ≢ ReadFailed
         → R.failed source.new ≡ R.failed source.old) }
     ensures same_device { R.name source.new ≡ R.name source.old }
 {
     let mut ended = false;
     loop {
-        match frame(alloc, buffer.as_slice(), ended)? {
+        let Ok(found) = frame(alloc, buffer.as_slice(), ended) else {
+            return Err(Cause::Memory);
+        };
+        match found {
             Frame::Need => {}
             found => return Ok(found),
         }

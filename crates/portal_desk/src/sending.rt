@@ -1,12 +1,12 @@
 //! Writes replies to a sink.
 
-ghost use Rattle.std.specs.Prelude.{◌≡◌, ◌≢◌, true, OnOk, IfErr, OnErr};
+ghost use Rattle.std.specs.Prelude.{◌≡◌, ◌≢◌, true, OnOk, IfErr};
 ghost use Rattle.std.specs.Io.KnownBytes.{Appends};
+ghost use Rattle.portal_core.specs.Answer.{HasWholeNumbers};
 ghost use Rattle.portal_core.specs.Meaning.{reply_model, body_model};
 ghost use Rattle.portal_frame.specs.Stream.{refused};
 ghost use Rattle.portal_wire.specs.Wish.{answer_to};
 ghost use Rattle.portal_wire.specs.Conversation.{reply_text};
-ghost use Rattle.portal_core.specs.Answer.{HasWholeNumbers};
 ghost use Rattle.portal_desk.specs.Kept.{FailsAfter};
 ghost use Rattle.portal_desk.specs.inner.Turns.{Partly};
 ghost use Rattle.portal_desk.specs.declared.served.Cause.TheVariants.{Write as WriteFailed};
@@ -56,10 +56,10 @@ pub(crate) fn send_reply<W: Sink>(
         → W.failed sink.new ≡ W.failed sink.old) }
     ensures same_device { W.name sink.new ≡ W.name sink.old }
 {
-    match reply_bytes(alloc, &reply, head_only, close) {
-        Ok(bytes) => send(bytes.as_slice(), sink),
-        Err(_) => Err(Cause::Memory),
-    }
+    let Ok(bytes) = reply_bytes(alloc, &reply, head_only, close) else {
+        return Err(Cause::Memory);
+    };
+    send(bytes.as_slice(), sink)
 }
 
 /// Writes to a sink the reply for the refusal that ends a stream.
@@ -80,8 +80,8 @@ pub(crate) fn send_refusal<W: Sink>(
         → W.failed sink.new ≡ W.failed sink.old) }
     ensures same_device { W.name sink.new ≡ W.name sink.old }
 {
-    match reply_of(alloc, refusal) {
-        Ok(reply) => send_reply(alloc, reply, head_only, true, sink),
-        Err(_) => Err(Cause::Memory),
-    }
+    let Ok(reply) = reply_of(alloc, refusal) else {
+        return Err(Cause::Memory);
+    };
+    send_reply(alloc, reply, head_only, true, sink)
 }

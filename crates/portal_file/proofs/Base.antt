@@ -1,7 +1,6 @@
 -- What a call that succeeded ensures.
-use Rattle.std.proofs.Common.{Ok, Err, Result, OnErr, OnOk, IfOk, Option, Some, None}
+use Rattle.std.proofs.Common.{Ok, Err, Result, OnOk, IfOk, Option, Some, None}
 use Rattle.std.specs.Prelude.{IfNone}
-use Rattle.portal_file.specs.Chain.{IfReported}
 
 pub on_ok : {A E : Type 0} (r : Result A E) (P Q : Type 0) → (P → Q) → OnOk r P → OnOk r Q
 on_ok (Ok x) P Q more h = more h
@@ -26,11 +25,3 @@ if_ok_on (Err e) L P Q more h k = tt
 pub if_none : {A : Type 0} (o : Option A) (P Q : Type 0) → (P → Q) → IfNone o P → IfNone o Q
 if_none None P Q more h = more h
 if_none (Some x) P Q more h = tt
-
-pub if_reported : {A E F : Type 0} (r : Result (Result A E) F) (P Q : Type 0) → (P → Q) → IfOk r (λ told. OnOk told P) → OnErr r P → IfReported r Q
-if_reported (Ok told) P Q more h k = on_ok told P Q more h
-if_reported (Err e) P Q more h k = more k
-
-pub reported_more : {A E F : Type 0} (r : Result (Result A E) F) (P Q : Type 0) → (P → Q) → IfReported r P → IfReported r Q
-reported_more (Ok told) P Q more h = on_ok told P Q more h
-reported_more (Err e) P Q more h = more h

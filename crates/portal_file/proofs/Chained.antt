@@ -1,27 +1,20 @@
 -- What is promised of processes over one file.
-use Rattle.std.proofs.Common.{◌≡◌, ℕ, Bool, true, false, Option, Some, None, IsSome, List, [], ◌∷◌, ◌++◌, refl, sym, ap, subst, ◌∙◌, inl, inr}
-use Rattle.std.proofs.lemmas.Bool.{both_ways}
+use Rattle.std.proofs.Common.{◌≡◌, Option, Some, None, IsSome, List, [], ◌∷◌, ◌++◌, refl, sym, ap, subst, ◌∙◌, inl, inr}
 use Rattle.std.proofs.Math.Logic.{∥∥₁_elim, ∥∥₁_map}
 use Rattle.std.specs.List.{AllByRecursion}
 use Rattle.sqlite_wal.specs.Recovery.{Image}
-use Rattle.portal_core.specs.Words.{Key, equals}
-use Rattle.portal_core.specs.World.{World, is_published}
+use Rattle.portal_core.specs.World.{World}
 use Rattle.portal_core.specs.Good.{Good}
-use Rattle.portal_core.specs.Answer.{Answer}
-use Rattle.portal_core.specs.Honest.{HasBest}
-use Rattle.portal_core.specs.Run.{AllAnswered, Answers, Calls, Refused, Request, Run, Serves, Wish, end_of, unavailable}
-use Rattle.portal_core.proofs.Unseen.{others}
-use Rattle.portal_core.specs.View.{view}
+use Rattle.portal_core.specs.Run.{AllAnswered, Run, end_of}
 use Rattle.portal_wire.specs.Conversation.{Exchange, Reaches, asked_in, told_in}
 use Rattle.portal_desk.specs.Kept.{MayReach}
-use Rattle.portal_desk.specs.Headline.{Visit, AreUnseen, AreVisits, IsUnseen, IsVisit, PublishesBest, exchanges_of, worlds_of}
+use Rattle.portal_desk.specs.Headline.{Visit, AreVisits, IsVisit, exchanges_of, worlds_of}
 use Rattle.portal_desk.proofs.Steps.{answered_apart}
-use Rattle.portal_desk.proofs.Promised.{RunsGood, StepsBest, RunsBest, upheld}
+use Rattle.portal_desk.proofs.Promised.{RunsGood, StepsBest, RunsBest, are_unseen, publishes_best, upheld}
 use Rattle.portal_desk.proofs.Heeding.{same_bytes}
 use Rattle.portal_file.specs.Tables.{Stream, TellsIn}
-use Rattle.portal_file.specs.Files.{HoldsWorld, HoldsSome}
+use Rattle.portal_file.specs.Files.{HoldsWorld}
 use Rattle.portal_file.specs.Chain.{Process, IsProcess, AreProcesses, left_after, exchanges_by, MayStandFor, IsKeptRun, KeptOverFiles, AllTellOfProcesses, PromisedOverFiles}
-use Rattle.portal_file.proofs.Served.{good_end}
 
 end_more : (w : World) (us vs : List World) → end_of (end_of w us) vs ≡ end_of w (us ++ vs)
 end_more w [] vs = refl
@@ -132,42 +125,7 @@ runs_over w image (p ∷ ps) holds (is, process, later) =
       holds_last,
     ) in r))
 
--- one step of a run
-
-unseen_by : (c : Key) (w v : World) (r : Request) (wish : Wish) (a : Answer) → Good w → Answers w r wish a v → IsUnseen c w r v
-unseen_by c w v r (Calls ask) a good step = λ member other office. others w v c r.code ask a good step member other office
-unseen_by c w v r (Refused refusal) a good step = λ member other office. ap (λ u. view u c) step.1
-
-one_unseen : (c : Key) (w v : World) (r : Request) (a : Answer) → Good w → Serves w r a v → IsUnseen c w r v
-one_unseen c w v r a good (inl step) = unseen_by c w v r r.wish a good step
-one_unseen c w v r a good (inr none) = λ member other office. ap (λ u. view u c) none.1
-
-not_published : (w v : World) → v ≡ w → is_published w.phase ≡ false → is_published v.phase ≡ true → HasBest v
-not_published w v same off on = absurd (both_ways (is_published w.phase) off (ap (λ (u : World). is_published u.phase) (sym same) ∙ on))
-
-best_by : StepsBest → (w v : World) (r : Request) (wish : Wish) (a : Answer) → Good w → Answers w r wish a v → is_published w.phase ≡ false → is_published v.phase ≡ true → HasBest v
-best_by step_best w v r (Calls ask) a good step off on = step_best w v r.code ask a good off step on
-best_by step_best w v r (Refused refusal) a good step off on = not_published w v step.1 off on
-
-one_best : StepsBest → (w v : World) (r : Request) (a : Answer) → Good w → Serves w r a v → is_published w.phase ≡ false → is_published v.phase ≡ true → HasBest v
-one_best step_best w v r a good (inl step) off on = best_by step_best w v r r.wish a good step off on
-one_best step_best w v r a good (inr none) off on = not_published w v none.1 off on
-
 -- a run
-
-are_unseen : (c : Key) (w : World) (rs : List Request) (told : List Answer) (vs : List World) → Good w → AllByRecursion Good vs → Run w rs told vs → AreUnseen c w rs vs
-are_unseen c w [] told vs good all run = tt
-are_unseen c w (r ∷ rs) told [] good all run = tt
-are_unseen c w (r ∷ rs) [] (v ∷ vs) good all run = absurd run
-are_unseen c w (r ∷ rs) (a ∷ told) (v ∷ vs) good all run = (one_unseen c w v r a good run.0, are_unseen c v rs told vs all.0 all.1 run.1)
-
-publishes_best : StepsBest → (w : World) (rs : List Request) (told : List Answer) (vs : List World) → Good w → AllByRecursion Good vs → Run w rs told vs → PublishesBest w vs
-publishes_best step_best w rs told [] good all run = tt
-publishes_best step_best w [] [] (v ∷ vs) good all run = absurd run
-publishes_best step_best w [] (a ∷ told) (v ∷ vs) good all run = absurd run
-publishes_best step_best w (r ∷ rs) [] (v ∷ vs) good all run = absurd run
-publishes_best step_best w (r ∷ rs) (a ∷ told) (v ∷ vs) good all run =
-    (one_best step_best w v r a good run.0, publishes_best step_best v rs told vs all.0 all.1 run.1)
 
 kept_run : RunsGood → StepsBest → RunsBest → (w : World) (es : List Exchange) (worlds : List World) → Good w → Run w (asked_in es) (told_in es) worlds → IsKeptRun w es worlds
 kept_run run_good step_best run_best w es worlds good run =

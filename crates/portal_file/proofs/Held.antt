@@ -7,7 +7,7 @@ use Rattle.sqlite_trees.specs.Tree.{Trees}
 use Rattle.sqlite_trees.specs.Sound.{is_sound_list}
 use Rattle.sqlite_store.specs.declared.store.FileStore.{FileStore}
 use Rattle.sqlite_store.specs.FileStore.{state, view, recovers}
-use Rattle.sqlite.specs.Effect.{Database}
+use Rattle.sqlite.specs.Effect.{Database, IsDatabase}
 use Rattle.sqlite.specs.State.{State, HasCleanDisk, IsLive, Opens}
 use Rattle.sqlite.specs.Held.{Held, AreDatabases}
 use Rattle.sqlite.specs.Start.{FindsIn}
@@ -20,45 +20,52 @@ use Rattle.sqlite.specs.Order.{Row}
 use Rattle.sqlite_trees.specs.Objects.{catalog_tree}
 use Rattle.sqlite_catalog.specs.Listing.{Lists}
 use Rattle.sqlite_catalog.proofs.ReadLemmas.{lists_once}
-use Rattle.portal_tables.specs.Tables.{IsCurrentSchema, IsFirstSchema, no_schema}
-use Rattle.portal_tables.proofs.Owned.{own_again}
-use Rattle.portal_store.specs.World.{world_of}
-use Rattle.portal_file.specs.Tables.{StandsFor, StoodFor, AreOf, AllStand, ServesTables, ShowsFirst, ShowsWorld, Stream, TellsIn}
-use Rattle.portal_file.specs.Files.{HoldsFirst, HoldsWorld, HoldsSome, HoldsLeft, ComesOf, OpensOver}
+use Rattle.portal_tables.specs.Tables.{no_schema}
+use Rattle.portal_tables.proofs.Owned.{one_schema}
+use Rattle.portal_file.specs.Tables.{StandsCurrent, StandsFirst, StandsFor, AllAre, AllStandCurrent, ServesTables, Shows, ShowsFirst, ShowsWorld, Stream, TellsIn}
+use Rattle.portal_file.specs.Files.{HoldsBy, HoldsCurrent, HoldsFirst, HoldsWorld, HoldsLeft, ComesOf, OpensOver}
 use Rattle.portal_file.specs.Chain.{Turns}
-use Rattle.portal_file.proofs.Sets.{World-set}
+
+-- what stands for a world obeys its schema
+
+current_sound : (db : Database) (w : World) → StandsCurrent db w → IsDatabase db
+current_sound db w stands = stands.consistent.1.sound
+
+stands_sound : (db : Database) (w : World) → StandsFor db w → IsDatabase db
+stands_sound db w (inl current) = current_sound db w current
+stands_sound db w (inr first) = first.sound
 
 module _ (found : Image) (s : State) (opens : Opens s) (live : IsLive s) (finds : FindsIn found s) where
-  same_trees : (db : Database) → HoldsDatabase found db.trees → s.now.trees ≡ db.trees
-  same_trees db holds = ap (λ (d : Database). d.trees) opens.clean ∙ finds.holds db.trees holds
+  same_database : (db : Database) → IsDatabase db → HoldsDatabase found db.trees → s.now ≡ db
+  same_database db sound holds =
+      let trees : s.now.trees ≡ db.trees = ap (λ (d : Database). d.trees) opens.clean ∙ finds.holds db.trees holds in
+      let schema : s.now.schema ≡ db.schema = one_schema db s.now sound (live opens.is_open).0 trees in
+      λ i. record { schema = schema i; trees = trees i }
+
+  found_as : (Stands : Database → World → Type 0) → ((db : Database) (w : World) → Stands db w → IsDatabase db) → (w : World) → HoldsBy Stands found w → Shows Stands s w
+  found_as Stands sound w holds = record {
+    is_open = opens.is_open;
+    stands = ∥∥₁_map holds (λ h. subst (λ d. Stands d w) (sym (same_database h.0 (sound h.0 w h.2) h.1)) h.2);
+  }
 
   pub found_world : (w : World) → HoldsWorld found w → ShowsWorld s w
-  found_world w holds = record {
-    is_open = opens.is_open;
-    stands = ∥∥₁_map holds (λ h. let r : AreOf StandsFor s.now.trees w = (h.0, sym (same_trees h.0 h.1), h.2) in r);
-    own = ∥∥₁_map holds (λ h. own_again IsCurrentSchema h.0 s.now h.2.consistent.1.sound (live opens.is_open).0 (same_trees h.0 h.1) h.2.consistent.1.current);
-    world = ∥∥₁_elim holds (World-set (world_of s.now.trees) w) (λ h. ap world_of (same_trees h.0 h.1) ∙ h.2.world);
-  }
+  found_world = found_as StandsFor stands_sound
 
   pub found_first : (w : World) → HoldsFirst found w → ShowsFirst s w
-  found_first w holds = record {
-    is_open = opens.is_open;
-    own = ∥∥₁_map holds (λ h. own_again IsFirstSchema h.0 s.now h.2.sound (live opens.is_open).0 (same_trees h.0 h.1) h.2.schema);
-    stands = ∥∥₁_map holds (λ h. let r : AreOf StoodFor s.now.trees w = (h.0, sym (same_trees h.0 h.1), h.2) in r);
-  }
+  found_first = found_as StandsFirst (λ db w first. first.sound)
 
 -- from what a stop of a connection leaves to what the files hold
 
-pub held_some : (s : State) (left : Image) (Kind : World → Type 0) → AllStand s.may_leave Kind → HoldsLeft s left → HoldsSome left Kind
-held_some s left Kind stand holds =
+held_some : (Stands : Database → World → Type 0) (s : State) (left : Image) (Kind : World → Type 0) → AllAre Stands s.may_leave Kind → HoldsLeft s left → ∥ ((w : World) × Kind w × HoldsBy Stands left w) ∥₁
+held_some Stands s left Kind stand holds =
     ∥∥₁_elim holds squash₁ (λ h. ∥∥₁_map (stand h.0 h.1) (λ t.
     let d = t.2 in
-    let is : (db : Database) × HoldsDatabase left db.trees × StandsFor db t.0 = (d.0, subst (HoldsDatabase left) (sym d.1) h.2, d.2) in
-    let r : (w : World) × Kind w × HoldsWorld left w = (t.0, t.1, ∣ is ∣₁) in
+    let is : (db : Database) × HoldsDatabase left db.trees × Stands db t.0 = (d.0, subst (HoldsDatabase left) (sym d.1) h.2, d.2) in
+    let r : (w : World) × Kind w × HoldsBy Stands left w = (t.0, t.1, ∣ is ∣₁) in
     r))
 
-pub held_one : (left : Image) (w : World) → HoldsSome left (λ v. v ≡ w) → HoldsWorld left w
-held_one left w holds = ∥∥₁_elim holds squash₁ (λ t. subst (HoldsWorld left) t.1 t.2)
+held_one : (Stands : Database → World → Type 0) (s : State) (left : Image) (w : World) → AllAre Stands s.may_leave (λ v. v ≡ w) → HoldsLeft s left → HoldsBy Stands left w
+held_one Stands s left w stand holds = ∥∥₁_elim (held_some Stands s left (λ v. v ≡ w) stand holds) squash₁ (λ t. subst (HoldsBy Stands left) t.1 t.2)
 
 module _ {D : Type 0} {g : Ghosts D} (it : FileStore D g) (numbered : IsTrue (view it).is_numbered) (sound : AreDatabases (recovers it)) (s : State) (quiet : (db : Trees) → recovers it db → s.may_leave db) where
   pub left_of : (left : Image) → (state it).may_leave left → HoldsLeft s left
@@ -72,10 +79,10 @@ turn found left conn last es stream Clean Leaves opened serves tells comes hones
     let first = opened (serves.clean clean) in
     let holds = comes.holds honest left may in
     record {
-      stops = λ w held. held_some (file_state last) left _ (serves.stops w clean (found_world found (file_state conn) first.0.0 first.0.1 first.1 w held)) holds;
+      stops = λ w held. held_some StandsFor (file_state last) left _ (serves.stops w clean (found_world found (file_state conn) first.0.0 first.0.1 first.1 w held)) holds;
       turns = λ w held all.
           let t = serves.turns w clean all (found_world found (file_state conn) first.0.0 first.0.1 first.1 w held) in
-          (t.0, t.1, held_one left _ (held_some (file_state last) left _ t.2 holds));
+          (t.0, t.1, held_one StandsFor (file_state last) left _ t.2 holds);
       tells = tells;
     }
 
@@ -104,19 +111,19 @@ module _ (found : Image) (s : State) (opens : Opens s) (live : IsLive s) (finds 
 
 -- tables that were made where there were none
 pub made_world : {D : Type 0} {g : Ghosts D} (found left : Image) (conn last : Held (FileStore D g)) (w : World) (Clean : Type 0) (Leaves : Image → Type 0) → OpensOver found conn → found.db ≡ []
-    → (HasCleanDisk (file_state last) → HasCleanDisk (file_state conn)) → (HasCleanDisk (file_state last) → conn.schema ≡ no_schema → Good w × AllStand (file_state last).may_leave (λ v. v ≡ w))
-    → ComesOf (file_state last) Clean Leaves → Clean → Leaves left → Good w × HoldsWorld left w
+    → (HasCleanDisk (file_state last) → HasCleanDisk (file_state conn)) → (HasCleanDisk (file_state last) → conn.schema ≡ no_schema → Good w × AllStandCurrent (file_state last).may_leave (λ v. v ≡ w))
+    → ComesOf (file_state last) Clean Leaves → Clean → Leaves left → Good w × HoldsCurrent left w
 made_world found left conn last w Clean Leaves opened none disk made comes honest may =
     let clean = comes.clean honest in
     let first = opened (disk clean) in
     let stands = made clean (found_none found (file_state conn) first.0.0 first.0.1 first.1 none) in
-    (stands.0, held_one left w (held_some (file_state last) left _ stands.1 (comes.holds honest left may)))
+    (stands.0, held_one StandsCurrent (file_state last) left w stands.1 (comes.holds honest left may))
 
 -- tables of version 1 that were upgraded
 pub upgraded_world : {D : Type 0} {g : Ghosts D} (found left : Image) (conn last : Held (FileStore D g)) (w : World) (Clean : Type 0) (Leaves : Image → Type 0) → OpensOver found conn
-    → (HasCleanDisk (file_state last) → HasCleanDisk (file_state conn) × ((v : World) → ShowsFirst (file_state conn) v → AllStand (file_state last).may_leave (λ u. u ≡ v)))
-    → ComesOf (file_state last) Clean Leaves → Clean → Leaves left → HoldsFirst found w → HoldsWorld left w
-upgraded_world found left conn last w Clean Leaves opened upgraded comes honest may holds =
-    let did = upgraded (comes.clean honest) in
-    let first = opened did.0 in
-    held_one left w (held_some (file_state last) left _ (did.1 w (found_first found (file_state conn) first.0.0 first.0.1 first.1 w holds)) (comes.holds honest left may))
+    → (HasCleanDisk (file_state last) → HasCleanDisk (file_state conn)) → ((v : World) → HasCleanDisk (file_state last) → ShowsFirst (file_state conn) v → AllStandCurrent (file_state last).may_leave (λ u. u ≡ v))
+    → ComesOf (file_state last) Clean Leaves → Clean → Leaves left → HoldsFirst found w → HoldsCurrent left w
+upgraded_world found left conn last w Clean Leaves opened disk upgraded comes honest may holds =
+    let clean = comes.clean honest in
+    let first = opened (disk clean) in
+    held_one StandsCurrent (file_state last) left w (upgraded w clean (found_first found (file_state conn) first.0.0 first.0.1 first.1 w holds)) (comes.holds honest left may)

@@ -1,85 +1,75 @@
--- What making the tables leaves, and what an upgrade leaves of those of version 1.
-use Rattle.std.proofs.Common.{◌≡◌, ℕ, Bool, true, ◌||◌, List, [], ◌∷◌, IsTrue, ◌↔◌, refl, sym, ap, subst, ◌∙◌}
-use Rattle.std.proofs.Math.Logic.{∥∥₁_elim, ∥∥₁_map}
-use denote.Struct.Props.{props}
+-- What making and upgrading the tables leaves.
+use Rattle.std.proofs.Common.{◌≡◌, true, List, IsTrue, ◌↔◌, ◌⊎◌, inl, inr, refl, sym, ap, subst, ◌∙◌}
+use Rattle.std.proofs.lemmas.Bool.{both_ways}
+use Rattle.std.proofs.Math.Logic.{∥∥₁_elim}
 use Rattle.sqlite.specs.Store.{Ghosts}
 use Rattle.sqlite.specs.Held.{Held, state}
-use Rattle.sqlite.specs.State.{HasCleanDisk}
+use Rattle.sqlite.specs.State.{HasCleanDisk, State, Survives}
+use Rattle.sqlite.specs.Tree.{Trees}
 use Rattle.portal_core.specs.World.{World}
 use Rattle.portal_core.specs.Good.{Good}
 use Rattle.portal_core.specs.declared.phase.Round.TheVariants.{First}
-use Rattle.portal_tables.specs.Tables.{IsCurrentSchema, IsFirstSchema, SameTable, no_schema, portal_schema}
-use Rattle.portal_tables.specs.Making.{Creates, Upgrades, has_name, has_names, is_named_table, is_named_view}
-use Rattle.portal_tables.specs.declared.names.Names.{Names}
-use Rattle.portal_tables.specs.declared.names.Names.TheVariants.{All}
-use Rattle.sqlite.specs.Table.{Table}
-use Rattle.portal_tables.proofs.Base.{everything}
-use Rattle.sqlite.specs.Schema.{Schema}
-use Rattle.std.specs.List.{AllZip, list_any}
-use Rattle.sqlite.specs.Tree.{Trees}
+use Rattle.portal_tables.specs.Tables.{IsFirstSchema, first_schema, no_schema, portal_schema}
+use Rattle.portal_tables.specs.Making.{Creates, Upgrades, has_names}
 use Rattle.portal_tables.specs.Steps.{Commits}
+use Rattle.portal_tables.specs.declared.names.Names.{Names}
+use Rattle.portal_tables.specs.declared.names.Names.TheVariants.{All, OfSecond}
+use Rattle.portal_tables.proofs.Base.{everything}
+use Rattle.portal_store.specs.Crash.{IsUpgradedFrom, LeavesUpgraded}
 use Rattle.portal_store.specs.Kept.{Seen, IsCleanStore, kept_world}
 use Rattle.portal_store.specs.World.{first_world, world_in, world_of}
-use Rattle.portal_file.specs.Tables.{AllStand, AreOf, ClosesAs, ServesTables, ShowsFirst, StandsFor}
-use Rattle.portal_file.proofs.Served.{none_served, stays_shown}
+use Rattle.portal_store.proofs.Upgraded.{named_as}
+use Rattle.portal_file.specs.Tables.{AllStandCurrent, AreOf, ClosesAs, ShowsFirst, StandsFor}
+use Rattle.portal_file.proofs.Served.{closed_world}
 
+-- tables of version 1 that were upgraded
 pub same_world : {S : Type 0} (g : Ghosts S) (old new : Held S) (made : Seen S) → ClosesAs g made new → IsTrue made.own ↔ IsFirstSchema old.schema
     → (IsFirstSchema old.schema → HasCleanDisk (state g made.conn) → Commits Upgrades (state g old) (state g made.conn))
     → (IsCleanStore g made → kept_world g made ≡ world_in First (state g old).now.trees) → (IsCleanStore g made → Good (kept_world g made))
-    → HasCleanDisk (state g new) → (w : World) → ShowsFirst (state g old) w → AllStand (state g new).may_leave (λ v. v ≡ w)
-same_world g old new made closes own commits world good clean w shows db may =
-    let mine : IsTrue made.own = ∥∥₁_elim shows.own (hlevel props) own.1 in
-    let done = commits (own.0 mine) (subst (λ h. HasCleanDisk (state g h)) closes.same clean) in
-    let on : IsCleanStore g made = (mine, done.is_open) in
-    let live : IsTrue (state g new).is_open = subst (λ h. IsTrue (state g h).is_open) (sym closes.same) done.is_open in
-    ∥∥₁_map shows.stands (λ st.
-    let same : kept_world g made ≡ w = world on ∙ (ap (world_in First) (sym st.1) ∙ st.2.world) in
-    let stands : StandsFor (state g new).now w = record {
-      consistent = closes.kept on;
-      good = subst Good same (good on);
-      world = ap (λ h. world_of (state g h).now.trees) closes.same ∙ same;
-    } in
-    let is : (v : World) × (v ≡ w) × AreOf StandsFor db v = (w, refl, ((state g new).now, sym (closes.only live db may), stands)) in
-    is)
+    → (w : World) → HasCleanDisk (state g new) → ShowsFirst (state g old) w → AllStandCurrent (state g new).may_leave (λ v. v ≡ w)
+same_world g old new made closes own commits world good w clean shows db may =
+    ∥∥₁_elim shows.stands squash₁ (λ first.
+    let done = commits first.schema (subst (λ h. HasCleanDisk (state g h)) closes.same clean) in
+    let on : IsCleanStore g made = (own.1 first.schema, done.is_open) in
+    let same : kept_world g made ≡ w = world on ∙ first.world in
+    closed_world g made new closes on w same (subst Good same (good on)) db may)
 
-pub fresh_world : {S : Type 0} (g : Ghosts S) (old new : Held S) (made : Seen S) (office : List ℕ) → ClosesAs g made new → IsTrue made.own ↔ (old.schema ≡ no_schema)
+-- tables that were made where there were none
+pub fresh_world : {S : Type 0} (g : Ghosts S) (old new : Held S) (made : Seen S) (office : List _) → ClosesAs g made new → IsTrue made.own ↔ (old.schema ≡ no_schema)
     → (HasCleanDisk (state g made.conn) → Commits (Creates office) (state g old) (state g made.conn))
     → (IsCleanStore g made → kept_world g made ≡ first_world office) → (IsCleanStore g made → Good (kept_world g made))
-    → HasCleanDisk (state g new) → old.schema ≡ no_schema → Good (first_world office) × AllStand (state g new).may_leave (λ v. v ≡ first_world office)
+    → HasCleanDisk (state g new) → old.schema ≡ no_schema → Good (first_world office) × AllStandCurrent (state g new).may_leave (λ v. v ≡ first_world office)
 fresh_world g old new made office closes own commits world good clean none =
     let done = commits (subst (λ h. HasCleanDisk (state g h)) closes.same clean) in
     let on : IsCleanStore g made = (own.1 none, done.is_open) in
-    let live : IsTrue (state g new).is_open = subst (λ h. IsTrue (state g h).is_open) (sym closes.same) done.is_open in
-    let w = first_world office in
-    let stands : StandsFor (state g new).now w = record {
-      consistent = closes.kept on;
-      good = subst Good (world on) (good on);
-      world = ap (λ h. world_of (state g h).now.trees) closes.same ∙ world on;
-    } in (
-      stands.good,
-      λ db may. let is : (v : World) × (v ≡ w) × AreOf StandsFor db v = (w, refl, ((state g new).now, sym (closes.only live db may), stands)) in ∣ is ∣₁,
-    )
+    let fine = subst Good (world on) (good on) in
+    (fine, closed_world g made new closes on (first_world office) (world on) fine)
 
--- over the portal's own tables none are made
+-- which names are taken in the portal's own tables
 
-named_alike : (names : Names) (ts us : List Table) → AllZip SameTable ts us → list_any (is_named_table names) ts ≡ list_any (is_named_table names) us
-named_alike names [] [] h = refl
-named_alike names [] (u ∷ us) h = absurd h
-named_alike names (t ∷ ts) [] h = absurd h
-named_alike names (t ∷ ts) (u ∷ us) h = λ i. has_name names (h.0.name i) || named_alike names ts us h.1 i
-
-all_named : has_names All portal_schema ≡ true
+current_named : (names : Names) → has_names names portal_schema ≡ true
 unfolding everything
-all_named = refl
+current_named All = refl
+current_named OfSecond = refl
 
-current_taken : (s : Schema) → IsCurrentSchema s → IsTrue (has_names All s)
-current_taken s h = (λ i. named_alike All s.tables portal_schema.tables h.tables i || list_any (is_named_view All) (h.no_views i)) ∙ all_named
+first_named : has_names All first_schema ≡ true
+unfolding everything
+first_named = refl
 
-pub none_made : {S : Type 0} (g : Ghosts S) (old new : Held S) → (HasCleanDisk (state g new) → HasCleanDisk (state g old)) → (IsTrue (has_names All old.schema) → new ≡ old)
-    → (IsTrue (state g old).is_open → (state g old).now ≡ (state g old).committed)
-    → ((db : Trees) → IsTrue (state g old).is_open → (state g old).may_leave db → db ≡ (state g old).committed.trees) → ServesTables (state g old) (state g new) []
-none_made g old new back untouched settled law =
-    none_served (state g old) (state g new) back (λ w clean shows db may.
-    ∥∥₁_elim shows.own squash₁ (λ own.
-    let same = untouched (current_taken old.schema own) in
-    stays_shown (state g old) settled law w shows db (subst (λ h. (state g h).may_leave db) same may)))
+-- over them no tables are made
+pub none_free : {S : Type 0} (g : Ghosts S) (old : Held S) (w : World) → StandsFor (state g old).now w → IsTrue (has_names All old.schema)
+none_free g old w (inl current) = named_as All old.schema portal_schema current.consistent.1.current ∙ current_named All
+none_free g old w (inr first) = named_as All old.schema first_schema first.schema ∙ first_named
+
+-- an upgrade leaves those of version 2 as they are, and those of version 1 with the same world
+pub upgrade_leaves : (old new : State) → Survives old new (LeavesUpgraded old) → (IsFirstSchema old.now.schema → Survives old new (IsUpgradedFrom old.now.trees))
+    → (w : World) → HasCleanDisk new → StandsFor old.now w → (db : Trees) → new.may_leave db → old.may_leave db ⊎ AreOf StandsFor db w
+upgrade_leaves old new upgrades left w clean (inl current) db may = elim (upgrades.crash clean db may) [
+  | inl was ↦ inl was
+  | inr made ↦ absurd (both_ways _ made.0 (named_as OfSecond old.now.schema portal_schema current.consistent.1.current ∙ current_named OfSecond))
+]
+upgrade_leaves old new upgrades left w clean (inr first) db may = elim ((left first.schema).crash clean db may) [
+  | inl was ↦ inl was
+  | inr up ↦
+      inr (up.after, sym up.trees, inl (record { consistent = up.holds; good = subst Good first.world first.stands.good; world = ap world_of (sym up.trees) ∙ up.world ∙ first.world }))
+]

@@ -1,6 +1,6 @@
 -- Processes over one database file, each of which finds what the one before may leave, and what is
 -- promised of them.
-use Rattle.std.specs.Prelude.{◌≡◌, ◌⊎◌, ℕ, List, [], ◌∷◌, ◌++◌, Option, Some, None, IsSome, Result, Ok, Err, OnOk}
+use Rattle.std.specs.Prelude.{◌≡◌, ◌⊎◌, List, [], ◌∷◌, ◌++◌, Option, Some, None, IsSome}
 use Rattle.std.specs.List.{AllByRecursion}
 use Rattle.sqlite_wal.specs.Recovery.{Image}
 use Rattle.portal_core.specs.Words.{Key}
@@ -106,8 +106,3 @@ TurnsByNone found left = Turns found left [] None
 -- the requests of a stream
 abbrev pub TurnsByStream : Image → Image → (Option Stream → Type 0) → Type 0
 TurnsByStream found left Known = (es : List Exchange) × (stream : Option Stream) × Turns found left es stream × Known stream
-
--- the report was returned, or the open was refused
-abbrev pub IfReported : {A E F : Type 0} → Result (Result A E) F → Type 0 → Type 0
-IfReported (Ok told) P = OnOk told P
-IfReported (Err fault) P = P

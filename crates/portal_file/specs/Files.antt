@@ -1,5 +1,4 @@
 -- What a database file of the portal holds.
-use Rattle.std.specs.Prelude.{◌≡◌}
 use Rattle.sqlite_disk.specs.declared.Disk.{Ghosts}
 use Rattle.sqlite_store.specs.declared.store.FileStore.{FileStore}
 use Rattle.sqlite.specs.Effect.{Database}
@@ -10,15 +9,23 @@ use Rattle.sqlite.specs.Files.{HoldsDatabase, file_state, IsOpened}
 use Rattle.sqlite.specs.Start.{FindsIn}
 use Rattle.sqlite_wal.specs.Recovery.{Image}
 use Rattle.portal_core.specs.World.{World}
-use Rattle.portal_file.specs.Tables.{StandsFor, StoodFor}
+use Rattle.portal_file.specs.Tables.{StandsCurrent, StandsFirst, StandsFor}
 
--- the database file and its log hold the portal's own tables, which stand for this good world
+-- the database file and its log hold a database that stands so for the world
+abbrev pub HoldsBy : (Database → World → Type 0) → Image → World → Type 0
+HoldsBy Stands image w = ∥ ((db : Database) × HoldsDatabase image db.trees × Stands db w) ∥₁
+
+-- they hold the portal's own tables, of version 1 or 2, which stand for this good world
 abbrev pub HoldsWorld : Image → World → Type 0
-HoldsWorld image w = ∥ ((db : Database) × HoldsDatabase image db.trees × StandsFor db w) ∥₁
+HoldsWorld = HoldsBy StandsFor
 
--- the same of tables of version 1
+-- the same of version 2
+abbrev pub HoldsCurrent : Image → World → Type 0
+HoldsCurrent = HoldsBy StandsCurrent
+
+-- the same of version 1
 abbrev pub HoldsFirst : Image → World → Type 0
-HoldsFirst image w = ∥ ((db : Database) × HoldsDatabase image db.trees × StoodFor db w) ∥₁
+HoldsFirst = HoldsBy StandsFirst
 
 -- the files hold a world of this kind
 abbrev pub HoldsSome : Image → (World → Type 0) → Type 0

@@ -1,5 +1,5 @@
 -- What the commands do to the tables of a connection.
-use Rattle.std.specs.Prelude.{◌≡◌, ◌↔◌, ℕ, List, ◌++◌, Option, Some, IfSome, IsSomeAnd, IsTrue}
+use Rattle.std.specs.Prelude.{◌≡◌, ◌⊎◌, ◌↔◌, ℕ, List, ◌++◌, Option, Some, IfSome, IsSomeAnd, IsTrue}
 use Rattle.sqlite.specs.State.{State, HasCleanDisk, IsUnchanged}
 use Rattle.sqlite.specs.Store.{Ghosts}
 use Rattle.sqlite.specs.Held.{Held, state}
@@ -12,45 +12,54 @@ use Rattle.portal_core.specs.Run.{Run, AllAnswered, end_of}
 use Rattle.portal_core.specs.declared.phase.Round.TheVariants.{First}
 use Rattle.portal_wire.specs.Conversation.{Exchange, asked_in, told_in}
 use Rattle.portal_desk.specs.Kept.{MayReach}
-use Rattle.portal_desk.specs.Headline.{Finish, Tells}
-use Rattle.portal_tables.specs.Tables.{IsCurrentSchema, IsFirstSchema, first_version}
+use Rattle.portal_desk.specs.Session.{Finish, Tells}
+use Rattle.portal_tables.specs.Tables.{HasFirstSchema, IsCurrentSchema, IsFirstSchema, first_version, version}
 use Rattle.portal_tables.specs.Steps.{LeavesOnly}
+use Rattle.portal_store.specs.Crash.{HasVersion}
 use Rattle.portal_store.specs.Kept.{HasGoodFirst, IsConsistent, Seen, HasDisk, IsCleanStore, LeavesConsistent, LeavesWorld, kept_world}
 use Rattle.portal_store.specs.World.{world_in, world_of}
 
--- the database is the portal's own, and stands for this good world
-pub record StandsFor (db : Database) (w : World) : Type 0 where
+-- the database is the portal's own, of version 2, and stands for this good world
+pub record StandsCurrent (db : Database) (w : World) : Type 0 where
   pub consistent : IsConsistent db
   pub good : Good w
   pub world : world_of db.trees ≡ w
 
 -- the same of version 1
-pub record StoodFor (db : Database) (w : World) : Type 0 where
+pub record StandsFirst (db : Database) (w : World) : Type 0 where
   pub schema : IsFirstSchema db.schema
   pub sound : IsDatabase db
   pub stands : HasGoodFirst first_version db.trees
   pub world : world_in First db.trees ≡ w
 
--- the trees are those of such a database
+-- the same of either version
+abbrev pub StandsFor : Database → World → Type 0
+StandsFor db w = StandsCurrent db w ⊎ StandsFirst db w
+
+-- the trees are those of a database that stands so for the world
 abbrev pub AreOf : (Database → World → Type 0) → Trees → World → Type 0
 AreOf Stands db w = (d : Database) × (d.trees ≡ db) × Stands d w
 
--- the connection is open and shows the portal's own tables, which stand for this world
-pub record ShowsWorld (s : State) (w : World) : Type 0 where
+-- the connection is open and shows a database that stands so for the world
+pub record Shows (Stands : Database → World → Type 0) (s : State) (w : World) : Type 0 where
   pub is_open : IsTrue s.is_open
-  pub own : ∥ IsCurrentSchema s.now.schema ∥₁
-  pub stands : ∥ AreOf StandsFor s.now.trees w ∥₁
-  pub world : world_of s.now.trees ≡ w
+  pub stands : ∥ Stands s.now w ∥₁
 
--- the same of tables of version 1
-pub record ShowsFirst (s : State) (w : World) : Type 0 where
-  pub is_open : IsTrue s.is_open
-  pub own : ∥ IsFirstSchema s.now.schema ∥₁
-  pub stands : ∥ AreOf StoodFor s.now.trees w ∥₁
+abbrev pub ShowsWorld : State → World → Type 0
+ShowsWorld = Shows StandsFor
 
--- each of these trees stands for a good world of this kind
+abbrev pub ShowsFirst : State → World → Type 0
+ShowsFirst = Shows StandsFirst
+
+-- each of these trees stands so for a world of this kind
+abbrev pub AllAre : (Database → World → Type 0) → (Trees → Type 0) → (World → Type 0) → Type 0
+AllAre Stands Finds Kind = (db : Trees) → Finds db → ∥ ((w : World) × Kind w × AreOf Stands db w) ∥₁
+
 abbrev pub AllStand : (Trees → Type 0) → (World → Type 0) → Type 0
-AllStand Finds Kind = (db : Trees) → Finds db → ∥ ((w : World) × Kind w × AreOf StandsFor db w) ∥₁
+AllStand = AllAre StandsFor
+
+abbrev pub AllStandCurrent : (Trees → Type 0) → (World → Type 0) → Type 0
+AllStandCurrent = AllAre StandsCurrent
 
 -- these requests are served: a stop leaves a world that they may reach, and without a 503 they are a
 -- run and a stop leaves its last world
@@ -63,6 +72,7 @@ pub record ServesTables (old new : State) (es : List Exchange) : Type 0 where
 -- what the store promises of the connection that it opens
 pub record OpensAs {S : Type 0} (g : Ghosts S) (old : Held S) (s : Seen S) : Type 0 where
   pub own : IsTrue s.own ↔ IsCurrentSchema old.schema
+  pub version : HasFirstSchema old.schema → HasDisk g s → HasVersion version (state g old).now.trees
   pub same : IsCurrentSchema old.schema → HasDisk g s → IsUnchanged (state g old) (state g s.conn)
   pub good : IsCleanStore g s → Good (kept_world g s)
   pub disk : HasDisk g s → HasCleanDisk (state g old)

@@ -21,7 +21,7 @@ module _ {S : Type 0} (g : Ghosts S) where
   pub record IsRefused (fault : UpgradeFault) (conn left : Held S) : Type 0 where
     pub barred : IsFirstSchema conn.schema → HasCleanDisk (state g left) → Bars fault (state g conn).now.trees
     pub taken : fault ≡ Exists → IsTrue (has_names OfSecond conn.schema)
-    pub stays : IsFirstSchema conn.schema → HasCleanDisk (state g left) → IsTrue (state g left).is_open → Stays (state g conn) (state g left)
+    pub stays : HasCleanDisk (state g left) → IsTrue (state g left).is_open → Stays (state g conn) (state g left)
 
   -- the store's answer for a connection: success, or a fault
   abbrev pub Answers : Option UpgradeFault → Held S → Held S → Type 0

@@ -9,15 +9,16 @@ ghost use Rattle.sqlite_wal.specs.Recovery.{Image};
 ghost use Rattle.portal_tables.specs.Tables.{no_schema};
 ghost use Rattle.portal_core.specs.Good.{Good};
 ghost use Rattle.portal_store.specs.World.{first_world};
-ghost use Rattle.portal_file.specs.Tables.{AllStand, ServesTables};
-ghost use Rattle.portal_file.specs.Files.{HoldsWorld, OpensOver};
+ghost use Rattle.portal_file.specs.Tables.{AllStandCurrent, ServesTables};
+ghost use Rattle.portal_file.specs.Files.{HoldsCurrent, OpensOver};
 ghost use Rattle.portal_file.specs.Chain.{TurnsByNone};
 
 use crate::closing::close_files;
 use crate::opening::open_file;
-use crate::tables::{close_tables, settled};
+use crate::tables::close_tables;
 use portal_core::Code;
 use portal_store::{CreateFault, NotOpened, Store};
+use portal_tables::settled;
 use sqlite::{Alter, Connection, Error, FileFrom, FileStore, Files, Start};
 use sqlite_disk::Disk;
 use std::alloc::Global;
@@ -33,7 +34,7 @@ pub fn create_tables<S: Alter>(
     ensures disk { HasCleanDisk (state S.Store result.1) → HasCleanDisk (state S.Store conn) }
     ensures made { OnOk result.0 (HasCleanDisk (state S.Store result.1) → conn.schema ≡ no_schema
         → Good (first_world office)
-        × AllStand (state S.Store result.1).may_leave (λ w. w ≡ first_world office)) }
+        × AllStandCurrent (state S.Store result.1).may_leave (λ w. w ≡ first_world office)) }
     ensures serves { ServesTables (state S.Store conn) (state S.Store result.1) [] }
 {
     settled(&conn);
@@ -53,7 +54,7 @@ fn create_closing<D: Disk + Drop>(
     ensures made { OnOk result.0 (IfOk result.1 (λ files. (found left : Image) → found.db ≡ []
         → OpensOver found conn
         → AreClean D.Disk files.log files.db → outcomes D.Disk files.log files.db left
-        → Good (first_world office) × HoldsWorld left (first_world office))) }
+        → Good (first_world office) × HoldsCurrent left (first_world office))) }
     ensures process { IfOk result.1 (λ files. (found left : Image) → OpensOver found conn
         → AreClean D.Disk files.log files.db → outcomes D.Disk files.log files.db left
         → TurnsByNone found left) }
@@ -65,7 +66,7 @@ fn create_closing<D: Disk + Drop>(
 /// Makes the portal's tables in a database file, and closes the file. `S` stands for what the files
 /// held before. Gives the files back, as `Ok` unless closing failed. If there was no database file,
 /// or an empty one, and the disk was clean, then each thing that a crash may leave of the files
-/// holds the world that is empty and in setup. Files that hold a world keep it.
+/// holds the world that is empty and in setup, in version 2. Files that hold a world keep it.
 pub fn make_file<S: Start>(
     rt: &HostRuntime,
     path: &str,
@@ -81,7 +82,7 @@ pub fn make_file<S: Start>(
     ensures made { IfOk result (λ r. OnOk r.0 (IfOk r.1 (λ files. (left : Image) → S.Start.db ≡ []
         → AreClean ⟦<FileFrom<S> as Disk>⟧ files.log files.db
         → outcomes ⟦<FileFrom<S> as Disk>⟧ files.log files.db left
-        → Good (first_world office) × HoldsWorld left (first_world office)))) }
+        → Good (first_world office) × HoldsCurrent left (first_world office)))) }
     ensures process { IfOk result (λ r. IfOk r.1 (λ files. (left : Image)
         → AreClean ⟦<FileFrom<S> as Disk>⟧ files.log files.db
         → outcomes ⟦<FileFrom<S> as Disk>⟧ files.log files.db left

@@ -1,6 +1,6 @@
 //! Serves a reader and a writer over a database file.
 
-ghost use Rattle.std.specs.Prelude.{◌≡◌, ◌*◌, false, IfOk, OnOk};
+ghost use Rattle.std.specs.Prelude.{◌≡◌, false, IfOk, OnOk};
 ghost use Rattle.sqlite_wal.specs.Files.{image_at, outcomes};
 ghost use Rattle.sqlite_wal.specs.Reads.{AreClean};
 ghost use Rattle.sqlite_wal.specs.Recovery.{Image};
@@ -12,7 +12,7 @@ ghost use Rattle.portal_file.specs.Chain.{TurnsByStream};
 use crate::closing::close_files;
 use crate::opening::open_file;
 use crate::tables::pipe_tables;
-use portal_desk::{ServeFault, Served};
+use portal_desk::{MOST_BYTES, ServeFault, Served};
 use portal_store::OpenFault;
 use sqlite::{Connection, Error, FileFrom, FileStore, Files, Start};
 use sqlite_disk::Disk;
@@ -31,7 +31,7 @@ fn pipe_closing<D: Disk + Drop, R: Read, W: Write>(
     Result<Files<D>, Files<D>>,
 )
     requires idle { conn.in_transaction ≡ false }
-    ensures taken { TakesAtMost (256 * 1064960) (R.remaining reader.old) (R.remaining reader.new) }
+    ensures taken { TakesAtMost MOST_BYTES (R.remaining reader.old) (R.remaining reader.new) }
     ensures process { IfOk result.1 (λ files. (found left : Image) → OpensOver found conn
         → AreClean D.Disk files.log files.db → outcomes D.Disk files.log files.db left
         → TurnsByStream found left (λ stream. OnOk result.0 (IsOf stream (R.remaining reader.old)
@@ -59,7 +59,7 @@ pub fn pipe_file<S: Start, R: Read, W: Write>(
     ),
     Error,
 >
-    ensures taken { TakesAtMost (256 * 1064960) (R.remaining reader.old) (R.remaining reader.new) }
+    ensures taken { TakesAtMost MOST_BYTES (R.remaining reader.old) (R.remaining reader.new) }
     ensures process { IfOk result (λ r. IfOk r.1 (λ files. (left : Image)
         → AreClean ⟦<FileFrom<S> as Disk>⟧ files.log files.db
         → outcomes ⟦<FileFrom<S> as Disk>⟧ files.log files.db left

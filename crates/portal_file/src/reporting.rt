@@ -8,12 +8,12 @@ ghost use Rattle.portal_core.specs.World.{World};
 ghost use Rattle.portal_core.specs.View.{office_sees};
 ghost use Rattle.portal_serve.specs.Hall.{told_of};
 ghost use Rattle.portal_file.specs.Files.{HoldsWorld, OpensOver};
-ghost use Rattle.portal_file.specs.Chain.{IfReported, TurnsByNone};
+ghost use Rattle.portal_file.specs.Chain.{TurnsByNone};
 
 use crate::closing::close_files;
 use crate::opening::open_file;
 use crate::tables::report_tables;
-use portal_serve::Unreported;
+use portal_core::KeepFault;
 use portal_store::OpenFault;
 use sqlite::{Connection, Error, FileFrom, FileStore, Files, Start};
 use sqlite_disk::Disk;
@@ -24,14 +24,13 @@ fn report_closing<D: Disk + Drop>(
     alloc: Global,
     conn: Connection<FileStore<D>>,
 ) -> (
-    Result<Result<Vec<u8>, Unreported>, OpenFault>,
+    Result<Result<Vec<u8>, KeepFault>, OpenFault>,
     Result<Files<D>, Files<D>>,
 )
     requires idle { conn.in_transaction ≡ false }
-    ensures process { IfOk result.1 (λ files. IfReported result.0 ((found left : Image)
-        → OpensOver found conn
+    ensures process { IfOk result.1 (λ files. (found left : Image) → OpensOver found conn
         → AreClean D.Disk files.log files.db → outcomes D.Disk files.log files.db left
-        → TurnsByNone found left)) }
+        → TurnsByNone found left) }
     ensures text { IfOk result.1 (λ files. IfOk result.0 (λ told. IfOk told (λ text.
         (found : Image) (w : World) → OpensOver found conn → AreClean D.Disk files.log files.db
         → HoldsWorld found w → text.items ≡ told_of (office_sees w)))) }
@@ -42,23 +41,23 @@ fn report_closing<D: Disk + Drop>(
 
 /// Returns the office's report on the world that a database file holds, and closes the file. `S`
 /// stands for what the files held before. Gives the files back, as `Ok` unless closing failed. If
-/// the disk was clean, the report is of that world. If there is one, or the open was refused, then
-/// each thing that a crash may leave of the files holds the same world.
+/// the disk was clean, the report is of that world, and each thing that a crash may leave of the
+/// files holds the same world, also without a report.
 pub fn report_file<S: Start>(
     rt: &HostRuntime,
     path: &str,
     start: S,
 ) -> Result<
     (
-        Result<Result<Vec<u8>, Unreported>, OpenFault>,
+        Result<Result<Vec<u8>, KeepFault>, OpenFault>,
         Result<Files<FileFrom<S>>, Files<FileFrom<S>>>,
     ),
     Error,
 >
-    ensures process { IfOk result (λ r. IfOk r.1 (λ files. IfReported r.0 ((left : Image)
+    ensures process { IfOk result (λ r. IfOk r.1 (λ files. (left : Image)
         → AreClean ⟦<FileFrom<S> as Disk>⟧ files.log files.db
         → outcomes ⟦<FileFrom<S> as Disk>⟧ files.log files.db left
-        → TurnsByNone (image_at S.Start) left))) }
+        → TurnsByNone (image_at S.Start) left)) }
     ensures text { IfOk result (λ r. IfOk r.1 (λ files. IfOk r.0 (λ told. IfOk told (λ text.
         (w : World) → AreClean ⟦<FileFrom<S> as Disk>⟧ files.log files.db
         → HoldsWorld (image_at S.Start) w → text.items ≡ told_of (office_sees w))))) }

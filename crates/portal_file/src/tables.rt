@@ -1,6 +1,6 @@
 //! Does the work of a command over the tables of a connection.
 
-ghost use Rattle.std.specs.Prelude.{◌≡◌, ◌*◌, [], List, false, IsTrue, IfOk, IfErr, OnErr, OnOk};
+ghost use Rattle.std.specs.Prelude.{◌≡◌, [], List, false, IsTrue, IfOk, IfErr, OnOk};
 ghost use Rattle.sqlite.specs.Held.{state};
 ghost use Rattle.sqlite.specs.State.{HasCleanDisk};
 ghost use Rattle.portal_core.specs.World.{World};
@@ -9,28 +9,21 @@ ghost use Rattle.portal_wire.specs.Conversation.{Exchange};
 ghost use Rattle.portal_desk.specs.Kept.{TakesAtMost};
 ghost use Rattle.portal_core.specs.Good.{Good};
 ghost use Rattle.portal_serve.specs.Hall.{told_of};
-ghost use Rattle.portal_store.specs.Kept.{IsCleanStore, KeepsClean, kept_world};
+ghost use Rattle.portal_core.specs.Meaning.{KeepsOrBreaks, LeavesBy};
+ghost use Rattle.portal_store.specs.Kept.{HasDisk, IsBrokenStore, IsCleanStore, KeepsClean};
+ghost use Rattle.portal_store.specs.Kept.{LeavesWorld, kept_world};
 ghost use Rattle.portal_file.specs.Tables.{ClosesAs, IsOf, OpensAs, ServesStream, ServesTables};
 ghost use Rattle.portal_file.specs.Tables.{ShowsWorld};
 
 use portal_core::KeepFault;
 use portal_core::laws::run_good;
-use portal_desk::{Desk, ServeFault, Served};
-use portal_serve::{Service, Unreported, pipe, report};
+use portal_desk::{Desk, MOST_BYTES, ServeFault, Served, pipe};
+use portal_serve::{Service, report};
 use portal_store::{NotOpened, OpenFault, Store};
+use portal_tables::settled;
 use sqlite::{Alter, Connection};
 use std::alloc::Global;
 use std::io::{Read, Write};
-
-/// States for proofs that an open connection outside a transaction shows what is committed, and
-/// does nothing.
-pub(crate) fn settled<S: Alter>(conn: &Connection<S>)
-    requires idle { conn.now.in_transaction ≡ false }
-    ensures { IsTrue (state S.Store conn.now).is_open
-        → (state S.Store conn.now).now ≡ (state S.Store conn.now).committed }
-{
-    let _idle = conn.is_autocommit();
-}
 
 /// Opens the store of a connection. An error gives the connection back.
 fn open_tables<S: Alter>(
@@ -70,7 +63,7 @@ pub fn pipe_tables<S: Alter, R: Read, W: Write>(
 ) -> (Result<Result<Served, ServeFault>, OpenFault>, Connection<S>)
     requires idle { conn.in_transaction ≡ false }
     ensures idle { result.1.in_transaction ≡ false }
-    ensures taken { TakesAtMost (256 * 1064960) (R.remaining reader.old) (R.remaining reader.new) }
+    ensures taken { TakesAtMost MOST_BYTES (R.remaining reader.old) (R.remaining reader.new) }
     ensures serves { ServesStream (state S.Store conn) (state S.Store result.1)
         (λ stream. OnOk result.0 (IsOf stream (R.remaining reader.old) (W.contents writer.old)
         (W.contents writer.new))) }
@@ -110,8 +103,13 @@ pub fn serve_tables<S: Alter, L: Service>(
 }
 
 /// Gets the office's code from the store, and returns the office's report.
-fn report_of<S: Alter>(alloc: Global, store: &mut Store<S>) -> Result<Vec<u8>, Unreported>
+fn report_of<S: Alter>(alloc: Global, store: &mut Store<S>) -> Result<Vec<u8>, KeepFault>
     ensures lasts { OnOk result (KeepsClean S.Store store.old store.new) }
+    ensures breaks { KeepsOrBreaks (HasDisk S.Store store.old) (HasDisk S.Store store.new)
+        (IsCleanStore S.Store store.old) (IsCleanStore S.Store store.new)
+        (IsBrokenStore S.Store store.old) (IsBrokenStore S.Store store.new) }
+    ensures leaves { LeavesBy (HasDisk S.Store store.new) (LeavesWorld S.Store store.old)
+        (LeavesWorld S.Store store.new) (λ _. ⊥) }
     ensures same { IsCleanStore S.Store store.new
         → kept_world S.Store store.new ≡ kept_world S.Store store.old }
     ensures text { IfOk result (λ text. IsCleanStore S.Store store.new
@@ -120,8 +118,7 @@ fn report_of<S: Alter>(alloc: Global, store: &mut Store<S>) -> Result<Vec<u8>, U
 {
     match store.office_code(alloc) {
         Ok(office) => report(alloc, store, &office),
-        Err(KeepFault::Store) => Err(Unreported::Store),
-        Err(KeepFault::Memory) => Err(Unreported::Memory),
+        Err(fault) => Err(fault),
     }
 }
 
@@ -129,16 +126,10 @@ fn report_of<S: Alter>(alloc: Global, store: &mut Store<S>) -> Result<Vec<u8>, U
 pub fn report_tables<S: Alter>(
     alloc: Global,
     conn: Connection<S>,
-) -> (
-    Result<Result<Vec<u8>, Unreported>, OpenFault>,
-    Connection<S>,
-)
+) -> (Result<Result<Vec<u8>, KeepFault>, OpenFault>, Connection<S>)
     requires idle { conn.in_transaction ≡ false }
     ensures idle { result.1.in_transaction ≡ false }
-    ensures refused { OnErr result.0 (ServesTables (state S.Store conn)
-        (state S.Store result.1) []) }
-    ensures serves { IfOk result.0 (λ told. OnOk told (ServesTables (state S.Store conn)
-        (state S.Store result.1) [])) }
+    ensures serves { ServesTables (state S.Store conn) (state S.Store result.1) [] }
     ensures text { IfOk result.0 (λ told. IfOk told (λ text. (w : World)
         → HasCleanDisk (state S.Store result.1) → ShowsWorld (state S.Store conn) w
         → text.items ≡ told_of (office_sees w))) }

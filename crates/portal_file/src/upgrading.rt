@@ -1,20 +1,22 @@
 //! Upgrades the portal's tables in a database file from version 1 to version 2.
 
-ghost use Rattle.std.specs.Prelude.{◌≡◌, false, IfNone, IfOk, OnOk};
+ghost use Rattle.std.specs.Prelude.{◌≡◌, [], false, IfNone, IfOk};
 ghost use Rattle.sqlite.specs.Held.{state};
 ghost use Rattle.sqlite.specs.State.{HasCleanDisk};
 ghost use Rattle.sqlite_wal.specs.Files.{image_at, outcomes};
 ghost use Rattle.sqlite_wal.specs.Reads.{AreClean};
 ghost use Rattle.sqlite_wal.specs.Recovery.{Image};
 ghost use Rattle.portal_core.specs.World.{World};
-ghost use Rattle.portal_file.specs.Tables.{AllStand, ShowsFirst};
-ghost use Rattle.portal_file.specs.Files.{HoldsFirst, HoldsWorld, OpensOver};
+ghost use Rattle.portal_file.specs.Tables.{AllStandCurrent, ServesTables, ShowsFirst};
+ghost use Rattle.portal_file.specs.Files.{HoldsCurrent, HoldsFirst, OpensOver};
+ghost use Rattle.portal_file.specs.Chain.{TurnsByNone};
 ghost use Rattle.portal_file.specs.Upgrading.{Answers, AnswersSome};
 
 use crate::closing::close_files;
 use crate::opening::open_file;
 use crate::tables::close_tables;
 use portal_store::{NotOpened, Store, UpgradeFault};
+use portal_tables::settled;
 use sqlite::{Alter, Connection, Error, FileFrom, FileStore, Files, Start};
 use sqlite_disk::Disk;
 use sqlite_trees::store::Store as Trees;
@@ -29,11 +31,12 @@ pub fn upgrade_tables<S: Alter>(
     requires idle { conn.in_transaction ≡ false }
     ensures idle { result.1.in_transaction ≡ false }
     ensures answers { Answers S.Store result.0 conn result.1 }
-    ensures upgraded { IfNone result.0 (HasCleanDisk (state S.Store result.1)
-        → HasCleanDisk (state S.Store conn)
-        × ((w : World) → ShowsFirst (state S.Store conn) w
-        → AllStand (state S.Store result.1).may_leave (λ v. v ≡ w))) }
+    ensures upgraded { IfNone result.0 ((w : World) → HasCleanDisk (state S.Store result.1)
+        → ShowsFirst (state S.Store conn) w
+        → AllStandCurrent (state S.Store result.1).may_leave (λ v. v ≡ w)) }
+    ensures serves { ServesTables (state S.Store conn) (state S.Store result.1) [] }
 {
+    settled(&conn);
     match Store::upgrade(alloc, conn) {
         Ok(store) => (None, close_tables(store)),
         Err(NotOpened { fault, connection }) => (Some(fault), connection),
@@ -50,7 +53,10 @@ fn upgrade_closing<D: Disk + Drop>(
     ensures upgraded { IfNone result.0 (IfOk result.1 (λ files. (found left : Image) (w : World)
         → OpensOver found conn
         → AreClean D.Disk files.log files.db → outcomes D.Disk files.log files.db left
-        → HoldsFirst found w → HoldsWorld left w)) }
+        → HoldsFirst found w → HoldsCurrent left w)) }
+    ensures process { IfOk result.1 (λ files. (found left : Image) → OpensOver found conn
+        → AreClean D.Disk files.log files.db → outcomes D.Disk files.log files.db left
+        → TurnsByNone found left) }
 {
     let (refused, conn) = upgrade_tables(alloc, conn);
     (refused, close_files(conn))
@@ -60,6 +66,7 @@ fn upgrade_closing<D: Disk + Drop>(
 /// file. `S` stands for what the files held before. Returns the fault, if there is one, and gives
 /// the files back, as `Ok` unless closing failed. If there is no fault and the disk was clean, then
 /// each thing that a crash may leave of the files holds the same world as before, in version 2.
+/// Whatever the answer, files that hold a world in either version keep it.
 pub fn upgrade_file<S: Start>(
     rt: &HostRuntime,
     path: &str,
@@ -75,7 +82,11 @@ pub fn upgrade_file<S: Start>(
     ensures upgraded { IfOk result (λ r. IfNone r.0 (IfOk r.1 (λ files. (left : Image) (w : World)
         → AreClean ⟦<FileFrom<S> as Disk>⟧ files.log files.db
         → outcomes ⟦<FileFrom<S> as Disk>⟧ files.log files.db left
-        → HoldsFirst (image_at S.Start) w → HoldsWorld left w))) }
+        → HoldsFirst (image_at S.Start) w → HoldsCurrent left w))) }
+    ensures process { IfOk result (λ r. IfOk r.1 (λ files. (left : Image)
+        → AreClean ⟦<FileFrom<S> as Disk>⟧ files.log files.db
+        → outcomes ⟦<FileFrom<S> as Disk>⟧ files.log files.db left
+        → TurnsByNone (image_at S.Start) left)) }
 {
     match open_file(rt, path, start) {
         Ok(conn) => Ok(upgrade_closing(rt.alloc(), conn)),

@@ -15,4 +15,5 @@ pub use Rattle.httparse.specs.Spans.{RequestOverflows, header_bytes, IsRequestAt
 pub use Rattle.portal_frame.specs.Stream.{path_of, values_of, header_lines, Asked, Opens, asked_of, bad_head, body_length, fault, fields_of, headless, is_blank, item_of, whole, is_length, has_bad_host, has_any, length_of, Refuses, bad_length, Takes, HasNoHead, over, after_lines, is_head, is_overlong, is_empty_line, lines_after, without_leading, before_empty, Item, only, closes_after, later_close, asks_close, before_comma}
 pub use Rattle.portal_frame.specs.declared.counting.At.TheVariants.{Fresh, Inside, Leading, LeadingCr, FreshCr}
 pub use Rattle.portal_frame.specs.declared.types.Fault.{Fault}
+pub use Rattle.portal_frame.specs.declared.types.TheConstants.{LONGEST_BODY, LONGEST_HEAD, LONGEST_REQUEST}
 pub use Rattle.portal_frame.specs.inner.Counting.{lines_from, IsHead, step, stops, counts, IsFound}

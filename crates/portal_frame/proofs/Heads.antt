@@ -1,5 +1,5 @@
 -- Heads at the front of a stream, cut and continued.
-use Rattle.portal_frame.proofs.Base.{◌≡◌, ℕ, ◌+◌, ◌-◌, ◌<◌, ◌≤◌, inl, inr, Bool, true, false, List, [], ◌∷◌, ◌++◌, length, take, drop, refl, sym, ap, ◌∙◌, arith, rules, append_assoc, subst, ◌==◌, ◌&&◌, if◌then◌else◌, Ok, Result, eqb-true, common_steps, take-append-drop, length-append, IsTrue, nat_lt, nat_le, RequestHead, IsRequestHead, HasNoRequest, print_request, LineEnd, lf, crlf, print_blank, print_version, is_token_byte, is_uri_byte, Field, IsField, RequestOverflows, Fault, body_length, bad_head, Asked, whole, fault, asked_of, fields_of, Opens, headless, is_blank, header_bytes, map, append-nil, ◌||◌, min, le-leb, cases_lt, take-append-le, drop-append-le, drop-drop, length-take-le, length-take, length-map, take_all, All-cons, All-nil, ReadsRequest, ReadsRequest-append, print_request-append, Refuses, bad_length, Takes, HasNoHead, over, after_lines, is_head, IsHead, IsRequestAt, IsRequestWithin, name_and_value}
+use Rattle.portal_frame.proofs.Base.{◌≡◌, ℕ, ◌+◌, ◌-◌, ◌<◌, ◌≤◌, inl, inr, Bool, true, false, List, [], ◌∷◌, ◌++◌, length, take, drop, refl, sym, ap, ◌∙◌, arith, rules, append_assoc, subst, ◌==◌, ◌&&◌, if◌then◌else◌, Ok, Result, eqb-true, common_steps, take-append-drop, length-append, IsTrue, nat_lt, nat_le, RequestHead, IsRequestHead, HasNoRequest, print_request, LineEnd, lf, crlf, print_blank, print_version, is_token_byte, is_uri_byte, Field, IsField, RequestOverflows, Fault, body_length, bad_head, Asked, whole, fault, asked_of, fields_of, Opens, headless, is_blank, header_bytes, map, append-nil, ◌||◌, min, le-leb, cases_lt, take-append-le, drop-append-le, drop-drop, length-take-le, length-take, length-map, take_all, All-cons, All-nil, ReadsRequest, ReadsRequest-append, print_request-append, Refuses, bad_length, Takes, HasNoHead, over, after_lines, is_head, IsHead, IsRequestAt, IsRequestWithin, name_and_value, LONGEST_HEAD}
 use Rattle.std.proofs.Math.Seq.{take-append-add}
 use Rattle.std.specs.Char.{encode_utf8}
 use Rattle.httparse.specs.declared.spans.HeaderSpan.{HeaderSpan}
@@ -20,21 +20,21 @@ cut : (n : ℕ) (bytes p rest : List ℕ) → bytes ≡ p ++ rest → length p �
 cut n bytes p rest e le =
     ap (take n) e ∙ (ap (λ k. take k (p ++ rest)) (split_number n (length p) le) ∙ take-append-add p rest (n - length p))
 
-pub none_so_far : (bytes : List ℕ) → HasNoRequest (take 16384 bytes) → HasNoHead bytes
+pub none_so_far : (bytes : List ℕ) → HasNoRequest (take LONGEST_HEAD bytes) → HasNoHead bytes
 none_so_far bytes none h rest t =
-    none h (take (16384 - length (print_request h)) rest) (t.reads.0, cut 16384 bytes (print_request h) rest t.reads.1 t.short)
+    none h (take (LONGEST_HEAD - length (print_request h)) rest) (t.reads.0, cut LONGEST_HEAD bytes (print_request h) rest t.reads.1 t.short)
 
-pub none_later : (bytes more : List ℕ) → HasNoRequest (take 16384 bytes) → 16384 ≤ length bytes → HasNoHead (bytes ++ more)
+pub none_later : (bytes more : List ℕ) → HasNoRequest (take LONGEST_HEAD bytes) → LONGEST_HEAD ≤ length bytes → HasNoHead (bytes ++ more)
 none_later bytes more none full =
-    none_so_far (bytes ++ more) (rw (take-append-le 16384 bytes more full) none)
+    none_so_far (bytes ++ more) (rw (take-append-le LONGEST_HEAD bytes more full) none)
 
 pub overflows_on : (bytes more : List ℕ) → RequestOverflows 32 bytes → RequestOverflows 32 (bytes ++ more)
 overflows_on bytes more overflows after h rest reads =
     overflows (more ++ after) h rest (reads.0, sym (append_assoc bytes more after) ∙ reads.1)
 
-pub overflows_all : (bytes : List ℕ) → RequestOverflows 32 (take 16384 bytes) → RequestOverflows 32 bytes
+pub overflows_all : (bytes : List ℕ) → RequestOverflows 32 (take LONGEST_HEAD bytes) → RequestOverflows 32 bytes
 overflows_all bytes overflows =
-    subst (RequestOverflows 32) (take-append-drop 16384 bytes) (overflows_on (take 16384 bytes) (drop 16384 bytes) overflows)
+    subst (RequestOverflows 32) (take-append-drop LONGEST_HEAD bytes) (overflows_on (take LONGEST_HEAD bytes) (drop LONGEST_HEAD bytes) overflows)
 
 pub none_ever : (bytes more : List ℕ) → RequestOverflows 32 bytes → HasNoHead (bytes ++ more)
 none_ever bytes more overflows h rest t =
@@ -103,7 +103,7 @@ never_blank bytes overflows blank =
 
 not_over : (bytes : List ℕ) (b : Bool) → is_blank bytes ≡ b → (is_blank bytes ≡ true → ⊥) → headless bytes ≡ fault bad_head false
 not_over bytes true e never = absurd (never e)
-not_over bytes false e never = ap (λ b. if b && nat_lt (length bytes) 16384 then over else fault bad_head false) e
+not_over bytes false e never = ap (λ b. if b && nat_lt (length bytes) LONGEST_HEAD then over else fault bad_head false) e
 
 -- no head can come: the stream is refused, however it goes on
 pub opens_never : (bytes more : List ℕ) → RequestOverflows 32 bytes → Opens (bytes ++ more) (fault bad_head false)
@@ -116,15 +116,15 @@ pub as_told : (bytes : List ℕ) (given wanted : Refuses) (head_only : Bool) →
 as_told bytes given wanted head_only e opens = subst (λ r. Opens bytes (fault r head_only)) (sym e) opens
 
 -- the longest head is passed, and none stands there
-pub opens_full : (bytes more : List ℕ) → HasNoHead (bytes ++ more) → 16384 ≤ length bytes → Opens (bytes ++ more) (fault bad_head false)
+pub opens_full : (bytes more : List ℕ) → HasNoHead (bytes ++ more) → LONGEST_HEAD ≤ length bytes → Opens (bytes ++ more) (fault bad_head false)
 opens_full bytes more none full =
     inr (none, sym (too_long (bytes ++ more) (is_blank (bytes ++ more)) (lt-leb-not bytes more full)))
   where
-    lt-leb-not : (bytes more : List ℕ) → 16384 ≤ length bytes → nat_lt (length (bytes ++ more)) 16384 ≡ false
+    lt-leb-not : (bytes more : List ℕ) → LONGEST_HEAD ≤ length bytes → nat_lt (length (bytes ++ more)) LONGEST_HEAD ≡ false
     lt-leb-not bytes more full = rw (length-append bytes more) (grind (arith, common_steps, full))
 
-    too_long : (bytes : List ℕ) (blank : Bool) → nat_lt (length bytes) 16384 ≡ false
-        → (if blank && nat_lt (length bytes) 16384 then over else fault bad_head false) ≡ fault bad_head false
+    too_long : (bytes : List ℕ) (blank : Bool) → nat_lt (length bytes) LONGEST_HEAD ≡ false
+        → (if blank && nat_lt (length bytes) LONGEST_HEAD then over else fault bad_head false) ≡ fault bad_head false
     too_long bytes true e = ap (λ b. if b then over else fault bad_head false) e
     too_long bytes false e = refl
 
@@ -173,7 +173,7 @@ reads_whole bytes front back len h e fits reads =
     subst (λ b. ReadsRequest b h (drop len b)) e longer
 
 pub head_of : (bytes front back : List ℕ) (headers : List HeaderSpan) (spans : RequestSpans) (h : RequestHead)
-    → front ++ back ≡ bytes → length front ≤ 16384 → length headers ≤ 32
+    → front ++ back ≡ bytes → length front ≤ LONGEST_HEAD → length headers ≤ 32
     → IsRequestAt front headers spans h → IsRequestWithin front headers spans
     → IsHead bytes front spans (take spans.headers headers) h
 head_of bytes front back headers spans h e short few at within =
@@ -210,14 +210,14 @@ head_of bytes front back headers spans h e short few at within =
         → map (header_bytes front) hs ≡ map name_and_value fs → length hs ≡ length fs
     same_length front hs fs e = sym (length-map hs (header_bytes front)) ∙ (ap length e ∙ length-map fs name_and_value)
 
-pub front_is : (n : ℕ) (bytes : List ℕ) → n ≡ min (length bytes) 16384 → take n bytes ≡ take 16384 bytes
-front_is n bytes e = elim (cases_lt (length bytes) 16384) [
-  | inl small ↦ take_all n bytes (omega (arith, e, small)) ∙ sym (take_all 16384 bytes (omega (arith, small)))
-  | inr large ↦ let same : n ≡ 16384 = omega (arith, e, large) in ap (λ k. take k bytes) same
+pub front_is : (n : ℕ) (bytes : List ℕ) → n ≡ min (length bytes) LONGEST_HEAD → take n bytes ≡ take LONGEST_HEAD bytes
+front_is n bytes e = elim (cases_lt (length bytes) LONGEST_HEAD) [
+  | inl small ↦ take_all n bytes (omega (arith, e, small)) ∙ sym (take_all LONGEST_HEAD bytes (omega (arith, small)))
+  | inr large ↦ let same : n ≡ LONGEST_HEAD = omega (arith, e, large) in ap (λ k. take k bytes) same
 ]
 
-pub length_front : (n : ℕ) (bytes : List ℕ) → n ≡ min (length bytes) 16384 → length (take n bytes) ≤ 16384
+pub length_front : (n : ℕ) (bytes : List ℕ) → n ≡ min (length bytes) LONGEST_HEAD → length (take n bytes) ≤ LONGEST_HEAD
 length_front n bytes e = rw (length-take n bytes) (omega (arith, e))
 
-pub front_all : (n : ℕ) (bytes : List ℕ) → n ≡ min (length bytes) 16384 → length bytes < 16384 → take n bytes ≡ bytes
+pub front_all : (n : ℕ) (bytes : List ℕ) → n ≡ min (length bytes) LONGEST_HEAD → length bytes < LONGEST_HEAD → take n bytes ≡ bytes
 front_all n bytes e short = take_all n bytes (omega (arith, e, short))

@@ -1,28 +1,28 @@
 -- How long what is waited for can be.
-use Rattle.portal_frame.proofs.Base.{◌≡◌, ℕ, ◌+◌, ◌<◌, ◌≤◌, Bool, true, false, List, [], ◌∷◌, ◌++◌, length, refl, arith, Result, Ok, if◌then◌else◌, nat_lt, codes, digits_value, length-append, RequestHead, print_request, print_section, print_end, print_version, print_blank, Fault, values_of, body_length, fields_of, Err, ltb-false, is_length, has_bad_host, has_any, length_of}
+use Rattle.portal_frame.proofs.Base.{◌≡◌, ℕ, ◌+◌, ◌<◌, ◌≤◌, Bool, true, false, List, [], ◌∷◌, ◌++◌, length, refl, arith, Result, Ok, if◌then◌else◌, nat_lt, codes, digits_value, length-append, RequestHead, print_request, print_section, print_end, print_version, print_blank, Fault, values_of, body_length, fields_of, Err, ltb-false, is_length, has_bad_host, has_any, length_of, LONGEST_BODY, LONGEST_HEAD, LONGEST_REQUEST}
 use Rattle.portal_frame.specs.declared.types.Fault.TheVariants as faults
 
 ok_same : (d n : ℕ) → ◌≡◌ {A = Result ℕ Fault} (Ok d) (Ok n) → d ≡ n
 ok_same d n e = cc
 
-pick : (is_len over : Bool) (d n : ℕ) → nat_lt 1048576 d ≡ over
-    → ◌≡◌ {A = Result ℕ Fault} (if is_len then (if over then Err faults.TooLarge else Ok d) else Err faults.BadLength) (Ok n) → n ≤ 1048576
+pick : (is_len over : Bool) (d n : ℕ) → nat_lt LONGEST_BODY d ≡ over
+    → ◌≡◌ {A = Result ℕ Fault} (if is_len then (if over then Err faults.TooLarge else Ok d) else Err faults.BadLength) (Ok n) → n ≤ LONGEST_BODY
 pick true true d n o e = absurd (cc)
-pick true false d n o e = omega (arith, ok_same d n e, ltb-false 1048576 d o)
+pick true false d n o e = omega (arith, ok_same d n e, ltb-false LONGEST_BODY d o)
 pick false over d n o e = absurd (cc)
 
-length_of-le : (values : List (List ℕ)) (n : ℕ) → length_of values ≡ Ok n → n ≤ 1048576
+length_of-le : (values : List (List ℕ)) (n : ℕ) → length_of values ≡ Ok n → n ≤ LONGEST_BODY
 length_of-le [] n e = omega (arith, ok_same 0 n e)
-length_of-le (value ∷ []) n e = pick (is_length value) (nat_lt 1048576 (digits_value 10 value)) (digits_value 10 value) n refl e
+length_of-le (value ∷ []) n e = pick (is_length value) (nat_lt LONGEST_BODY (digits_value 10 value)) (digits_value 10 value) n refl e
 length_of-le (value ∷ other ∷ values) n e = absurd (cc)
 
 after_host : (bad coded : Bool) (values : List (List ℕ)) (n : ℕ)
-    → (if bad then Err faults.BadHost else (if coded then Err faults.CodedBody else length_of values)) ≡ Ok n → n ≤ 1048576
+    → (if bad then Err faults.BadHost else (if coded then Err faults.CodedBody else length_of values)) ≡ Ok n → n ≤ LONGEST_BODY
 after_host true coded values n e = absurd (cc)
 after_host false true values n e = absurd (cc)
 after_host false false values n e = length_of-le values n e
 
-pub body_length-le : (minor : ℕ) (lines : List (List ℕ × List ℕ)) (n : ℕ) → body_length minor lines ≡ Ok n → n ≤ 1048576
+pub body_length-le : (minor : ℕ) (lines : List (List ℕ × List ℕ)) (n : ℕ) → body_length minor lines ≡ Ok n → n ≤ LONGEST_BODY
 body_length-le minor lines n e =
     after_host (has_bad_host minor (values_of (codes "host") lines)) (has_any (values_of (codes "transfer-encoding") lines)) (values_of (codes "content-length") lines) n e
 
@@ -39,8 +39,8 @@ head-some h =
     (some_right (print_blank h.blank ++ h.method) (32 ∷ h.target) (omega arith))))
 
 -- what a request takes
-pub whole-within : (h : RequestHead) (len n : ℕ) → len ≡ length (print_request h) → length (print_request h) ≤ 16384
-    → body_length h.minor (fields_of h) ≡ Ok n → (0 < len + n) × (len + n ≤ 1064960)
+pub whole-within : (h : RequestHead) (len n : ℕ) → len ≡ length (print_request h) → length (print_request h) ≤ LONGEST_HEAD
+    → body_length h.minor (fields_of h) ≡ Ok n → (0 < len + n) × (len + n ≤ LONGEST_REQUEST)
 whole-within h len n same short sized =
     let some = head-some h in
     let most = body_length-le h.minor (fields_of h) n sized in

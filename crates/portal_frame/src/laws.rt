@@ -3,6 +3,7 @@
 ghost use Rattle.std.specs.Prelude.{◌≡◌, ℕ, List};
 ghost use Rattle.portal_frame.specs.Stream.{Item, Opens};
 
+use crate::types::LONGEST_HEAD;
 use httparse::Status;
 use httparse::spans::{EMPTY_HEADER_SPAN, parse_request};
 
@@ -17,7 +18,7 @@ pub fn opens_some(bytes: &[u8])
     ensures { (item : Item) × Opens bytes.now item }
 {
     let mut headers = [EMPTY_HEADER_SPAN; 32];
-    let front = &bytes[..bytes.len().min(16384)];
+    let front = &bytes[..bytes.len().min(LONGEST_HEAD)];
     match parse_request(front, &mut headers) {
         Ok(Status::Complete(_)) => {}
         Ok(Status::Partial) => {}

@@ -16,7 +16,7 @@ mod values;
 use crate::closing::ends_after;
 use crate::counting::is_overlong_head;
 use crate::types::Fault;
-pub use crate::types::{Frame, Refusal, Request};
+pub use crate::types::{Frame, LONGEST_BODY, LONGEST_HEAD, LONGEST_REQUEST, Refusal, Request};
 use crate::values::{check_lines, code_of, copied, path_in};
 use httparse::spans::{EMPTY_HEADER_SPAN, HeaderSpan, RequestSpans, parse_request};
 use httparse::{Error, Status};
@@ -42,14 +42,14 @@ fn is_all_blank(bytes: &[u8]) -> bool
 /// Returns the frame for bytes that begin with no complete head within the limits.
 fn frame_open(bytes: &[u8], ended: bool) -> Frame
     requires none { HasNoHead bytes.now }
-    requires full { 16384 ≤ length bytes.now → (more : List ℕ) → HasNoHead (bytes.now ++ more) }
-    requires may { length bytes.now < 16384
+    requires full { LONGEST_HEAD ≤ length bytes.now → (more : List ℕ) → HasNoHead (bytes.now ++ more) }
+    requires may { length bytes.now < LONGEST_HEAD
         → MayBecomeRequest bytes.now ⊎ RequestExceeds 32 bytes.now }
     ensures framed { Framed bytes.now ended result }
     ensures due { IsDue bytes.now ended result }
     ensures limits { IsWithinLimits bytes.now result }
 {
-    if bytes.len() >= 16384 {
+    if bytes.len() >= LONGEST_HEAD {
         return Frame::Bad {
             refusal: Fault::BadHead.refusal(),
             head_only: false,
@@ -128,7 +128,7 @@ pub fn frame(alloc: Global, bytes: &[u8], ended: bool) -> Result<Frame, AllocErr
     ensures limits { IfOk result (IsWithinLimits bytes.now) }
 {
     let mut headers = [EMPTY_HEADER_SPAN; 32];
-    let front = &bytes[..bytes.len().min(16384)];
+    let front = &bytes[..bytes.len().min(LONGEST_HEAD)];
     match parse_request(front, &mut headers) {
         Ok(Status::Complete(spans)) => {
             frame_head(alloc, bytes, front, spans, &headers[..spans.headers], ended)

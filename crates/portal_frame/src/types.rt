@@ -1,7 +1,16 @@
-//! The types of frames, requests, refusals and framing faults. Turns a fault into its refusal.
+//! The types and limits of frames, requests, refusals and framing faults.
 
 ghost use Rattle.std.specs.Prelude.{◌≡◌};
 ghost use Rattle.portal_frame.specs.Stream.{refused, told, plain};
+
+/// The most bytes of a request's head, with the empty lines before it.
+pub const LONGEST_HEAD: usize = 16_384;
+
+/// The most bytes of a request's body.
+pub const LONGEST_BODY: usize = 1_048_576;
+
+/// The most bytes of a request.
+pub const LONGEST_REQUEST: usize = LONGEST_HEAD + LONGEST_BODY;
 
 /// The parts of a request.
 #[derive(Drop)]
@@ -24,6 +33,20 @@ pub struct Refusal {
     pub word: &'static str,
     pub allow: &'static str,
     pub row: Option<u32>,
+}
+
+impl Refusal {
+    /// Makes a refusal that has only a status and an error word.
+    pub fn by_word(status: u16, word: &'static str) -> Refusal
+        ensures { refused result ≡ plain status word.now }
+    {
+        Refusal {
+            status,
+            word,
+            allow: "",
+            row: None,
+        }
+    }
 }
 
 /// What the bytes of a stream begin with.
@@ -56,23 +79,11 @@ impl Fault {
         ensures { refused result ≡ told self }
     {
         match self {
-            Fault::BadHead => by_word(400, "bad_head"),
-            Fault::BadHost => by_word(400, "bad_host"),
-            Fault::CodedBody => by_word(501, "coded_body"),
-            Fault::BadLength => by_word(400, "bad_length"),
-            Fault::TooLarge => by_word(413, "too_large"),
+            Fault::BadHead => Refusal::by_word(400, "bad_head"),
+            Fault::BadHost => Refusal::by_word(400, "bad_host"),
+            Fault::CodedBody => Refusal::by_word(501, "coded_body"),
+            Fault::BadLength => Refusal::by_word(400, "bad_length"),
+            Fault::TooLarge => Refusal::by_word(413, "too_large"),
         }
-    }
-}
-
-/// Makes the refusal for a fault of framing: only a status and an error word.
-fn by_word(status: u16, word: &'static str) -> Refusal
-    ensures { refused result ≡ plain status word.now }
-{
-    Refusal {
-        status,
-        word,
-        allow: "",
-        row: None,
     }
 }

@@ -6,7 +6,7 @@ ghost use Rattle.portal_frame.specs.Stream.{same_name, values_of, only, path_of,
 ghost use Rattle.portal_frame.specs.Stream.{body_length};
 ghost use Rattle.portal_frame.specs.inner.Counting.{IsFound};
 
-use crate::types::Fault;
+use crate::types::{Fault, LONGEST_BODY};
 use httparse::spans::HeaderSpan;
 use std::alloc::{AllocError, Global};
 
@@ -57,7 +57,7 @@ fn number_of(value: &[u8]) -> Result<usize, Fault>
         }
         number = number * 10 + (*digit - b'0') as u64;
     }
-    if number > 1_048_576 {
+    if number > LONGEST_BODY as u64 {
         return Err(Fault::TooLarge);
     }
     Ok(number as usize)

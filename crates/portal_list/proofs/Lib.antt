@@ -16,3 +16,4 @@ pub mod Followed
 pub mod Noted
 pub mod Plays
 pub mod Listings
+pub mod Decided

@@ -1,5 +1,8 @@
 -- A world is sound exactly where its parts fit, and its rows say which world it is.
-use Rattle.portal_list.proofs.Base.{◌≡◌, true, false, List, [], ◌∷◌, ◌++◌, map, refl, sym, ◌∙◌, ap, subst, arith, Option, Some, None, is_none, option_map, not, ◌&&◌, filter, AllByRecursion, length-map, Key, has, is_empty, Rise, AreDistinct, World, Lecturer, Student, project_key, student_key, projects_of, applicants_of, is_still_to_rank, is_published, Sound, IsLecturer, IsStudent, lecturer_keys, student_keys, all_unmap, IsFitted, lecturers_fitting, students_fitting, applicant_keys, HasRanking, RollsOf, ListsOf, rules, first, codes_of, RowsOfWorld, world_rows, codes_in, lecturer_row_keys, student_row_keys, RollsFit}
+use Rattle.portal_list.proofs.Base.{◌≡◌, true, false, List, [], ◌∷◌, ◌++◌, map, refl, sym, ◌∙◌, ap, subst, arith, Option, Some, None, is_none, option_map, not, ◌&&◌, filter, AllByRecursion, length-map, Key, has, is_empty, Rise, AreDistinct, World, Lecturer, Student, project_key, student_key, projects_of, applicants_of, is_still_to_rank, is_from_ranking, is_second, is_published, Round, Sound, IsLecturer, IsStudent, lecturer_keys, student_keys, all_unmap, IsFitted, lecturers_fitting, students_fitting, applicant_keys, HasRanking, RollsOf, ListsOf, rules, first, codes_of, RowsOfWorld, world_rows, codes_in, lecturer_row_keys, student_row_keys, RollsFit, HasNothingEarlier, IsOutIfPlaced}
+use Rattle.portal_core.specs.World.{is_setup}
+use Rattle.portal_core.specs.declared.phase.Phase.{Phase}
+use Rattle.portal_list.specs.inner.Parts.{StudentFits, LecturerFits}
 use Rattle.portal_core.proofs.AllLaws as laws
 use Rattle.portal_list.proofs.Rising.{map_map}
 use Rattle.portal_list.proofs.Fitting.{lecturers_back, lecturers_rows, students_back, students_rows}
@@ -29,6 +32,17 @@ not_still (x ∷ xs) (Some r) f = refl
 all_under : {X A : Type 0} (P : X → Type 0) (xs : List X) → (A → AllByRecursion P xs) → AllByRecursion (λ x. A → P x) xs
 all_under P [] f = tt
 all_under P (x ∷ xs) f = (λ a. (f a).0, all_under P xs (λ a. (f a).1))
+
+students_fit : (phase : Phase) (round : Round) (ss : List Student) → (is_setup phase ≡ true → AllByRecursion (λ s. s.choice ≡ []) ss) → (is_published phase ≡ false → AllByRecursion (λ s. s.placed ≡ None) ss)
+    → (is_second round ≡ false → AllByRecursion HasNothingEarlier ss) → AllByRecursion IsOutIfPlaced ss → AllByRecursion (StudentFits phase round) ss
+students_fit phase round [] a b c d = tt
+students_fit phase round (s ∷ ss) a b c d =
+    (record { no_choice_yet = λ e. (a e).0; no_result_yet = λ e. (b e).0; nothing_earlier = λ e. (c e).0; out_if_placed = d.0 }, students_fit phase round ss (λ e. (a e).1) (λ e. (b e).1) (λ e. (c e).1) d.1)
+
+lecturers_fit : (phase : Phase) (round : Round) (ls : List Lecturer) → (is_from_ranking phase ≡ false → AllByRecursion (λ l. l.ranking ≡ None) ls) → (is_second round ≡ false → AllByRecursion (λ l. l.earlier_ranking ≡ None) ls)
+    → AllByRecursion (LecturerFits phase round) ls
+lecturers_fit phase round [] a b = tt
+lecturers_fit phase round (l ∷ ls) a b = (record { no_ranking_yet = λ e. (a e).0; no_earlier_ranking = λ e. (b e).0 }, lecturers_fit phase round ls (λ e. (a e).1) (λ e. (b e).1))
 
 module _ (w : World) where
   pub rolls_of : Sound w → RollsOf w
@@ -60,7 +74,15 @@ module _ (w : World) where
       (laws.all_both _ (λ l. is_published w.phase ≡ true → is_still_to_rank w l ≡ false) w.lecturers sound.rankings (all_under (λ l. is_still_to_rank w l ≡ false) w.lecturers sound.all_ranked))
 
   pub lists_of : Sound w → ListsOf w
-  lists_of sound = search (rules, ranked)
+  lists_of sound = record {
+    entries_fit = record {
+      no_second_setup = sound.no_second_setup;
+      students_fit = students_fit w.phase w.round w.students sound.no_choices_yet sound.no_result_yet sound.no_earlier_lists sound.only_left;
+      lecturers_fit = lecturers_fit w.phase w.round w.lecturers sound.no_rankings_yet sound.no_earlier_rankings;
+    };
+    choices = sound.choices;
+    rankings = ranked sound;
+  }
 
   meant : (l : Lecturer) → HasRanking (is_published w.phase) (applicant_keys w.projects w.students l.row.key) l.ranking → HasRanking (is_published w.phase) (map student_key (applicants_of w l.row.key)) l.ranking
   meant l h = subst (λ keys. HasRanking (is_published w.phase) keys l.ranking) (applicants_are w l.row.key) h
@@ -80,15 +102,15 @@ module _ (w : World) where
     codes = subst AreDistinct (codes_are w) rolls.codes;
     lecturers_known = subst (λ keys. AllByRecursion (λ p. has keys p.lecturer ≡ true) w.projects) (lecturer_keys_are w) rolls.lecturers_known;
     choices = lists.choices;
-    no_choices_yet = lists.phase_fits.no_choices_yet;
-    no_rankings_yet = lists.phase_fits.no_rankings_yet;
+    no_choices_yet = λ e. laws.all_weaker _ _ (λ s h. h.no_choice_yet e) w.students lists.entries_fit.students_fit;
+    no_rankings_yet = λ e. laws.all_weaker _ _ (λ l h. h.no_ranking_yet e) w.lecturers lists.entries_fit.lecturers_fit;
     rankings = laws.all_weaker _ _ (λ l h. (meant l h).whole) w.lecturers lists.rankings;
-    no_result_yet = lists.phase_fits.no_result_yet;
+    no_result_yet = λ e. laws.all_weaker _ _ (λ s h. h.no_result_yet e) w.students lists.entries_fit.students_fit;
     all_ranked = λ asked. laws.all_weaker _ _ (λ l h. not_still (applicants_of w l.row.key) l.ranking (λ none. (meant l h).there asked none)) w.lecturers lists.rankings;
-    no_earlier_lists = lists.round_fits.no_earlier_lists;
-    no_earlier_rankings = lists.round_fits.no_earlier_rankings;
-    no_second_setup = lists.round_fits.no_second_setup;
-    only_left = lists.round_fits.only_left;
+    no_earlier_lists = λ e. laws.all_weaker _ _ (λ s h. h.nothing_earlier e) w.students lists.entries_fit.students_fit;
+    no_earlier_rankings = λ e. laws.all_weaker _ _ (λ l h. h.no_earlier_ranking e) w.lecturers lists.entries_fit.lecturers_fit;
+    no_second_setup = lists.entries_fit.no_second_setup;
+    only_left = laws.all_weaker _ _ (λ s h. h.out_if_placed) w.students lists.entries_fit.students_fit;
   }
 
   -- the rolls of the first round are the same
@@ -125,15 +147,11 @@ module _ (rows : RowsOfWorld) where
   rolls_tell unfit w e sound = unfit (subst (λ r. RollsFit r.office r.lecturers r.projects r.students) (sym e) (rolls_of w sound))
 
   module _ (v : World) (fitted : IsFitted rows v) where
-    pub lists_tell : (ListsOf v → ⊥) → (w : World) → rows ≡ world_rows w → Sound w → ⊥
-    lists_tell unfit w e sound = unfit (subst ListsOf (sym (fitted.once w e sound)) (lists_of w sound))
+    pub rolls_kept : RollsFit rows.office rows.lecturers rows.projects rows.students → RollsOf v
+    rolls_kept rolls = subst (λ r. RollsFit r.office r.lecturers r.projects r.students) fitted.rows_are rolls
 
-    module _ (rolls : RollsFit rows.office rows.lecturers rows.projects rows.students) where
-      pub students_rise : Rise (map student_key v.students)
-      students_rise = subst Rise (student_keys_are v) (subst (λ r. Rise (student_row_keys r.students)) fitted.rows_are rolls.rise.students_rise)
-
-      pub both_sound : ListsOf v → Sound v
-      both_sound lists = sound_of v (subst (λ r. RollsFit r.office r.lecturers r.projects r.students) fitted.rows_are rolls) lists
+    pub sound_tells : (Sound v → ⊥) → (w : World) → rows ≡ world_rows w → Sound w → ⊥
+    sound_tells unsound w e sound = unsound (subst Sound (sym (fitted.once w e sound)) sound)
 
 pub nothing_made : {X Y : Type 0} (f : X → Y) (o : Option X) (y : Y) → o ≡ None → option_map f o ≡ Some y → ⊥
 nothing_made f None y e h = cc

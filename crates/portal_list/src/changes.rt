@@ -9,9 +9,9 @@ mod new_rows;
 mod opening;
 mod placements;
 
-use crate::by_key::index_of;
 use crate::entries::{LecturerEntry, StudentEntry};
-pub(crate) use fill::{applicants_by_key, fill_rankings};
+use crate::keys::index_of;
+pub(crate) use fill::fill_rankings;
 pub(crate) use new_rows::{add_rows, new_lecturers, new_students};
 pub(crate) use opening::{lay_by_lists, lay_by_rankings};
 pub(crate) use placements::place_all;

@@ -1,4 +1,4 @@
-//! Copies rankings, project keys and rows; makes persons and entries; `holds` looks for a key.
+//! Copies rankings, project keys, pairs and rows; makes persons and entries; `holds` looks for a key.
 
 ghost use Rattle.std.specs.Prelude.{◌≡◌, [], None, IfOk, option_map};
 ghost use Rattle.portal_core.specs.Words.{has};
@@ -31,6 +31,21 @@ pub(crate) fn place_copy(alloc: Global, project: Option<&Key>) -> Result<Option<
 {
     match project {
         Some(key) => Ok(Some(key.copy(alloc)?)),
+        None => Ok(None),
+    }
+}
+
+/// Makes a pair from copies of the student's key and the project, if there is one.
+pub(crate) fn pair_copy(
+    alloc: Global,
+    student: &Key,
+    project: Option<&Key>,
+) -> Result<Option<(Key, Key)>, AllocError>
+    ensures { IfOk result (λ o. o
+        ≡ option_map (λ p. (student.now, p)) (option_map (λ p. p.now) project.entry)) }
+{
+    match project {
+        Some(project) => Ok(Some((student.copy(alloc)?, project.copy(alloc)?))),
         None => Ok(None),
     }
 }

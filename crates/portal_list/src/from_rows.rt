@@ -4,16 +4,15 @@ ghost use Rattle.std.specs.Prelude.{◌≡◌, Err, IfOk};
 ghost use Rattle.portal_core.specs.World.{World};
 ghost use Rattle.portal_core.specs.Good.{Sound};
 ghost use Rattle.portal_list.specs.Rows.{HasEntries, HasSoundFirst, world_rows};
-ghost use Rattle.portal_list.specs.inner.Parts.{RollsFit};
+ghost use Rattle.portal_list.specs.inner.Parts.{RollsFit, RollsOf};
 ghost use Rattle.portal_list.specs.inner.Fit.{IsFitted};
 ghost use Rattle.portal_list.specs.inner.Played.{world_with};
 ghost use Rattle.portal_list.specs.declared.from_rows.RowsFault.TheVariants.{Memory};
 
 use crate::entries::Entries;
-use crate::fit::{lecturer_entries, student_entries};
+use crate::joining::{lecturer_entries, student_entries};
 use crate::keeper::ListKeeper;
-use crate::lists::lists_fit;
-use crate::sound_rolls::rolls_fit;
+use crate::roll_checks::rolls_fit;
 use portal_core::{Code, LecturerRow, Phase, ProjectRow, Round, StudentRow};
 use spa_rows::Key;
 use std::alloc::{AllocError, Global};
@@ -144,6 +143,26 @@ fn fitted(alloc: Global, rows: WorldRows) -> Result<Entries, RowsFault>
     })
 }
 
+/// Joins rows into a keeper, and checks only its rolls. Returns `NotGood` only if no sound world has
+/// the rows.
+fn joined(alloc: Global, rows: WorldRows) -> Result<ListKeeper, RowsFault>
+    ensures fitted { IfOk result (λ keeper. IsFitted rows keeper) }
+    ensures rolls { IfOk result (λ keeper. RollsOf keeper) }
+    ensures refused { result ≡ Err RowsFault.NotGood → (w : World) → rows ≡ world_rows w → Sound w
+        → ⊥ }
+{
+    check_rolls(alloc, &rows)?;
+    let phase = rows.phase;
+    let office = rows.office.copy(alloc)?;
+    let entries = fitted(alloc, rows)?;
+    Ok(ListKeeper {
+        phase,
+        office,
+        entries,
+        catalogue: None,
+    })
+}
+
 impl ListKeeper {
     /// Builds a keeper from the rows of a sound world. In the second round the first, as published,
     /// must be sound, too. Refuses other rows as `NotGood`, also rolls out of the order of keys.
@@ -155,19 +174,10 @@ impl ListKeeper {
             → HasSoundFirst w
             → ⊥ }
     {
-        check_rolls(alloc, &rows)?;
-        let phase = rows.phase;
-        let office = rows.office.copy(alloc)?;
-        let entries = fitted(alloc, rows)?;
-        if !lists_fit(alloc, phase, &entries)? {
+        let keeper = joined(alloc, rows)?;
+        if !keeper.is_sound(alloc)? {
             return Err(RowsFault::NotGood);
         }
-        let keeper = ListKeeper {
-            phase,
-            office,
-            entries,
-            catalogue: None,
-        };
         if keeper.has_sound_first(alloc)? {
             Ok(keeper)
         } else {

@@ -10,9 +10,10 @@ ghost use Rattle.portal_list.specs.Rows.{HasEntries};
 ghost use Rattle.portal_list.specs.inner.Lines.{instance_lecturer, instance_project};
 ghost use Rattle.portal_list.specs.inner.Lines.{instance_student, instance_rows};
 
+use crate::collecting::try_map;
 use crate::entries::{Entries, LecturerEntry, StudentEntry};
 use crate::from_rows::RowsFault;
-use crate::played::played;
+use crate::second_round::played;
 use portal_core::{ProjectRow, Round};
 use spa_model::{Instance, InstanceFault, InstanceRows, LecturerLine, ProjectLine, StudentLine};
 use spa_rows::Key;
@@ -75,47 +76,14 @@ fn student_line(alloc: Global, entry: &StudentEntry) -> Result<StudentLine, Allo
     })
 }
 
-/// Makes the instance's lines of the lecturers from their entries.
-fn lecturer_lines(alloc: Global, entries: &[LecturerEntry]) -> Result<Vec<LecturerLine>, AllocError>
-    ensures { IfOk result (λ lines. lines.items ≡ map instance_lecturer entries.now) }
-{
-    let mut lines = Vec::new(alloc);
-    for entry in entries {
-        lines.push(lecturer_line(alloc, entry)?)?;
-    }
-    Ok(lines)
-}
-
-/// Makes the instance's lines of the projects from their rows.
-fn project_lines(alloc: Global, projects: &[ProjectRow]) -> Result<Vec<ProjectLine>, AllocError>
-    ensures { IfOk result (λ lines. lines.items ≡ map instance_project projects.now) }
-{
-    let mut lines = Vec::new(alloc);
-    for project in projects {
-        lines.push(project_line(alloc, project)?)?;
-    }
-    Ok(lines)
-}
-
-/// Makes the instance's lines of the students from their entries.
-fn student_lines(alloc: Global, entries: &[StudentEntry]) -> Result<Vec<StudentLine>, AllocError>
-    ensures { IfOk result (λ lines. lines.items ≡ map instance_student entries.now) }
-{
-    let mut lines = Vec::new(alloc);
-    for entry in entries {
-        lines.push(student_line(alloc, entry)?)?;
-    }
-    Ok(lines)
-}
-
 /// Makes all lines of the instance from the entries.
 fn rows_of(alloc: Global, entries: &Entries) -> Result<InstanceRows, AllocError>
     ensures { IfOk result (λ rows. rows ≡ instance_rows entries.now) }
 {
     Ok(InstanceRows {
-        lecturers: lecturer_lines(alloc, &entries.lecturers)?,
-        projects: project_lines(alloc, &entries.projects)?,
-        students: student_lines(alloc, &entries.students)?,
+        lecturers: try_map(alloc, &entries.lecturers, |l| lecturer_line(alloc, l))?,
+        projects: try_map(alloc, &entries.projects, |p| project_line(alloc, p))?,
+        students: try_map(alloc, &entries.students, |s| student_line(alloc, s))?,
     })
 }
 
@@ -130,10 +98,7 @@ fn instance_among(alloc: Global, entries: &Entries) -> Result<Instance, RowsFaul
 {
     let rows = rows_of(alloc, entries)?;
     match Instance::build(alloc, rows) {
-        Ok(instance) => {
-            instance.lawful();
-            Ok(instance)
-        }
+        Ok(instance) => Ok(instance),
         Err(bad) => match bad.fault {
             InstanceFault::Memory => Err(RowsFault::Memory),
             _ => Err(RowsFault::NotGood),

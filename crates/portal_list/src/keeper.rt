@@ -13,6 +13,7 @@ use crate::changes::{add_rows, lay_by_lists, lay_by_rankings, new_lecturers, new
 use crate::copies::project_rows_of;
 use crate::entries::Entries;
 use crate::instance::instance_of;
+use crate::roll_checks::formed_code;
 use crate::views::{
     catalogue_of, lecturer_view, lecturer_with, office_view, student_view, student_with,
 };
@@ -63,7 +64,7 @@ impl ListKeeper {
         } }
         ensures good { Good result }
     {
-        let _form = office.as_bytes();
+        formed_code(&office);
         ListKeeper {
             phase: Phase::Setup,
             office,

@@ -2,22 +2,20 @@
 #![tactic(auto)]
 
 mod applicant_index;
-mod by_key;
 mod changes;
+mod collecting;
 mod copies;
-mod distinct;
 mod entries;
-mod fills;
-mod fit;
 mod from_rows;
-mod good;
 mod instance;
+mod joining;
 mod keeper;
-mod keyed;
-mod lists;
-mod played;
-mod sound_rolls;
+mod keys;
+mod list_checks;
+mod roll_checks;
+mod second_round;
 mod views;
+mod world_checks;
 
 pub use entries::Entries;
 pub use from_rows::{RowsFault, WorldRows};

@@ -19,7 +19,7 @@ pub use catalogue::{HasLecturerRow, listings_of};
 pub(crate) use office::waiting;
 use office::{lecturer_rows, project_rows, still_to_rank, student_rows, without_list};
 use placements::{pairs_of, placement_shown};
-use portal_core::{LecturerView, OfficeView, Phase, StudentView, copy_keys};
+use portal_core::{LecturerView, OfficeView, StudentView, copy_keys};
 use std::alloc::{AllocError, Global};
 
 /// Finds the entry of the lecturer with this code.
@@ -30,12 +30,7 @@ pub(crate) fn lecturer_with<'a>(
     ensures { option_map (λ l. l.now) result ≡ find
         (λ l. equals l.row.code code.now) lecturers.now }
 {
-    for lecturer in lecturers {
-        if lecturer.row.code.as_bytes() == code {
-            return Some(lecturer);
-        }
-    }
-    None
+    lecturers.iter().find(|l| l.row.code.as_bytes() == code)
 }
 
 /// Finds the entry of the student with this code.
@@ -45,12 +40,7 @@ pub(crate) fn student_with<'a>(
 ) -> Option<&'a StudentEntry>
     ensures { option_map (λ s. s.now) result ≡ find (λ s. equals s.row.code code.now) students.now }
 {
-    for student in students {
-        if student.row.code.as_bytes() == code {
-            return Some(student);
-        }
-    }
-    None
+    students.iter().find(|s| s.row.code.as_bytes() == code)
 }
 
 /// Makes a student's view from the entries.

@@ -5,16 +5,8 @@ ghost use Rattle.std.specs.List.{flat_map};
 ghost use Rattle.portal_core.specs.Bodies as sheet;
 
 use crate::lines::{assigned_line, placed_line, project_line, unplaced_line};
-use portal_core::{OfficeView, Placings, StudentRow};
-use spa_rows::Key;
+use portal_core::{OfficeView, Placings, StudentRow, students_at};
 use std::alloc::{AllocError, Global};
-
-/// Returns how many students the result gives to the project.
-fn students_at(pairs: &[(Key, Key)], project: &Key) -> usize
-    ensures { result ≡ sheet.students_at pairs.now project.now }
-{
-    pairs.iter().filter(|pair| pair.1 == *project).count()
-}
 
 /// Returns the result's line of a student, with a project or without.
 fn student_line(

@@ -15,8 +15,7 @@ fn short(key: &Key) -> &str
     ensures text { result.now ≡ key.now }
     ensures short { IsTrue (form.is_short key.now) }
 {
-    // the contract of `as_bytes` tells the proof the key's form
-    let _form = key.as_bytes();
+    prove!(key.as_bytes().len() <= 16);
     key.as_str()
 }
 

@@ -5,7 +5,6 @@ use Rattle.portal_rolls.specs.declared.fault.RollFault.TheVariants.{Memory}
 use Rattle.std.specs.Global.{Global}
 use Rattle.spa_rows.specs.Lines.{Rows, Pair}
 use Rattle.portal_rolls.specs.Lines as spec
-use Rattle.portal_rolls.specs.declared.line.File.{File}
 
 abbrev pub Fails : {Y : Type 0} → RollFault → Result Y RollFault → Type 0
 Fails Memory read = Unit {0}

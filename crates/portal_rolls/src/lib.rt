@@ -7,7 +7,6 @@ mod fields;
 mod instance;
 mod line;
 mod reading;
-mod record;
 mod rolls;
 
 pub use allocation::write_allocation;

@@ -1,18 +1,17 @@
 //! Reads a CSV file of any kind, record by record, up to its first fault.
 
-ghost use Rattle.std.specs.Prelude.{◌≡◌, ◌<◌, List, length, map};
+ghost use Rattle.std.specs.Prelude.{◌≡◌, ◌<◌, List, length, map, OnOk, IfOk, IfErr};
 ghost use Rattle.csv.specs.Records.{fields_of};
 ghost use Rattle.portal_rolls.specs.Views.{Gives};
 ghost use Rattle.portal_rolls.specs.Reading.{Format, same_record, line_of as line_in, lines_of};
 ghost use Rattle.portal_rolls.specs.Reading.{Record, records_of};
-ghost use Rattle.portal_rolls.specs.inner.Records.{Has, IsSetUp};
+ghost use Rattle.portal_rolls.specs.inner.Records.{Has, IsSetUp, TakesRecord};
 ghost use Rattle.portal_rolls.specs.Views as view;
 ghost use Rattle.portal_rolls.specs.inner.AsRead as form;
 
 use crate::fault::RollFault;
 use crate::fields::{has_names, is_all_text};
-use crate::record::take_record;
-use csv::{ByteRecord, Reader, ReaderBuilder};
+use csv::{ByteRecord, ErrorKind, Reader, ReaderBuilder};
 use std::alloc::Global;
 
 /// A kind of file: the names of its columns, the greatest number of records, and how a record is
@@ -61,6 +60,23 @@ fn reader_of(alloc: Global, text: &[u8]) -> Reader<&[u8]>
         .has_headers(false)
         .flexible(true)
         .from_reader(alloc, text)
+}
+
+/// Reads the next CSV record into `row`, and returns whether there was one.
+fn take_record(rdr: &mut Reader<&[u8]>, row: &mut ByteRecord) -> Result<bool, RollFault>
+    requires { IsSetUp rdr.old }
+    ensures kept { OnOk result (IsSetUp rdr.new) }
+    ensures took { (rows : List Record) → Has rdr.old rows
+        → IfOk result (λ found. TakesRecord rows found (fields_of row.new) rdr.new) }
+    ensures fault { IfErr result (λ e. e ≡ RollFault.Memory) }
+{
+    match rdr.read_byte_record(row) {
+        Ok(found) => Ok(found),
+        Err(e) => match e.into_kind() {
+            ErrorKind::Io(_) | ErrorKind::OutOfMemory => Err(RollFault::Memory),
+            _ => unreachable!(),
+        },
+    }
 }
 
 /// Checks that the next record of a reader is the header, then parses all later ones.

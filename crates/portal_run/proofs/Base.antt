@@ -5,5 +5,5 @@ pub use Rattle.std.proofs.lemmas.List.{take_all, take-append-le, append-nil, len
 pub use Rattle.std.specs.Io.KnownBytes.{Consumes, IsAtEnd, Appends}
 pub use Rattle.std.specs.Prelude.{IfSome}
 pub use Rattle.portal_answer.specs.Answer.{Text, Told, IfLonger, IsAnswer}
-pub use Rattle.portal_run.specs.Run.{ConsumesAtMost, SaysUpgrade, WritesAnswer, AnswersSome}
-pub use Rattle.portal_run.specs.inner.Lines.{TakesMore, Says, refusal_line, status_of}
+pub use Rattle.portal_run.specs.Run.{ConsumesAtMost, SaysUpgrade, WritesAnswer, AnswersSome, refusal_line, refusal_status}
+pub use Rattle.portal_run.specs.inner.Lines.{TakesMore, Says}

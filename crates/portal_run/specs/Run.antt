@@ -1,5 +1,5 @@
 -- What one run of the program does, with known input and output, and what an upgrade prints.
-use Rattle.std.specs.Prelude.{◌≤◌, ℕ, Option, length, ◌≡◌, Some, None, IfSome, ◌⊎◌, false, IsTrue, codes}
+use Rattle.std.specs.Prelude.{◌≤◌, ℕ, Option, length, ◌≡◌, Some, None, IfSome, ◌⊎◌, codes}
 use Rattle.std.specs.Io.KnownBytes.{Consumes, Appends}
 use Rattle.portal_answer.specs.Answer.{Text, Told, IsAnswer}
 use Rattle.portal_answer.specs.declared.answer.Task.{Task}
@@ -40,22 +40,29 @@ abbrev pub IsUpgrade : Command → Type 0
 IsUpgrade (command.Upgrade database) = Unit {0}
 IsUpgrade _ = ⊥
 
--- the line that an upgrade prints, for success or a fault
+-- the line for a database that is refused, and for a fault of the store or of memory
+abbrev pub refusal_line : UpgradeFault → Text
+refusal_line NotPortal = codes "refused not_portal\n"
+refusal_line OtherVersion = codes "refused other_version\n"
+refusal_line Damaged = codes "refused damaged\n"
+refusal_line Exists = codes "refused exists\n"
+refusal_line Store = codes "fault store\n"
+refusal_line Memory = codes "fault memory\n"
+
+-- the exit status with this line
+abbrev pub refusal_status : UpgradeFault → ℕ
+refusal_status Store = 3
+refusal_status Memory = 3
+refusal_status _ = 2
+
+-- the line and the exit status of an upgrade, for success or a fault
 abbrev pub upgrade_line : Option UpgradeFault → Text
 upgrade_line None = codes "upgraded\n"
-upgrade_line (Some NotPortal) = codes "refused not_portal\n"
-upgrade_line (Some OtherVersion) = codes "refused other_version\n"
-upgrade_line (Some Damaged) = codes "refused damaged\n"
-upgrade_line (Some Exists) = codes "refused exists\n"
-upgrade_line (Some Store) = codes "fault store\n"
-upgrade_line (Some Memory) = codes "fault memory\n"
+upgrade_line (Some fault) = refusal_line fault
 
--- the exit status of an upgrade
 abbrev pub upgrade_status : Option UpgradeFault → ℕ
 upgrade_status None = 0
-upgrade_status (Some Store) = 3
-upgrade_status (Some Memory) = 3
-upgrade_status (Some _) = 2
+upgrade_status (Some fault) = refusal_status fault
 
 module _ {S : Type 0} (g : Ghosts S) where
   -- line and status report the store's answer for a connection

@@ -1,18 +1,19 @@
 //! Runs any command, and returns its exit status.
 
-ghost use Rattle.std.specs.Prelude.{◌≡◌, ◌*◌, ◌<◌, ◌≤◌, ◌⊎◌, ◌∷◌, [], codes, drop, map, None};
+ghost use Rattle.std.specs.Prelude.{◌≡◌, ◌<◌, ◌≤◌, ◌⊎◌, ◌∷◌, [], codes, drop, map, None};
 ghost use Rattle.std.specs.Prelude.{IfSome, IfOk, IsErr, IsTrue};
 ghost use Rattle.clap.specs.Words.{Text};
 ghost use Rattle.portal_words.specs.Line.{is_file_word};
 ghost use Rattle.portal_run.specs.Run.{WritesAnswer, AnswersSome, IsOfFile, IsUpgrade, task_of};
 ghost use Rattle.portal_run.specs.Run.{ConsumesAtMost, SaysUpgrade};
-ghost use Rattle.portal_desk.specs.Kept.{TakesAtMost as TakesFew};
+ghost use Rattle.portal_desk.specs.Kept.{TakesAtMost};
 
+use crate::database::{Job, do_job};
 use crate::init::init;
 use crate::input::{InputFault, bytes_of};
-use crate::job::{Job, do_job};
 use crate::output::{say, say_memory, say_read};
 use portal_answer::{Task, answer_to};
+use portal_desk::MOST_BYTES;
 use portal_words::{Asked, Command, command_of};
 use sqlite::{File, FileStore};
 use sqlite_trees::store::Store as Tables;
@@ -99,7 +100,7 @@ pub fn perform<R: Read, W: Write>(
     writer: &mut W,
 ) -> u8
     ensures bound { result ≤ 3 }
-    ensures takes { TakesFew (256 * 1064960) (R.remaining reader.old) (R.remaining reader.new) }
+    ensures takes { TakesAtMost MOST_BYTES (R.remaining reader.old) (R.remaining reader.new) }
     ensures files { IsOfFile command.entry
         → ConsumesAtMost 4194305 (R.remaining reader.old) (R.remaining reader.new) }
     ensures check { command.entry ≡ Command.Check None → result < 3
@@ -148,7 +149,7 @@ pub fn run<S: AsStr, R: Read, W: Write>(
     writer: &mut W,
 ) -> u8
     ensures bound { result ≤ 3 }
-    ensures takes { TakesFew (256 * 1064960) (R.remaining reader.old) (R.remaining reader.new) }
+    ensures takes { TakesAtMost MOST_BYTES (R.remaining reader.old) (R.remaining reader.new) }
     ensures files { (drop 1 (map S.text words.entry.now) ≡ codes "check" ∷ [])
         ⊎ (drop 1 (map S.text words.entry.now) ≡ codes "solve" ∷ [])
         → ConsumesAtMost 4194305 (R.remaining reader.old) (R.remaining reader.new) }

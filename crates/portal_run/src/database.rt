@@ -1,23 +1,19 @@
-//! Converts what the functions over a database file return, and looks for a missing file.
+//! Runs a command over an existing database file, and converts what it returns.
 
-ghost use Rattle.std.specs.Prelude.{◌≡◌, Ok, Err, IfOk, IfErr, OnOk};
+ghost use Rattle.std.specs.Prelude.{◌≡◌, ◌<◌, ◌≤◌, Ok, Err, IfOk, IfErr};
+ghost use Rattle.portal_desk.specs.Kept.{TakesAtMost};
+ghost use Rattle.portal_run.specs.Run.{SaysUpgrade};
 ghost use Rattle.portal_run.specs.inner.Lines.{connect_refusal, open_refusal, create_refusal};
 
-use crate::refusal::{Refusal, not_made, not_opened};
+use crate::init::upgrade_over;
+use crate::output::{Refusal, not_connected, not_made, not_opened, refuse};
+use crate::serve::{pipe_over, report_over, serve_over};
+use portal_desk::MOST_BYTES;
 use portal_store::{CreateFault, OpenFault};
-use sqlite::{Error, ErrorCode};
+use sqlite::{Error, File, FileStore};
+use sqlite_trees::store::Store as Tables;
 use std::fs;
-use std::io::ErrorKind;
-
-/// Converts an error of opening a file.
-pub(crate) fn not_connected(error: Error) -> Refusal
-    ensures { result ≡ connect_refusal error }
-{
-    match error {
-        Error::SqliteFailure(ErrorCode::OutOfMemory) => Refusal::Memory,
-        _ => Refusal::Store,
-    }
-}
+use std::io::{ErrorKind, Read, Write};
 
 /// Returns what a command did over its database, or why the database was refused. The files are let
 /// go: committed changes last even if closing failed.
@@ -28,14 +24,8 @@ pub(crate) fn opened<T, F: Drop>(
     ensures refused { IfOk done (λ r. IfErr r.0 (λ fault. result ≡ Err (open_refusal fault))) }
     ensures closed { IfErr done (λ error. result ≡ Err (connect_refusal error)) }
 {
-    let (opened, _files) = match done {
-        Ok(did) => did,
-        Err(error) => return Err(not_connected(error)),
-    };
-    match opened {
-        Ok(it) => Ok(it),
-        Err(fault) => Err(not_opened(fault)),
-    }
+    let (opened, _files) = done.map_err(not_connected)?;
+    opened.map_err(not_opened)
 }
 
 /// Returns whether the portal's tables were made in a file, or why not.
@@ -58,5 +48,45 @@ pub(crate) fn is_missing(rt: &HostRuntime, path: &str) -> bool {
     match fs::metadata(rt, path) {
         Ok(_) => false,
         Err(error) => error.kind() == ErrorKind::NotFound,
+    }
+}
+
+/// What a command does with an existing database.
+#[derive(Clone, Copy, Drop)]
+pub(crate) enum Job {
+    /// Serves up to `connections` connections on a port.
+    Serve { port: u16, connections: u32 },
+    /// Serves the input and the output as one connection.
+    Pipe,
+    /// Prints the office's report.
+    Report,
+    /// Upgrades version 1 to version 2.
+    Upgrade,
+}
+
+/// Does the job with the database in an existing file. A missing file is refused as `NotPortal`,
+/// not created. Returns the exit status.
+#[tactic(auto, using(crate::proofs::Taken::same_left))]
+pub(crate) fn do_job<R: Read, W: Write>(
+    rt: &HostRuntime,
+    path: &str,
+    job: Job,
+    reader: &mut R,
+    writer: &mut W,
+) -> u8
+    ensures bound { result ≤ 3 }
+    ensures takes { TakesAtMost MOST_BYTES (R.remaining reader.old) (R.remaining reader.new) }
+    ensures says { job ≡ Job.Upgrade → result < 3
+        → SaysUpgrade ⟦<FileStore<File> as Tables>⟧ result (W.contents writer.old)
+        (W.contents writer.new) }
+{
+    if is_missing(rt, path) {
+        return refuse(writer, Refusal::NotPortal);
+    }
+    match job {
+        Job::Serve { port, connections } => serve_over(rt, path, port, connections, writer),
+        Job::Pipe => pipe_over(rt, path, reader, writer),
+        Job::Report => report_over(rt, path, writer),
+        Job::Upgrade => upgrade_over(rt, path, writer),
     }
 }

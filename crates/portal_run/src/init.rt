@@ -3,10 +3,9 @@
 ghost use Rattle.std.specs.Prelude.{◌<◌, ◌≤◌};
 ghost use Rattle.portal_run.specs.Run.{ConsumesAtMost, SaysUpgrade};
 
-use crate::database::{made, not_connected};
+use crate::database::made;
 use crate::input::{InputFault, first_bytes};
-use crate::output::{say, say_memory, say_read};
-use crate::refusal::{refuse, say_done, say_upgrade};
+use crate::output::{not_connected, refuse, say, say_done, say_memory, say_read, say_upgrade};
 use portal_core::{Code, CodeFault};
 use portal_file::{make_file, upgrade_file};
 use sqlite::{File, FileStore, Unknown};

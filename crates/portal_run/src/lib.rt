@@ -5,9 +5,7 @@ mod commands;
 mod database;
 mod init;
 mod input;
-mod job;
 mod output;
-mod refusal;
 mod serve;
 
 pub use commands::{perform, run};

@@ -1,17 +1,15 @@
 //! Runs `serve`, `pipe` and `report` over a database file.
 
-ghost use Rattle.std.specs.Prelude.{◌≡◌, ◌*◌, ◌≤◌};
-ghost use Rattle.portal_desk.specs.Kept.{TakesAtMost as TakesFew, state_of};
-ghost use Rattle.portal_serve.specs.Hall.{IsMoved};
+ghost use Rattle.std.specs.Prelude.{◌≤◌};
+ghost use Rattle.portal_desk.specs.Kept.{IsMoved, TakesAtMost, state_of};
 ghost use Rattle.portal_run.specs.inner.Lines.{SaysHall};
 
 use crate::database::opened;
-use crate::output::{say, say_memory, say_read, say_store, say_write};
-use crate::refusal::refuse;
-use portal_core::Keeper;
-use portal_desk::{Cause, Desk, ServeFault, Served};
+use crate::output::{refuse, say, say_memory, say_read, say_store, say_write};
+use portal_core::{KeepFault, Keeper};
+use portal_desk::{Cause, Desk, MOST_BYTES, ServeFault, Served};
 use portal_file::{pipe_file, report_file, serve_file};
-use portal_serve::{Ended, Hall, Service, Unreported, serve_on};
+use portal_serve::{Ended, Hall, Service, serve_on};
 use sqlite::Unknown;
 use std::alloc::Global;
 use std::io::{Read, Write};
@@ -53,8 +51,8 @@ fn listen<K: Keeper, W: Write>(
 ) -> u8
     ensures bound { result ≤ 3 }
     ensures clean { K.clean desk.new.keeper → K.clean desk.old.keeper }
-    ensures moves { IsMoved (state_of K.disk K.clean K.world K.broken K.leaves desk.old.keeper)
-        (state_of K.disk K.clean K.world K.broken K.leaves desk.new.keeper) }
+    ensures moves { let state = state_of K.disk K.clean K.world K.broken K.leaves in
+        IsMoved (state desk.old.keeper) (state desk.new.keeper) }
 {
     let address = SocketAddr::V4(SocketAddrV4::new(Ipv4Addr::new(127, 0, 0, 1), port));
     let Ok(listener) = TcpListener::bind(rt, address) else {
@@ -155,7 +153,7 @@ pub(crate) fn pipe_over<R: Read, W: Write>(
     writer: &mut W,
 ) -> u8
     ensures bound { result ≤ 3 }
-    ensures takes { TakesFew (256 * 1064960) (R.remaining reader.old) (R.remaining reader.new) }
+    ensures takes { TakesAtMost MOST_BYTES (R.remaining reader.old) (R.remaining reader.new) }
 {
     match opened(pipe_file(rt, path, Unknown, reader, writer)) {
         Ok(ended) => say_ended(writer, ended),
@@ -164,13 +162,13 @@ pub(crate) fn pipe_over<R: Read, W: Write>(
 }
 
 /// Prints the office's report, or reports why there is none. Returns the exit status.
-fn say_report<W: Write>(writer: &mut W, told: Result<Vec<u8>, Unreported>) -> u8
+fn say_report<W: Write>(writer: &mut W, told: Result<Vec<u8>, KeepFault>) -> u8
     ensures { result ≤ 3 }
 {
     match told {
         Ok(text) => say(writer, text.as_slice(), 0),
-        Err(Unreported::Store) => say_store(writer),
-        Err(Unreported::Memory) => say_memory(writer),
+        Err(KeepFault::Store) => say_store(writer),
+        Err(KeepFault::Memory) => say_memory(writer),
     }
 }
 

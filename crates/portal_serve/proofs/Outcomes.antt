@@ -8,10 +8,10 @@ use Rattle.portal_desk.specs.declared.served.Cause.{Cause}
 use Rattle.portal_desk.specs.declared.served.Cause.TheVariants.{Read, Write, Memory, Store}
 use Rattle.portal_desk.specs.declared.served.Served.{Served}
 use Rattle.portal_desk.specs.declared.served.ServeFault.{ServeFault}
-use Rattle.portal_serve.specs.declared.hall.Hall.{Hall}
-use Rattle.portal_serve.specs.declared.hall.Ended.{Ended}
-use Rattle.portal_serve.specs.declared.hall.Ended.TheVariants.{StoreFault}
-use Rattle.portal_serve.specs.declared.hall.Outcome.{Outcome}
+use Rattle.portal_serve.specs.declared.server.Hall.{Hall}
+use Rattle.portal_serve.specs.declared.server.Ended.{Ended}
+use Rattle.portal_serve.specs.declared.server.Ended.TheVariants.{StoreFault}
+use Rattle.portal_serve.specs.declared.server.Outcome.{Outcome}
 
 -- so many connections were accepted, so many of them faulty, and the desk stands after each
 pub record Passed (old new : Option (List Outcome)) (accepted faults : ℕ) : Type 0 where

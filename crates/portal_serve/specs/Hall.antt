@@ -4,10 +4,10 @@ use Rattle.portal_desk.specs.declared.served.Cause.{Cause}
 use Rattle.portal_desk.specs.declared.served.Cause.TheVariants.{Read, Store}
 use Rattle.portal_desk.specs.declared.served.Served.{Served}
 use Rattle.portal_desk.specs.declared.served.ServeFault.{ServeFault}
-use Rattle.portal_serve.specs.declared.hall.Outcome.{Outcome}
-use Rattle.portal_serve.specs.declared.hall.Hall.{Hall}
-use Rattle.portal_serve.specs.declared.hall.Ended.{Ended}
-use Rattle.portal_serve.specs.declared.hall.Ended.TheVariants.{StoreFault}
+use Rattle.portal_serve.specs.declared.server.Outcome.{Outcome}
+use Rattle.portal_serve.specs.declared.server.Hall.{Hall}
+use Rattle.portal_serve.specs.declared.server.Ended.{Ended}
+use Rattle.portal_serve.specs.declared.server.Ended.TheVariants.{StoreFault}
 use Rattle.portal_core.specs.Sight.{OfficeSees}
 use Rattle.portal_core.specs.World.{has_result}
 use Rattle.portal_core.specs.Bodies.{report_text, line_feed}
@@ -16,12 +16,9 @@ use Rattle.portal_core.specs.declared.view.View.TheVariants.{Nobody, Office, Lec
 use Rattle.portal_reports.specs.Status.{status_text}
 use Rattle.portal_wire.specs.Conversation.{Exchange}
 use Rattle.portal_desk.specs.Kept.{KeeperState, Moves}
+pub use Rattle.portal_desk.specs.Kept.{IsMoved}
 
--- requests were served, whatever is known of their bytes
-abbrev pub IsMoved : KeeperState → KeeperState → Type 0
-IsMoved old new = (es : List Exchange) × Moves old new es
-
--- the same of requests of which this holds
+-- some requests of which this holds were served, whatever is known of their bytes
 abbrev pub IsMovedBy : (List Exchange → Type 0) → KeeperState → KeeperState → Type 0
 IsMovedBy Told old new = (es : List Exchange) × Moves old new es × Told es
 

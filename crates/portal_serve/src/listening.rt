@@ -1,15 +1,14 @@
 //! `serve_stream` serves one stream within timeouts; `serve_on` serves a listener's connections.
 
 ghost use Rattle.std.specs.Prelude.{◌≡◌, ◌≢◌, ◌≤◌, true, List, IfOk, IfErr};
-ghost use Rattle.portal_desk.specs.Kept.{FailsByCount, AtFirst, state_of};
-ghost use Rattle.portal_serve.specs.Hall.{IsMoved, Settles, Tells};
-ghost use Rattle.portal_serve.specs.declared.hall.Outcome.{Outcome};
+ghost use Rattle.portal_desk.specs.Kept.{AtFirst, FailsByCount, IsMoved, state_of};
+ghost use Rattle.portal_serve.specs.Hall.{Settles, Tells};
+ghost use Rattle.portal_serve.specs.declared.server.Outcome.{Outcome};
 
-use crate::connection::{Connection, ConnectionReader, ConnectionWriter};
-use crate::hall::{Connections, Ended, Hall, Outcome, is_fault, serve_each};
-use crate::stream::TimedStream;
+use crate::server::{Connections, Ended, Hall, Outcome, is_fault, serve_each};
+use crate::timeouts::{Connection, ConnectionReader, ConnectionWriter, TimedStream};
 use portal_core::Keeper;
-use portal_desk::{Counted, Desk, ServeFault, Served};
+use portal_desk::{Desk, ServeFault, Served, pipe};
 use std::net::TcpListener;
 use std::time::Clock;
 
@@ -27,8 +26,8 @@ pub fn serve_stream<T: Clock + AllocGlobal, S: TimedStream, K: Keeper>(
     desk: &mut Desk<K>,
 ) -> Result<Served, ServeFault>
     ensures clean { K.clean desk.new.keeper → K.clean desk.old.keeper }
-    ensures moves { IsMoved (state_of K.disk K.clean K.world K.broken K.leaves desk.old.keeper)
-        (state_of K.disk K.clean K.world K.broken K.leaves desk.new.keeper) }
+    ensures moves { let state = state_of K.disk K.clean K.world K.broken K.leaves in
+        IsMoved (state desk.old.keeper) (state desk.new.keeper) }
     ensures stays { desk.old.failed ≡ true → desk.new ≡ desk.old }
     ensures none { IfOk result (λ served. desk.old.failed ≡ true → served.requests ≡ 0) }
     ensures first { IfErr result (λ fault. desk.old.failed ≡ true
@@ -38,13 +37,13 @@ pub fn serve_stream<T: Clock + AllocGlobal, S: TimedStream, K: Keeper>(
     ensures settles { Settles result desk.old.failed desk.new.failed }
 {
     let connection = Connection::new(rt, stream);
-    let mut reader = Counted::new(ConnectionReader {
+    let mut reader = ConnectionReader {
         connection: &connection,
-    });
-    let mut writer = Counted::new(ConnectionWriter {
+    };
+    let mut writer = ConnectionWriter {
         connection: &connection,
-    });
-    let ended = desk.serve(rt.alloc(), &mut reader, &mut writer);
+    };
+    let ended = pipe(rt.alloc(), desk, &mut reader, &mut writer);
     if !is_fault(&ended) {
         // Every reply is written whole, so close gracefully to let the last one reach the client.
         let _ = connection.end();
@@ -81,8 +80,8 @@ pub fn serve_on<T: Clock + AllocGlobal, K: Keeper>(
 ) -> Hall
     ensures told { (outcomes : List Outcome) × Tells result outcomes }
     ensures clean { K.clean desk.new.keeper → K.clean desk.old.keeper }
-    ensures moves { IsMoved (state_of K.disk K.clean K.world K.broken K.leaves desk.old.keeper)
-        (state_of K.disk K.clean K.world K.broken K.leaves desk.new.keeper) }
+    ensures moves { let state = state_of K.disk K.clean K.world K.broken K.leaves in
+        IsMoved (state desk.old.keeper) (state desk.new.keeper) }
     ensures faults { result.faults ≤ result.accepted }
     ensures accepted { result.accepted ≤ connections }
     ensures full { result.ended ≡ Ended.Full → result.accepted ≡ connections }

@@ -10,15 +10,6 @@ use portal_core::{Code, KeepFault, Keeper, OfficeView, View};
 use portal_reports::{allocation_text, status_text};
 use std::alloc::{AllocError, Global};
 
-/// Why there is no report.
-#[derive(Clone, Copy, Debug, Drop, PartialEq, Eq)]
-pub enum Unreported {
-    /// The store failed, or the code is not the office's.
-    Store,
-    /// There was not enough memory.
-    Memory,
-}
-
 /// Writes the report: the status of the round, then an empty line and the result if there is one.
 fn text_of(alloc: Global, view: &OfficeView) -> Result<Vec<u8>, AllocError>
     ensures { IfOk result (λ text. text.items ≡ told_of view.now) }
@@ -34,16 +25,16 @@ fn text_of(alloc: Global, view: &OfficeView) -> Result<Vec<u8>, AllocError>
 }
 
 /// Returns the office's report if the view is the office's.
-fn told(alloc: Global, view: &View) -> Result<Vec<u8>, Unreported>
+fn told(alloc: Global, view: &View) -> Result<Vec<u8>, KeepFault>
     ensures text { IfOk result (λ text. IsOfficeReport view.now text.items) }
-    ensures other { result ≡ Err Unreported.Store → IsOther view.now }
+    ensures other { result ≡ Err KeepFault.Store → IsOther view.now }
 {
     let View::Office(office) = view else {
-        return Err(Unreported::Store);
+        return Err(KeepFault::Store);
     };
     match text_of(alloc, office) {
         Ok(text) => Ok(text),
-        Err(_) => Err(Unreported::Memory),
+        Err(_) => Err(KeepFault::Memory),
     }
 }
 
@@ -51,12 +42,8 @@ fn told(alloc: Global, view: &View) -> Result<Vec<u8>, Unreported>
 ///
 /// # Errors
 ///
-/// The keeper failed, memory ran out, or the code is not the office's.
-pub fn report<K: Keeper>(
-    alloc: Global,
-    keeper: &mut K,
-    office: &Code,
-) -> Result<Vec<u8>, Unreported>
+/// The keeper failed, or memory ran out. A code that is not the office's is a fault of the store.
+pub fn report<K: Keeper>(alloc: Global, keeper: &mut K, office: &Code) -> Result<Vec<u8>, KeepFault>
     ensures clean { K.clean keeper.new → K.clean keeper.old }
     ensures lasts { OnOk result (StaysClean (K.disk keeper.old) (K.disk keeper.new)
         (K.clean keeper.old) (K.clean keeper.new)) }
@@ -68,13 +55,10 @@ pub fn report<K: Keeper>(
     ensures same { K.clean keeper.new → K.world keeper.new ≡ K.world keeper.old }
     ensures text { IfOk result (λ text. K.clean keeper.new → Good (K.world keeper.old)
         → text.items ≡ told_of (office_sees (K.world keeper.old))) }
-    ensures store { result ≡ Err Unreported.Store → K.clean keeper.new → Good (K.world keeper.old)
+    ensures store { result ≡ Err KeepFault.Store → K.clean keeper.new → Good (K.world keeper.old)
         → (K.world keeper.old).office ≡ office.now
         → K.faults keeper.new ≡ K.faults keeper.old + 1 }
 {
-    match keeper.view(alloc, office.as_bytes()) {
-        Ok(view) => told(alloc, &view),
-        Err(KeepFault::Store) => Err(Unreported::Store),
-        Err(KeepFault::Memory) => Err(Unreported::Memory),
-    }
+    let view = keeper.view(alloc, office.as_bytes())?;
+    told(alloc, &view)
 }

@@ -1,5 +1,5 @@
 -- What `open` makes of what was read.
-use Rattle.portal_store.proofs.Base.{List, [], ◌∷◌, pos, ◌≡◌, ◌≢◌, ℕ, Bool, true, false, not, IsTrue, Ok, Err, Result, map, length, filter, slice_index_or, refl, sym, ap, subst, ◌∙◌, IsPermutation, length_permutation, Int, Row, column, Trees, Database, HasCleanDisk, IsUnchanged, State, Ghosts, Held, state, Round, First, Second, portal_tree, second_tree, choice2_tree, ranked2_tree, ranking2_tree, assigned2_tree, first_trees, own_trees, version, IsCurrentSchema, RowNumbersDiffer, portal_row, second_row, ListsBy, every, columns, HasOffice, number_of_phase, is_empty, AllNumbersDiffer, HasSecond, IsUnopened, IsConsistent, IsConsistentIn, later_trees, IsKept, early_trees, apart_one, current_own, Denies, AdmitsAs, Admits, TableFault, OpenFault, IfErr, IsLive, apart_none, HasVersion, RefusalSays, NumbersDiffer, SaysNothing}
+use Rattle.portal_store.proofs.Base.{List, [], ◌∷◌, pos, ◌≡◌, ◌≢◌, ℕ, Bool, true, false, not, IsTrue, Ok, Err, Result, map, length, filter, slice_index_or, refl, sym, ap, subst, ◌∙◌, IsPermutation, length_permutation, Int, Row, column, Trees, Database, HasCleanDisk, IsUnchanged, State, Ghosts, Held, state, Round, First, Second, portal_tree, second_tree, choice2_tree, ranked2_tree, ranking2_tree, assigned2_tree, first_trees, own_trees, version, IsCurrentSchema, RowNumbersDiffer, portal_row, second_row, ListsBy, every, columns, HasOffice, number_of_phase, is_empty, AllNumbersDiffer, HasSecond, IsUnopened, IsConsistent, IsConsistentIn, later_trees, IsKept, early_trees, apart_one, current_own, Denies, AdmitsAs, Admits, TableFault, OpenFault, IfErr, IsLive, apart_none, HasVersion, RefusalSays, NumbersDiffer, SaysNothing, Reading, Anyhow, IsSettled, OnlyLooks, OnOk, HasFirstSchema, clean_before}
 use Rattle.sqlite.proofs.Callers.{one_permutation}
 unfoldable use Rattle.sqlite.specs.State.{Begins}
 use Rattle.sqlite.specs.Listing.{understood, reads_listing, IsSourceOf}
@@ -232,3 +232,11 @@ version_still of a b same h = record {
       );
   version_is = h.version_is;
 }
+
+-- what a read tells of the tables that a look before it found
+pub told_before : {V E : Type 0} {Right : Database → Type 0} {Told : Database → Result V E → Type 0} (r : Result V E) (a b c : State) (P : Database → Type 0) → IsSettled a → OnlyLooks a b
+    → Reading First Anyhow Right Told r b c → HasCleanDisk c → HasFirstSchema a.now.schema → (IsTrue a.is_open → Right a.now) → ((v : V) → Told a.now (Ok v) → P a.now) → OnOk r (P a.now)
+told_before {Right = Right} {Told = Told} (Ok v) a b c P settled looks reads clean first right told =
+    let stays = looks.stays settled (clean_before b c _ reads.crash clean) (reads.same clean tt).0.was_open in
+    told v (subst (λ d. Told d (Ok v)) stays.1 (reads.told (subst (λ (d : Database). HasFirstSchema d.schema) (sym stays.1) first) (subst Right (sym stays.1) (right stays.0)) clean))
+told_before (Err e) a b c P settled looks reads clean first right told = tt

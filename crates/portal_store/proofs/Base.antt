@@ -7,7 +7,7 @@ pub use Rattle.std.proofs.lemmas.Bool.{cases_Bool, or_parts, eqb-false}
 pub use Rattle.std.proofs.lemmas.Bool.Decides.{nat_tests, eqb_tells}
 pub use Rattle.std.proofs.lemmas.List.{map-append, get_or-map, length-map, take_more, take_all}
 pub use Rattle.std.proofs.lemmas.List.Sorted.{IsPermutation-cons, IsPermutation-map, IsPermutation-middle, IsPermutation-refl, IsPermutation-sym, IsPermutation-trans, length_permutation, list_any-IsPermutation, IsPermutation-append_right}
-pub use Rattle.std.proofs.lemmas.Result.{IfOk-from_err, IfOk-weaker, MatchResult-weaker, on_err_weaker, on_ok_weaker, MatchResult-from_both}
+pub use Rattle.std.proofs.lemmas.Result.{IfOk-weaker, MatchResult-weaker, on_err_weaker, on_ok_weaker, MatchResult-from_both}
 pub use Rattle.std.specs.List.{AllByRecursion, cons_option, filter_map, find, list_all, list_any, AllZip}
 pub use Rattle.std.specs.List.Sorted.{IsPermutation}
 pub use Rattle.std.specs.Prelude.{IfSome, if◌then◌else◌, is_none, ◌==◌, nat_lt, ◌-◌, ◌↔◌}
@@ -36,7 +36,7 @@ pub use Rattle.portal_list.proofs.Replaced.{ranking_elsewhere, ranking_here}
 pub use Rattle.portal_list.specs.Rows.{HasEntries, RowsOfWorld, world_rows, choices_in, rankings_with, AllEntries}
 pub use Rattle.portal_list.specs.inner.Fill.{fill_missing}
 pub use Rattle.portal_list.specs.inner.Shown.{is_wanted, is_waiting, offered}
-pub use Rattle.portal_store.specs.Crash.{Refutes, Bars, Reopens, OpensAgain, OpensFresh, UpgradesAgain, HasVersion, RefusalSays, IsLeft}
+pub use Rattle.portal_store.specs.Crash.{Refutes, Bars, Reopens, OpensAgain, OpensFresh, UpgradesAgain, HasVersion, RefusalSays, IsLeft, IsUpgradedFrom, LeavesUpgraded}
 pub use Rattle.portal_store.specs.Kept.{AllNumbersDiffer, HasChanged, HasGoodFirst, HasGoodWorld, HasGoodWorldIn, HasSecond, IsCleanStore, IsConsistent, IsConsistentIn, IsTransition, IsUnopened, Seen, Whole, kept_world, later_trees, AreWhole, AreEmpty, HasDisk, DiskInMemory, KeepsClean, Lasts, LastsInMemory, IsOpened, IsBrokenStore, LeavesWorld, UnbrokenInMemory, AreConsistent, LeavesConsistent}
 pub use Rattle.portal_store.specs.World.{is_ranked, lecturer_stored, phase_in, round_in, student_stored, first_world, ranking_in, choice_in, placement_in_round, second_phase, office_row, round_by}
 pub use Rattle.portal_store.specs.declared.add_rows.NewRows.{NewRows}
@@ -51,14 +51,14 @@ pub use Rattle.portal_store.specs.inner.Placing.{ShowsRoll, TurnsLeft, TurnsShow
 pub use Rattle.portal_store.specs.inner.Putting.{TurnsAll, TurnsThere, with_rankings}
 pub use Rattle.portal_store.specs.inner.Queried.{lecturer_from, student_from}
 pub use Rattle.portal_store.specs.inner.Reading.{IsNow, IsToldAs, KeepsEntries, IsSoundIfOpen, RemembersIn}
-pub use Rattle.portal_tables.proofs.Asking.{commits_asked, commits_none, crash_asked}
+pub use Rattle.portal_tables.proofs.Asking.{commits_asked, commits_none}
 pub use Rattle.portal_tables.proofs.InTurn.{both, clean_before, if_answered, looks_by, looks_never, looks_then, settled_still, stays_left, stays_then, reads_as, reads_both, reads_handed, reads_more, reads_of, reads_open, reads_short, reads_then, reads_then_of, reads_wide}
 pub use Rattle.portal_tables.proofs.Keeping.{apart_one, others_are, apart_none, puts_apart, sets_apart}
 pub use Rattle.portal_tables.proofs.Listed.{all_map_on, permuted}
 pub use Rattle.portal_tables.proofs.Lists.{filter_all, put_splits}
 pub use Rattle.portal_tables.proofs.Making.{parts_of}
 pub use Rattle.portal_tables.proofs.OneFound.{filter_alike, found}
-pub use Rattle.portal_tables.proofs.Owned.{current_own, has_round, round_own, own_made, own_again}
+pub use Rattle.portal_tables.proofs.Owned.{current_own, has_round, own_made, own_again}
 pub use Rattle.portal_tables.proofs.Parents.{text_there, OnRoll, none_of, place_parents}
 pub use Rattle.portal_tables.proofs.Runs.{clean_if_open, does_more, does_none, does_then, goes_more, goes_nowhere, goes_then, made_goes, made_more, goes_both}
 pub use Rattle.portal_tables.proofs.Shapes.{IsLecturerRow, IsStudentRow, has_text_of, lecturer_rows_formed, student_rows_formed, student_test}
@@ -74,7 +74,7 @@ pub use Rattle.portal_tables.specs.inner.Changes.{Keeps, ListsBy, columns, every
 pub use Rattle.portal_tables.specs.inner.Owners.{choice_shown, has_list, IsFine, entry, IsRead}
 pub use Rattle.portal_tables.specs.inner.Placements.{pair_shown, HasPlacement, first_pairs, pair_told}
 pub use Rattle.portal_tables.specs.inner.Putting.{HasPut, PutsList, RanksSecond, HasPlacements, PutsPlacements, HasRanked}
-pub use Rattle.portal_tables.specs.inner.Reads.{Always, Answers}
+pub use Rattle.portal_tables.specs.inner.Reads.{Answers}
 pub use Rattle.portal_tables.specs.inner.Rolls.{RollsRise, by_key, lecturer_columns, lecturers_shown, projects_shown, roll_columns, students_shown}
 pub use Rattle.portal_tables.specs.inner.RowChanges.{Assigns, MovesSecond, MovesTo, pair_new, assigned_by, with_assigned, student_columns, text_cell, Adds, lecturer_new, project_new, student_new, lecturer_cells}
 pub use Rattle.portal_tables.specs.inner.Running.{Does, GoesOn, Made}

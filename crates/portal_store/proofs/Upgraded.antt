@@ -1,9 +1,10 @@
 -- Tables of version 1 that were upgraded stand for the world that they stood for.
-use Rattle.portal_store.proofs.Base.{◌≡◌, pos, Bool, false, ◌||◌, IsTrue, List, [], ◌∷◌, slice_index_or, refl, sym, ap, subst, ◌∙◌, AllByRecursion, list_any, column, bytes, Database, Ghosts, Held, state, number_in, with_tree, First, Good, portal_tree, first_trees, version, first_version, IsFirstSchema, Upgrades, has_names, OfSecond, HasOffice, number_of_phase, portal_row, Commits, apart_one, current_own, world_in, world_of, phase_numbered, IsConsistentIn, IsUnopened, HasGoodWorld, HasGoodFirst, IsKept, AdmitsAs, AllZip, first_schema, SameTable, Upgraded, has_name, is_named_table, is_named_view, HasCleanDisk, IsConsistent, LeavesOnly}
+use Rattle.portal_store.proofs.Base.{◌≡◌, pos, Bool, false, ◌||◌, IsTrue, List, [], ◌∷◌, slice_index_or, refl, sym, ap, subst, ◌∙◌, AllByRecursion, list_any, column, bytes, Database, Ghosts, Held, state, number_in, with_tree, First, Good, portal_tree, first_trees, version, first_version, IsFirstSchema, Upgrades, has_names, OfSecond, HasOffice, number_of_phase, portal_row, Commits, apart_one, current_own, world_in, world_of, phase_numbered, IsConsistentIn, IsUnopened, HasGoodWorld, HasGoodFirst, IsKept, AdmitsAs, AllZip, first_schema, SameTable, HasFirstSchema, take, length, Upgraded, has_name, is_named_table, is_named_view, HasCleanDisk, IsConsistent, LeavesOnly, State, Survives, IsAfter, clean_before, survives_then, IsUpgradedFrom, LeavesUpgraded}
 use Rattle.sqlite_trees.specs.Tree.{Trees}
 use Rattle.sqlite.specs.Table.{Table}
 use Rattle.sqlite.specs.Schema.{Schema}
 use Rattle.sqlite_tied.specs.Compute.{everything}
+use Rattle.portal_tables.specs.Tables.{SameSchema}
 use Rattle.portal_tables.specs.declared.names.Names.{Names}
 use Rattle.portal_store.proofs.Asked.{apart_all}
 use Rattle.portal_store.proofs.Rounds.{world_told}
@@ -58,7 +59,32 @@ upgraded_stands old new was up =
     let first = first_stands old new was.office up was in
     (First, record { office = first.office; second = second old new was.office up; whole = first.whole; good = first.good })
 
--- none of the six tables has a name of the second round's
+upgraded_from : (old after : Database) (db : Trees) → IsFirstSchema old.schema → AdmitsAs first_version old.trees → Upgrades old after → db ≡ after.trees → IsUpgradedFrom old.trees db
+upgraded_from old after db first was upgrades is =
+    let office = was.stands.office in
+    let up = upgrades first _ _ office.is in
+    record {
+      after = after;
+      trees = is;
+      holds = (First, upgraded_holds old after office up was);
+      world = ap world_of is ∙ world_told First after.trees (second old after office up) ∙ upgraded_world old after office up;
+    }
+
+-- what a crash leaves of tables that were looked at and then perhaps upgraded
+module _ (old mid new : State) (looks : Survives old mid (λ _. ⊥)) (upgrades : Survives mid new (IsAfter Upgrades mid)) where
+  pub leaves_upgraded : has_names OfSecond old.now.schema ≡ false → (IsFirstSchema old.now.schema → HasCleanDisk mid → mid.now ≡ old.now) → Survives old new (LeavesUpgraded old)
+  leaves_upgraded free same =
+      survives_then old mid new _ _ (LeavesUpgraded old) (λ clean db no. absurd no)
+      (λ clean db left. (free, (left.0, λ first. subst (λ (d : Database). Upgrades d left.0) (same first (clean_before mid new _ upgrades clean)) left.1 first, left.2))) looks upgrades
+
+  pub leaves_world : IsFirstSchema old.now.schema → (HasCleanDisk mid → (mid.now ≡ old.now) × AdmitsAs first_version old.now.trees) → Survives old new (IsUpgradedFrom old.now.trees)
+  leaves_world first known =
+      survives_then old mid new _ _ (IsUpgradedFrom old.now.trees) (λ clean db no. absurd no)
+      (λ clean db left.
+      let k = known (clean_before mid new _ upgrades clean) in
+      upgraded_from old.now left.0 db first k.1 (subst (λ (d : Database). Upgrades d left.0) k.0 left.1) left.2) looks upgrades
+
+-- a schema has the names of the portal's tables that its pattern has: the six have none of the second round's
 
 named_alike : (names : Names) (ts us : List Table) → AllZip SameTable ts us → list_any (is_named_table names) ts ≡ list_any (is_named_table names) us
 named_alike names [] [] h = refl
@@ -66,12 +92,25 @@ named_alike names [] (u ∷ us) h = absurd h
 named_alike names (t ∷ ts) [] h = absurd h
 named_alike names (t ∷ ts) (u ∷ us) h = λ i. has_name names (h.0.name i) || named_alike names ts us h.1 i
 
+pub named_as : (names : Names) (s pattern : Schema) → SameSchema s pattern → has_names names s ≡ has_names names pattern
+named_as names s pattern h = λ i. named_alike names s.tables pattern.tables h.tables i || list_any (is_named_view names) ((h.no_views ∙ sym h.no_views_there) i)
+
 none_named : has_names OfSecond first_schema ≡ false
 unfolding everything
 none_named = refl
 
 pub first_untaken : (s : Schema) → IsFirstSchema s → has_names OfSecond s ≡ false
-first_untaken s h = (λ i. named_alike OfSecond s.tables first_schema.tables h.tables i || list_any (is_named_view OfSecond) (h.no_views i)) ∙ none_named
+first_untaken s h = named_as OfSecond s first_schema h ∙ none_named
+
+-- the six tables are read as those of the first round
+
+all_taken : (ts us : List Table) → AllZip SameTable ts us → AllZip SameTable (take (length us) ts) us
+all_taken ts [] h = tt
+all_taken [] (u ∷ us) h = absurd h
+all_taken (t ∷ ts) (u ∷ us) h = (h.0, all_taken ts us h.1)
+
+pub first_own : (s : Schema) → IsFirstSchema s → HasFirstSchema s
+first_own s h = record { tables = all_taken s.tables first_schema.tables h.tables; no_views = h.no_views }
 
 pub not_taken : (b : Bool) → b ≡ false → IsTrue b → ⊥
 not_taken b e taken = cc

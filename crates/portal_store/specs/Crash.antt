@@ -3,14 +3,16 @@ use Rattle.portal_store.specs.Base.{Row, column, Trees, portal_tree, version, fi
 use Rattle.sqlite.specs.State.{Begins, State}
 use Rattle.portal_tables.specs.inner.Queries.{query_text}
 use Rattle.portal_tables.specs.declared.select.Query.TheVariants.{Office}
-use Rattle.std.specs.Prelude.{◌≡◌, ◌≢◌, ℕ, List, [], ◌∷◌, pos, ◌⊎◌, IsTrue}
+use Rattle.std.specs.Prelude.{◌≡◌, ◌≢◌, ℕ, List, [], ◌∷◌, pos, ◌⊎◌, IsTrue, false}
 use Rattle.sqlite.specs.declared.types.Value.TheVariants.{Int}
 use Rattle.portal_store.specs.Kept.{HasGoodWorld, HasGoodFirst, IsConsistent, HasChanged}
 use Rattle.portal_store.specs.declared.store.OpenFault.{OpenFault}
 use Rattle.portal_store.specs.declared.store.OpenFault.TheVariants as opening
 use Rattle.portal_store.specs.declared.store.UpgradeFault.{UpgradeFault}
 use Rattle.portal_store.specs.declared.store.UpgradeFault.TheVariants as upgrading
-use Rattle.portal_tables.specs.Making.{IsFresh, Upgrades}
+use Rattle.portal_tables.specs.Making.{IsFresh, Upgrades, has_names}
+use Rattle.portal_tables.specs.declared.names.Names.TheVariants.{OfSecond}
+use Rattle.portal_tables.specs.Steps.{IsAfter}
 use Rattle.portal_store.specs.World.{world_in, world_of, first_world}
 
 -- `portal` has a row; if it has only one, that row has this schema version
@@ -55,6 +57,18 @@ Bars upgrading.Exists db = ⊥
 -- what a crash may leave: the tables before the change, or those of the changed world
 abbrev pub IsLeft : Change → Database → Trees → Type 0
 IsLeft change old db = (db ≡ old.trees) ⊎ ((after : Database) × HasChanged change old after × (db ≡ after.trees))
+
+-- what a crash in an upgrade may leave beside the tables before it: the upgraded ones, if no new name
+-- was taken
+abbrev pub LeavesUpgraded : State → Trees → Type 0
+LeavesUpgraded old db = (has_names OfSecond old.now.schema ≡ false) × IsAfter Upgrades old db
+
+-- these are the trees of a consistent database with the world of those tables of version 1
+pub record IsUpgradedFrom (first db : Trees) : Type 0 where
+  pub after : Database
+  pub trees : db ≡ after.trees
+  pub holds : IsConsistent after
+  pub world : world_of db ≡ world_in First first
 
 -- own tables with a good world; an opening fails only for a fault of the store or want of memory
 pub record Reopens (found : Database) : Type 0 where

@@ -14,14 +14,13 @@ ghost use Rattle.portal_store.specs.inner.Reading.{KeepsEntries};
 use crate::add_rows::{NewRows, add_rows};
 use crate::fill::fill_rankings;
 use crate::lists::{PutChoices, replace_ranking};
-use crate::opening::open_second;
 use crate::phase::set_phase;
 use crate::placing::publish;
 use crate::round::round_in;
-use crate::settled::settled;
+use crate::second_round::open_second;
 use portal_core::{Change, Round};
 use portal_list::Entries;
-use portal_tables::{TableFault, commit};
+use portal_tables::{TableFault, commit, settled};
 use sqlite::{Alter, Connection};
 use std::alloc::Global;
 

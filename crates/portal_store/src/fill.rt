@@ -12,10 +12,9 @@ ghost use Rattle.portal_store.specs.inner.Reading.{KeepsEntries};
 
 use crate::lists::PutRanking;
 use crate::load::load_entries;
-use crate::settled::settled;
 use portal_core::Round;
 use portal_list::Entries;
-use portal_tables::{Step, TableFault, commit};
+use portal_tables::{Step, TableFault, commit, settled};
 use spa_rows::Key;
 use sqlite::{Alter, Connection, Error, Transaction};
 use std::alloc::Global;

@@ -18,9 +18,8 @@ ghost use Rattle.portal_store.specs.Kept.{IsTransition};
 ghost use Rattle.portal_store.specs.Crash.{IsLeft};
 
 use crate::change::take;
+use crate::entries::{follow, instance_in, instance_of};
 use crate::fault::{counted, told};
-use crate::follow::follow;
-use crate::instance::{instance_in, instance_of};
 use crate::queries::show;
 use crate::round::office_code;
 use crate::store::Store;
@@ -53,6 +52,13 @@ impl<S: Alter> Store<S> {
         ensures own { self.new.own ≡ self.old.own }
         ensures stays_open { Lasts S.Store self.old self.new }
         ensures lasts { OnOk result (KeepsClean S.Store self.old self.new) }
+        ensures breaks { Breaks result (HasDisk S.Store self.old) (HasDisk S.Store self.new)
+            (IsCleanStore S.Store self.old) (IsCleanStore S.Store self.new)
+            (IsBrokenStore S.Store self.old) (IsBrokenStore S.Store self.new) }
+        ensures settled { IsCleanStore S.Store self.new
+            → Settles (kept_world S.Store self.new) (LeavesWorld S.Store self.new) }
+        ensures leaves { LeavesBy (HasDisk S.Store self.new) (LeavesWorld S.Store self.old)
+            (LeavesWorld S.Store self.new) (λ _. ⊥) }
         ensures counts { CountsFaults result self.old.faults self.new.faults }
     {
         if let Err(fault) = self.check_own() {

@@ -3,24 +3,21 @@
 
 mod add_rows;
 mod change;
+mod checks;
 mod create;
+mod entries;
 mod fault;
 mod fill;
-mod follow;
-mod instance;
 mod keeper;
 pub mod laws;
 mod lists;
 mod load;
 mod open;
-mod opening;
 mod phase;
 mod placing;
 pub mod queries;
 mod round;
-mod seeing;
-mod settled;
-mod sound;
+mod second_round;
 mod store;
 mod upgrade;
 

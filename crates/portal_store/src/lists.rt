@@ -7,12 +7,11 @@ ghost use Rattle.portal_store.specs.inner.Keeping.{IsTransitionIn};
 ghost use Rattle.portal_store.specs.inner.Ending.{CommitsChange};
 ghost use Rattle.portal_store.specs.inner.Putting.{TurnsThere};
 
-use crate::settled::settled;
 use portal_core::Round;
 use portal_tables::list_table::Lists;
 use portal_tables::select::{Query, read};
 use portal_tables::update::set_ranked;
-use portal_tables::{Step, TableFault, commit, put_list, rank_second};
+use portal_tables::{Step, TableFault, commit, put_list, rank_second, settled};
 use spa_rows::Key;
 use sqlite::{Alter, Connection, Error, Transaction};
 use std::alloc::Global;

@@ -1,4 +1,4 @@
-//! Opens a store over tables. The file `seeing` checks the first round's tables; this file checks
+//! Opens a store over tables. The file `checks` checks the first round's tables; this file checks
 //! the second round's tables, and the whole world.
 
 ghost use Rattle.std.specs.Prelude.{◌≡◌, ◌↔◌, false, [], IfOk, IfErr, OnOk, IsTrue};
@@ -9,7 +9,7 @@ ghost use Rattle.portal_core.specs.Good.{Good};
 ghost use Rattle.portal_core.specs.Meaning.{Settles};
 ghost use Rattle.portal_core.specs.declared.phase.Round.TheVariants.{First, Second};
 ghost use Rattle.portal_core.specs.declared.phase.Phase.TheVariants.{Published};
-ghost use Rattle.portal_tables.specs.Tables.{IsCurrentSchema, version};
+ghost use Rattle.portal_tables.specs.Tables.{HasFirstSchema, IsCurrentSchema, version};
 ghost use Rattle.portal_tables.specs.inner.Queries.{round_asked};
 ghost use Rattle.portal_tables.specs.Steps.{Reads, Gives, IsSettled, OnlyLooks, Stays};
 ghost use Rattle.portal_tables.specs.inner.Reads.{Always, Answers};
@@ -18,22 +18,21 @@ ghost use Rattle.portal_store.specs.Kept.{AllNumbersDiffer, AreEmpty, HasSecond,
 ghost use Rattle.portal_store.specs.Kept.{HasGoodWorldIn, IsCleanStore, LeavesWorld};
 ghost use Rattle.portal_store.specs.Kept.{kept_world, later_trees};
 ghost use Rattle.portal_store.specs.World.{phase_in, round_in, world_of};
-ghost use Rattle.portal_store.specs.Crash.{Refutes, ShowsVersion};
+ghost use Rattle.portal_store.specs.Crash.{HasVersion, Refutes, ShowsVersion};
 ghost use Rattle.portal_store.specs.inner.Asked.{NumbersDiffer, Denies, IsJudged, SaysNothing};
 ghost use Rattle.portal_store.specs.inner.Asked.{Admits};
 ghost use Rattle.portal_store.specs.inner.Reading.{ReadsAll, IsSoundIfOpen, queried_rows};
 
+use crate::checks::{judge_world, see_first, see_first_numbers, see_row_numbers, see_tables};
 use crate::fault::{load_open_fault_of, open_fault_of};
+use crate::load::load_keeper;
 use crate::round::first_phase;
-use crate::seeing::{judge_world, see_first, see_first_numbers, see_row_numbers, see_tables};
-use crate::settled::settled;
-use crate::sound::load_keeper;
 use crate::store::{NotOpened, OpenFault, Store};
 use portal_core::{Phase, ViewCache};
 use portal_list::Entries;
 use portal_tables::list_table::Lists;
 use portal_tables::select::{Query, Table, finds_any};
-use portal_tables::{PortalSchema, VERSION, second_in};
+use portal_tables::{PortalSchema, VERSION, second_in, settled};
 use sqlite::{Alter, Connection};
 use std::alloc::Global;
 
@@ -158,6 +157,9 @@ fn examine<S: Alter>(
     ensures looks { OnlyLooks (state S.Store conn.old) (state S.Store conn.new) }
     ensures shows { IsSettled (state S.Store conn.old) → HasCleanDisk (state S.Store conn.new)
         → OnOk result (ShowsVersion version (state S.Store conn.new)) }
+    ensures version { IsSettled (state S.Store conn.old) → HasFirstSchema conn.old.schema
+        → HasCleanDisk (state S.Store conn.new)
+        → OnOk result (HasVersion version (state S.Store conn.old).now.trees) }
     ensures reads { IsTrue own → Reads Second S.Store (IsSoundIfOpen S.Store conn.old)
         (Answers (λ db e. Admits db.trees × HasEntries e (world_of db.trees))
         (λ db fault. Refutes fault db.trees))
@@ -193,6 +195,9 @@ impl<S: Alter> Store<S> {
         ensures counted { IfOk result (λ s. s.faults ≡ 0) }
         ensures shows { IfOk result (λ s. HasCleanDisk (state S.Store s.conn)
             → ShowsVersion version (state S.Store s.conn)) }
+        ensures version { IfOk result (λ s. HasFirstSchema conn.schema
+            → HasCleanDisk (state S.Store s.conn)
+            → HasVersion version (state S.Store conn).now.trees) }
         ensures stays { IfOk result (λ s. HasCleanDisk (state S.Store s.conn)
             → IsTrue (state S.Store s.conn).is_open
             → Stays (state S.Store conn) (state S.Store s.conn)) }

@@ -9,11 +9,10 @@ ghost use Rattle.portal_store.specs.inner.Ending.{CommitsChange};
 ghost use Rattle.portal_store.specs.inner.Reading.{KeepsEntries};
 
 use crate::load::load_entries;
-use crate::settled::settled;
 use portal_core::{Phase, Round};
 use portal_list::Entries;
-use portal_tables::update::set_phase as set_phase_number;
-use portal_tables::{Step, TableFault, commit, phase_number, set_second};
+use portal_tables::update::set_phase as write_phase;
+use portal_tables::{Step, TableFault, commit, set_second, settled};
 use sqlite::{Alter, Connection, Error, Transaction};
 use std::alloc::Global;
 
@@ -29,8 +28,8 @@ impl Step for SetPhase {
     fn take<S: Alter>(self, _alloc: Global, tx: &mut Transaction<'_, S>) -> Result<(), Error> {
         let SetPhase { round, phase } = self;
         match round {
-            Round::First => set_phase_number(tx, phase_number(phase)),
-            Round::Second => set_second(tx, phase_number(phase)),
+            Round::First => write_phase(tx, phase),
+            Round::Second => set_second(tx, phase),
         }
     }
 }

@@ -11,12 +11,11 @@ ghost use Rattle.sqlite.specs.Order.{column};
 ghost use Rattle.portal_tables.specs.Rows.{text_or_none};
 ghost use Rattle.portal_core.specs.declared.phase.Round.TheVariants.{First};
 
-use crate::settled::settled;
-use portal_core::{Pairs, Round};
+use portal_core::{Pairs, Phase, Round};
 use portal_tables::cells::{bytes_at, key_at};
-use portal_tables::select::{Query, Roll, read};
+use portal_tables::select::{Query, RollTable, read};
 use portal_tables::{
-    Assignment, Step, TableFault, assign_all, commit, put_placements, set_second, update,
+    Assignment, Step, TableFault, assign_all, commit, put_placements, set_second, settled, update,
 };
 use spa_rows::Key;
 use sqlite::types::ValueRef;
@@ -67,7 +66,7 @@ impl Step for PutResult<'_> {
         let pairs = Pairs::of(alloc, pairs)?;
         let all = assignments(alloc, rows, &pairs)?;
         assign_all(tx, &all)?;
-        update::set_phase(tx, 3)
+        update::set_phase(tx, Phase::Published)
     }
 }
 
@@ -127,7 +126,7 @@ impl Step for PutSecond<'_> {
     fn take<S: Alter>(self, alloc: Global, tx: &mut Transaction<'_, S>) -> Result<(), Error> {
         let PutSecond { left } = self;
         put_placements(alloc, tx, left)?;
-        set_second(tx, 3)
+        set_second(tx, Phase::Published)
     }
 }
 
@@ -145,7 +144,7 @@ pub(crate) fn publish<S: Alter>(
         (state S.Store conn.old) (state S.Store conn.new) }
 {
     settled(conn);
-    let rows = read(conn, Query::Whole(Roll::Students))?;
+    let rows = read(conn, Query::Whole(RollTable::Students))?;
     match round {
         Round::First => commit(alloc, conn, PutResult { rows: &rows, pairs }),
         Round::Second => {

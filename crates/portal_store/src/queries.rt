@@ -1,28 +1,78 @@
 //! Identifies the caller, and makes the view from cache and queries.
 
-ghost use Rattle.std.specs.Prelude.{◌≡◌, false, None};
+ghost use Rattle.std.specs.Prelude.{◌≡◌, false, None, option_map};
 ghost use Rattle.portal_core.specs.Good.{Good};
 ghost use Rattle.portal_core.specs.View as seen;
 ghost use Rattle.portal_core.specs.Words.{equals};
 ghost use Rattle.portal_core.specs.declared.phase.Round.TheVariants.{Second};
-ghost use Rattle.portal_core.specs.View.{sight_of, caller_among, student_with, OfficeCaller};
+ghost use Rattle.portal_core.specs.View.{sight_of, caller_among, OfficeCaller};
+ghost use Rattle.portal_core.specs.View.{lecturer_with, student_with};
+ghost use Rattle.portal_core.specs.declared.phase.Round.{Round as ThatRound};
 ghost use Rattle.portal_tables.specs.Steps.{Reads, Gives};
 ghost use Rattle.portal_tables.specs.inner.Reads.{MayRead};
 ghost use Rattle.portal_store.specs.World.{world_in, world_of};
-ghost use Rattle.portal_store.specs.Kept.{IsConsistent};
+ghost use Rattle.portal_store.specs.Kept.{IsConsistent, IsConsistentIn};
+ghost use Rattle.portal_store.specs.inner.Queried.{lecturer_from, student_from};
 ghost use Rattle.portal_store.specs.inner.Reading.{IsNow, Remembers, RemembersIn, Shows, ShowsIn};
 
-mod caller;
-mod catalogue;
-
 use crate::round::current_round;
-use caller::{lecturer_by_code, student_by_code};
-use catalogue::shared_catalogue;
-use portal_core::{KeepFault, OfficeView, Phase, Round, View, ViewCache};
+use portal_core::{KeepFault, Listing, OfficeView, Phase, Round, View, ViewCache};
+use portal_tables::decode::at_most_one;
+use portal_tables::select::{Query, read_rows};
 use portal_tables::{Office, TableFault};
-use portal_views::{lecturer_view, office_view, student_view};
-use sqlite::{Alter, Connection};
+use portal_views::{catalogue_in, lecturer_view, office_view, student_view};
+use sqlite::{Alter, Connection, Row};
 use std::alloc::Global;
+use std::rc::Rc;
+
+/// Finds by a query the row of the lecturer with the code.
+fn lecturer_by_code<S: Alter>(
+    alloc: Global,
+    conn: &mut Connection<S>,
+    code: &[u8],
+) -> Result<Option<Row>, TableFault>
+    ensures { (round : ThatRound) → Reads round S.Store (IsConsistentIn round)
+        (Gives (λ db row. option_map (lecturer_from round db.trees) row
+        ≡ lecturer_with (world_in round db.trees) code.now))
+        result conn.old conn.new }
+{
+    let rows = read_rows(alloc, conn, Query::LecturerByCode(code))?;
+    at_most_one(rows)
+}
+
+/// Finds by a query the row of the student with the code.
+fn student_by_code<S: Alter>(
+    alloc: Global,
+    conn: &mut Connection<S>,
+    code: &[u8],
+) -> Result<Option<Row>, TableFault>
+    ensures { (round : ThatRound) → Reads round S.Store (IsConsistentIn round)
+        (Gives (λ db row. option_map (student_from round db.trees) row
+        ≡ student_with (world_in round db.trees) code.now))
+        result conn.old conn.new }
+{
+    let rows = read_rows(alloc, conn, Query::StudentByCode(code))?;
+    at_most_one(rows)
+}
+
+/// Returns the cached catalogue, or reads it from the tables and caches it.
+fn shared_catalogue<S: Alter>(
+    alloc: Global,
+    conn: &mut Connection<S>,
+    round: Round,
+    cache: &mut ViewCache,
+) -> Result<Rc<Vec<Listing>>, TableFault>
+    ensures { MayRead round S.Store (RemembersIn round cache.old)
+        (ShowsIn round cache.new (λ w shared. shared.value.items ≡ seen.catalogue w))
+        result conn.old conn.new }
+{
+    if let Some(shared) = &cache.catalogue {
+        return Ok(shared.clone()?);
+    }
+    let shared = catalogue_in(alloc, conn, round)?;
+    cache.catalogue = Some(shared.clone()?);
+    Ok(shared)
+}
 
 /// Makes the office's view by queries; the catalogue comes from the cache if it is there.
 fn read_office<S: Alter>(

@@ -1,7 +1,7 @@
 //! Upgrades tables of version 1, and makes a store of them.
 
 ghost use Rattle.std.specs.Prelude.{◌≡◌, ◌↔◌, ◌⊎◌, false, Err, IfOk, IfErr, OnOk, OnErr, IsTrue};
-ghost use Rattle.sqlite.specs.State.{HasCleanDisk, Survives};
+ghost use Rattle.sqlite.specs.State.{HasCleanDisk, IsLive, Survives};
 ghost use Rattle.sqlite.specs.Held.{state};
 ghost use Rattle.portal_core.specs.Good.{Good};
 ghost use Rattle.portal_core.specs.Meaning.{Settles};
@@ -9,23 +9,24 @@ ghost use Rattle.portal_core.specs.declared.phase.Round.TheVariants.{First};
 ghost use Rattle.portal_tables.specs.Tables.{first_version, IsFirstSchema, HasFirstSchema};
 ghost use Rattle.portal_tables.specs.Making.{Upgrades, has_names};
 ghost use Rattle.portal_tables.specs.declared.names.Names.TheVariants.{OfSecond};
-ghost use Rattle.portal_tables.specs.Steps.{Reads, Commits, IsAfter, LeavesOnly, OnlyLooks, Stays};
+ghost use Rattle.portal_tables.specs.Steps.{Reads, Commits, IsSettled, LeavesOnly, OnlyLooks};
+ghost use Rattle.portal_tables.specs.Steps.{Stays};
 ghost use Rattle.portal_tables.specs.inner.Reads.{Answers};
 ghost use Rattle.portal_list.specs.Rows.{HasEntries};
 ghost use Rattle.portal_store.specs.Kept.{HasGoodFirst, IsCleanStore, LeavesWorld, kept_world};
 ghost use Rattle.portal_store.specs.World.{world_in};
-ghost use Rattle.portal_store.specs.Crash.{RefusalSays, Bars, ShowsVersion};
+ghost use Rattle.portal_store.specs.Crash.{Bars, IsUpgradedFrom, LeavesUpgraded, RefusalSays};
+ghost use Rattle.portal_store.specs.Crash.{ShowsVersion};
 ghost use Rattle.portal_store.specs.inner.Asked.{AdmitsAs};
 ghost use Rattle.portal_store.specs.inner.Reading.{IsSoundIfOpen, OverLive};
 
+use crate::checks::{judge_first, see_first};
 use crate::fault::{open_fault_of, upgrade_fault_of, upgrading_fault_of};
-use crate::seeing::{judge_first, see_first};
-use crate::settled::settled;
 use crate::store::{NotOpened, OpenFault, Store, UpgradeFault};
 use portal_core::ViewCache;
 use portal_list::Entries;
 use portal_tables::names::{Names, is_there};
-use portal_tables::{FIRST_VERSION, PortalSchema, upgrade_tables};
+use portal_tables::{FIRST_VERSION, PortalSchema, settled, upgrade_tables};
 use sqlite::{Alter, Connection};
 use std::alloc::Global;
 
@@ -39,6 +40,8 @@ fn examine_first<S: Alter>(
     ensures looks { OnlyLooks (state S.Store conn.old) (state S.Store conn.new) }
     ensures shows { HasCleanDisk (state S.Store conn.new)
         → OnOk result (ShowsVersion first_version (state S.Store conn.new)) }
+    ensures judged { IsSettled (state S.Store conn.old) → OverLive First S.Store conn.old conn.new
+        (OnOk result (HasGoodFirst first_version (state S.Store conn.old).now.trees)) }
     ensures reads { IsTrue own → Reads First S.Store (IsSoundIfOpen S.Store conn.old)
         (Answers (λ db e. AdmitsAs first_version db.trees
         × HasEntries e (world_in First db.trees))
@@ -59,6 +62,7 @@ fn upgraded<S: Alter>(
 ) -> Result<Entries, UpgradeFault>
     requires idle { conn.old.in_transaction ≡ false }
     requires first { IsTrue own ↔ IsFirstSchema conn.old.schema }
+    requires taken { is_taken ≡ has_names OfSecond conn.old.schema }
     ensures idle { conn.new.in_transaction ≡ false }
     ensures made { IsTrue own → HasFirstSchema conn.old.schema
         → HasCleanDisk (state S.Store conn.new)
@@ -69,17 +73,23 @@ fn upgraded<S: Alter>(
     ensures refused { IsTrue own → OverLive First S.Store conn.old conn.new
         (IfErr result (λ fault. (fault ≡ UpgradeFault.Exists)
         ⊎ Bars fault (state S.Store conn.old).now.trees)) }
-    ensures exists { result ≡ Err UpgradeFault.Exists → IsTrue is_taken }
+    ensures exists { result ≡ Err UpgradeFault.Exists
+        → IsTrue (has_names OfSecond conn.old.schema) }
     ensures order { result ≡ Err UpgradeFault.Exists → HasCleanDisk (state S.Store conn.new)
         → ShowsVersion first_version (state S.Store conn.new) }
-    ensures free { OnOk result (is_taken ≡ false) }
+    ensures judged { result ≡ Err UpgradeFault.Exists → OverLive First S.Store conn.old conn.new
+        (HasGoodFirst first_version (state S.Store conn.old).now.trees) }
+    ensures free { OnOk result (has_names OfSecond conn.old.schema ≡ false) }
     ensures err { HasCleanDisk (state S.Store conn.new)
         → IsTrue (state S.Store conn.new).is_open
         → OnErr result (Stays (state S.Store conn.old) (state S.Store conn.new)) }
     ensures durable { HasCleanDisk (state S.Store conn.new)
         → OnOk result (LeavesOnly (state S.Store conn.new)) }
     ensures crash { Survives (state S.Store conn.old) (state S.Store conn.new)
-        (IsAfter Upgrades (state S.Store conn.old)) }
+        (LeavesUpgraded (state S.Store conn.old)) }
+    ensures left { IsTrue own → HasFirstSchema conn.old.schema → IsLive (state S.Store conn.old)
+        → Survives (state S.Store conn.old) (state S.Store conn.new)
+        (IsUpgradedFrom (state S.Store conn.old).now.trees) }
 {
     settled(conn);
     let entries = match examine_first(alloc, conn, own) {
@@ -134,6 +144,9 @@ impl<S: Alter> Store<S> {
         ensures order { IfErr result (λ e. e.fault ≡ UpgradeFault.Exists
             → HasCleanDisk (state S.Store e.connection)
             → ShowsVersion first_version (state S.Store e.connection)) }
+        ensures judged { IfErr result (λ e. e.fault ≡ UpgradeFault.Exists
+            → HasFirstSchema conn.schema → HasCleanDisk (state S.Store e.connection)
+            → HasGoodFirst first_version (state S.Store conn).now.trees) }
         ensures free { IfOk result (λ _. has_names OfSecond conn.schema ≡ false) }
         ensures err { IfErr result (λ e. HasCleanDisk (state S.Store e.connection)
             → IsTrue (state S.Store e.connection).is_open
@@ -142,9 +155,15 @@ impl<S: Alter> Store<S> {
             → HasCleanDisk (state S.Store conn)) }
         ensures idle { IfErr result (λ e. e.connection.in_transaction ≡ false) }
         ensures crash_ok { IfOk result (λ s. Survives (state S.Store conn) (state S.Store s.conn)
-            (IsAfter Upgrades (state S.Store conn))) }
+            (LeavesUpgraded (state S.Store conn))) }
         ensures crash_err { IfErr result (λ e. Survives (state S.Store conn)
-            (state S.Store e.connection) (IsAfter Upgrades (state S.Store conn))) }
+            (state S.Store e.connection) (LeavesUpgraded (state S.Store conn))) }
+        ensures left_ok { IfOk result (λ s. IsFirstSchema conn.schema
+            → Survives (state S.Store conn) (state S.Store s.conn)
+            (IsUpgradedFrom (state S.Store conn).now.trees)) }
+        ensures left_err { IfErr result (λ e. IsFirstSchema conn.schema
+            → Survives (state S.Store conn) (state S.Store e.connection)
+            (IsUpgradedFrom (state S.Store conn).now.trees)) }
     {
         settled(&conn);
         let pattern = match PortalSchema::new(alloc) {

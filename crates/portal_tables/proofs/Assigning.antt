@@ -1,9 +1,9 @@
 -- The UPDATEs of the projects of students.
-use Rattle.portal_tables.proofs.Base.{◌≡◌, ◌+◌, ◌∷◌, ◌++◌, ◌<◌, ℕ, ℤ, Bool, true, not, cond, List, [], map, filter, length, take, get_or, codes, Option, Some, None, refl, sym, ap, ap₂, subst, subst₂, ◌∙◌, AllByRecursion, all_from, all_has, has_filtered, IsPermutation, map-append, IsPermutation-refl, IsPermutation-trans, IsPermutation-map, IsPermutation-filter_both, Value, Int, Text, Row, column, cast_row, Term, col, State, Database, everything, understood, bound_value, all-filter, all_map, all_weaker, student_schema, student_tree, has_text, Second, IsCurrentSchema, Assigned, text_cell, student_columns, assigned_by, with_assigned, Assigns, Ran, Made}
+use Rattle.portal_tables.proofs.Base.{◌≡◌, ◌+◌, ◌∷◌, ◌++◌, ◌<◌, ℕ, ℤ, Bool, true, not, cond, List, [], map, filter, length, take, get_or, codes, Option, Some, None, refl, sym, ap, ap₂, subst, subst₂, ◌∙◌, AllByRecursion, IsPermutation, map-append, IsPermutation-trans, IsPermutation-map, IsPermutation-filter_both, Value, Int, Text, Row, column, cast_row, Term, col, State, Database, everything, understood, bound_value, all-filter, all_map, all_weaker, student_schema, student_tree, has_text, Second, IsCurrentSchema, Assigned, text_cell, student_columns, assigned_by, with_assigned, Assigns, Ran, Made}
 use Rattle.portal_tables.proofs.InTurn.{next_item}
-use Rattle.portal_tables.proofs.Keeping.{keeps_then, keeps_all}
+use Rattle.portal_tables.proofs.Keeping.{keeps_then}
 use Rattle.portal_tables.proofs.Listed.{all_map_on}
-use Rattle.portal_tables.proofs.Lists.{not_true}
+use Rattle.portal_tables.proofs.Lists.{not_true, sifted}
 use Rattle.portal_tables.proofs.Owned.{current_own}
 use Rattle.portal_tables.proofs.Query.{passes, shown_as}
 use Rattle.portal_tables.proofs.Shapes.{IsStudentRow, student_rows_formed}
@@ -27,10 +27,6 @@ update_one_is = record { command = λ checks more. refl; plain = λ checks more.
 pub assigned_bound : (project : Option (List ℕ)) → bound_value (text_cell project) ≡ text_cell project
 assigned_bound None = refl
 assigned_bound (Some t) = refl
-
--- what passes a test keeps what was known of it
-sifted : {X : Type 0} (P : X → Type 0) (p : X → Bool) (xs : List X) → AllByRecursion P xs → AllByRecursion (λ x. P x × (p x ≡ true)) (filter p xs)
-sifted P p xs all = all_from _ (filter p xs) (λ x has. let passed = has_filtered p xs x has in (all_has P xs x all passed.0, passed.1))
 
 module _ (key : List ℕ) (project : Option (List ℕ)) where
   abbrev params : Row
@@ -108,9 +104,6 @@ module _ (key : List ℕ) (project : Option (List ℕ)) where
 one_more : (all : List Assigned) (x : Assigned) (key value : Value) → assigned_by (x ∷ []) key (assigned_by all key value) ≡ assigned_by (all ++ x ∷ []) key value
 one_more [] x key value = refl
 one_more (a ∷ all) x key value = one_more all x key _
-
-pub assigns_none : (db : Database) → Assigns [] db db
-assigns_none db own sound apart = record { schema_is = refl; apart = apart; rows = IsPermutation-refl (map student_columns (db.trees student_tree)); others = keeps_all db; sound = sound }
 
 assigns_then : (all : List Assigned) (x : Assigned) (a b c : Database) → Assigns all a b → Assigns (x ∷ []) b c → Assigns (all ++ x ∷ []) a c
 assigns_then all x a b c first later own sound apart =

@@ -6,12 +6,11 @@ unfoldable pub use Rattle.sqlite.specs.State.{FailsToQuery, IsNotRun, Shown}
 unfoldable pub use Rattle.sqlite_tied.specs.Compute.{everything}
 unfoldable pub use Rattle.std.specs.List.{IsDistinct}
 pub use lib.Dec.{lt→ltb}
-pub use Rattle.std.proofs.Common.{add-one, ap, ap₂, cond, drop, eqb, get_or, inl, inr, int_cmp, negsuc, refl, slice_get, subst, subst₂, suc, sym, zero, zero-add, ◌∙◌, arith, rules, ◌/◌}
+pub use Rattle.std.proofs.Common.{ap, ap₂, cond, drop, eqb, get_or, inl, inr, int_cmp, negsuc, refl, slice_get, subst, subst₂, suc, sym, zero, zero-add, ◌∙◌, arith, rules, ◌/◌}
 pub use Rattle.std.proofs.Math.Bool.{and-false, and-true, or-true}
 pub use Rattle.std.proofs.lemmas.Bool.{and_parts, cases_Bool, cases_lt, eq-eqb, eqb-false, or_parts}
 pub use Rattle.std.proofs.lemmas.Cmp.{nat_list_cmp_total, tied_itself}
 pub use Rattle.std.proofs.lemmas.Fn.{always_returns_same}
-pub use Rattle.std.proofs.lemmas.Grind.{common_steps}
 pub use Rattle.std.proofs.lemmas.List.{append-nil, append_assoc, length-map, length-take-le, length_push, map-append, map-id, nil_from_length, take-append-drop, take_all, take_more}
 pub use Rattle.std.proofs.lemmas.List.Elements.{filter-append, filter_map-append}
 pub use Rattle.std.proofs.lemmas.List.Sorted.{IsPermutation-append_left, IsPermutation-append_right, IsPermutation-cons, IsPermutation-filter_both, IsPermutation-map, IsPermutation-middle, IsPermutation-refl, IsPermutation-sym, IsPermutation-to_front, IsPermutation-trans, length_permutation, list_any-IsPermutation, searchable_from_sorted}
@@ -23,17 +22,17 @@ pub use Rattle.std.specs.Cmp.{int_cmp_is, nat_cmp_is, Equal-is}
 pub use Rattle.std.specs.Cmp.Lexicographic.{texts_ties}
 pub use Rattle.std.specs.List.{cons_option, list_all}
 pub use Rattle.std.specs.Ordering.{is_gt, match_ordering, ordering_reverse, ordering_then}
-pub use Rattle.std.specs.Prelude.{IfErr, IfSome, if◌then◌else◌, is_some, option_copied, ◌&&◌, ◌++◌, ◌+◌, ◌<◌, ◌==◌, ◌||◌, ◌∷◌, ◌≡◌, ◌≢◌, ◌≤◌, ◌⊎◌, ◌<ℤ◌, MatchResult, ◌↔◌}
+pub use Rattle.std.specs.Prelude.{IfSome, if◌then◌else◌, is_some, option_copied, ◌&&◌, ◌++◌, ◌+◌, ◌<◌, ◌==◌, ◌||◌, ◌∷◌, ◌≡◌, ◌≢◌, ◌≤◌, ◌⊎◌, ◌<ℤ◌, MatchResult, ◌↔◌}
 pub use Rattle.std.specs.Result.{IsErr, IsErrAnd}
 pub use Rattle.std.specs.declared.cmp.Ordering.{Ordering}
 pub use Rattle.std.specs.declared.cmp.Ordering.TheVariants.{Equal, Greater, Less}
 pub use Rattle.portal_core.proofs.Adjacent.{adjacent_rise, rows_sorted}
-pub use Rattle.portal_core.proofs.AllLaws.{all_append, all_map, all_weaker, any_map, filtered_any, is_sym, none_is}
+pub use Rattle.portal_core.proofs.AllLaws.{all_map, all_weaker, any_map, filtered_any, is_sym, none_is}
 pub use Rattle.portal_core.proofs.Fills.{before_other}
 pub use Rattle.portal_core.proofs.Keys.{all_unmap, is_own, is_same, not_before_itself}
 pub use Rattle.portal_core.proofs.Puts.{after_other, before_trans, rise_put, less_of}
 pub use Rattle.portal_core.specs.Words.{is_empty}
-pub use Rattle.portal_tables.specs.Making.{Creates, IsFresh, Upgrades, is_named_table, is_named_view}
+pub use Rattle.portal_tables.specs.Making.{Creates, IsFresh, Upgrades}
 pub use Rattle.portal_tables.specs.Rows.{RowNumbersDiffer, has_text, row_key, Assigned, portal_cells, portal_row, second_cells, second_row, CountUp, IsWhole, by_place, chosen, list_in_order, named_by, of_key, place_key, place_of, placed_project, second_placement, HasOffice, number_of_phase}
 pub use Rattle.portal_tables.specs.Steps.{Commits, IsAfter, IsSettled, IsUnchangedOrUndone, OnlyLooks, Stays, Reading, Anyhow, Gives}
 pub use Rattle.portal_tables.specs.Tables.{tree_of, HasRound, IsCurrentSchema, IsFirstSchema, HasFirstSchema, SameTable, assigned2, assigned2_tree, choice, choice2, choice2_names, choice2_tree, choice_names, choice_tree, column_of, first_schema, first_trees, first_version, lecturer_schema, lecturer_tree, list_table, no_schema, own_trees, portal, portal_schema, portal_tree, project_schema, project_tree, ranked2, ranked2_tree, ranking, ranking2, ranking2_names, ranking2_tree, ranking_names, ranking_tree, second, second_tree, second_trees, student_schema, student_tree, schema_of, version}
@@ -43,15 +42,15 @@ pub use Rattle.portal_tables.specs.declared.insert.lists.NewPlace.{NewPlace}
 pub use Rattle.portal_tables.specs.declared.list_table.Lists.{Lists}
 pub use Rattle.portal_tables.specs.declared.list_table.Lists.TheVariants.{Choices, Rankings, SecondChoices, SecondRankings}
 pub use Rattle.portal_tables.specs.declared.select.Query.TheVariants.{AllLists, Choosers, LecturerByCode, LecturerByKey, ListOf, Listed, Numbers, ProjectsOf, SecondPlaceOf, SecondRankedBy, StudentByCode, StudentTold, Whole}
-pub use Rattle.portal_tables.specs.declared.select.Roll.TheVariants.{Lecturers, Projects, Students}
+pub use Rattle.portal_tables.specs.declared.select.RollTable.TheVariants.{Lecturers, Projects, Students}
 pub use Rattle.portal_tables.specs.declared.select.Table.{Table as Named}
 pub use Rattle.portal_tables.specs.declared.select.Table.TheVariants.{OfLists, OfPlaces, OfRanked, OfRoll}
-pub use Rattle.portal_tables.specs.inner.Base.{Person, put, Key, Rise, has, equals, is_before, Phase, Round, First, Second, LecturerRow, Listing, ProjectRow, StudentRow, is_key, created, Binary, id_in, is_taken, next_rowid, Database, IsDatabase, Held, state, Integer, Cells, Row, bytes, column, Schema, Begins, HasCleanDisk, IsRolledBack, IsUnchanged, KeepsCommit, Shows, State, Survives, Ghosts, Table, Term, col, lit, op2, Trees, put_row, rowid, bound, Error, Transaction, Value, Blob, Int, Null, Real, Words, Column, Index, Reference, key_cmp, Compare, Eq, number_in, ascending, Order, Bool, Err, IfOk, IsTrue, List, None, Ok, OnErr, OnOk, Option, Result, Some, Vec, [], codes, false, filter, length, map, not, option_map, pos, slice_index_or, take, true, ℕ, ℤ, slice_cmp, AllByRecursion, AllZip, filter_map, find, flat_map, list_any, IsPermutation, IsSorted, is_eq, is_lt, nat_cmp, ⊤, Global, IsStudent}
+pub use Rattle.portal_tables.specs.inner.Base.{put, Key, Rise, has, equals, is_before, Phase, Round, First, Second, is_key, created, Binary, id_in, is_taken, next_rowid, Database, IsDatabase, Held, state, Integer, Cells, Row, bytes, column, Schema, Begins, HasCleanDisk, IsRolledBack, IsUnchanged, KeepsCommit, Shows, State, Survives, Ghosts, Table, Term, col, lit, op2, Trees, put_row, rowid, bound, Error, Transaction, Value, Int, Null, Words, Column, Index, Reference, key_cmp, Compare, Eq, number_in, ascending, Order, Bool, Err, IfOk, IsTrue, List, None, Ok, OnErr, OnOk, Option, Result, Some, Vec, [], codes, false, filter, length, map, not, option_map, pos, take, true, ℕ, ℤ, slice_cmp, AllByRecursion, AllZip, filter_map, find, flat_map, list_any, IsPermutation, IsSorted, is_eq, is_lt, nat_cmp, ⊤, Global, IsStudent}
 pub use Rattle.portal_tables.specs.inner.Changes.{AreNew, Becomes, Drops, ListsBy, InsertsRows, Sets, columns, every, has_number, with_rows}
 pub use Rattle.portal_tables.specs.inner.Decoding.{FindsAny, FindsRow, IsPlainIfAny, Leaves, ReadsEach, ShowsAs, Refuses}
 pub use Rattle.portal_tables.specs.inner.MakingSteps.{Grown, Grows, Makes, MakesFirst, MakesSecond, with_second}
-pub use Rattle.portal_tables.specs.inner.Owners.{IsRead, choice_shown, entry, has_list, with_list, AreEntriesOf, IsFine, IsListOf}
-pub use Rattle.portal_tables.specs.inner.Placements.{pair_shown, placement_asked, placement_shown, result_shown, pair_told, HasKeys, HasPlacementAsked}
+pub use Rattle.portal_tables.specs.inner.Owners.{IsRead, entry, with_list, AreEntriesOf, IsFine, IsListOf}
+pub use Rattle.portal_tables.specs.inner.Placements.{pair_shown, pair_told, HasKeys, HasPlacementAsked}
 pub use Rattle.portal_tables.specs.inner.Putting.{PutsList, PutsPlacements, RanksSecond, list_cells, numbered, placed}
 pub use Rattle.portal_tables.specs.inner.Queries.{columns_of, given, roll_tree, round_asked, selection, table_round, table_tree, query_text}
 pub use Rattle.portal_tables.specs.inner.Reads.{IfOpen, Always, Blames}

@@ -1,15 +1,14 @@
 -- What a query of one table shows, and the one order of its rows.
-use Rattle.portal_tables.proofs.Base.{◌≡◌, ◌+◌, ◌<◌, ◌≤◌, ◌∷◌, arith, inl, inr, ℕ, pos, negsuc, Bool, true, false, List, [], length, map, filter, refl, sym, ap, subst, subst₂, ◌∙◌, AllByRecursion, IsPermutation, IsSorted, nil_from_length, length-map, IsPermutation-map, IsPermutation-sym, length_permutation, Ordering, Less, Equal, Greater, is_lt, is_gt, nat_cmp, ordering_then, ordering_reverse, lt→ltb, nat_cmp_is, int_cmp_is, cases_lt, slice_cmp, Value, Null, Int, Real, Blob, Words, Row, column, bytes, value_cmp, number_in, IsAscending, map-map, all_of, value_cmp_total, value_cmp-Int, value_cmp-Text, then-Equal, ascending_from_sorted, IsSorted-map, Key, is_before, Rise, all_weaker, all_map, all_unmap, ListsBy, every, columns, has_text, row_key, by_key, of_key, place_of, place_key, by_place, named_by, chosen, CountUp, IsWhole, first_cell, shown_rank, shown_name, ◌<ℤ◌}
+use Rattle.portal_tables.proofs.Base.{◌≡◌, ◌+◌, ◌<◌, ◌≤◌, ◌∷◌, arith, inl, inr, ℕ, pos, Bool, true, false, List, [], length, map, filter, refl, sym, ap, subst, subst₂, ◌∙◌, AllByRecursion, IsPermutation, IsSorted, nil_from_length, length-map, IsPermutation-map, IsPermutation-sym, length_permutation, Ordering, Less, Equal, Greater, is_lt, is_gt, nat_cmp, ordering_then, ordering_reverse, lt→ltb, nat_cmp_is, int_cmp_is, cases_lt, slice_cmp, Value, Int, Words, Row, column, bytes, value_cmp, number_in, IsAscending, map-map, all_of, value_cmp_total, value_cmp-Int, value_cmp-Text, then-Equal, ascending_from_sorted, IsSorted-map, Key, is_before, Rise, all_weaker, all_map, all_unmap, ListsBy, every, columns, has_text, row_key, by_key, of_key, place_of, place_key, by_place, named_by, chosen, CountUp, IsWhole, first_cell, shown_rank, shown_name, ◌<ℤ◌}
 use Rattle.std.specs.Ordering.{int_cmp}
 use Rattle.std.specs.Cmp.Lexicographic.{nat_list_cmp_total}
 use Rattle.portal_core.specs.Words.{put_all}
 use Rattle.portal_tables.proofs.Lists.{filter_all}
-use Rattle.portal_tables.proofs.Sorted.{NeverFall, all_permuted, in_order, sorted_order, put_all_map, permutes}
+use Rattle.portal_tables.proofs.Sorted.{NeverFall, all_permuted, in_order, sorted_order, put_all_map, permutes, map_alike_on, at}
 
 -- what a map gives, where its elements are known
 pub all_map_on : {X Y : Type 0} (P : X → Type 0) (f g : X → Y) (xs : List X) → AllByRecursion P xs → ((x : X) → P x → f x ≡ g x) → map f xs ≡ map g xs
-all_map_on P f g [] all h = refl
-all_map_on P f g (x ∷ xs) all h = λ i. h x all.0 i ∷ all_map_on P f g xs all.1 h i
+all_map_on P f g xs all h = map_alike_on f g xs (λ x has. h x (at P xs x all has))
 
 -- the rows are those that pass, as they are shown
 pub permuted : (keys : List ℕ) (p : Row → Bool) (show : Row → Row) (table shown : List Row) → ListsBy keys p show table shown → IsPermutation (map show (filter p table)) shown
@@ -45,9 +44,8 @@ module _ {X : Type 0} (R : X → X → Type 0) (f : X → Key) (G : X → Type 0
   falls (v ∷ vs) up all = (over v vs all.0 up.0 all.1, falls vs up.1 all.1)
 
 turned : (o : Ordering) → is_gt o ≡ false → is_lt (ordering_reverse o) ≡ false
-turned Less h = refl
-turned Equal h = refl
 turned Greater h = h
+turned _ h = refl
 
 abbrev pub IsText : Value → Type 0
 IsText v = (t : List ℕ) × (v ≡ Words t)
@@ -118,12 +116,8 @@ counts_high n [] low up = tt
 counts_high n (k ∷ ms) low up = (omega (arith, low, up.0), counts_high (n + 1) ms (omega (arith, low)) up.1)
 
 is_count : (v : Value) → 1 ≤ number_in v → IsCount v
-is_count Null low = absurd (omega (arith, low))
 is_count (Int (pos n)) low = (n, refl)
-is_count (Int (negsuc n)) low = absurd (omega (arith, low))
-is_count (Real x) low = absurd (omega (arith, low))
-is_count (Words t) low = absurd (omega (arith, low))
-is_count (Blob b) low = absurd (omega (arith, low))
+is_count _ low = absurd (omega (arith, low))
 
 abbrev list_columns : Row → Row
 list_columns = columns (2 ∷ 3 ∷ [])

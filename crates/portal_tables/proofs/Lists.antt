@@ -1,5 +1,5 @@
 -- Lists of rows.
-use Rattle.portal_tables.proofs.Base.{◌≡◌, ◌∷◌, ◌++◌, ◌&&◌, ◌||◌, inl, inr, ℤ, List, [], map, filter, Bool, true, false, not, cond, refl, sym, ap, ap₂, subst, ◌∙◌, AllByRecursion, list_any, flat_map, is_eq, ordering_reverse, match_ordering, Ordering, Less, Equal, Greater, or_parts, Value, Int, Row, value_cmp, put_row, rowid, has_rowid, without_rowid, id_in, is_taken, without_all, Has, all_from, all_has, all-filter, and-false, value_cmp_total, tied_itself, RowNumbersDiffer}
+use Rattle.portal_tables.proofs.Base.{◌≡◌, ◌∷◌, ◌++◌, ◌&&◌, ◌||◌, inl, inr, ℤ, List, [], map, filter, Bool, true, false, not, cond, refl, sym, ap, ap₂, subst, ◌∙◌, AllByRecursion, list_any, flat_map, is_eq, ordering_reverse, match_ordering, Ordering, Less, Equal, Greater, or_parts, Value, Int, Row, value_cmp, put_row, rowid, has_rowid, without_rowid, id_in, is_taken, without_all, Has, all_from, all_has, all-filter, and-false, value_cmp_total, tied_itself, RowNumbersDiffer, has_filtered}
 pub use Rattle.sqlite_trees.proofs.ListLemmas.{filter_same as filter_alike}
 
 -- a loop that shows each element which passes
@@ -27,6 +27,10 @@ pub filter_all : {X : Type 0} (xs : List X) → filter (λ x. true) xs ≡ xs
 filter_all [] = refl
 filter_all (x ∷ xs) = ap (λ l. x ∷ l) (filter_all xs)
 
+-- what passes a test keeps what was known of it
+pub sifted : {X : Type 0} (P : X → Type 0) (p : X → Bool) (xs : List X) → AllByRecursion P xs → AllByRecursion (λ x. P x × (p x ≡ true)) (filter p xs)
+sifted P p xs all = all_from _ (filter p xs) (λ x has. let passed = has_filtered p xs x has in (all_has P xs x all passed.0, passed.1))
+
 nor : (a b : Bool) → (not a && not b) ≡ not (a || b)
 nor true b = refl
 nor false b = refl
@@ -38,9 +42,8 @@ without_is (id ∷ ids) rows = without_is ids (without_rowid id rows) ∙ filter
     ∙ filter_same _ _ rows (λ r has. nor (has_rowid id r) (list_any (λ id. has_rowid id r) ids))
 
 is_eq_reverse : (o : Ordering) → is_eq (ordering_reverse o) ≡ is_eq o
-is_eq_reverse Less = refl
 is_eq_reverse Equal = refl
-is_eq_reverse Greater = refl
+is_eq_reverse _ = refl
 
 pub eq_flips : (a b : Value) → is_eq (value_cmp a b) ≡ is_eq (value_cmp b a)
 eq_flips a b = ap is_eq (value_cmp_total.antisymm a b) ∙ is_eq_reverse (value_cmp b a)

@@ -1,6 +1,8 @@
 -- A key that is looked for among rows whose keys rise.
-use Rattle.portal_tables.proofs.Base.{◌≡◌, ◌<◌, ◌≤◌, ◌||◌, ◌∷◌, arith, inl, inr, zero, suc, ℕ, true, false, List, [], map, length, get_or, refl, sym, subst, ◌∙◌, ap, nat_cmp, slice_cmp, or-true, cases_Bool, cases_lt, nat_list_cmp_total, tied_itself, exact_bytes, Row, Key, equals, has, is_same, is_own, first_cell}
-use Rattle.std.proofs.Common.{Less, Equal, Greater}
+use Rattle.portal_tables.proofs.Base.{◌≡◌, ◌<◌, ◌||◌, ◌∷◌, arith, inl, inr, zero, suc, ℕ, true, false, List, [], map, length, get_or, refl, sym, subst, ◌∙◌, ap, nat_cmp, slice_cmp, or-true, cases_Bool, cases_lt, nat_list_cmp_total, tied_itself, exact_bytes, searchable_from_sorted, rows_sorted, Result, Ok, Err, Row, Key, Rise, equals, has, is_same, is_own, first_cell}
+use Rattle.std.proofs.Common.{Equal}
+use Rattle.std.specs.List.Sorted.{IsBinarySearchResult, IsSearchInRange}
+use Rattle.std.specs.Prelude.{is_ok}
 
 -- a key that is found at a place is there
 there : (rows : List Row) (k : Key) (n : ℕ) (d : Row) → n < length rows → slice_cmp nat_cmp (first_cell (get_or rows n d)) k ≡ Equal → has (map first_cell rows) k ≡ true
@@ -16,13 +18,13 @@ nowhere (r ∷ rows) k other = elim (cases_Bool (equals k (first_cell r))) [
   | inr apart ↦ ap (λ b. b || has (map first_cell rows) k) apart ∙ nowhere rows k (λ i d low equal. other (suc i) d (omega (arith, low)) equal)
 ]
 
-pub known_at : (rows : List Row) (k : Key) (n : ℕ) → n < length rows → ((d : Row) → slice_cmp nat_cmp (first_cell (get_or rows n d)) k ≡ Equal) → true ≡ has (map first_cell rows) k
-known_at rows k n low equal = sym (there rows k n [] low (equal []))
-
-pub known_nowhere : (rows : List Row) (k : Key) (n : ℕ) → ((i : ℕ) (d : Row) → i < n → slice_cmp nat_cmp (first_cell (get_or rows i d)) k ≡ Less)
-    → ((i : ℕ) (d : Row) → n ≤ i → i < length rows → slice_cmp nat_cmp (first_cell (get_or rows i d)) k ≡ Greater) → false ≡ has (map first_cell rows) k
-known_nowhere rows k n below above =
-    sym (nowhere rows k (λ i d low equal. elim (cases_lt i n) [
-      | inl before ↦ let wrong = below i d before in absurd (cc)
-      | inr after ↦ let wrong = above i d after low in absurd (cc)
+-- the answer of a binary search is whether the key is there
+pub known_by : (rows : List Row) (k : Key) (r : Result ℕ ℕ) → IsSearchInRange r (length rows) → IsBinarySearchResult (λ row. slice_cmp nat_cmp (first_cell row) k) rows r → Rise (map first_cell rows)
+    → is_ok r ≡ has (map first_cell rows) k
+known_by rows k (Ok n) low found up = sym (there rows k n [] low (found []))
+known_by rows k (Err n) low parts up =
+    let part = parts (searchable_from_sorted nat_list_cmp_total first_cell rows k (rows_sorted first_cell rows up)) in
+    sym (nowhere rows k (λ i d within equal. elim (cases_lt i n) [
+      | inl before ↦ let wrong = part.0 i d (omega arith) before in absurd (cc)
+      | inr after ↦ let wrong = part.1 i d after within in absurd (cc)
     ]))

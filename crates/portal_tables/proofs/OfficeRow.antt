@@ -1,5 +1,5 @@
 -- The rows of the office and of the second round, as their queries show them.
-use Rattle.portal_tables.proofs.Base.{◌≡◌, ◌&&◌, ◌∷◌, arith, ℕ, ℤ, pos, true, false, drop, Some, List, [], map, refl, sym, ap, subst, ◌∙◌, AllByRecursion, IsPermutation, length_permutation, one_permutation, and_parts, Value, Null, Int, Real, Blob, Words, Row, column, Database, IsDatabase, Datatype, are_typed, is_of, Integer, is_null, Phase, Key, First, Second, portal_tree, portal, second_tree, second, HasFirstSchema, IsCurrentSchema, portal_row, second_row, ListsBy, every, columns, number_of_phase, HasOffice, IsOffice, IsSecond}
+use Rattle.portal_tables.proofs.Base.{◌≡◌, ◌&&◌, ◌∷◌, arith, ℕ, ℤ, pos, true, false, drop, Some, List, [], map, refl, sym, ap, subst, ◌∙◌, AllByRecursion, IsPermutation, length_permutation, one_permutation, and_parts, Value, Null, Int, Words, Row, column, Database, IsDatabase, Datatype, are_typed, is_of, Integer, is_null, Phase, Key, First, Second, portal_tree, portal, second_tree, second, HasFirstSchema, IsCurrentSchema, portal_row, second_row, ListsBy, every, columns, number_of_phase, HasOffice, IsOffice, IsSecond}
 use Rattle.sqlite.specs.Kind.TheVariants.{Text}
 use Rattle.portal_tables.proofs.Weak.{own_is}
 use Rattle.portal_tables.proofs.Listed.{whole_table}
@@ -11,27 +11,18 @@ office_columns = columns (0 ∷ 2 ∷ 3 ∷ 4 ∷ [])
 
 is_nothing : (v : Value) → is_null v ≡ true → v ≡ Null
 is_nothing Null e = refl
-is_nothing (Int n) e = absurd (cc)
-is_nothing (Real x) e = absurd (cc)
-is_nothing (Words t) e = absurd (cc)
-is_nothing (Blob b) e = absurd (cc)
+is_nothing _ e = absurd (cc)
 
 office_form : (v p : ℤ) (code : Key) (r : Row) → column r 0 ≡ Int (pos 1) → column r 2 ≡ Int v → column r 3 ≡ Int p → column r 4 ≡ Words code → are_typed (Some 0) 0 (portal 0).columns (drop 1 r) ≡ true → r ≡ portal_row v p code
-office_form v p code [] a b c d t = absurd (let e : Null ≡ Words code = d in cc)
-office_form v p code (x ∷ []) a b c d t = absurd (let e : Null ≡ Words code = d in cc)
-office_form v p code (x ∷ y ∷ []) a b c d t = absurd (let e : Null ≡ Words code = d in cc)
-office_form v p code (x ∷ y ∷ z ∷ []) a b c d t = absurd (let e : Null ≡ Words code = d in cc)
-office_form v p code (x ∷ y ∷ z ∷ w ∷ []) a b c d t = absurd (let e : Null ≡ Words code = d in cc)
 office_form v p code (x ∷ y ∷ z ∷ w ∷ u ∷ []) a b c d t = λ i. a i ∷ is_nothing y (and_parts (is_null y) _ t).0 i ∷ b i ∷ c i ∷ d i ∷ []
 office_form v p code (x ∷ y ∷ z ∷ w ∷ u ∷ q ∷ more) a b c d t =
     let last = and_parts (is_of Text u) false (and_parts (is_of Integer w) _ (and_parts (is_of Integer z) _ (and_parts (is_null y) _ t).1).1).1 in absurd (let e = last.1 in cc)
+office_form v p code _ a b c d t = absurd (let e : Null ≡ Words code = d in cc)
 
 second_form : (p : ℤ) (r : Row) → column r 0 ≡ Int (pos 1) → column r 2 ≡ Int p → are_typed (Some 0) 0 (second 0).columns (drop 1 r) ≡ true → r ≡ second_row p
-second_form p [] a b t = absurd (let e : Null ≡ Int p = b in cc)
-second_form p (x ∷ []) a b t = absurd (let e : Null ≡ Int p = b in cc)
-second_form p (x ∷ y ∷ []) a b t = absurd (let e : Null ≡ Int p = b in cc)
 second_form p (x ∷ y ∷ z ∷ []) a b t = λ i. a i ∷ is_nothing y (and_parts (is_null y) _ t).0 i ∷ b i ∷ []
 second_form p (x ∷ y ∷ z ∷ w ∷ more) a b t = let last = and_parts (is_of Integer z) false (and_parts (is_null y) _ t).1 in absurd (let e = last.1 in cc)
+second_form p _ a b t = absurd (let e : Null ≡ Int p = b in cc)
 
 -- where a table shows one row, that is its only one
 one_shown : (cs : List ℕ) (table shown : List Row) (row : Row) → ListsBy (0 ∷ []) every (columns cs) table shown → shown ≡ row ∷ [] → (r : Row) × (table ≡ r ∷ []) × (row ≡ columns cs r)

@@ -1,5 +1,5 @@
 -- Whom a row names is on the roll, by the foreign keys of the tables.
-use Rattle.portal_tables.proofs.Base.{◌≡◌, ◌&&◌, ◌||◌, ◌∷◌, ℤ, inl, inr, ℕ, Bool, true, false, cond, map, List, [], refl, sym, ap, subst, ◌∙◌, and_parts, cases_Bool, AllByRecursion, list_any, is_eq, or-true, Value, Null, Int, Real, Blob, Words, Binary, Row, column, bytes, value_cmp, Database, IsDatabase, Trees, ForeignKey, OfLists, equal, Key, equals, has, is_same, is_own, lecturer_tree, project_tree, student_tree, round_of, tree_of, Lists, Choices, Rankings, SecondChoices, SecondRankings, HasRound, RowNumbersDiffer, has_text, everything, place_cells, row_key, of_key, named_by}
+use Rattle.portal_tables.proofs.Base.{◌≡◌, ◌&&◌, ◌||◌, ◌∷◌, ℤ, inl, inr, ℕ, Bool, true, false, cond, map, List, [], refl, sym, ap, subst, ◌∙◌, and_parts, cases_Bool, AllByRecursion, list_any, is_eq, or-true, Value, Int, Words, Binary, Row, column, bytes, value_cmp, Database, IsDatabase, Trees, ForeignKey, OfLists, equal, Key, equals, has, is_same, is_own, lecturer_tree, project_tree, student_tree, round_of, tree_of, Lists, Choices, Rankings, SecondChoices, SecondRankings, HasRound, RowNumbersDiffer, has_text, everything, place_cells, row_key, of_key, named_by}
 use Rattle.portal_tables.proofs.Weak.{Open, own_is}
 use Rattle.portal_tables.proofs.Shapes.{IsPlace, Follows, followed, place_rows_formed, text_equals}
 use Rattle.portal_tables.proofs.Sorted.{all_two}
@@ -8,11 +8,8 @@ use Rattle.portal_tables.proofs.Tests.{equals_text}
 -- a parent is found by its key
 equals_key : (v : Value) (t : Key) → is_eq (value_cmp v (Words t)) ≡ true → v ≡ Words t
 unfolding value_cmp lib.Ieee.is_nan lib.Ieee.lt
-equals_key Null t e = absurd (cc)
-equals_key (Int n) t e = absurd (cc)
-equals_key (Real x) t e = absurd (cc)
 equals_key (Words s) t e = ap Words (is_same s t (sym (text_equals s t) ∙ e))
-equals_key (Blob b) t e = absurd (cc)
+equals_key _ t e = absurd (cc)
 
 -- a row whose text in a column is these bytes
 pub text_there : (at : ℕ) (t : Key) (r : Row) → has_text at t r ≡ true → column r at ≡ Words t
@@ -40,9 +37,7 @@ items_of SecondRankings = student_tree
 both_found : (l : Lists) (o : Open) (db : Trees) (n : ℤ) (k : Key) (p : ℤ) (m : Key) → Follows ForeignKey (OfLists l) o db (Int n ∷ place_cells k p m) ≡ (Found (db (owners_of l)) k && (Found (db (items_of l)) m && true))
 unfolding everything
 both_found Choices o db n k p m = refl
-both_found Rankings o db n k p m = refl
-both_found SecondChoices o db n k p m = refl
-both_found SecondRankings o db n k p m = refl
+both_found _ o db n k p m = refl
 
 pub on_roll : (roll : List Row) (k : Key) → Found roll k ≡ true → OnRoll roll k
 on_roll [] k h = absurd (cc)

@@ -1,5 +1,5 @@
 -- Rows whose numbers rise in some order have numbers of their own.
-use Rattle.portal_tables.proofs.Base.{◌≡◌, ◌∷◌, ℤ, List, [], map, filter, Bool, true, false, Option, Some, None, int_cmp, refl, sym, ap, subst, subst₂, ◌∙◌, Less, is_eq, AllByRecursion, all_unmap, all_weaker, IsDistinct, IsPermutation, IsPermutation-map, IsPermutation-sym, IsDistinct-IsPermutation, and_parts, Value, Null, Int, Real, Blob, Text, Row, column, value_cmp, id_in, value_cmp_total, value_cmp-Int, RowNumbersDiffer, ListsBy, every, columns, is_above, rises, map-map, less_of}
+use Rattle.portal_tables.proofs.Base.{◌≡◌, ◌∷◌, ℤ, List, [], map, filter, Bool, true, false, Option, Some, None, int_cmp, refl, sym, ap, subst, subst₂, ◌∙◌, Less, is_eq, AllByRecursion, all_unmap, all_weaker, IsDistinct, IsPermutation, IsPermutation-map, IsPermutation-sym, IsDistinct-IsPermutation, and_parts, Value, Int, Row, column, value_cmp, id_in, value_cmp_total, value_cmp-Int, RowNumbersDiffer, ListsBy, every, columns, is_above, rises, map-map, less_of}
 use Rattle.portal_tables.proofs.Lists.{eq_flips, filter_all}
 use Rattle.portal_tables.proofs.Sorted.{all_permuted}
 
@@ -9,21 +9,11 @@ same a b = is_eq (value_cmp a b)
 whole : (last : Option ℤ) (v : Value) → is_above last v ≡ true → v ≡ Int (id_in v)
 whole None (Int n) h = refl
 whole (Some m) (Int n) h = refl
-whole None Null h = absurd cc
-whole None (Real x) h = absurd cc
-whole None (Text x) h = absurd cc
-whole None (Blob x) h = absurd cc
-whole (Some m) Null h = absurd cc
-whole (Some m) (Real x) h = absurd cc
-whole (Some m) (Text x) h = absurd cc
-whole (Some m) (Blob x) h = absurd cc
+whole _ _ h = absurd cc
 
 after : (m : ℤ) (v : Value) → is_above (Some m) v ≡ true → value_cmp (Int m) v ≡ Less
 after m (Int n) h = value_cmp-Int m n ∙ less_of (int_cmp m n) h
-after m Null h = absurd cc
-after m (Real x) h = absurd cc
-after m (Text x) h = absurd cc
-after m (Blob x) h = absurd cc
+after m _ h = absurd cc
 
 abbrev ids : List Row → List Value
 ids rows = map (λ r. column r 0) rows

@@ -1,5 +1,5 @@
 -- The shapes of the rows of the portal's own tables, by the rules that a database obeys.
-use Rattle.portal_tables.proofs.Base.{◌≡◌, ◌⊎◌, ◌&&◌, ◌∷◌, ◌+◌, inl, inr, ℕ, ℤ, Bool, true, false, not, codes, drop, None, List, [], refl, sym, ap, subst, ◌∙◌, AllByRecursion, and_parts, is_eq, texts_ties, Value, Null, Int, Real, Blob, Words, Row, column, value_cmp, Trees, rowid, id_in, Database, IsDatabase, Column, Constraint, Datatype, NotNull, Keeps, passes, are_typed, are_present, is_of, is_null, Integer, Key, equals, column_of, list_table, lecturer_tree, project_tree, student_tree, ranked2_tree, assigned2_tree, lecturer_schema, project_schema, student_schema, ranked2, assigned2, round_of, names, tree_of, table_round, table_tree, Lists, Choices, Rankings, SecondChoices, SecondRankings, OfRoll, OfLists, OfRanked, OfPlaces, Lecturers, Projects, Students, Table, Round, HasFirstSchema, HasRound, RowNumbersDiffer, has_text, lecturer_cells, place_cells, row_key, Named}
+use Rattle.portal_tables.proofs.Base.{◌≡◌, ◌⊎◌, ◌&&◌, ◌∷◌, ◌+◌, inl, inr, ℕ, ℤ, Bool, true, false, not, codes, drop, None, List, [], refl, sym, ap, subst, ◌∙◌, AllByRecursion, and_parts, is_eq, texts_ties, Value, Null, Int, Words, Row, column, value_cmp, Trees, id_in, Database, IsDatabase, Column, Constraint, Datatype, NotNull, Keeps, passes, are_typed, are_present, is_of, is_null, Integer, Key, equals, column_of, list_table, lecturer_tree, project_tree, student_tree, ranked2_tree, assigned2_tree, lecturer_schema, project_schema, student_schema, ranked2, assigned2, round_of, names, tree_of, table_round, table_tree, Lists, Choices, Rankings, SecondChoices, SecondRankings, OfRoll, OfLists, OfRanked, OfPlaces, Lecturers, Projects, Students, Table, Round, HasFirstSchema, HasRound, RowNumbersDiffer, has_text, lecturer_cells, place_cells, row_key, Named}
 use Rattle.sqlite.specs.Kind.{Kind}
 use Rattle.sqlite.specs.Kind.TheVariants.{Text}
 use Rattle.portal_tables.proofs.Listed.{IsText}
@@ -14,18 +14,12 @@ pub has_text_of : (at : ℕ) (t : Key) (r : Row) (s : Key) → column r at ≡ W
 has_text_of at t r s e = ap (λ v. is_eq (value_cmp v (Words t))) e ∙ text_equals s t
 
 pub text_cell : (v : Value) → is_of Text v ≡ true → not (is_null v) ≡ true → (t : List ℕ) × (v ≡ Words t)
-text_cell Null a b = absurd (cc)
-text_cell (Int n) a b = absurd (cc)
-text_cell (Real x) a b = absurd (cc)
-text_cell (Blob x) a b = absurd (cc)
 text_cell (Words t) a b = (t, refl)
+text_cell _ a b = absurd (cc)
 
 number_cell : (v : Value) → is_of Integer v ≡ true → not (is_null v) ≡ true → (n : ℤ) × (v ≡ Int n)
-number_cell Null a b = absurd (cc)
 number_cell (Int n) a b = (n, refl)
-number_cell (Real x) a b = absurd (cc)
-number_cell (Blob x) a b = absurd (cc)
-number_cell (Words t) a b = absurd (cc)
+number_cell _ a b = absurd (cc)
 
 -- NULL or a text
 abbrev pub IsNullOrText : Value → Type 0
@@ -33,10 +27,8 @@ IsNullOrText v = (v ≡ Null) ⊎ ((t : List ℕ) × (v ≡ Words t))
 
 null_or_text : (v : Value) → is_of Text v ≡ true → IsNullOrText v
 null_or_text Null a = inl refl
-null_or_text (Int n) a = absurd (cc)
-null_or_text (Real x) a = absurd (cc)
-null_or_text (Blob x) a = absurd (cc)
 null_or_text (Words t) a = inr (t, refl)
+null_or_text _ a = absurd (cc)
 
 pub record IsLecturerRow (r : Row) : Type 0 where
   pub number : ℤ
@@ -83,11 +75,15 @@ next kind cell P row name at cs is go (v ∷ vs) typed present =
     let it = cell v two.0 both.0 in
     subst (λ x. P (row (x ∷ vs))) (sym it.1) (go it.0 vs two.1 (subst (λ x. are_present None (at + 1) cs (row (x ∷ vs)) ≡ true) it.1 both.1))
 
+-- what the rules of these columns say of a row with a number
+abbrev Forms : (Row → Type 0) → List Column → Type 0
+Forms P cs = (n : ℤ) (cells : Row) → are_typed None 0 cs cells ≡ true → are_present None 0 cs (Int n ∷ cells) ≡ true → P (Int n ∷ cells)
+
 none_more : (at : ℕ) (cells : Row) → are_typed None at [] cells ≡ true → cells ≡ []
 none_more at [] t = refl
 none_more at (v ∷ vs) t = absurd (cc)
 
-lecturer_form : (n : ℤ) (cells : Row) → are_typed None 0 (lecturer_schema 1).columns cells ≡ true → are_present None 0 (lecturer_schema 1).columns (Int n ∷ cells) ≡ true → IsLecturerRow (Int n ∷ cells)
+lecturer_form : Forms IsLecturerRow (lecturer_schema 1).columns
 lecturer_form n =
     let cs = (lecturer_schema 1).columns in
     next Text text_cell IsLecturerRow (λ x. Int n ∷ x) (codes "key") 0 (drop 1 cs) (λ x. refl) (λ key.
@@ -103,7 +99,7 @@ last_cell name at [] t = (inl refl, inl refl)
 last_cell name at (v ∷ []) t = (inr (v, refl), null_or_text v (and_parts (is_of Text v) true t).0)
 last_cell name at (v ∷ w ∷ vs) t = let e = (and_parts (is_of Text v) false t).1 in absurd (cc)
 
-student_form : (n : ℤ) (cells : Row) → are_typed None 0 (student_schema 6).columns cells ≡ true → are_present None 0 (student_schema 6).columns (Int n ∷ cells) ≡ true → IsStudentRow (Int n ∷ cells)
+student_form : Forms IsStudentRow (student_schema 6).columns
 student_form n =
     let cs = (student_schema 6).columns in
     next Text text_cell IsStudentRow (λ x. Int n ∷ x) (codes "key") 0 (drop 1 cs) (λ x. refl) (λ key.
@@ -113,33 +109,29 @@ student_form n =
     record { number = n; key = key; name = name; code = code; last = rest; is = refl; few = end.0; assigned = end.1 })))
 
 -- the lecturer of a project is a text
-project_form : (n : ℤ) (cells : Row) → are_typed None 0 (project_schema 4).columns cells ≡ true → are_present None 0 (project_schema 4).columns (Int n ∷ cells) ≡ true → IsText (column (Int n ∷ cells) 2)
+project_form : Forms (λ r. IsText (column r 2)) (project_schema 4).columns
 project_form n =
     let cs = (project_schema 4).columns in
     let HasLecturer : Row → Type 0 = λ r. IsText (column r 2) in
     next Text text_cell HasLecturer (λ x. Int n ∷ x) (codes "key") 0 (drop 1 cs) (λ x. refl) (λ key.
     next Text text_cell HasLecturer (λ x. Int n ∷ Words key ∷ x) (codes "lecturer") 1 (drop 2 cs) (λ x. refl) (λ lecturer rest typed present. (lecturer, refl)))
 
-place_form : (n : ℤ) (k l m : List ℕ) (cells : Row) → are_typed None 0 (column_of k Text true ∷ column_of l Integer true ∷ column_of m Text true ∷ []) cells ≡ true
-    → are_present None 0 (column_of k Text true ∷ column_of l Integer true ∷ column_of m Text true ∷ []) (Int n ∷ cells) ≡ true → IsPlace (Int n ∷ cells)
-place_form n k l m =
+place_form : (k l m : List ℕ) → Forms IsPlace (column_of k Text true ∷ column_of l Integer true ∷ column_of m Text true ∷ [])
+place_form k l m n =
     next Text text_cell IsPlace (λ x. Int n ∷ x) k 0 (column_of l Integer true ∷ column_of m Text true ∷ []) (λ x. refl) (λ owner.
     next Integer number_cell IsPlace (λ x. Int n ∷ Words owner ∷ x) l 1 (column_of m Text true ∷ []) (λ x. refl) (λ place.
     next Text text_cell IsPlace (λ x. Int n ∷ Words owner ∷ Int place ∷ x) m 2 [] (λ x. refl) (λ item rest typed present.
     record { number = n; owner = owner; place = place; item = item; is = ap (λ x. Int n ∷ Words owner ∷ Int place ∷ Words item ∷ x) (none_more 3 rest typed) })))
 
--- a row with a number begins with it
-with_number : (P : Row → Type 0) (typed present : Row → Bool) → ((n : ℤ) (cells : Row) → typed cells ≡ true → present (Int n ∷ cells) ≡ true → P (Int n ∷ cells))
-    → (r : Row) → rowid r ≡ Int (id_in (rowid r)) → typed (drop 1 r) ≡ true → present r ≡ true → P r
-with_number P typed present form [] e t p = absurd (cc)
-with_number P typed present form (v ∷ cells) e t p = subst (λ x. P (x ∷ cells)) (sym e) (form (id_in v) cells t (subst (λ x. present (x ∷ cells) ≡ true) e p))
-
 -- the rows of a table, by what its rules say of them
-formed : (P : Row → Type 0) (typed present : Row → Bool) → ((n : ℤ) (cells : Row) → typed cells ≡ true → present (Int n ∷ cells) ≡ true → P (Int n ∷ cells))
-    → (rows : List Row) → RowNumbersDiffer rows → AllByRecursion (λ r. (typed (drop 1 r) && true) ≡ true) rows → AllByRecursion (λ r. present r ≡ true) rows → AllByRecursion P rows
-formed P typed present form [] apart t p = tt
-formed P typed present form (r ∷ rows) apart t p =
-    (with_number P typed present form r apart.0 (and_parts _ _ t.0).0 p.0, formed P typed present form rows apart.2 t.1 p.1)
+formed : (P : Row → Type 0) (cs : List Column) → Forms P cs → (rows : List Row) → RowNumbersDiffer rows → AllByRecursion (λ r. (are_typed None 0 cs (drop 1 r) && true) ≡ true) rows
+    → AllByRecursion (λ r. are_present None 0 cs r ≡ true) rows → AllByRecursion P rows
+formed P cs form [] apart t p = tt
+formed P cs form ([] ∷ rows) apart t p = absurd (let e = apart.0 in cc)
+formed P cs form ((v ∷ cells) ∷ rows) apart t p = (
+  subst (λ x. P (x ∷ cells)) (sym apart.0) (form (id_in v) cells (and_parts _ _ t.0).0 (subst (λ x. are_present None 0 cs (x ∷ cells) ≡ true) apart.0 p.0)),
+  formed P cs form rows apart.2 t.1 p.1,
+)
 
 -- what is understood of a table
 abbrev pub form_of : Named → Table
@@ -178,21 +170,17 @@ followed db t own sound rule =
 
 pub lecturer_rows_formed : (db : Database) → HasFirstSchema db.schema → IsDatabase db → RowNumbersDiffer (db.trees lecturer_tree) → AllByRecursion IsLecturerRow (db.trees lecturer_tree)
 lecturer_rows_formed db own sound apart =
-    formed IsLecturerRow (are_typed None 0 (lecturer_schema 1).columns) (are_present None 0 (lecturer_schema 1).columns) lecturer_form (db.trees lecturer_tree) apart
-    (followed db (OfRoll Lecturers) own sound Datatype) (followed db (OfRoll Lecturers) own sound NotNull)
+    formed IsLecturerRow (lecturer_schema 1).columns lecturer_form (db.trees lecturer_tree) apart (followed db (OfRoll Lecturers) own sound Datatype) (followed db (OfRoll Lecturers) own sound NotNull)
 
 pub student_rows_formed : (db : Database) → HasFirstSchema db.schema → IsDatabase db → RowNumbersDiffer (db.trees student_tree) → AllByRecursion IsStudentRow (db.trees student_tree)
 student_rows_formed db own sound apart =
-    formed IsStudentRow (are_typed None 0 (student_schema 6).columns) (are_present None 0 (student_schema 6).columns) student_form (db.trees student_tree) apart
-    (followed db (OfRoll Students) own sound Datatype) (followed db (OfRoll Students) own sound NotNull)
+    formed IsStudentRow (student_schema 6).columns student_form (db.trees student_tree) apart (followed db (OfRoll Students) own sound Datatype) (followed db (OfRoll Students) own sound NotNull)
 
 pub project_rows_formed : (db : Database) → HasFirstSchema db.schema → IsDatabase db → RowNumbersDiffer (db.trees project_tree) → AllByRecursion (λ r. IsText (column r 2)) (db.trees project_tree)
 project_rows_formed db own sound apart =
-    formed (λ r. IsText (column r 2)) (are_typed None 0 (project_schema 4).columns) (are_present None 0 (project_schema 4).columns) project_form (db.trees project_tree) apart
-    (followed db (OfRoll Projects) own sound Datatype) (followed db (OfRoll Projects) own sound NotNull)
+    formed (λ r. IsText (column r 2)) (project_schema 4).columns project_form (db.trees project_tree) apart (followed db (OfRoll Projects) own sound Datatype) (followed db (OfRoll Projects) own sound NotNull)
 
 pub place_rows_formed : (db : Database) (l : Lists) → HasRound (round_of l) db.schema → IsDatabase db → RowNumbersDiffer (db.trees (tree_of l)) → AllByRecursion IsPlace (db.trees (tree_of l))
 place_rows_formed db l own sound apart =
-    let cs = (list_table (names l) (tree_of l)).columns in
-    formed IsPlace (are_typed None 0 cs) (are_present None 0 cs) (λ n cells t p. place_form n (names l).owner (codes "place") (names l).item cells t p) (db.trees (tree_of l)) apart
+    formed IsPlace (list_table (names l) (tree_of l)).columns (place_form (names l).owner (codes "place") (names l).item) (db.trees (tree_of l)) apart
     (followed db (OfLists l) own sound Datatype) (followed db (OfLists l) own sound NotNull)

@@ -1,5 +1,5 @@
 -- The texts that write, and what each does to its table, whatever the checks are.
-use Rattle.portal_tables.proofs.Base.{◌≡◌, ◌+◌, ◌∷◌, ◌++◌, ◌==◌, ◌/◌, ℕ, pos, Option, Some, slice_get, List, [], map, filter, codes, length, true, false, not, refl, sym, ap, subst, subst₂, ◌∙◌, ⊤, all_map, all_of, flat_map, filter_map, is_eq, Null, Int, Text, Binary, Row, column, value_cmp, Table, put_row, rowid, id_in, value_rows, cast_row, Term, lit, col, op2, Compare, Eq, State, Ghosts, state, Insert, Delete, Update, Values, everything, understood, IsPlain, command_of, works, work_by, deed_for, pairs, parent_key, Enforced, Column, Reference, Order, Lists, Second, Choices, Rankings, SecondChoices, SecondRankings, schema_of, list_table, project_schema, portal_tree, second_tree, ranked2_tree, assigned2_tree, lecturer_tree, project_tree, student_tree, names, place_among, tree_of, clear_text, add_text, add_eight_text, RowNumbersDiffer, Drops, Sets, Becomes, every, IsCurrentSchema, Ran, Made, portal_cells, lecturer_cells, lecturer_new, lecturer_values, project_new, student_new, student_values, place_new, pair_new, AddsBy, Clears, MovesTo, IsOfVersion, MovesSecond, Ranks, portal_row, second_cells, second_row}
+use Rattle.portal_tables.proofs.Base.{◌≡◌, ◌+◌, ◌∷◌, ◌++◌, ◌==◌, ◌/◌, ℕ, pos, Option, Some, slice_get, List, [], map, filter, codes, length, true, false, not, refl, sym, ap, subst, subst₂, ◌∙◌, ⊤, all_map, all_of, flat_map, filter_map, is_eq, Null, Int, Text, Binary, Row, column, value_cmp, Table, put_row, rowid, id_in, value_rows, cast_row, Term, lit, col, op2, Compare, Eq, State, Ghosts, state, Insert, Delete, Update, Values, everything, understood, IsPlain, command_of, works, work_by, deed_for, pairs, parent_key, Enforced, Column, Reference, Order, Lists, Second, Choices, schema_of, list_table, project_schema, portal_tree, second_tree, ranked2_tree, assigned2_tree, lecturer_tree, project_tree, student_tree, names, place_among, tree_of, clear_text, add_text, add_eight_text, RowNumbersDiffer, Drops, Sets, Becomes, every, IsCurrentSchema, Ran, Made, portal_cells, lecturer_cells, lecturer_new, lecturer_values, project_new, student_new, student_values, place_new, pair_new, AddsBy, Clears, MovesTo, IsOfVersion, MovesSecond, Ranks, portal_row, second_cells, second_row}
 use Rattle.portal_tables.proofs.Weak.{portal_with, with_checks, own_is}
 use Rattle.portal_tables.proofs.Query.{one_table, passes, shown_as}
 use Rattle.portal_tables.proofs.Tests.{param, has_key, same_key, equals_int}
@@ -41,9 +41,8 @@ pub by_one : {R : Type 0} {values cells : R → Row} {width : ℕ} {terms : List
 by_one {R} {values} {cells} {width} {terms} given = record { is = go }
   where
     go : (rows : List R) → length rows ≡ 1 → (more : Row) → value_rows (flat_map values rows ++ more) width (length terms / width) terms ≡ map unnumbered (map cells rows)
-    go [] are = absurd (cc)
     go (a ∷ []) are = given a
-    go (a ∷ b ∷ rows) are = absurd (cc)
+    go _ are = absurd (cc)
 
 pub by_eight : {R : Type 0} {values cells : R → Row} {width : ℕ} {terms : List Term}
     → ((a b c d e f g h : R) (more : Row) → value_rows (flat_map values (a ∷ b ∷ c ∷ d ∷ e ∷ f ∷ g ∷ h ∷ []) ++ more) width (length terms / width) terms ≡ map unnumbered (map cells (a ∷ b ∷ c ∷ d ∷ e ∷ f ∷ g ∷ h ∷ [])))
@@ -51,16 +50,8 @@ pub by_eight : {R : Type 0} {values cells : R → Row} {width : ℕ} {terms : Li
 by_eight {R} {values} {cells} {width} {terms} given = record { is = go }
   where
     go : (rows : List R) → length rows ≡ 8 → (more : Row) → value_rows (flat_map values rows ++ more) width (length terms / width) terms ≡ map unnumbered (map cells rows)
-    go [] are = absurd (cc)
-    go (a ∷ []) are = absurd (cc)
-    go (a ∷ b ∷ []) are = absurd (cc)
-    go (a ∷ b ∷ c ∷ []) are = absurd (cc)
-    go (a ∷ b ∷ c ∷ d ∷ []) are = absurd (cc)
-    go (a ∷ b ∷ c ∷ d ∷ e ∷ []) are = absurd (cc)
-    go (a ∷ b ∷ c ∷ d ∷ e ∷ f ∷ []) are = absurd (cc)
-    go (a ∷ b ∷ c ∷ d ∷ e ∷ f ∷ g ∷ []) are = absurd (cc)
     go (a ∷ b ∷ c ∷ d ∷ e ∷ f ∷ g ∷ h ∷ []) are = given a b c d e f g h
-    go (a ∷ b ∷ c ∷ d ∷ e ∷ f ∷ g ∷ h ∷ i ∷ rows) are = absurd (cc)
+    go _ are = absurd (cc)
 
 -- the one row of a table changes whose id is 1
 abbrev the_one : List Term
@@ -177,9 +168,7 @@ students_added g count sql terms = rows_added 3 _ 6 _ _ _ _ _ _ (λ checks more.
 -- the tables of lists, whichever it is
 stands : (l : Lists) → StandsAt (place_among l) (list_table (names l) (tree_of l))
 stands Choices checks more = refl
-stands Rankings checks more = refl
-stands SecondChoices checks more = refl
-stands SecondRankings checks more = refl
+stands _ checks more = refl
 
 abbrev place_terms : ℕ → List Term
 place_terms n = lit Null ∷ param n ∷ param (n + 1) ∷ param (n + 2) ∷ []
@@ -187,16 +176,12 @@ place_terms n = lit Null ∷ param n ∷ param (n + 1) ∷ param (n + 2) ∷ []
 pub add_is : (l : Lists) → Inserts (add_text (names l)) (place_among l) (place_terms 0) 4
 unfolding understood everything
 add_is Choices = record { command = λ checks more. refl; plain = λ checks more. (refl, refl) }
-add_is Rankings = record { command = λ checks more. refl; plain = λ checks more. (refl, refl) }
-add_is SecondChoices = record { command = λ checks more. refl; plain = λ checks more. (refl, refl) }
-add_is SecondRankings = record { command = λ checks more. refl; plain = λ checks more. (refl, refl) }
+add_is _ = record { command = λ checks more. refl; plain = λ checks more. (refl, refl) }
 
 pub add_eight_is : (l : Lists) → Inserts (add_eight_text (names l)) (place_among l) (flat_map place_terms (0 ∷ 3 ∷ 6 ∷ 9 ∷ 12 ∷ 15 ∷ 18 ∷ 21 ∷ [])) 4
 unfolding understood everything
 add_eight_is Choices = record { command = λ checks more. refl; plain = λ checks more. (refl, refl) }
-add_eight_is Rankings = record { command = λ checks more. refl; plain = λ checks more. (refl, refl) }
-add_eight_is SecondChoices = record { command = λ checks more. refl; plain = λ checks more. (refl, refl) }
-add_eight_is SecondRankings = record { command = λ checks more. refl; plain = λ checks more. (refl, refl) }
+add_eight_is _ = record { command = λ checks more. refl; plain = λ checks more. (refl, refl) }
 
 pub places_added : (l : Lists) {S : Type 0} (g : Ghosts S) (count : ℕ) (sql : List ℕ) (terms : List Term) → Inserts sql (place_among l) terms 4 → Gives place_new place_new count 4 terms
     → AddsBy g sql count (tree_of l) place_new place_new
@@ -205,9 +190,7 @@ places_added l g count sql terms = rows_added (place_among l) _ (tree_of l) _ _ 
 clear_is : (l : Lists) → Deletes (clear_text (names l)) (place_among l) (tree_of l) (has_key 1)
 unfolding understood everything
 clear_is Choices = record { command = λ checks more. refl; plain = λ checks more. (refl, refl) }
-clear_is Rankings = record { command = λ checks more. refl; plain = λ checks more. (refl, refl) }
-clear_is SecondChoices = record { command = λ checks more. refl; plain = λ checks more. (refl, refl) }
-clear_is SecondRankings = record { command = λ checks more. refl; plain = λ checks more. (refl, refl) }
+clear_is _ = record { command = λ checks more. refl; plain = λ checks more. (refl, refl) }
 
 pub list_cleared : (l : Lists) (old new : State) (owner : List ℕ) → Ran (clear_text (names l)) (Text owner ∷ []) old new → Made (Clears (tree_of l) owner) old new
 list_cleared l = cleared (place_among l) _ (tree_of l) _ _ _ _ _ _ (stands l) (clear_text (names l)) (clear_is l)

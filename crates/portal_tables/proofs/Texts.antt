@@ -7,9 +7,8 @@ use Rattle.portal_tables.proofs.Shapes.{text_cell, Follows, followed}
 use Rattle.portal_tables.proofs.Sorted.{all_two}
 
 text_key : (name : List ℕ) (cs : List Column) (r : Row) → (are_typed None 0 (column_of name Text true ∷ cs) (drop 1 r) && true) ≡ true → are_present None 0 (column_of name Text true ∷ cs) r ≡ true → IsText (column r 1)
-text_key name cs [] t p = absurd (let e : false ≡ true = p in cc)
-text_key name cs (n ∷ []) t p = absurd (let e : false ≡ true = p in cc)
 text_key name cs (n ∷ v ∷ vs) t p = text_cell v (and_parts (is_of Text v) _ (and_parts _ _ t).0).0 (and_parts _ _ p).0
+text_key name cs _ t p = absurd (let e : false ≡ true = p in cc)
 
 texts : (name : List ℕ) (cs : List Column) (rows : List Row) → AllByRecursion (λ r. (are_typed None 0 (column_of name Text true ∷ cs) (drop 1 r) && true) ≡ true) rows
     → AllByRecursion (λ r. are_present None 0 (column_of name Text true ∷ cs) r ≡ true) rows → AllByRecursion (λ r. IsText (column r 1)) rows

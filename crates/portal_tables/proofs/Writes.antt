@@ -1,5 +1,5 @@
 -- What a statement on one table does to its rows.
-use Rattle.portal_tables.proofs.Base.{◌≡◌, ◌⊎◌, ◌∷◌, ◌++◌, ◌&&◌, ◌≢◌, ◌||◌, ◌/◌, inl, inr, ℕ, ℤ, List, [], map, slice_get, Bool, true, false, not, cond, Option, Some, None, Ok, Err, Result, refl, sym, ap, ap₂, subst, ◌∙◌, filter, length, drop, AllByRecursion, list_any, and_parts, Null, Int, Row, Term, col, unary, Table, Schema, Values, Insert, Delete, Update, Edit, edit_of, put_all, next_rowid, is_taken, are_fresh, without_all, id_in, taken_by, cast, cast_row, Chosen, Given, Tally, Written, Edited, Trees, put_row, rowid, has_rowid, understood, Database, IsDatabase, value_rows, State, mode_of, Executes, IsPlain, command_of, statement_of, runs_as, one_step, one_permutation, works, Enforced, Column, Reference, Order, schema_of, own_trees, InsertsRows, Drops, Sets, RowNumbersDiffer, with_rows, AreNew, IsPermutation, IsPermutation-map, IsPermutation-trans, IsPermutation-append_left, list_any-IsPermutation, IsProgramAnswer, ids_of, Program, map-map}
+use Rattle.portal_tables.proofs.Base.{◌≡◌, ◌⊎◌, ◌∷◌, ◌++◌, ◌&&◌, ◌≢◌, ◌/◌, inl, inr, ℕ, ℤ, List, [], map, slice_get, Bool, true, false, not, cond, Option, Some, None, Ok, Err, Result, refl, sym, ap, ap₂, subst, ◌∙◌, filter, length, drop, AllByRecursion, and_parts, Null, Int, Row, Term, col, unary, Table, Schema, Values, Insert, Delete, Update, Edit, edit_of, put_all, next_rowid, is_taken, are_fresh, without_all, id_in, taken_by, cast, cast_row, Chosen, Given, Tally, Written, Edited, Trees, put_row, rowid, has_rowid, understood, Database, IsDatabase, value_rows, State, mode_of, Executes, IsPlain, command_of, statement_of, runs_as, one_step, one_permutation, works, Enforced, Column, Reference, Order, schema_of, own_trees, InsertsRows, Drops, Sets, RowNumbersDiffer, with_rows, AreNew, IsPermutation, IsPermutation-map, IsPermutation-trans, IsPermutation-append_left, list_any-IsPermutation, IsProgramAnswer, ids_of, Program, map-map, any_map}
 use Rattle.sqlite.specs.Kind.TheVariants as kind
 use Rattle.sqlite.specs.Edit.{numbered}
 use Rattle.sqlite.specs.Does.{Does}
@@ -73,10 +73,6 @@ left_is p rest rows shown apart same =
     let ids : IsPermutation (map (λ r. id_in (rowid r)) (filter p rows)) (ids_of shown) =
     subst (λ l. IsPermutation l (ids_of shown)) (map-map (λ r. id_in (rowid r)) (λ r. rowid r ∷ rest r) (filter p rows)) (IsPermutation-map (λ r. id_in (rowid r)) (map (λ r. rowid r ∷ rest r) (filter p rows)) shown same) in
     without_is (ids_of shown) rows ∙ filter_same _ _ rows (λ r has. ap not (sym (list_any-IsPermutation (λ id. has_rowid id r) _ _ ids) ∙ any_map (λ id. has_rowid id r) (λ s. id_in (rowid s)) (filter p rows) ∙ found_once p rows r apart has))
-  where
-    any_map : {X Y : Type 0} (p : Y → Bool) (f : X → Y) (xs : List X) → list_any p (map f xs) ≡ list_any (λ x. p (f x)) xs
-    any_map p f [] = refl
-    any_map p f (x ∷ xs) = ap (λ b. p (f x) || b) (any_map p f xs)
 
 -- rows that have numbers of their own are given none
 rows_stay : (table rows : List Row) → numbered Given table rows ≡ rows

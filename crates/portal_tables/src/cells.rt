@@ -76,7 +76,7 @@ pub(crate) fn code_at(alloc: Global, row: &Row, at: usize) -> Result<Code, Table
 pub fn capacity_at(row: &Row, at: usize) -> Result<u32, TableFault>
     ensures ok { IfOk result (λ capacity. capacity ≡ number_in (column row.now at)) }
     ensures damaged { result ≡ Err TableFault.Damaged → 1 ≤ number_in (column row.now at)
-        → number_in (column row.now at) ≤ 200 → ⊥ }
+        → number_in (column row.now at) ≤ MOST_PLACES → ⊥ }
 {
     let number = number_at(row, at);
     if number < 1 || u64::from(MOST_PLACES) < number {

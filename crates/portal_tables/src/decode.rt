@@ -4,7 +4,7 @@ ghost use Rattle.std.specs.Prelude.{◌≡◌, ◌↔◌, ◌≤◌, ◌++◌};
 ghost use Rattle.std.specs.List.{cons_option};
 ghost use Rattle.portal_tables.specs.inner.Base.{[], true, Err, IfOk, OnOk, IsTrue, length, map, ⊤};
 ghost use Rattle.portal_tables.specs.inner.Base.{AllByRecursion, Cells, is_key, IsLecturer};
-ghost use Rattle.portal_tables.specs.inner.Base.{IsProject, IsStudent, Rise, is_before};
+ghost use Rattle.portal_tables.specs.inner.Base.{IsProject, IsStudent, Rise};
 ghost use Rattle.portal_tables.specs.Rows.{CountUp};
 ghost use Rattle.portal_tables.specs.inner.Shown.{as_list, first_cell, shown_lecturer};
 ghost use Rattle.portal_tables.specs.inner.Shown.{shown_project, shown_student, shown_rank};
@@ -100,7 +100,7 @@ impl FromCells for Row {
 }
 
 /// Appends the item if there is one. Fails only if memory runs out.
-pub(crate) fn push_some<T: Drop>(all: &mut Vec<T>, item: Option<T>) -> Result<(), AllocError>
+pub fn push_some<T: Drop>(all: &mut Vec<T>, item: Option<T>) -> Result<(), AllocError>
     ensures { OnOk result (all.new.items ≡ all.old.items ++ cons_option item []) }
 {
     if let Some(item) = item {
@@ -133,18 +133,11 @@ pub fn at_most_one<T: Drop>(mut rows: Vec<T>) -> Result<Option<T>, TableFault>
     Ok(rows.pop())
 }
 
-/// Returns whether row `a` has a lower key in column 0 than row `b`, to check the order.
-fn is_lower(a: &Row, b: &Row) -> bool
-    ensures { result ≡ is_before (first_cell a.now) (first_cell b.now) }
-{
-    bytes_at(a, 0).cmp(bytes_at(b, 0)).is_lt()
-}
-
 /// Returns whether a query's rows are in order: their keys, in column 0, are strictly ascending.
 pub fn do_rise(rows: &[Row]) -> bool
     ensures { IsTrue result ↔ Rise (map first_cell rows.now) }
 {
-    rows.is_sorted_by(|a, b| is_lower(a, b))
+    rows.is_sorted_by(|a, b| bytes_at(a, 0).cmp(bytes_at(b, 0)).is_lt())
 }
 
 /// Returns whether a list's rows are in order: their places, in column 0, are 1, 2 and so on.

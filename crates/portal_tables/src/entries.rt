@@ -1,6 +1,6 @@
 //! Reads the list or ranking of one owner, or of several owners one after another.
 
-ghost use Rattle.std.specs.Prelude.{◌≡◌, ◌↔◌, if◌then◌else◌};
+ghost use Rattle.std.specs.Prelude.{◌≡◌, if◌then◌else◌};
 ghost use Rattle.portal_tables.specs.inner.Base.{[], false, true, Err, IfOk, OnOk, IsTrue, Some};
 ghost use Rattle.portal_tables.specs.inner.Base.{None, option_map, map, AllByRecursion, ⊤};
 ghost use Rattle.portal_tables.specs.inner.Base.{IsDatabase, has, Rise};
@@ -16,8 +16,8 @@ use crate::cells::{bytes_at, key_at, number_at};
 use crate::decode::{do_rise, list_from, push_some};
 use crate::fault::TableFault;
 use crate::list_table::Lists;
-use crate::named::is_named;
 use crate::select::{Query, finds_any, read_rows};
+use crate::sorted_rolls::is_named;
 use spa_rows::Key;
 use sqlite::{Alter, Connection, Row};
 use std::alloc::Global;
@@ -119,15 +119,6 @@ fn entries_each<S: Alter>(
     Ok(entries)
 }
 
-/// Returns whether each row begins with an owner's key. The owners are sorted by key.
-fn are_named(owners: &[Row], rows: &[Row]) -> bool
-    requires { Rise (map first_cell owners.now) }
-    ensures { IsTrue result
-        ↔ AllByRecursion (λ c. has (map first_cell owners.now) (first_cell c) ≡ true) rows.now }
-{
-    rows.iter().all(|row| is_named(owners, bytes_at(row, 0)))
-}
-
 /// Returns whether the owners' keys are strictly ascending and each row begins with one of them.
 fn are_owned(owners: &[Row], rows: &[Row]) -> bool
     ensures rise { IsTrue result → Rise (map first_cell owners.now) }
@@ -135,7 +126,7 @@ fn are_owned(owners: &[Row], rows: &[Row]) -> bool
         → AllByRecursion (λ c. has (map first_cell owners.now) (first_cell c) ≡ true) rows.now
         → IsTrue result }
 {
-    do_rise(owners) && are_named(owners, rows)
+    do_rise(owners) && rows.iter().all(|row| is_named(owners, bytes_at(row, 0)))
 }
 
 /// Checks that the owners' keys are strictly ascending and that each row of the lists has one of

@@ -54,4 +54,34 @@ impl Lists {
             Lists::SecondRankings => "DELETE FROM ranking2 WHERE lecturer = ?1",
         }
     }
+
+    /// Returns the query of all rows.
+    pub(crate) fn all_text(self) -> &'static str
+        ensures { result.now ≡ texts.all_text (names self) }
+    {
+        match self {
+            Lists::Choices => "SELECT student, place, project FROM choice",
+            Lists::Rankings => "SELECT lecturer, place, student FROM ranking",
+            Lists::SecondChoices => "SELECT student, place, project FROM choice2",
+            Lists::SecondRankings => "SELECT lecturer, place, student FROM ranking2",
+        }
+    }
+
+    /// Returns the query of one owner's list.
+    pub(crate) fn list_text(self) -> &'static str
+        ensures { result.now ≡ texts.list_text (names self) }
+    {
+        match self {
+            Lists::Choices => "SELECT place, project FROM choice WHERE student = ?1 ORDER BY place",
+            Lists::Rankings => {
+                "SELECT place, student FROM ranking WHERE lecturer = ?1 ORDER BY place"
+            }
+            Lists::SecondChoices => {
+                "SELECT place, project FROM choice2 WHERE student = ?1 ORDER BY place"
+            }
+            Lists::SecondRankings => {
+                "SELECT place, student FROM ranking2 WHERE lecturer = ?1 ORDER BY place"
+            }
+        }
+    }
 }

@@ -1,14 +1,14 @@
-//! Reads the office's row, and converts phases to numbers and back.
+//! Reads the office's row and the second round's, and converts phases to numbers and back.
 
 ghost use Rattle.std.specs.Prelude.{◌≡◌, ◌↔◌, ◌∷◌};
 ghost use Rattle.portal_tables.specs.inner.Base.{[], pos, true, Err, IfOk, IfSome, IfNone, IsTrue};
 ghost use Rattle.portal_tables.specs.inner.Base.{List, ℕ, Int, Words, Cells, column, is_code};
-ghost use Rattle.portal_tables.specs.inner.Base.{ThePhase, First, IsDatabase};
-ghost use Rattle.portal_tables.specs.Tables.{portal_tree};
+ghost use Rattle.portal_tables.specs.inner.Base.{ThePhase, First, InSecond, IsDatabase};
+ghost use Rattle.portal_tables.specs.Tables.{portal_tree, second_tree};
 ghost use Rattle.portal_tables.specs.Steps.{Reads};
 ghost use Rattle.portal_tables.specs.inner.Reads.{Always, Answers, Blames};
-ghost use Rattle.portal_tables.specs.Rows.{portal_row, number_of_phase, HasOffice};
-ghost use Rattle.portal_tables.specs.inner.RowChanges.{IsOffice};
+ghost use Rattle.portal_tables.specs.Rows.{portal_row, second_row, number_of_phase, HasOffice};
+ghost use Rattle.portal_tables.specs.inner.RowChanges.{IsOffice, IsSecond};
 
 use crate::cells::code_at;
 use crate::fault::TableFault;
@@ -44,7 +44,7 @@ pub fn is_number(row: &Row, at: usize, number: u32) -> bool
 }
 
 /// Returns the number that represents a phase in a table.
-pub fn phase_number(phase: Phase) -> u32
+pub(crate) fn phase_number(phase: Phase) -> u32
     ensures { result ≡ number_of_phase phase }
 {
     match phase {
@@ -83,22 +83,6 @@ fn text_code_at(alloc: Global, row: &Row, at: usize) -> Result<Code, TableFault>
     }
 }
 
-/// Decodes the office's row, which must have id 1 and this version.
-fn office_at(alloc: Global, row: &Row, version: u32) -> Result<Office, TableFault>
-    ensures ok { IfOk result (λ office. IsOffice version office.phase office.code row.now) }
-    ensures damaged { result ≡ Err TableFault.Damaged → (phase : ThePhase) (code : List ℕ)
-        → IsOffice version phase code row.now → is_code code ≡ true → ⊥ }
-{
-    if !is_number(row, 0, 1) || !is_number(row, 1, version) {
-        return Err(TableFault::Damaged);
-    }
-    let Some(phase) = phase_at(row, 2) else {
-        return Err(TableFault::Damaged);
-    };
-    let code = text_code_at(alloc, row, 3)?;
-    Ok(Office { phase, code })
-}
-
 /// Decodes the only row of the office's table. Fails with `Damaged` unless there is exactly one
 /// row, with id 1, this version, a phase and a code.
 fn office_from(alloc: Global, rows: &[Row], version: u32) -> Result<Office, TableFault>
@@ -108,10 +92,17 @@ fn office_from(alloc: Global, rows: &[Row], version: u32) -> Result<Office, Tabl
         → (row : Cells) (phase : ThePhase) (code : List ℕ) → rows.now ≡ row ∷ []
         → IsOffice version phase code row → is_code code ≡ true → ⊥ }
 {
-    match rows {
-        [row] => office_at(alloc, row, version),
-        _ => Err(TableFault::Damaged),
+    let [row] = rows else {
+        return Err(TableFault::Damaged);
+    };
+    if !is_number(row, 0, 1) || !is_number(row, 1, version) {
+        return Err(TableFault::Damaged);
     }
+    let Some(phase) = phase_at(row, 2) else {
+        return Err(TableFault::Damaged);
+    };
+    let code = text_code_at(alloc, row, 3)?;
+    Ok(Office { phase, code })
 }
 
 /// Reads the office's row. Fails with `Damaged` unless it is the only row, valid and of this
@@ -129,4 +120,34 @@ pub fn office_in<S: Alter>(
 {
     let rows = read_rows(alloc, conn, Query::Office)?;
     office_from(alloc, &rows, version)
+}
+
+/// Decodes the second round's phase from the only row of its table, or fails with `Damaged`.
+fn second_from(rows: &[Row]) -> Result<Phase, TableFault>
+    ensures ok { IfOk result (λ phase. IsSecond phase rows.now) }
+    ensures damaged { result ≡ Err TableFault.Damaged
+        → (phase : ThePhase) → IsSecond phase rows.now → ⊥ }
+{
+    let [row] = rows else {
+        return Err(TableFault::Damaged);
+    };
+    if !is_number(row, 0, 1) {
+        return Err(TableFault::Damaged);
+    }
+    phase_at(row, 1).ok_or(TableFault::Damaged)
+}
+
+/// Reads the phase of the second round, which is setup if there is no second round. Fails with
+/// `Damaged` unless the table has exactly one row, with id 1 and a phase. Fails with `Store` if the
+/// store reports an error, and with `Memory` if memory runs out.
+pub fn second_in<S: Alter>(alloc: Global, conn: &mut Connection<S>) -> Result<Phase, TableFault>
+    ensures { Reads InSecond S.Store Always
+        (Answers (λ db phase. IsDatabase db
+        → db.trees second_tree ≡ second_row (pos (number_of_phase phase)) ∷ [])
+        (λ db fault. (phase : ThePhase) → Blames fault
+        (db.trees second_tree ≡ second_row (pos (number_of_phase phase)) ∷ [])))
+        result conn.old conn.new }
+{
+    let rows = read_rows(alloc, conn, Query::Second)?;
+    second_from(&rows)
 }

@@ -15,7 +15,7 @@ ghost use Rattle.portal_tables.specs.inner.Placements.{HasPlacement, HasPlacemen
 ghost use Rattle.portal_tables.specs.inner.Placements.{HasSecondPlace, pair_told, places_shown};
 ghost use Rattle.portal_tables.specs.inner.Placements.{first_pairs};
 ghost use Rattle.portal_tables.specs.inner.Rolls.{RollRises};
-ghost use Rattle.portal_tables.specs.declared.select.Roll.TheVariants.{Students};
+ghost use Rattle.portal_tables.specs.declared.select.RollTable.TheVariants.{Students};
 
 use crate::cells::{assigned_at, bytes_at, is_null, key_at};
 use crate::decode::{at_most_one, decoded, push_some};

@@ -34,7 +34,7 @@ fn places_of<'a>(
     owner: &'a Key,
     items: &'a [Key],
 ) -> Result<Vec<NewPlace<'a>>, AllocError>
-    requires few { length items.now ≤ 2000 }
+    requires few { length items.now ≤ MOST_STUDENTS }
     ensures { IfOk result (λ v. map place_new v.items ≡ list_cells owner.now items.now) }
 {
     let mut rows = Vec::with_capacity(alloc, items.len())?;

@@ -19,7 +19,7 @@ fn number_of(row: &Row) -> Option<i64>
 }
 
 /// Returns whether the rowids in column 0 of the rows are strictly ascending.
-fn do_rise(rows: &[Row]) -> bool
+fn numbers_rise(rows: &[Row]) -> bool
     ensures { IsTrue result → rises None rows.now ≡ true }
 {
     let mut last: Option<i64> = None;
@@ -44,5 +44,5 @@ pub fn row_numbers_differ<S: Alter>(conn: &mut Connection<S>, table: Table) -> R
         result conn.old conn.new }
 {
     let rows = read(conn, Query::Numbers(table))?;
-    Ok(do_rise(&rows))
+    Ok(numbers_rise(&rows))
 }

@@ -1,8 +1,8 @@
 //! Compares a schema with the portal's own, except for the terms of CHECK and DEFAULT.
 
 ghost use Rattle.std.specs.Prelude.{◌≡◌, ◌↔◌};
-ghost use Rattle.portal_tables.specs.inner.Base.{IsTrue, [], length, false, IfOk, OnOk, Option};
-ghost use Rattle.portal_tables.specs.inner.Base.{None, AllZip};
+ghost use Rattle.portal_tables.specs.inner.Base.{IsTrue, [], false, OnOk};
+ghost use Rattle.portal_tables.specs.inner.Base.{AllZip};
 ghost use Rattle.portal_tables.specs.Tables.{no_schema, portal_schema, SameRules, SameDefaults};
 ghost use Rattle.portal_tables.specs.Tables.{SameTable, SameSchema, IsCurrentSchema, IsFirstSchema};
 ghost use Rattle.portal_tables.specs.Tables.{HasFirstSchema};
@@ -165,14 +165,11 @@ fn make_scratch(conn: &mut Connection<MemStore>) -> Result<(), Error>
     Ok(())
 }
 
-/// Opens an in-memory database with the portal's tables, to compare schemas with it.
-fn scratch(alloc: Global) -> Result<Connection<MemStore>, Error>
-    ensures { IfOk result (λ c. c.schema ≡ portal_schema) }
-{
-    let mut conn = Connection::open_in_memory(alloc)?;
-    make_scratch(&mut conn)?;
-    Ok(conn)
-}
+/// How many tables version 1 has: the first of the current schema.
+const FIRST_TABLES: usize = 6;
+
+/// How many indexes the tables of version 1 have.
+const FIRST_INDEXES: usize = 9;
 
 /// The portal's tables without rows, in an in-memory database, to compare schemas with.
 #[derive(Drop)]
@@ -194,7 +191,8 @@ impl Model for PortalSchema {
 impl PortalSchema {
     /// Creates the tables in memory. Returns any error of `sqlite`.
     pub fn new(alloc: Global) -> Result<PortalSchema, Error> {
-        let conn = scratch(alloc)?;
+        let mut conn = Connection::open_in_memory(alloc)?;
+        make_scratch(&mut conn)?;
         Ok(PortalSchema { conn })
     }
 
@@ -216,8 +214,8 @@ impl PortalSchema {
         let all = self.conn.schema();
         is_same_schema(
             conn.schema(),
-            &all.tables.as_slice()[..6],
-            &all.indexes.as_slice()[..9],
+            &all.tables.as_slice()[..FIRST_TABLES],
+            &all.indexes.as_slice()[..FIRST_INDEXES],
         )
     }
 }

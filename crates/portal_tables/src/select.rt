@@ -5,6 +5,7 @@ ghost use Rattle.portal_tables.specs.inner.Base.{Begins, Err, HasCleanDisk, IfOk
 ghost use Rattle.portal_tables.specs.inner.Base.{AllByRecursion, Cells, bound, state};
 ghost use Rattle.portal_tables.specs.inner.Decoding.{ShowsAs, FindsAny};
 ghost use Rattle.portal_tables.specs.inner.Queries.{Shows, round_asked, query_text, given};
+ghost use Rattle.portal_tables.specs.inner.Queries as texts;
 ghost use Rattle.portal_tables.specs.Steps.{Reads, Gives};
 ghost use Rattle.portal_tables.specs.inner.Reads.{Always, Answers, Blames};
 ghost use Rattle.portal_tables.specs.inner.Shown.{as_list};
@@ -21,7 +22,7 @@ use std::slice;
 
 /// The rolls, each with the columns that a query of it returns.
 #[derive(Clone, Copy, Drop)]
-pub enum Roll {
+pub enum RollTable {
     /// Key, name, code, capacity, and 1 if there is a ranking in the first round, otherwise 0.
     Lecturers,
     /// Key, lecturer, title and capacity.
@@ -30,15 +31,50 @@ pub enum Roll {
     Students,
 }
 
+impl RollTable {
+    /// Returns the query of the whole roll.
+    fn whole_text(self) -> &'static str
+        ensures { result.now ≡ texts.whole_text self }
+    {
+        match self {
+            RollTable::Lecturers => {
+                "SELECT key, name, code, capacity, ranked FROM lecturer ORDER BY key"
+            }
+            RollTable::Projects =>
+                "SELECT key, lecturer, title, capacity FROM project ORDER BY key",
+            RollTable::Students => "SELECT key, name, code, assigned FROM student ORDER BY key",
+        }
+    }
+}
+
 /// The tables that can have many rows.
 #[derive(Clone, Copy, Drop)]
 pub enum Table {
-    OfRoll(Roll),
+    OfRoll(RollTable),
     OfLists(Lists),
     /// The lecturers with a ranking in the second round.
     OfRanked,
     /// The result of the second round.
     OfPlaces,
+}
+
+impl Table {
+    /// Returns the query of the table's rowids.
+    fn numbers_text(self) -> &'static str
+        ensures { result.now ≡ texts.numbers_text self }
+    {
+        match self {
+            Table::OfRoll(RollTable::Lecturers) => "SELECT rowid FROM lecturer ORDER BY rowid",
+            Table::OfRoll(RollTable::Projects) => "SELECT rowid FROM project ORDER BY rowid",
+            Table::OfRoll(RollTable::Students) => "SELECT rowid FROM student ORDER BY rowid",
+            Table::OfLists(Lists::Choices) => "SELECT rowid FROM choice ORDER BY rowid",
+            Table::OfLists(Lists::Rankings) => "SELECT rowid FROM ranking ORDER BY rowid",
+            Table::OfLists(Lists::SecondChoices) => "SELECT rowid FROM choice2 ORDER BY rowid",
+            Table::OfLists(Lists::SecondRankings) => "SELECT rowid FROM ranking2 ORDER BY rowid",
+            Table::OfRanked => "SELECT rowid FROM ranked2 ORDER BY rowid",
+            Table::OfPlaces => "SELECT rowid FROM assigned2 ORDER BY rowid",
+        }
+    }
 }
 
 /// The queries. Each reads one table and returns the columns that its doc names.
@@ -47,7 +83,7 @@ pub enum Query<'a> {
     /// The row of the office: id, version, phase and code.
     Office,
     /// A whole roll, sorted by key, with all its columns.
-    Whole(Roll),
+    Whole(RollTable),
     /// The lecturers with this code, with all columns.
     LecturerByCode(&'a [u8]),
     /// The students with this code, with all columns.
@@ -91,15 +127,7 @@ impl<'a> Query<'a> {
     {
         match self {
             Query::Office => "SELECT id, version, phase, office FROM portal ORDER BY id",
-            Query::Whole(Roll::Lecturers) => {
-                "SELECT key, name, code, capacity, ranked FROM lecturer ORDER BY key"
-            }
-            Query::Whole(Roll::Projects) => {
-                "SELECT key, lecturer, title, capacity FROM project ORDER BY key"
-            }
-            Query::Whole(Roll::Students) => {
-                "SELECT key, name, code, assigned FROM student ORDER BY key"
-            }
+            Query::Whole(roll) => roll.whole_text(),
             Query::LecturerByCode(_) => {
                 "SELECT key, name, code, capacity, ranked FROM lecturer WHERE code = ?1 ORDER BY key"
             }
@@ -110,24 +138,8 @@ impl<'a> Query<'a> {
             Query::StudentTold(_) => {
                 "SELECT key, name, assigned FROM student WHERE key = ?1 ORDER BY key"
             }
-            Query::AllLists(Lists::Choices) => "SELECT student, place, project FROM choice",
-            Query::AllLists(Lists::Rankings) => "SELECT lecturer, place, student FROM ranking",
-            Query::AllLists(Lists::SecondChoices) => "SELECT student, place, project FROM choice2",
-            Query::AllLists(Lists::SecondRankings) => {
-                "SELECT lecturer, place, student FROM ranking2"
-            }
-            Query::ListOf(Lists::Choices, _) => {
-                "SELECT place, project FROM choice WHERE student = ?1 ORDER BY place"
-            }
-            Query::ListOf(Lists::Rankings, _) => {
-                "SELECT place, student FROM ranking WHERE lecturer = ?1 ORDER BY place"
-            }
-            Query::ListOf(Lists::SecondChoices, _) => {
-                "SELECT place, project FROM choice2 WHERE student = ?1 ORDER BY place"
-            }
-            Query::ListOf(Lists::SecondRankings, _) => {
-                "SELECT place, student FROM ranking2 WHERE lecturer = ?1 ORDER BY place"
-            }
+            Query::AllLists(lists) => lists.all_text(),
+            Query::ListOf(lists, _) => lists.list_text(),
             Query::Choosers(Round::First, _) => {
                 "SELECT student FROM choice WHERE project = ?1 ORDER BY student"
             }
@@ -151,29 +163,7 @@ impl<'a> Query<'a> {
             Query::SecondPlaceOf(_) => {
                 "SELECT student, project FROM assigned2 WHERE student = ?1 ORDER BY student"
             }
-            Query::Numbers(Table::OfRoll(Roll::Lecturers)) => {
-                "SELECT rowid FROM lecturer ORDER BY rowid"
-            }
-            Query::Numbers(Table::OfRoll(Roll::Projects)) => {
-                "SELECT rowid FROM project ORDER BY rowid"
-            }
-            Query::Numbers(Table::OfRoll(Roll::Students)) => {
-                "SELECT rowid FROM student ORDER BY rowid"
-            }
-            Query::Numbers(Table::OfLists(Lists::Choices)) => {
-                "SELECT rowid FROM choice ORDER BY rowid"
-            }
-            Query::Numbers(Table::OfLists(Lists::Rankings)) => {
-                "SELECT rowid FROM ranking ORDER BY rowid"
-            }
-            Query::Numbers(Table::OfLists(Lists::SecondChoices)) => {
-                "SELECT rowid FROM choice2 ORDER BY rowid"
-            }
-            Query::Numbers(Table::OfLists(Lists::SecondRankings)) => {
-                "SELECT rowid FROM ranking2 ORDER BY rowid"
-            }
-            Query::Numbers(Table::OfRanked) => { "SELECT rowid FROM ranked2 ORDER BY rowid" }
-            Query::Numbers(Table::OfPlaces) => { "SELECT rowid FROM assigned2 ORDER BY rowid" }
+            Query::Numbers(table) => table.numbers_text(),
         }
     }
 
@@ -239,7 +229,7 @@ pub fn read_each<S: Alter, T: FromCells>(
         → AllByRecursion T.is_fine rows))) result conn.old conn.new }
     ensures undamaged { result ≡ Err TableFault.Damaged → ((c : Cells) → T.is_fine c) → ⊥ }
 {
-    run::read_each(alloc, conn, query.text(), values(&query.value()))
+    run::query_each(alloc, conn, query.text(), values(&query.value()))
 }
 
 /// Runs one of the queries and returns copies of its rows. Never fails with `Damaged`.
@@ -260,5 +250,5 @@ pub fn finds_any<S: Alter>(conn: &mut Connection<S>, query: Query<'_>) -> Result
     ensures { Reads (round_asked query.entry) S.Store Always
         (Gives (λ db. FindsAny (Shows query.entry db.trees))) result conn.old conn.new }
 {
-    run::finds_any(conn, query.text(), values(&query.value()))
+    run::query_any(conn, query.text(), values(&query.value()))
 }

@@ -1,9 +1,10 @@
-//! Reads and decodes sorted rolls; `rising` reads any query's rows and checks their key order.
+//! Reads rows sorted by key, such as the rolls, finds a key among them, and decodes the rolls.
 
 ghost use Rattle.std.specs.Prelude.{◌≡◌};
-ghost use Rattle.portal_tables.specs.inner.Base.{Err, IfOk, List, Cells, map, AllByRecursion};
-ghost use Rattle.portal_tables.specs.inner.Base.{IsDatabase, IsLecturer, IsProject, IsStudent};
-ghost use Rattle.portal_tables.specs.inner.Base.{Rise, First};
+ghost use Rattle.portal_tables.specs.inner.Base.{Err, IfOk, List, Cells, map};
+ghost use Rattle.portal_tables.specs.inner.Base.{AllByRecursion, IsDatabase, IsLecturer, IsProject};
+ghost use Rattle.portal_tables.specs.inner.Base.{IsStudent, Rise, First, has, nat_cmp};
+ghost use Rattle.portal_tables.specs.inner.Base.{slice_cmp};
 ghost use Rattle.portal_tables.specs.inner.Queries.{Shows, round_asked};
 ghost use Rattle.portal_tables.specs.Steps.{Reads};
 ghost use Rattle.portal_tables.specs.inner.Reads.{Always, Answers, Blames};
@@ -11,35 +12,14 @@ ghost use Rattle.portal_tables.specs.inner.Rolls.{roll_rows, RollRises, AreRolls
 ghost use Rattle.portal_tables.specs.inner.Shown.{first_cell, shown_lecturer, shown_project};
 ghost use Rattle.portal_tables.specs.inner.Shown.{shown_student};
 
+use crate::cells::bytes_at;
 use crate::decode::{decoded, do_rise};
 use crate::fault::TableFault;
-use crate::select::{Query, Roll, read_rows};
+use crate::select::{Query, RollTable, read_rows};
 use portal_core::{LecturerRow, ProjectRow, StudentRow};
 use sqlite::{Alter, Connection, Row};
 use std::alloc::Global;
-
-/// The rows of the rolls, as queries return them, sorted by key.
-#[derive(Drop)]
-pub struct Rolls {
-    /// Key, name, code, capacity, and 1 if there is a ranking in the first round, otherwise 0.
-    pub lecturers: Vec<Row>,
-    /// Key, lecturer, title and capacity.
-    pub projects: Vec<Row>,
-    /// Key, name, code and assigned project.
-    pub students: Vec<Row>,
-}
-
-/// Returns the rows if they are in key order by column 0, and otherwise fails with `Damaged`.
-fn risen(rows: Vec<Row>) -> Result<Vec<Row>, TableFault>
-    ensures ok { IfOk result (λ v. (v ≡ rows) × Rise (map first_cell rows.items)) }
-    ensures damaged { result ≡ Err TableFault.Damaged → Rise (map first_cell rows.items) → ⊥ }
-{
-    if do_rise(&rows) {
-        Ok(rows)
-    } else {
-        Err(TableFault::Damaged)
-    }
-}
+use std::cmp::Ordering;
 
 /// Reads the rows of any query, which must be in key order. Fails with `Damaged` if the keys in
 /// column 0 are not strictly ascending. Fails with `Store` if the store reports an error, and with
@@ -56,7 +36,23 @@ pub fn rising<S: Alter>(
     ensures rise { IfOk result (λ rows. Rise (map first_cell rows.items)) }
 {
     let rows = read_rows(alloc, conn, query)?;
-    risen(rows)
+    if !do_rise(&rows) {
+        return Err(TableFault::Damaged);
+    }
+    Ok(rows)
+}
+
+/// Returns whether a row begins with the key, in rows sorted by strictly ascending key.
+pub fn is_named(rows: &[Row], key: &[u8]) -> bool
+    requires { Rise (map first_cell rows.now) }
+    ensures { result ≡ has (map first_cell rows.now) key.now }
+{
+    let found = rows.binary_search_by(
+        |row: &Row| -> Ordering
+            ensures { result ≡ slice_cmp nat_cmp (first_cell row.now) key.entry.now }
+        { bytes_at(row, 0).cmp(key) },
+    );
+    found.is_ok()
 }
 
 /// Reads a roll, sorted by key. Fails with `Damaged` if the keys are not strictly ascending, and
@@ -64,7 +60,7 @@ pub fn rising<S: Alter>(
 pub fn roll_in<S: Alter>(
     alloc: Global,
     conn: &mut Connection<S>,
-    roll: Roll,
+    roll: RollTable,
 ) -> Result<Vec<Row>, TableFault>
     ensures { Reads First S.Store Always
         (Answers (λ db v. v.items ≡ roll_rows roll db.trees)
@@ -74,6 +70,17 @@ pub fn roll_in<S: Alter>(
     rising(alloc, conn, Query::Whole(roll))
 }
 
+/// The rows of the rolls, as queries return them, sorted by key.
+#[derive(Drop)]
+pub struct Rolls {
+    /// Key, name, code, capacity, and 1 if there is a ranking in the first round, otherwise 0.
+    pub lecturers: Vec<Row>,
+    /// Key, lecturer, title and capacity.
+    pub projects: Vec<Row>,
+    /// Key, name, code and assigned project.
+    pub students: Vec<Row>,
+}
+
 /// Reads the three rolls, each sorted by key. Stops at the first fault and returns it.
 pub fn rolls_in<S: Alter>(alloc: Global, conn: &mut Connection<S>) -> Result<Rolls, TableFault>
     ensures { Reads First S.Store Always
@@ -81,9 +88,9 @@ pub fn rolls_in<S: Alter>(alloc: Global, conn: &mut Connection<S>) -> Result<Rol
         (λ db fault. Blames fault (IsDatabase db × RollsRise db.trees)))
         result conn.old conn.new }
 {
-    let lecturers = roll_in(alloc, conn, Roll::Lecturers)?;
-    let projects = roll_in(alloc, conn, Roll::Projects)?;
-    let students = roll_in(alloc, conn, Roll::Students)?;
+    let lecturers = roll_in(alloc, conn, RollTable::Lecturers)?;
+    let projects = roll_in(alloc, conn, RollTable::Projects)?;
+    let students = roll_in(alloc, conn, RollTable::Students)?;
     Ok(Rolls {
         lecturers,
         projects,

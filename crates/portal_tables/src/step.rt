@@ -1,9 +1,9 @@
-//! Commits a step in a transaction of its own.
+//! Commits a step in a transaction of its own; `settled` states what holds outside one.
 
 ghost use Rattle.std.specs.Prelude.{◌≡◌};
 ghost use Rattle.portal_tables.specs.inner.Base.{false, Err, OnOk, OnErr, IsTrue, HasCleanDisk};
-ghost use Rattle.portal_tables.specs.inner.Base.{Survives, state, Database};
-ghost use Rattle.portal_tables.specs.Steps.{Commits, IsAfter, LeavesOnly, Stays};
+ghost use Rattle.portal_tables.specs.inner.Base.{Survives, state, Database, IsLive};
+ghost use Rattle.portal_tables.specs.Steps.{Commits, IsAfter, IsSettled, LeavesOnly, Stays};
 ghost use Rattle.portal_tables.specs.inner.Running.{Does, GoesOn};
 
 use crate::fault::TableFault;
@@ -18,6 +18,17 @@ pub trait Step {
     /// Performs the step. After an error the caller should drop the transaction to roll it back.
     fn take<S: Alter>(self, alloc: Global, tx: &mut Transaction<'_, S>) -> Result<(), Error>
         ensures { Does S.Store (GoesOn (makes self)) result tx.old tx.new };
+}
+
+/// States for proofs what holds of a connection outside a transaction, and does nothing. Such a
+/// connection shows what is committed, and an open one has a sound database.
+pub fn settled<S: Alter>(conn: &Connection<S>)
+    requires idle { conn.now.in_transaction ≡ false }
+    ensures settled { IsSettled (state S.Store conn.now) }
+    ensures live { IsLive (state S.Store conn.now) }
+{
+    let _idle = conn.is_autocommit();
+    let _live = conn.schema();
 }
 
 /// Performs the step in a transaction of its own and commits it. After an error nothing has
@@ -40,8 +51,7 @@ pub fn commit<S: Alter, T: Step>(
     ensures crash { Survives (state S.Store conn.old) (state S.Store conn.new)
         (IsAfter (T.makes step) (state S.Store conn.old)) }
 {
-    // called for its contract: without an open transaction, the visible state is committed
-    let _idle = conn.is_autocommit();
+    settled(conn);
     let mut tx = conn.transaction();
     step.take(alloc, &mut tx)?;
     tx.commit()?;

@@ -3,13 +3,12 @@ unfoldable pub use Rattle.sqlite.specs.Ops.{binary}
 unfoldable pub use Rattle.sqlite.specs.Order.{value_cmp}
 unfoldable pub use Rattle.sqlite_tied.specs.Compute.{everything}
 unfoldable pub use Rattle.std.specs.List.{IsDistinct}
-pub use Rattle.std.proofs.Common.{ap, ap₂, cond, drop, inl, inr, refl, subst, subst₂, sym, ◌∙◌, arith, pos, rules, negsuc}
+pub use Rattle.std.proofs.Common.{ap, ap₂, cond, drop, inl, inr, refl, subst, sym, ◌∙◌, arith, pos, rules, negsuc}
 pub use Rattle.std.proofs.Math.Bool.{and_comm, or-true}
 pub use Rattle.std.proofs.Math.Path.{subst₃}
 pub use Rattle.std.proofs.lemmas.Bool.{and_parts, cases_Bool, or_parts}
 pub use Rattle.std.proofs.lemmas.Grind.{common_steps}
 pub use Rattle.std.proofs.lemmas.List.{append-nil, at_drop_all, map-append, map-id, length-map}
-pub use Rattle.std.proofs.lemmas.List.Elements.{filter_map-append}
 pub use Rattle.std.proofs.lemmas.List.Sorted.{list_any-IsPermutation, length_permutation, IsPermutation-sym}
 pub use Rattle.std.proofs.lemmas.Result.{IfOk-weaker, MatchResult-weaker}
 pub use Rattle.std.specs.List.{list_any, cons_option}
@@ -18,15 +17,14 @@ pub use Rattle.std.specs.Ordering.{is_eq, is_ne}
 pub use Rattle.std.specs.Prelude.{Bool, Ok, Result, take, true, ℕ, ℤ, if◌then◌else◌, is_none, ◌&&◌, ◌++◌, ◌||◌, ◌∷◌, ◌≡◌, ◌≤◌, is_some, ◌+◌}
 pub use Rattle.std.specs.Result.{IsErrAnd}
 pub use Rattle.std.specs.declared.cmp.Ordering.{Ordering}
-pub use Rattle.std.specs.declared.cmp.Ordering.TheVariants.{Equal, Greater, Less}
+pub use Rattle.std.specs.declared.cmp.Ordering.TheVariants.{Equal}
 pub use Rattle.portal_core.proofs.AllLaws.{all_map, all_weaker, any_map, filtered_any, is_sym, any_nowhere}
 pub use Rattle.portal_core.proofs.Fills.{before_other, rise_kept}
 pub use Rattle.portal_core.proofs.Keys.{all_unmap, is_own, is_same}
 pub use Rattle.portal_core.specs.Words.{is_before, put_all, is_empty}
 pub use Rattle.portal_core.specs.inner.Room.{lecturer_left, project_left}
-pub use Rattle.portal_list.proofs.Steps.{none_more, some_more}
 pub use Rattle.portal_list.specs.inner.Shown.{name_of, offered}
-pub use Rattle.portal_tables.proofs.InTurn.{at_item, both, judged, next_item, reads_as, reads_both, reads_handed, reads_more, reads_of, reads_open, reads_self, reads_short, reads_then, reads_then_of}
+pub use Rattle.portal_tables.proofs.InTurn.{at_item, both, judged, next_given, next_item, reads_as, reads_both, reads_handed, reads_more, reads_of, reads_open, reads_self, reads_short, reads_then, reads_then_of}
 pub use Rattle.portal_tables.proofs.Listed.{IsText, permuted, roll_shown, roll_rises}
 pub use Rattle.portal_tables.proofs.Lists.{any_alike, filter_all, not_true, eq_self, apart_filter}
 pub use Rattle.portal_tables.proofs.OneFound.{filter_alike, found}
@@ -37,37 +35,35 @@ pub use Rattle.portal_tables.proofs.Sorted.{all_permuted, all_two, permutes, ris
 pub use Rattle.portal_tables.proofs.Tests.{equals_text, equals_int}
 pub use Rattle.portal_tables.proofs.Texts.{key_texts}
 pub use Rattle.portal_tables.proofs.Weak.{Open, own_is, schema_with, with_checks}
-pub use Rattle.portal_tables.specs.Rows.{RowNumbersDiffer, has_text, row_key, by_place, chosen, named_by, of_key, place_key, second_placement, IsWhole, CountUp, place_of}
-pub use Rattle.portal_tables.specs.Steps.{Reading, Reads, Gives}
+pub use Rattle.portal_tables.specs.Rows.{RowNumbersDiffer, has_text, row_key, by_place, chosen, named_by, of_key, place_key, IsWhole, CountUp, place_of}
+pub use Rattle.portal_tables.specs.Steps.{Reading, Gives}
 pub use Rattle.portal_tables.specs.Tables.{choice_table, ranking_table, tree_of, assigned2_tree, lecturer_tree, project_tree, student_tree, HasRound, IsCurrentSchema, HasFirstSchema}
 pub use Rattle.portal_tables.specs.declared.fault.TableFault.{TableFault}
-pub use Rattle.portal_tables.specs.declared.fault.TableFault.TheVariants.{Damaged}
 pub use Rattle.portal_tables.specs.declared.list_table.Lists.{Lists}
 pub use Rattle.portal_tables.specs.declared.list_table.Lists.TheVariants.{Choices, Rankings, SecondChoices, SecondRankings}
-pub use Rattle.portal_tables.specs.declared.select.Roll.{Roll}
-pub use Rattle.portal_tables.specs.declared.select.Roll.TheVariants.{Lecturers, Projects, Students}
+pub use Rattle.portal_tables.specs.declared.select.RollTable.{RollTable}
+pub use Rattle.portal_tables.specs.declared.select.RollTable.TheVariants.{Lecturers, Projects, Students}
 pub use Rattle.portal_tables.specs.declared.select.Table.TheVariants.{OfLists, OfPlaces, OfRoll}
 pub use Rattle.portal_tables.specs.inner.Changes.{ListsBy, columns, every, has_number}
 pub use Rattle.portal_tables.specs.inner.Decoding.{ShowsAs, FindsAny}
-pub use Rattle.portal_tables.specs.inner.Owners.{AreOwned, IsFine, IsListOf, IsRead, choice_shown, entry, has_list, ranking_shown, with_list}
-pub use Rattle.portal_tables.specs.inner.Placements.{HasPlacement, HasPlacementAsked, HasSecondPlace, pair_shown, placement_before, HasFirstPlace, first_pairs}
+pub use Rattle.portal_tables.specs.inner.Owners.{AreOwned, choice_shown, has_list}
+pub use Rattle.portal_tables.specs.inner.Placements.{HasPlacement, HasPlacementAsked, HasSecondPlace, placement_before, HasFirstPlace, first_pairs}
 pub use Rattle.portal_tables.specs.inner.Queries.{columns_of, roll_tree}
 pub use Rattle.portal_tables.specs.inner.Reads.{MayRead, Always}
 pub use Rattle.portal_tables.specs.inner.Rolls.{by_key, lecturers_shown, projects_shown, roll_columns, students_shown, RollRises}
 pub use Rattle.portal_tables.specs.inner.Shown.{first_cell, shown_lecturer, shown_project, shown_student}
 pub use Rattle.portal_tables.specs.inner.Texts.{round_of}
 pub use Rattle.portal_views.specs.declared.lines.ApplicantLine.{ApplicantLine}
-pub use Rattle.portal_views.specs.inner.Base.{AllByRecursion, Database, Err, First, Global, HasCleanDisk, IfOk, IsDatabase, Key, LecturerRow, List, Listing, None, OnOk, Option, ProjectRow, Rise, Round, Row, Second, Some, Trees, Vec, [], bytes, column, false, filter, filter_map, find, has, equals, is_at, is_from_ranking, Trees, length, listing_with, map, not, option_map, put, state, IsLecturer, IsProject, IsStudent, Person}
-pub use Rattle.portal_views.specs.inner.Callers.{AreTold, applicants_told, lecturer_shown, lines_shown, own_keys_shown, person_key, persons_at, persons_before, placed_at_shown, placed_told, with_persons, HasOwnKeys, student_shown}
-pub use Rattle.portal_views.specs.inner.Catalogue.{IsCatalogue, catalogue_shown, own_listed, HasPairs, offered_in}
-pub use Rattle.portal_views.specs.inner.Contents.{AreFine, rows_from, rows_held, HasReadOf, HasFineRows}
+pub use Rattle.portal_views.specs.inner.Base.{AllByRecursion, Database, Err, First, Global, IsDatabase, Key, LecturerRow, List, Listing, None, Option, ProjectRow, Rise, Round, Row, Second, Some, Trees, Vec, [], bytes, column, false, filter, filter_map, find, has, equals, is_at, Trees, length, listing_with, map, not, option_map, put, state, IsLecturer, IsProject, IsStudent, Person}
+pub use Rattle.portal_views.specs.inner.Callers.{AreTold, applicants_told, lecturer_shown, lines_shown, own_keys_shown, person_key, persons_at, placed_at_shown, placed_told, HasOwnKeys, student_shown}
+pub use Rattle.portal_views.specs.inner.Catalogue.{catalogue_shown, own_listed, offered_in}
+pub use Rattle.portal_views.specs.inner.Contents.{rows_from, rows_held, HasReadOf, HasFineRows}
 pub use Rattle.portal_views.specs.inner.Lines.{HasTables, applicant_lines, in_round, applicant_at, shown_line, told_line, HasKey, HasStudents, IsStudentKey, IsNamed, IsTold}
 pub use Rattle.portal_views.specs.inner.Office.{HasWholeLists, is_chosen_shown, is_wanted_shown, office_sees_with, unlisted, waiting_key, waiting_keys, AreReadable}
 pub use Rattle.spa_rows.specs.Lines.{is_key}
 pub use Rattle.sqlite.specs.Collation.TheVariants.{Binary}
 pub use Rattle.sqlite.specs.Edit.{id_in}
 pub use Rattle.sqlite.specs.Ops.{from_truth, is_true}
-pub use Rattle.sqlite.specs.Order.{Row as Cells}
 pub use Rattle.sqlite.specs.State.{State}
 pub use Rattle.sqlite.specs.Tree.{rowid}
 pub use Rattle.sqlite.specs.declared.types.Value.{Value}
@@ -75,4 +71,4 @@ pub use Rattle.sqlite.specs.declared.types.Value.TheVariants.{Int, Null, Text as
 pub use Rattle.sqlite_rules.specs.Lists.{Has}
 pub use Rattle.sqlite_schema.specs.Rules.{Keeps, differ, equal, passes}
 pub use Rattle.sqlite_schema.specs.declared.schema.Constraint.TheVariants.{ForeignKey, Unique}
-pub use Rattle.sqlite_trees.proofs.ListLemmas.{IsPermutation-filter, all-filter, all_of, filter-map, map-map}
+pub use Rattle.sqlite_trees.proofs.ListLemmas.{IsPermutation-filter, all-filter, all_of, filter-map, filter_none, map-map}

@@ -3,6 +3,8 @@ use Rattle.portal_views.proofs.Base.{◌≡◌, ◌||◌, ◌∷◌, IsStudentRo
 use Rattle.portal_views.proofs.Choosers.{chooser, choosers_known}
 use Rattle.portal_views.proofs.Owners.{keys_shown}
 use Rattle.portal_views.proofs.OneKey.{roll_keys_rise}
+use Rattle.portal_tables.proofs.Lists.{sifted}
+use Rattle.sqlite_rules.proofs.ListLemmas.{has_filtered}
 
 -- what is found of what is made of a list is made of what is found
 find_mapped : {X Y : Type 0} (t : Y → Bool) (f : X → Y) (xs : List X) → find t (map f xs) ≡ option_map f (find (λ x. t (f x)) xs)
@@ -11,9 +13,8 @@ find_mapped t f (x ∷ xs) =
     elim (t (f x)) as (λ b. cond b (Some (f x)) (find t (map f xs)) ≡ option_map f (cond b (Some x) (find (λ y. t (f y)) xs))) [ true ↦ refl | false ↦ find_mapped t f xs ]
 
 only_told : (shown : List Row) (l : ApplicantLine) → map told_line shown ≡ l ∷ [] → (c : Row) × (shown ≡ c ∷ []) × (told_line c ≡ l)
-only_told [] l e = absurd (cc)
 only_told (c ∷ []) l e = (c, refl, cc)
-only_told (c ∷ d ∷ more) l e = absurd (cc)
+only_told _ l e = absurd (cc)
 
 -- the only row of a key tells the line of its student
 pub first_told : (db : Database) → HasTables db → (key : Key) (lines : List ApplicantLine) → ShowsAs told_line (ListsBy (1 ∷ []) (has_text 1 key) (columns (1 ∷ 2 ∷ 4 ∷ [])) (db.trees student_tree)) lines
@@ -52,12 +53,7 @@ module _ (ks : List Key) (q : Row → Bool) where
   Agree s = has ks (first_cell s) ≡ q s
 
   passed : (ss : List Row) → AllByRecursion Agree ss → AllByRecursion (λ s. has ks (first_cell s) ≡ true) (filter q ss)
-  passed [] all = tt
-  passed (s ∷ ss) all =
-      (elim (q s) as (λ b. has ks (first_cell s) ≡ b → AllByRecursion (λ s. has ks (first_cell s) ≡ true) (cond b (s ∷ filter q ss) (filter q ss))) [
-        | true ↦ λ e. (e, passed ss all.1)
-        | false ↦ λ e. passed ss all.1
-      ]) all.0
+  passed ss all = all_weaker (λ s. Agree s × (q s ≡ true)) _ (λ s both. both.0 ∙ both.1) (filter q ss) (sifted Agree q ss all)
 
   kept : (ss : List Row) (k : Key) → AllByRecursion Agree ss → has (map first_cell ss) k ≡ true → has ks k ≡ true → Has (map first_cell (filter q ss)) k
   kept [] k all on h = absurd (cc)
@@ -70,14 +66,6 @@ module _ (ks : List Key) (q : Row → Bool) where
         let rest = kept ss k all.1 (ap (λ b. b || has (map first_cell ss) k) (sym other) ∙ on) h in
         elim (q s) as (λ b. Has (map first_cell (cond b (s ∷ filter q ss) (filter q ss))) k) [ true ↦ inr rest | false ↦ rest ]
   ]
-
-has_kept : (q : Row → Bool) (ss : List Row) (s : Row) → Has (filter q ss) s → Has ss s
-has_kept q [] s h = absurd h
-has_kept q (x ∷ ss) s h =
-    (elim (q x) as (λ b. Has (cond b (x ∷ filter q ss) (filter q ss)) s → Has (x ∷ ss) s) [
-      | true ↦ λ h. elim h [ inl e ↦ inl e | inr on ↦ inr (has_kept q ss s on) ]
-      | false ↦ λ h. inr (has_kept q ss s h)
-    ]) h
 
 -- where the keys rise, a student is found by the own key
 found_own : (ss : List Row) → Rise (map first_cell ss) → (s : Row) → Has ss s → find (λ t. equals (first_cell t) (first_cell s)) ss ≡ Some s
@@ -101,7 +89,7 @@ lines_are round db tables p shown lists lines up told =
     (λ k h. kept (map first_cell shown) q roll k agree (at (λ k. has (map first_cell roll) k ≡ true) (map first_cell shown) k (choosers_known round db tables p shown lists) h) (has_of (map first_cell shown) k h))
     (λ k h. there (map first_cell shown) k (at (λ k. has (map first_cell shown) k ≡ true) (map first_cell mine) k (all_map (λ k. has (map first_cell shown) k ≡ true) first_cell mine (passed (map first_cell shown) q roll agree)) h)) in
     let each : map (λ c. applicant_at round db.trees (first_cell c)) mine ≡ map (λ c. Some (shown_line round db.trees c)) mine =
-    map_alike_on _ _ mine (λ c h. ap (λ o. option_map (shown_line round db.trees) o) (found_own roll rise c (has_kept q roll c h))) in
+    map_alike_on _ _ mine (λ c h. ap (λ o. option_map (shown_line round db.trees) o) (found_own roll rise c (has_filtered q roll c h).0)) in
     let all : map Some lines ≡ map Some (map (shown_line round db.trees) mine) =
     told ∙ map_twice (applicant_at round db.trees) first_cell shown ∙ ap (map (applicant_at round db.trees)) keys ∙ sym (map_twice (applicant_at round db.trees) first_cell mine) ∙ each ∙ map_twice Some (shown_line round db.trees) mine in
     sym (some_back lines) ∙ ap (filter_map (λ o. o)) all ∙ some_back (map (shown_line round db.trees) mine)

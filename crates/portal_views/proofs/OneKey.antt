@@ -1,11 +1,10 @@
 -- The unique index gives one row to each key of a roll, and one to a student's second-round place.
-use Rattle.portal_views.proofs.Base.{◌≡◌, ◌≤◌, ◌&&◌, ◌||◌, ◌∷◌, arith, Open, schema_with, own_is, IsText, filter_all, not_true, filter_alike, Follows, followed, kept, has_text_of, rise_put_all, key_texts, ℤ, Bool, true, false, not, cond, List, [], map, filter, all-filter, length, refl, sym, ap, subst, ◌∙◌, and_parts, or_parts, append-nil, AllByRecursion, IsDistinct, list_any, is_eq, is_ne, Ordering, Less, Equal, Greater, Some, Int, Words, Binary, Row, column, bytes, value_cmp, binary, is_true, from_truth, Trees, rowid, id_in, Database, IsDatabase, Unique, equal, differ, everything, Key, equals, is_sym, is_same, Rise, all_weaker, all_unmap, lecturer_tree, project_tree, student_tree, assigned2_tree, roll_tree, OfRoll, OfPlaces, Second, Keeps, passes, Roll, Lecturers, Projects, Students, IsCurrentSchema, RowNumbersDiffer, has_text, every, of_key, row_key, by_key, with_checks, current_own, apart_filter, form_of, text_equals, equals_text}
+use Rattle.portal_views.proofs.Base.{◌≡◌, ◌≤◌, ◌&&◌, ◌||◌, ◌∷◌, arith, Open, schema_with, own_is, IsText, filter_all, not_true, filter_alike, filter_none, Follows, followed, kept, has_text_of, rise_put_all, key_texts, ℤ, Bool, true, false, not, cond, List, [], map, filter, all-filter, length, refl, sym, ap, subst, ◌∙◌, and_parts, or_parts, append-nil, AllByRecursion, IsDistinct, list_any, is_eq, is_ne, Ordering, Equal, Some, Int, Words, Binary, Row, column, bytes, value_cmp, binary, is_true, from_truth, Trees, rowid, id_in, Database, IsDatabase, Unique, equal, differ, everything, Key, equals, is_sym, is_same, Rise, all_weaker, all_unmap, lecturer_tree, project_tree, student_tree, assigned2_tree, roll_tree, OfRoll, OfPlaces, Second, Keeps, passes, RollTable, Lecturers, Projects, Students, IsCurrentSchema, RowNumbersDiffer, has_text, every, of_key, row_key, by_key, with_checks, current_own, apart_filter, form_of, text_equals, equals_text}
 use Rattle.portal_tables.specs.declared.select.Table.{Table as Named}
 
 told_not : (o : Ordering) → is_true (from_truth (Some (is_ne o))) ≡ not (is_eq o)
-told_not Less = refl
 told_not Equal = refl
-told_not Greater = refl
+told_not _ = refl
 
 pub same_text : (s t : Key) → (equal Binary (Words s) (Words t) && true) ≡ equals s t
 same_text s t = equals_text (Words s) t ∙ text_equals s t
@@ -70,7 +69,7 @@ twins r s x y = ap (λ b. b && differ (rowid r) (rowid s)) (same_keys r s x y)
 abbrev pub IsAlone : Named → Open → Trees → Row → Type 0
 IsAlone t o db r = passes Unique (schema_with Second o) db (with_checks o.checks o.terms (form_of t)) r ≡ true
 
-no_twin : (roll : Roll) (o : Open) (db : Trees) (r : Row) → IsAlone (OfRoll roll) o db r → list_any (λ other. is_twin other r) (db (roll_tree roll)) ≡ false
+no_twin : (roll : RollTable) (o : Open) (db : Trees) (r : Row) → IsAlone (OfRoll roll) o db r → list_any (λ other. is_twin other r) (db (roll_tree roll)) ≡ false
 unfolding everything
 no_twin Lecturers o db r h = not_true (list_any (λ other. is_twin other r) (db lecturer_tree)) (and_parts (not (list_any (λ other. is_twin other r) (db lecturer_tree))) _ h).0
 no_twin Projects o db r h = not_true (list_any (λ other. is_twin other r) (db project_tree)) (and_parts (not (list_any (λ other. is_twin other r) (db project_tree))) _ h).0
@@ -80,29 +79,25 @@ no_place_twin : (o : Open) (db : Trees) (r : Row) → Follows Unique OfPlaces o 
 unfolding everything
 no_place_twin o db r h = not_true (list_any (λ other. is_twin other r) (db assigned2_tree)) (and_parts (not (list_any (λ other. is_twin other r) (db assigned2_tree))) _ h).0
 
-all_alone : (roll : Roll) (o : Open) (db : Trees) → Keeps Unique (schema_with Second o) db → AllByRecursion (IsAlone (OfRoll roll) o db) (db (roll_tree roll))
+all_alone : (roll : RollTable) (o : Open) (db : Trees) → Keeps Unique (schema_with Second o) db → AllByRecursion (IsAlone (OfRoll roll) o db) (db (roll_tree roll))
 all_alone Lecturers o db all = all.1.0
 all_alone Projects o db all = all.1.1.0
 all_alone Students o db all = all.1.1.1.0
 
 -- of the rows of a roll that pass, each key is of one
-pub roll_distinct : (db : Database) (roll : Roll) (p : Row → Bool) → IsCurrentSchema db.schema → IsDatabase db → RowNumbersDiffer (db.trees (roll_tree roll)) → IsDistinct equals (map row_key (filter p (db.trees (roll_tree roll))))
+pub roll_distinct : (db : Database) (roll : RollTable) (p : Row → Bool) → IsCurrentSchema db.schema → IsDatabase db → RowNumbersDiffer (db.trees (roll_tree roll)) → IsDistinct equals (map row_key (filter p (db.trees (roll_tree roll))))
 roll_distinct db roll p current sound apart =
     let w = own_is Second db.schema current in
     let table = db.trees (roll_tree roll) in
     kept_distinct HasTextKey is_twin twins p table apart (all-filter HasTextKey p table (key_texts db (OfRoll roll) (current_own db.schema current) sound))
     (all_weaker _ (λ r. list_any (λ other. is_twin other r) table ≡ false) (no_twin roll w.o db.trees) table (all_alone roll w.o db.trees (kept Second db sound Unique w)))
 
-pub roll_keys_rise : (db : Database) (roll : Roll) → IsCurrentSchema db.schema → IsDatabase db → RowNumbersDiffer (db.trees (roll_tree roll)) → Rise (map row_key (by_key (db.trees (roll_tree roll))))
+pub roll_keys_rise : (db : Database) (roll : RollTable) → IsCurrentSchema db.schema → IsDatabase db → RowNumbersDiffer (db.trees (roll_tree roll)) → Rise (map row_key (by_key (db.trees (roll_tree roll))))
 roll_keys_rise db roll current sound apart =
     let table = db.trees (roll_tree roll) in
     rise_put_all row_key table [] (subst (λ l. IsDistinct equals (map row_key l)) (filter_all table ∙ sym (append-nil table)) (roll_distinct db roll every current sound apart)) tt
 
 -- who has a place in the second round has one row
-
-none_left : (p : Row → Bool) (rows : List Row) → AllByRecursion (λ r. p r ≡ false) rows → filter p rows ≡ []
-none_left p [] all = refl
-none_left p (r ∷ rows) all = (λ i. cond (all.0 i) (r ∷ filter p rows) (filter p rows)) ∙ none_left p rows all.1
 
 one_of : (k : Key) (rows : List Row) → IsDistinct equals (map row_key rows) → length (filter (λ r. equals (row_key r) k) rows) ≤ 1
 unfolding IsDistinct
@@ -110,7 +105,7 @@ one_of k [] differ = omega arith
 one_of k (r ∷ rows) differ =
     (elim (equals (row_key r) k) as (λ b. equals (row_key r) k ≡ b → length (cond b (r ∷ filter (λ s. equals (row_key s) k) rows) (filter (λ s. equals (row_key s) k) rows)) ≤ 1) [
       | true ↦ λ e.
-          let none : filter (λ s. equals (row_key s) k) rows ≡ [] = none_left (λ s. equals (row_key s) k) rows
+          let none : filter (λ s. equals (row_key s) k) rows ≡ [] = filter_none (λ s. equals (row_key s) k) rows
           (all_weaker (λ s. equals (row_key r) (row_key s) ≡ false) (λ s. equals (row_key s) k ≡ false) (λ s h. is_sym (row_key s) k ∙ subst (λ x. equals x (row_key s) ≡ false) (is_same (row_key r) k e) h) rows
           (all_unmap (λ x. equals (row_key r) x ≡ false) row_key rows differ.0)) in
           subst (λ l. length (r ∷ l) ≤ 1) (sym none) (omega arith)
@@ -131,7 +126,7 @@ one_place db current sound apart =
     (all_weaker _ (λ r. list_any (λ other. is_twin other r) table ≡ false) (no_place_twin (own_is Second db.schema current).o db.trees) table (followed db OfPlaces current sound Unique)))
 
 -- and who is on a roll has one there
-pub one_row : (db : Database) (roll : Roll) → IsCurrentSchema db.schema → IsDatabase db → RowNumbersDiffer (db.trees (roll_tree roll)) → (k : Key) → length (of_key k (db.trees (roll_tree roll))) ≤ 1
+pub one_row : (db : Database) (roll : RollTable) → IsCurrentSchema db.schema → IsDatabase db → RowNumbersDiffer (db.trees (roll_tree roll)) → (k : Key) → length (of_key k (db.trees (roll_tree roll))) ≤ 1
 one_row db roll current sound apart =
     let table = db.trees (roll_tree roll) in
     at_most_one table (key_texts db (OfRoll roll) (current_own db.schema current) sound) (subst (λ l. IsDistinct equals (map row_key l)) (filter_all table) (roll_distinct db roll every current sound apart))

@@ -1,5 +1,5 @@
 -- List rows have owners on the roll, projects lecturers on it, and a roll shows its rows' keys.
-use Rattle.portal_views.proofs.Base.{◌≡◌, ◌&&◌, ◌∷◌, RollRises, Open, own_is, IsText, OnRoll, owners_of, Follows, followed, project_rows_formed, all_two, permutes, key_texts, refl, Bool, true, List, [], ℕ, map, sym, ap, subst, ◌∙◌, and_parts, list_any-IsPermutation, Value, Null, Words, Database, IsDatabase, Row, column, bytes, Trees, ForeignKey, OfLists, everything, map-map, Key, equals, has, Rise, all_weaker, any_map, round_of, tree_of, Lists, Choices, Rankings, SecondChoices, SecondRankings, HasRound, Round, First, Second, choice_table, ranking_table, Students, Lecturers, columns_of, students_shown, lecturers_shown, columns, row_key, by_key, AreOwned, first_cell, AllByRecursion, RowNumbersDiffer, HasFirstSchema, OfRoll, Projects, lecturer_tree, project_tree, Found, on_roll}
+use Rattle.portal_views.proofs.Base.{◌≡◌, ◌&&◌, ◌∷◌, RollRises, Open, own_is, IsText, OnRoll, owners_of, Follows, followed, project_rows_formed, all_two, permutes, key_texts, refl, Bool, true, List, ℕ, map, sym, ap, subst, ◌∙◌, and_parts, list_any-IsPermutation, Value, Null, Words, Database, IsDatabase, Row, column, bytes, Trees, ForeignKey, OfLists, everything, map-map, Key, equals, has, Rise, all_weaker, any_map, round_of, tree_of, Lists, Choices, Rankings, SecondChoices, SecondRankings, HasRound, Round, First, Second, choice_table, ranking_table, Students, Lecturers, columns_of, students_shown, lecturers_shown, columns, row_key, by_key, AreOwned, first_cell, AllByRecursion, RowNumbersDiffer, HasFirstSchema, OfRoll, Projects, lecturer_tree, project_tree, Found, on_roll}
 
 -- a roll shows the keys of its rows, and whoever is on it
 pub keys_shown : (cs : List ℕ) (roll : List Row) → map first_cell (map (columns (1 ∷ cs)) (by_key roll)) ≡ map row_key (by_key roll)
@@ -18,17 +18,14 @@ no_text t e = cc
 owner_found : (l : Lists) (o : Open) (db : Trees) (n : Value) (t : Key) (vs : Row) → (rest : Bool) × (Follows ForeignKey (OfLists l) o db (n ∷ Words t ∷ vs) ≡ (Found (db (owners_of l)) t && rest))
 unfolding everything
 owner_found Choices o db n t vs = (_, refl)
-owner_found Rankings o db n t vs = (_, refl)
-owner_found SecondChoices o db n t vs = (_, refl)
-owner_found SecondRankings o db n t vs = (_, refl)
+owner_found _ o db n t vs = (_, refl)
 
 place_owner : (l : Lists) (o : Open) (db : Trees) (r : Row) → IsText (column r 1) → Follows ForeignKey (OfLists l) o db r ≡ true → OnRoll (db (owners_of l)) (row_key r)
-place_owner l o db [] text h = absurd (no_text text.0 text.1)
-place_owner l o db (n ∷ []) text h = absurd (no_text text.0 text.1)
 place_owner l o db (n ∷ v ∷ vs) text h =
     let rule = owner_found l o db n text.0 vs in
     let parts = and_parts (Found (db (owners_of l)) text.0) rule.0 (sym rule.1 ∙ subst (λ x. Follows ForeignKey (OfLists l) o db (n ∷ x ∷ vs) ≡ true) text.1 h) in
     subst (OnRoll (db (owners_of l))) (sym (ap bytes text.1)) (on_roll (db (owners_of l)) text.0 parts.0)
+place_owner l o db _ text h = absurd (no_text text.0 text.1)
 
 -- the roll as it is shown has the owners of the lists
 owned : (db : Database) (l : Lists) → HasRound (round_of l) db.schema → IsDatabase db → (cs : List ℕ) → Rise (map row_key (by_key (db.trees (owners_of l))))
@@ -58,13 +55,11 @@ unfolding everything
 lecturer_found o db n k t vs = (_, refl)
 
 project_lecturer : (o : Open) (db : Trees) (r : Row) → IsText (column r 2) → Follows ForeignKey (OfRoll Projects) o db r ≡ true → OnRoll (db lecturer_tree) (bytes (column r 2))
-project_lecturer o db [] text h = absurd (no_text text.0 text.1)
-project_lecturer o db (n ∷ []) text h = absurd (no_text text.0 text.1)
-project_lecturer o db (n ∷ k ∷ []) text h = absurd (no_text text.0 text.1)
 project_lecturer o db (n ∷ k ∷ v ∷ vs) text h =
     let rule = lecturer_found o db n k text.0 vs in
     let parts = and_parts (Found (db lecturer_tree) text.0) rule.0 (sym rule.1 ∙ subst (λ x. Follows ForeignKey (OfRoll Projects) o db (n ∷ k ∷ x ∷ vs) ≡ true) text.1 h) in
     subst (OnRoll (db lecturer_tree)) (sym (ap bytes text.1)) (on_roll (db lecturer_tree) text.0 parts.0)
+project_lecturer o db _ text h = absurd (no_text text.0 text.1)
 
 pub lecturers_known : (db : Database) → HasFirstSchema db.schema → IsDatabase db → RowNumbersDiffer (db.trees project_tree) → AllByRecursion (λ r. OnRoll (db.trees lecturer_tree) (bytes (column r 2))) (db.trees project_tree)
 lecturers_known db own sound apart =

@@ -1,10 +1,11 @@
 -- Query keys of a lecturer's projects, a project's choosers and list owners rise: no two are equal.
-use Rattle.portal_views.proofs.Base.{◌≡◌, ◌&&◌, ◌∷◌, arith, pos, has_number, filter_all, not_true, IsPlace, kept, rise_put_all, key_texts, Open, schema_with, own_is, ℤ, Bool, true, false, not, cond, List, [], map, filter, all-filter, refl, sym, ap, ap₂, subst, ◌∙◌, and_parts, append-nil, AllByRecursion, IsDistinct, IsPermutation, list_any, is_eq, Ordering, Less, Equal, Greater, Int, Words, Binary, Row, column, value_cmp, Trees, rowid, Database, Unique, equal, differ, everything, Key, equals, is_own, Rise, all_weaker, project_tree, Projects, OfRoll, OfLists, Keeps, Round, First, Second, choice_table, tree_of, ListsBy, every, columns, has_text, row_key, first_cell, HasTables, roll_rises, text_there, equals_int}
+use Rattle.portal_views.proofs.Base.{◌≡◌, ◌&&◌, ◌∷◌, arith, pos, has_number, filter_all, not_true, IsPlace, kept, rise_put_all, key_texts, Open, schema_with, own_is, ℤ, Bool, true, false, not, List, [], map, filter, all-filter, refl, sym, ap, ap₂, subst, ◌∙◌, and_parts, append-nil, AllByRecursion, IsDistinct, IsPermutation, list_any, is_eq, Ordering, Equal, Int, Words, Binary, Row, column, value_cmp, Trees, rowid, Database, Unique, equal, differ, everything, Key, equals, is_own, Rise, all_weaker, project_tree, Projects, OfRoll, OfLists, Keeps, Round, First, Second, choice_table, tree_of, ListsBy, every, columns, has_text, row_key, first_cell, HasTables, roll_rises, text_there, equals_int}
 use Rattle.std.proofs.lemmas.Bool.Decides.{nat_tests}
 use Rattle.std.proofs.lemmas.Int.{ints}
 use Rattle.portal_tables.proofs.Base.{value_cmp-Int}
 use Rattle.portal_views.proofs.Choosers.{choices_apart, choices_formed}
 use Rattle.portal_views.proofs.OneKey.{HasTextKey, IsAlone, kept_distinct, roll_distinct, same_keys, same_text}
+use Rattle.portal_tables.proofs.Lists.{sifted}
 
 -- what is shown of a table by its keys, of the rows that pass
 kept_rise : (p : Row → Bool) (table shown : List Row) → AllByRecursion HasTextKey table → IsDistinct equals (map row_key (filter p table)) → ListsBy (1 ∷ []) p (columns (1 ∷ [])) table shown → Rise (map first_cell shown)
@@ -45,15 +46,6 @@ all_alone : (round : Round) (o : Open) (db : Trees) → Keeps Unique (schema_wit
 all_alone First o db all = all.1.1.1.1.0
 all_alone Second o db all = all.1.1.1.1.1.1.1.0
 
--- rows that pass a test of their own shape
-passed : (P : Row → Type 0) (p : Row → Bool) (rows : List Row) → AllByRecursion P rows → AllByRecursion (λ r. P r × (p r ≡ true)) (filter p rows)
-passed P p [] all = tt
-passed P p (r ∷ rows) all =
-    (elim (p r) as (λ b. p r ≡ b → AllByRecursion (λ r. P r × (p r ≡ true)) (cond b (r ∷ filter p rows) (filter p rows))) [
-      | true ↦ λ e. ((all.0, e), passed P p rows all.1)
-      | false ↦ λ e. passed P p rows all.1
-    ]) refl
-
 text_key : (r : Row) → IsPlace r → HasTextKey r
 text_key r x = (x.owner, ap (λ s. column s 1) x.is)
 
@@ -75,9 +67,8 @@ name_twins k r s x y =
     ap₂ (λ u v. (u && v) && differ (rowid r) (rowid s)) named (same_keys r s (text_key r x.0) (text_key s y.0))
 
 tied : (o : Ordering) → is_eq o ≡ true → o ≡ Equal
-tied Less e = absurd (cc)
 tied Equal e = refl
-tied Greater e = absurd (cc)
+tied _ e = absurd (cc)
 
 one_is : (n : ℤ) → is_eq (value_cmp (Int n) (Int (pos 1))) ≡ true → n ≡ pos 1
 one_is n e = let same = sym (value_cmp-Int n (pos 1)) ∙ tied _ e in grind (arith, ints, nat_tests, same)
@@ -109,11 +100,11 @@ module _ (round : Round) (db : Database) (tables : HasTables db) where
   pub choosers_rise : (k : Key) (shown : List Row) → ListsBy (1 ∷ []) (has_text 3 k) (columns (1 ∷ [])) table shown → Rise (map first_cell shown)
   choosers_rise k shown =
       kept_rise (has_text 3 k) table shown texts
-      (kept_distinct (Names k) is_name_twin (name_twins k) (has_text 3 k) table (choices_apart round db tables) (passed IsPlace (has_text 3 k) table places)
+      (kept_distinct (Names k) is_name_twin (name_twins k) (has_text 3 k) table (choices_apart round db tables) (sifted IsPlace (has_text 3 k) table places)
       (all_weaker (HasNoTwin table) (λ r. list_any (λ other. is_name_twin other r) table ≡ false) (λ r h. h.name) table none))
 
   pub listed_rise : (shown : List Row) → ListsBy (1 ∷ []) (has_number 2 1) (columns (1 ∷ [])) table shown → Rise (map first_cell shown)
   listed_rise shown =
       kept_rise (has_number 2 1) table shown texts
-      (kept_distinct IsFirst is_place_twin place_twins (has_number 2 1) table (choices_apart round db tables) (passed IsPlace (has_number 2 1) table places)
+      (kept_distinct IsFirst is_place_twin place_twins (has_number 2 1) table (choices_apart round db tables) (sifted IsPlace (has_number 2 1) table places)
       (all_weaker (HasNoTwin table) (λ r. list_any (λ other. is_place_twin other r) table ≡ false) (λ r h. h.place) table none))

@@ -1,16 +1,16 @@
 //! Reads each project's applicants and placed students by queries, as far as the phase shows them.
 
-ghost use Rattle.std.specs.Prelude.{◌≡◌, ◌∷◌, ◌++◌};
-ghost use Rattle.portal_views.specs.inner.Base.{[], IfOk, OnOk, map, is_at, is_from_ranking};
-ghost use Rattle.portal_views.specs.inner.Base.{Contradicts};
+ghost use Rattle.std.specs.Prelude.{◌≡◌, ◌≤◌, ◌∷◌, ◌++◌, insert};
+ghost use Rattle.portal_views.specs.inner.Base.{[], IfOk, OnOk, map, length, put, put_all, is_at};
+ghost use Rattle.portal_views.specs.inner.Base.{is_from_ranking, Contradicts};
+ghost use Rattle.portal_views.specs.inner.Base.{Person as ThatPerson};
 ghost use Rattle.portal_views.specs.inner.Callers.{with_persons, lines_shown, persons_at};
 ghost use Rattle.portal_views.specs.inner.Callers.{placed_among, persons_before, placed_at_shown};
-ghost use Rattle.portal_views.specs.inner.Callers.{AreTold};
+ghost use Rattle.portal_views.specs.inner.Callers.{AreTold, person_key};
 ghost use Rattle.portal_views.specs.inner.Lines.{HasTables, HasStudents};
 ghost use Rattle.portal_tables.specs.inner.Reads.{MayRead, Answers};
 
 use crate::lines::{ApplicantLine, lines_to, persons_of};
-use crate::persons::put_persons;
 use portal_core::{Person, Phase, Round};
 use portal_tables::TableFault;
 use spa_rows::Key;
@@ -96,6 +96,40 @@ fn before_in<S: Alter>(
             Ok(placed_at(alloc, &lines, project)?)
         }
     }
+}
+
+/// Finds the index at which to insert a person with this key into a sorted list.
+fn place_for(persons: &[Person], key: &Key) -> usize
+    ensures low { result ≤ length persons.now }
+    ensures place { (person : ThatPerson) → person.key ≡ key.now
+        → insert persons.now result person ≡ put person_key person persons.now }
+{
+    for (i, person) in persons.iter().enumerate() {
+        if *key < person.key {
+            return i;
+        }
+    }
+    persons.len()
+}
+
+/// Inserts a person into a list sorted by key.
+fn put_person(persons: &mut Vec<Person>, person: Person) -> Result<(), AllocError>
+    ensures { OnOk result (persons.new.items ≡ put person_key person persons.old.items) }
+{
+    let place = place_for(persons, &person.key);
+    persons.insert(place, person)?;
+    Ok(())
+}
+
+/// Inserts persons into a list sorted by key. Fails only if memory runs out.
+fn put_persons(persons: &mut Vec<Person>, more: Vec<Person>) -> Result<(), AllocError>
+    ensures { OnOk result (persons.new.items
+        ≡ put_all person_key more.items persons.old.items) }
+{
+    for person in more {
+        put_person(persons, person)?;
+    }
+    Ok(())
 }
 
 /// Returns the students shown as placed at the project, sorted by key. Placements in this round

@@ -15,8 +15,8 @@ ghost use Rattle.portal_tables.specs.inner.Shown.{shown_lecturer, shown_project}
 
 use portal_core::{LecturerRow, Listing, ProjectRow, Round, lecturer_left, project_left};
 use portal_list::listings_of;
-use portal_tables::decode::decoded;
-use portal_tables::select::Roll;
+use portal_tables::decode::{decoded, push_some};
+use portal_tables::select::RollTable;
 use portal_tables::{TableFault, first_pairs_in, roll_in};
 use spa_rows::Key;
 use sqlite::{Alter, Connection, Row};
@@ -36,9 +36,8 @@ fn lecturers_left(
 {
     let mut found = Vec::new(alloc);
     for lecturer in lecturers {
-        if let Some(left) = lecturer_left(alloc, projects, pairs, lecturer)? {
-            found.push(left)?;
-        }
+        let left = lecturer_left(alloc, projects, pairs, lecturer)?;
+        push_some(&mut found, left)?;
     }
     Ok(found)
 }
@@ -55,9 +54,8 @@ fn projects_left(
 {
     let mut found = Vec::new(alloc);
     for project in projects {
-        if let Some(left) = project_left(alloc, pairs, project)? {
-            found.push(left)?;
-        }
+        let left = project_left(alloc, pairs, project)?;
+        push_some(&mut found, left)?;
     }
     Ok(found)
 }
@@ -130,8 +128,8 @@ fn offers_in<S: Alter>(
         × (rows.1.items ≡ map shown_project (projects_shown db.trees)))
         (Contradicts HasOffers)) result conn.old conn.new }
 {
-    let lecturers = roll_in(alloc, conn, Roll::Lecturers)?;
-    let projects = roll_in(alloc, conn, Roll::Projects)?;
+    let lecturers = roll_in(alloc, conn, RollTable::Lecturers)?;
+    let projects = roll_in(alloc, conn, RollTable::Projects)?;
     offers_from(alloc, &lecturers, &projects)
 }
 

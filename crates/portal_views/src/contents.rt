@@ -3,11 +3,11 @@
 ghost use Rattle.std.specs.Prelude.{◌≡◌};
 ghost use Rattle.portal_views.specs.inner.Base.{Err, IfOk, map, AllByRecursion, IsDatabase};
 ghost use Rattle.portal_views.specs.inner.Base.{IsLecturer, IsProject, IsStudent};
-ghost use Rattle.portal_views.specs.inner.Contents.{rows_held, rows_with, HasReadOf, HasRead};
-ghost use Rattle.portal_views.specs.inner.Contents.{HasFineRows, HasFineRolls};
+ghost use Rattle.portal_views.specs.inner.Contents.{rows_held, rows_with, HasRead};
+ghost use Rattle.portal_views.specs.inner.Contents.{HasFineRolls};
 ghost use Rattle.portal_tables.specs.inner.Owners.{with_list};
 ghost use Rattle.portal_tables.specs.Steps.{Reads};
-ghost use Rattle.portal_tables.specs.inner.Reads.{MayRead, Answers, Blames};
+ghost use Rattle.portal_tables.specs.inner.Reads.{Answers, Blames};
 ghost use Rattle.portal_tables.specs.inner.Shown.{shown_lecturer, shown_project, shown_student};
 
 use portal_core::{LecturerRow, ProjectRow, Round, StudentRow};
@@ -58,26 +58,6 @@ fn contents_from(
     })
 }
 
-/// Reads the lists, the rankings and the result of a round for these rolls.
-fn rows_in<S: Alter>(
-    alloc: Global,
-    conn: &mut Connection<S>,
-    round: Round,
-    rolls: Rolls,
-) -> Result<Contents, TableFault>
-    ensures { MayRead round S.Store IsDatabase
-        (Answers (λ db rows. HasReadOf round (rows_held rows) db.trees
-        rolls.lecturers.items rolls.projects.items rolls.students.items)
-        (λ db fault. Blames fault (HasFineRows round db.trees
-        rolls.lecturers.items rolls.projects.items rolls.students.items)))
-        result conn.old conn.new }
-{
-    let choices = entries_in(alloc, conn, Lists::choices_of(round), &rolls.students)?;
-    let rankings = entries_in(alloc, conn, Lists::rankings_of(round), &rolls.lecturers)?;
-    let pairs = pairs_in(alloc, conn, round, None, &rolls.students)?;
-    contents_from(alloc, &rolls, choices, rankings, pairs)
-}
-
 /// Reads the rolls, with the lists, the rankings and the result of a round. It makes queries for
 /// each roll, each table of lists and each owner. Fails with `Damaged` if a roll's keys are not
 /// strictly ascending or a cell holds an invalid value. A student with two placements, or a list
@@ -93,5 +73,8 @@ pub fn contents_in<S: Alter>(
         (λ db fault. Blames fault (HasFineRolls round db.trees))) result conn.old conn.new }
 {
     let rolls = rolls_in(alloc, conn)?;
-    rows_in(alloc, conn, round, rolls)
+    let choices = entries_in(alloc, conn, Lists::choices_of(round), &rolls.students)?;
+    let rankings = entries_in(alloc, conn, Lists::rankings_of(round), &rolls.lecturers)?;
+    let pairs = pairs_in(alloc, conn, round, None, &rolls.students)?;
+    contents_from(alloc, &rolls, choices, rankings, pairs)
 }

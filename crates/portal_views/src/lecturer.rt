@@ -1,8 +1,9 @@
 //! Makes a lecturer's view by queries for projects, applicants and ranking.
 
 ghost use Rattle.std.specs.Prelude.{◌≡◌, ◌≤◌};
+ghost use Rattle.spa_rows.specs.declared.limits.TheConstants.{MOST_PLACES};
 ghost use Rattle.portal_views.specs.inner.Base.{Err, IfOk, AllByRecursion, option_map, map, column};
-ghost use Rattle.portal_views.specs.inner.Base.{number_in, IsDatabase, First, Contradicts};
+ghost use Rattle.portal_views.specs.inner.Base.{number_in, IsDatabase, Contradicts};
 ghost use Rattle.portal_views.specs.inner.Callers.{with_persons, own_keys_shown, HasOwnKeys};
 ghost use Rattle.portal_views.specs.inner.Callers.{lecturer_sees_with, lecturer_shown};
 ghost use Rattle.portal_views.specs.inner.Callers.{IsReadableByLecturer};
@@ -10,7 +11,6 @@ ghost use Rattle.portal_views.specs.inner.Lines.{HasTables, HasKey, IsNamed};
 ghost use Rattle.portal_views.specs.inner.Catalogue.{IsCatalogue, own_listed};
 ghost use Rattle.portal_tables.specs.Tables.{ranking_table};
 ghost use Rattle.portal_tables.specs.inner.Owners.{IsFine, with_list, ranking_shown};
-ghost use Rattle.portal_tables.specs.Steps.{Reads};
 ghost use Rattle.portal_tables.specs.inner.Reads.{MayRead, Answers, Blames};
 ghost use Rattle.portal_tables.specs.inner.Shown.{first_cell};
 
@@ -56,20 +56,6 @@ fn keys_of(alloc: Global, rows: &[Row]) -> Result<Vec<Key>, TableFault>
     Ok(keys)
 }
 
-/// Reads the keys of the lecturer's projects by a query.
-fn keys_asked<S: Alter>(
-    alloc: Global,
-    conn: &mut Connection<S>,
-    lecturer: &[u8],
-) -> Result<Vec<Key>, TableFault>
-    ensures { Reads First S.Store HasTables
-        (Answers (λ db v. v.items ≡ own_keys_shown db.trees lecturer.now)
-        (Contradicts (HasOwnKeys lecturer.now))) result conn.old conn.new }
-{
-    let rows = rising(alloc, conn, Query::ProjectsOf(lecturer))?;
-    keys_of(alloc, &rows)
-}
-
 /// Returns the keys of the lecturer's projects, from the catalogue or by a query. In the first
 /// round the catalogue has all of them, and the second round needs a query.
 fn own_projects<S: Alter>(
@@ -86,7 +72,10 @@ fn own_projects<S: Alter>(
 {
     match round {
         Round::First => Ok(keys_listed(alloc, catalogue, lecturer)?),
-        Round::Second => keys_asked(alloc, conn, lecturer),
+        Round::Second => {
+            let rows = rising(alloc, conn, Query::ProjectsOf(lecturer))?;
+            keys_of(alloc, &rows)
+        }
     }
 }
 
@@ -132,7 +121,7 @@ fn lecturer_view_from(
         (option_map (λ r. r.items) ranking)
         (map with_persons told.applicants.items) (map with_persons told.placed.items)) }
     ensures damaged { result ≡ Err TableFault.Damaged → IsNamed row.now
-        → 1 ≤ number_in (column row.now 3) → number_in (column row.now 3) ≤ 200 → ⊥ }
+        → 1 ≤ number_in (column row.now 3) → number_in (column row.now 3) ≤ MOST_PLACES → ⊥ }
 {
     Ok(LecturerView {
         round,

@@ -6,10 +6,9 @@ mod applicants;
 mod catalogue;
 mod contents;
 mod lecturer;
-mod left;
 mod lines;
+mod missing;
 mod office;
-mod persons;
 mod student;
 
 pub use catalogue::catalogue_in;

@@ -1,5 +1,5 @@
--- The main promise of what `serve_each` wrote.
-use Rattle.std.proofs.Common.{◌≡◌, ℕ, List, [], ◌∷◌, ◌++◌, sym, ap, ◌∙◌, subst, inl, inr}
+-- The main promise of what `serve_streams` wrote.
+use Rattle.std.proofs.Common.{◌≡◌, ℕ, List, [], ◌∷◌, ◌++◌, sym, ◌∙◌, subst, inl, inr}
 use Rattle.std.specs.Prelude.{Option, Some, None, IfSome}
 use Rattle.std.specs.List.{AllByRecursion}
 use Rattle.portal_core.specs.World.{World}
@@ -7,9 +7,11 @@ use Rattle.portal_core.specs.Good.{Good}
 use Rattle.portal_core.specs.Run.{AllAnswered}
 use Rattle.portal_wire.specs.Conversation.{Exchange, told_in}
 use Rattle.portal_desk.specs.Kept.{KeeperState}
-use Rattle.portal_desk.specs.Headline.{Finish, Ended, Stopped, Tells, Visit, Session, AllTellOf, AreServed, AreServedOn, exchanges_in, IsEnded, AreOf, ServesEach}
+use Rattle.std.specs.Io.KnownBytes.{Appends}
+use Rattle.portal_desk.specs.Session.{Finish, Ended, Stopped, Tells, Session}
+use Rattle.portal_desk.specs.Headline.{Visit, AllTellOf, AreServed, AreServedOn, exchanges_in, IsEnded, AreOf, ServesEach}
 use Rattle.portal_desk.proofs.Promised.{RunsGood, StepsBest, RunsBest, same_exchanges, upheld}
-use Rattle.portal_desk.proofs.Heeding.{session_done, are_visits, same_bytes}
+use Rattle.portal_desk.proofs.Heeding.{are_visits, same_bytes}
 use Rattle.portal_whole.specs.Whole.{IsTold, AreTold, AreTheVisits, KeepsPromise}
 
 each_told : {K : Type 0} → List (Session K) → List (List Exchange)
@@ -17,8 +19,11 @@ each_told [] = []
 each_told (s ∷ ss) = s.exchanges ∷ each_told ss
 
 told_by : (finish : Finish) (bytes : List ℕ) (es : List Exchange) (written : List ℕ) → IsEnded finish → Tells finish bytes es written → IsTold bytes es written
-told_by (Ended ending) bytes es written ended (closing, requests, is) = (ending, closing, requests, is)
+told_by (Ended ending) bytes es written ended tells = (ending, tells)
 told_by (Stopped why failed left) bytes es written ended tells = absurd ended
+
+written_is : (before after : Option (List ℕ)) (written t : List ℕ) → Appends before after written → before ≡ Some [] → after ≡ Some t → written ≡ t
+written_is before after written t adds first last = sym (subst (λ o. Appends o (Some t) written) first (subst (λ o. Appends before o written) last adds))
 
 are_told : {K : Type 0} (state : K → KeeperState) (k : K) (ss : List (Session K)) (xs ts : List (List ℕ)) → AreServedOn state k ss → AreOf ss xs ts
     → AreTold xs (each_told ss) ts
@@ -29,9 +34,8 @@ are_told state k [] (x ∷ xs) ts served are = absurd are
 are_told state k (s ∷ ss) [] ts served are = absurd are
 are_told state k (s ∷ ss) (x ∷ xs) [] served are = absurd are
 are_told state k (s ∷ ss) (x ∷ xs) (t ∷ ts) (next, visit, later) (bytes, before, after, ended, more) =
-    let d = session_done state s visit in
-    let written : d.written ≡ t = sym (d.adds ∙ ap (λ b. b ++ d.written) before) ∙ after in
-    let told = told_by s.finish s.bytes s.exchanges d.written ended d.tells in
+    let written = written_is s.before s.after visit.written t visit.adds before after in
+    let told = told_by s.finish s.bytes s.exchanges visit.written ended visit.tells in
     (subst (λ b. IsTold b s.exchanges t) bytes (subst (IsTold s.bytes s.exchanges) written told), are_told state s.new ss xs ts later more)
 
 answered_both : (es fs : List Exchange) → AllAnswered (told_in es) → AllAnswered (told_in fs) → AllAnswered (told_in (es ++ fs))
@@ -55,7 +59,7 @@ the_visits state (s ∷ ss) (v ∷ vs) (x ∷ xs) [] tell are = absurd are
 the_visits state (s ∷ ss) (v ∷ vs) (x ∷ xs) (t ∷ ts) tell (bytes, before, after, ended, more) = (
   tell.0.bytes ∙ bytes,
   tell.0.exchanges,
-  sym (tell.0.written ∙ ap (λ b. b ++ v.written) before) ∙ after,
+  written_is s.before s.after v.written t tell.0.written before after,
   the_visits state ss vs xs ts tell.1 more,
 )
 
@@ -65,7 +69,7 @@ stays_unbroken : {K : Type 0} (state : K → KeeperState) → ((k : K) → (stat
 stays_unbroken state disk sound k [] served on = tt
 stays_unbroken state disk sound k (s ∷ ss) (resumes, serves, later) on =
     let start = (resumes (disk s.old)).1 on in
-    let now : (state s.new).clean = elim (((session_done state s serves).deals.moves.breaks (disk s.new)).1 start.0) [ inl up ↦ up | inr bad ↦ absurd (sound s.new bad) ] in
+    let now : (state s.new).clean = elim ((serves.moves.breaks (disk s.new)).1 start.0) [ inl up ↦ up | inr bad ↦ absurd (sound s.new bad) ] in
     (start.1, now, serves, stays_unbroken state disk sound s.new ss later now)
 
 pub promised : RunsGood → StepsBest → RunsBest → {K : Type 0} (state : K → KeeperState) (k last : K) (w : World) (xs ts : List (List ℕ)) → ServesEach state k last xs ts

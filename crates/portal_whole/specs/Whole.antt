@@ -1,15 +1,15 @@
 -- The promise for streams that are served from a world.
-use Rattle.std.specs.Prelude.{◌≡◌, ℕ, List, [], ◌∷◌, ◌++◌}
+use Rattle.std.specs.Prelude.{◌≡◌, ℕ, List, [], ◌∷◌}
 use Rattle.std.specs.List.{AllByRecursion}
 use Rattle.portal_core.specs.World.{World}
 use Rattle.portal_core.specs.Run.{AllAnswered}
-use Rattle.portal_wire.specs.Conversation.{Last, Requests, Exchange, asked_in, told_in, text}
+use Rattle.portal_wire.specs.Conversation.{Last, Exchange, told_in}
+use Rattle.portal_desk.specs.Session.{Ended, Tells}
 use Rattle.portal_desk.specs.Headline.{Visit, AreVisits, AreAnswered, IsUpheld, AreEqual}
 
 -- the requests are those of the stream, and the text is their replies and the closing text
 abbrev pub IsTold : List ℕ → List Exchange → List ℕ → Type 0
-IsTold stream es written =
-    (ending : Last) × (closing : List ℕ) × Requests stream (asked_in es) ending closing × (written ≡ text es ++ closing)
+IsTold stream es written = (ending : Last) × Tells (Ended ending) stream es written
 
 -- the same for each stream
 abbrev pub AreTold : List (List ℕ) → List (List Exchange) → List (List ℕ) → Type 0

@@ -7,7 +7,7 @@ ghost use Rattle.portal_whole.specs.Whole.{KeepsPromise};
 
 use portal_core::Code;
 use portal_core::laws::{published_best, run_good};
-use portal_desk::{Desk, serve_each};
+use portal_desk::{Desk, serve_streams};
 use portal_store::Store;
 use portal_store::laws::{disk_in_memory, unbroken_in_memory};
 use std::alloc::Global;
@@ -27,5 +27,5 @@ pub fn replies_in_memory(alloc: Global, office: Code, streams: &[&[u8]]) -> Opti
         return None;
     };
     let mut desk = Desk::new(store);
-    serve_each(alloc, &mut desk, streams)
+    serve_streams(alloc, &mut desk, streams)
 }

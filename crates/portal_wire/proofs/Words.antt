@@ -2,7 +2,7 @@
 use Rattle.portal_wire.proofs.Base.{◌≡◌, ℕ, Bool, true, false, List, refl, sym, subst, arith, codes, bytes_eq, bytes_decides, IsTrue, method_of}
 use Rattle.std.proofs.lemmas.List.Elements.{All-from_recursion}
 use Rattle.http_header.specs.Token.{IsToken, is_token_byte}
-use Rattle.portal_wire.specs.declared.methods.Method.TheVariants.{Other}
+use Rattle.portal_wire.specs.declared.routes.Method.TheVariants.{Other}
 
 differs : (bytes word : List ℕ) → IsToken word → ¬ (IsToken bytes) → (b : Bool) → bytes_eq bytes word ≡ b → b ≡ false
 differs bytes word is not true e = absurd (not (subst IsToken (sym ((bytes_decides bytes word).0 e)) is))

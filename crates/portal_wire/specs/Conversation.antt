@@ -6,8 +6,9 @@ use Rattle.std.specs.Bool.{MatchBool}
 use Rattle.portal_core.specs.World.{World}
 use Rattle.portal_core.specs.Run.{Request, Run, end_of}
 use Rattle.portal_frame.specs.Stream.{Asked, Refuses, whole, fault, over, Opens, is_head}
-use Rattle.portal_wire.specs.declared.ending.Ending.{Ending}
-use Rattle.portal_wire.specs.declared.ending.Ending.TheVariants as ending
+use Rattle.portal_wire.specs.declared.TheConstants.{MOST_REQUESTS}
+use Rattle.portal_wire.specs.declared.Ending.{Ending}
+use Rattle.portal_wire.specs.declared.Ending.TheVariants as ending
 use Rattle.portal_wire.specs.Wish.{answer_to, wish_of}
 
 -- the reason phrase of a status; any status that is not here has that of 503
@@ -88,7 +89,7 @@ Leads left bytes (r ∷ rs) rest =
     (a : Asked) × (after : List ℕ) × Opens bytes (whole a after) × (r ≡ request_of (closes_at left a) a)
     × MatchBool (closes_at left a) ((rs ≡ []) × (rest ≡ shut a.close)) (Leads (left - 1) after rs rest)
 
--- how the requests of a stream end; `Refused` has the error word, `Limit` is after 256 requests
+-- how the requests of a stream end; `Refused` has the error word, `Limit` is after MOST_REQUESTS
 pub data Last : Type 0 where
   End : Last
   Closed : Last
@@ -113,7 +114,7 @@ Ends _ _ closing = ⊥
 
 -- the requests of a whole stream, its ending and its closing text
 abbrev pub Requests : List ℕ → List Request → Last → List ℕ → Type 0
-Requests bytes rs end closing = (rest : Rest) × Leads 256 bytes rs rest × Ends rest end closing
+Requests bytes rs end closing = (rest : Rest) × Leads MOST_REQUESTS bytes rs rest × Ends rest end closing
 
 -- a request and its reply
 pub record Exchange : Type 0 where

@@ -9,8 +9,8 @@ use Rattle.portal_core.specs.declared.phase.Phase.{Phase}
 use Rattle.portal_core.specs.declared.phase.Phase.TheVariants.{Setup, Choosing, Ranking, Published}
 use Rattle.portal_core.specs.declared.phase.Round.{Round}
 use Rattle.portal_core.specs.declared.phase.Round.TheVariants.{First, Second}
-use Rattle.portal_wire.specs.declared.methods.Method.{Method}
-use Rattle.portal_wire.specs.declared.methods.Method.TheVariants.{Get, Head, Put, Post, Other}
+use Rattle.portal_wire.specs.declared.routes.Method.{Method}
+use Rattle.portal_wire.specs.declared.routes.Method.TheVariants.{Get, Head, Put, Post, Other}
 use Rattle.portal_wire.specs.declared.routes.Route.{Route}
 use Rattle.portal_wire.specs.declared.routes.Route.TheVariants as route
 use Rattle.portal_core.specs.Bodies.{dictionary, count}

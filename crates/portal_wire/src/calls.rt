@@ -4,7 +4,6 @@ ghost use Rattle.std.specs.Prelude.{◌≡◌, ◌⊎◌, None, IfOk, IfErr};
 ghost use Rattle.portal_core.specs.Meaning.{call_model};
 ghost use Rattle.portal_core.specs.Run.{HasForm, Calls};
 ghost use Rattle.portal_rolls.specs.Lines as roll;
-ghost use Rattle.portal_frame.specs.Stream as stream;
 ghost use Rattle.portal_frame.specs.Stream.{seen, refused};
 ghost use Rattle.portal_core.specs.Sight.{AbstractCall};
 ghost use Rattle.portal_wire.specs.declared.calls.CallFault.TheVariants as why;
@@ -13,8 +12,7 @@ ghost use Rattle.portal_wire.specs.Wish.{wish_at, wish_of, by_body, by_roll, mov
 ghost use Rattle.portal_wire.specs.inner.Calls.{IsCallOf, told_by, of_body, of_roll};
 
 use crate::bodies::{BodyFault, read_empty, read_list, read_move};
-use crate::methods::{Method, method_in};
-use crate::routes::{Route, allow_at, route_in};
+use crate::routes::{Method, Route, allow_at, method_in, route_in};
 use matchit::InsertError;
 use portal_core::Call;
 use portal_frame::{Refusal, Request};
@@ -197,39 +195,27 @@ fn routed_call(alloc: Global, request: &Request) -> Result<Call, CallFault>
     call_at(alloc, method, route, request.body.as_slice())
 }
 
-/// Makes the refusal for a request that makes no call: only a status and an error word.
-fn plain(status: u16, word: &'static str) -> Refusal
-    ensures { refused result ≡ stream.plain status word.now }
-{
-    Refusal {
-        status,
-        word,
-        allow: "",
-        row: None,
-    }
-}
-
 /// Refuses a request that cannot be turned into a call. Returns the reason, not yet a reply.
 fn refusal_of(fault: CallFault) -> Refusal
     ensures { refused result ≡ told_by fault }
 {
     match fault {
-        CallFault::NoRoute => plain(404, "no_route"),
+        CallFault::NoRoute => Refusal::by_word(404, "no_route"),
         CallFault::BadMethod(route) => Refusal {
             status: 405,
             word: "bad_method",
             allow: allow_at(route),
             row: None,
         },
-        CallFault::BadBody => plain(400, "bad_body"),
+        CallFault::BadBody => Refusal::by_word(400, "bad_body"),
         CallFault::BadRow(row) => Refusal {
             status: 422,
             word: "bad_row",
             allow: "",
             row: Some(row),
         },
-        CallFault::RollFull => plain(422, "roll_full"),
-        CallFault::Memory => plain(503, "unavailable"),
+        CallFault::RollFull => Refusal::by_word(422, "roll_full"),
+        CallFault::Memory => Refusal::by_word(503, "unavailable"),
     }
 }
 

@@ -1,12 +1,13 @@
-//! Finds a path's route, and the route's allowed methods.
+//! Finds the route of a path, the methods that it allows, and the method of a request.
 
 ghost use Rattle.std.specs.Prelude.{◌≡◌, IfOk, option_map};
 ghost use Rattle.matchit.specs.Seek.{first};
-ghost use Rattle.portal_wire.specs.Wish.{route_at, allow_of};
+ghost use Rattle.portal_wire.specs.Wish.{route_at, allow_of, method_of};
 ghost use Rattle.portal_wire.specs.inner.RouteRows.{the_rows, own_rows, roll_route_rows};
 
+use http::method::MethodError;
 use matchit::{InsertError, Router};
-use std::alloc::Global;
+use std::alloc::{AllocError, Global};
 
 /// A route of the portal.
 #[derive(Clone, Copy, Debug, PartialEq, Eq, Drop)]
@@ -98,5 +99,39 @@ pub(crate) fn allow_at(route: Route) -> &'static str
         Route::Choices | Route::Ranking => "GET, HEAD, PUT",
         Route::Fill | Route::Lecturers | Route::Projects | Route::Students | Route::Phase => "POST",
         _ => "GET, HEAD",
+    }
+}
+
+/// A method that some route allows, or `Other`.
+#[derive(Clone, Copy, Debug, PartialEq, Eq, Drop)]
+pub(crate) enum Method {
+    Get,
+    Head,
+    Put,
+    Post,
+    Other,
+}
+
+/// Returns the method with this name.
+fn method_named(method: &str) -> Method
+    ensures { result ≡ method_of method.now }
+{
+    match method {
+        "GET" => Method::Get,
+        "HEAD" => Method::Head,
+        "PUT" => Method::Put,
+        "POST" => Method::Post,
+        _ => Method::Other,
+    }
+}
+
+/// Parses the method of a request.
+pub(crate) fn method_in(alloc: Global, bytes: &[u8]) -> Result<Method, AllocError>
+    ensures { IfOk result (λ method. method ≡ method_of bytes.now) }
+{
+    match http::Method::from_bytes(alloc, bytes) {
+        Ok(method) => Ok(method_named(method.as_str())),
+        Err(MethodError::Invalid) => Ok(Method::Other),
+        Err(MethodError::OutOfMemory) => Err(AllocError),
     }
 }

@@ -3,7 +3,7 @@ use Rattle.spa_check.proofs.Base.{◌≡◌, ℕ, ◌+◌, ◌<◌, ◌≤◌, �
 use Rattle.std.proofs.lemmas.List.Quantifiers.{all_pairs_push}
 use Rattle.spa_model.specs.declared.letter.Letter.TheVariants.{A, B, C}
 use Rattle.spa_model.proofs.OneOnly.{one_letter}
-use Rattle.spa_check.specs.declared.block.Block.{Block}
+use Rattle.spa_check.specs.declared.blocking.Block.{Block}
 
 -- a pair that blocks is wanted
 pub blocks_wants : (i : Spa) (m : List (Option ℕ)) (s p : ℕ) (x : Letter) → Blocks i m s p x → Wants i m s p

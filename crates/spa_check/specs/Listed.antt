@@ -2,7 +2,7 @@
 use Rattle.std.specs.Prelude.{◌≡◌, ℕ, ◌<◌, ◌⊎◌, List, Option, Contains, All, AllPairs, Some}
 use Rattle.spa_model.specs.Spa.{Spa, Blocks, Improves, project_of}
 use Rattle.spa_model.specs.declared.letter.Letter.{Letter}
-use Rattle.spa_check.specs.declared.block.Block.{Block}
+use Rattle.spa_check.specs.declared.blocking.Block.{Block}
 
 -- the order of the list: by student, then by project
 abbrev pub IsEarlier : Block → Block → Type 0

@@ -1,15 +1,12 @@
 //! Finds the blocking pairs of a matching.
 #![tactic(auto)]
 
-mod better;
-mod block;
+mod blocking;
 mod groups;
-mod list;
 mod stable;
 mod wants;
 
-pub use better::better_off;
-pub use block::Block;
-pub use list::blocking_pairs;
+pub use blocking::{Block, blocking_pairs};
 pub use spa_model::Letter;
 pub use stable::is_stable;
+pub use wants::better_off;

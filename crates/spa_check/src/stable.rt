@@ -106,7 +106,6 @@ fn is_content(instance: &Instance, matching: &Matching, s: usize) -> bool
     requires in_range { s < length instance.now.choices }
     ensures { IsTrue result ↔ ((p : ℕ) (x : Letter) → Blocks instance.now matching.now s p x → ⊥) }
 {
-    instance.lawful();
     for p in wanted(instance, matching, s) {
         if letter_of(instance, matching, s, *p).is_some() {
             return false;

@@ -1,7 +1,9 @@
-//! Finds the projects that a student prefers to the assigned project.
+//! Finds the projects that a student prefers to the assigned project, and the first student who
+//! gets a better project in the second of two matchings.
 
-ghost use Rattle.std.specs.Prelude.{◌≡◌, ◌<◌, ◌↔◌, ℕ, Contains, MatchOption, length};
-ghost use Rattle.spa_model.specs.Spa.{IsMatching, Wants, place};
+ghost use Rattle.std.specs.Prelude.{◌≡◌, ◌<◌, ◌↔◌, ℕ, Contains, IsTrue, MatchOption, length};
+ghost use Rattle.spa_model.specs.Spa.{IsLawful, IsMatching, Wants, place};
+ghost use Rattle.spa_check.specs.Listed.{IsBetterOff, IsFirstBetterOff};
 ghost use Rattle.spa_check.specs.inner.Groups.{not_below, IsLeastIn};
 
 use spa_model::{Instance, Matching};
@@ -20,7 +22,8 @@ pub(crate) fn place_in(list: &[usize], x: usize) -> usize
 pub(crate) fn wanted<'a>(instance: &'a Instance, matching: &Matching, s: usize) -> &'a [usize]
     requires fits { IsMatching instance.now matching.now }
     requires in_range { s < length instance.now.choices }
-    ensures { (p : ℕ) → Contains result.now p ↔ Wants instance.now matching.now s p }
+    ensures each { (p : ℕ) → Contains result.now p ↔ Wants instance.now matching.now s p }
+    ensures lawful { IsLawful instance.now }
 {
     let list = instance.choices(s);
     match instance.project_of(matching, s) {
@@ -36,4 +39,33 @@ pub(crate) fn least_from(list: &[usize], from: usize) -> Option<usize>
         ≡ 0) (IsLeastIn (not_below from list.now)) }
 {
     list.iter().copied().filter(|p| *p >= from).min()
+}
+
+/// Returns whether the matching `other` gives the student a better project, or one instead of none.
+fn is_better_off(instance: &Instance, matching: &Matching, other: &Matching, s: usize) -> bool
+    requires fits { IsMatching instance.now matching.now }
+    requires other_fits { IsMatching instance.now other.now }
+    requires in_range { s < length instance.now.choices }
+    ensures { IsTrue result ↔ IsBetterOff instance.now matching.now other.now s }
+{
+    match instance.project_of(other, s) {
+        Some(p) => wanted(instance, matching, s).contains(&p),
+        None => false,
+    }
+}
+
+/// Finds the first student to whom the matching `other` gives a better project, or one instead of
+/// none.
+pub fn better_off(instance: &Instance, matching: &Matching, other: &Matching) -> Option<usize>
+    requires fits { IsMatching instance.now matching.now }
+    requires other_fits { IsMatching instance.now other.now }
+    ensures { MatchOption result ((s : ℕ) → IsBetterOff instance.now matching.now other.now s → ⊥)
+        (IsFirstBetterOff instance.now matching.now other.now) }
+{
+    for s in 0..instance.students() {
+        if is_better_off(instance, matching, other, s) {
+            return Some(s);
+        }
+    }
+    None
 }

@@ -2,7 +2,7 @@
 use Rattle.spa_model.proofs.Base.{◌≡◌, ◌≢◌, inl, inr, ℕ, zero, suc, ◌+◌, ◌<◌, ◌≤◌, eqb, List, [], ◌∷◌, ◌++◌, map, length, take, set, get_or, Option, Some, None, refl, sym, ◌∙◌, ap, arith, All, Any, count_by, cases_lt, cases_Bool, eqb-true, get_or_default, get_or-take, length-map, length-take-le, length-set, get_or-set_same, get_or-set_other, take_more, take_all, count_by_more_no, Pair, NoSuchStudent, NotAcceptable, StudentTwice, ProjectOver, LecturerOver, Spa, IsLawful, IsDistinct, IsMatching, IsAcceptable, place, choices_of, lecturer_of, capacity_of, limit_of, project_of, is_project, is_lecturer, at_project, at_lecturer, student_in, project_in, lecturer_in, HasPairs, AreSound, AreAssigned, rules, sum_by_push}
 use Rattle.std.proofs.lemmas.Option.{same_Some}
 use Rattle.spa_model.proofs.Counts.{count_by-set, one_if}
-use Rattle.spa_model.proofs.PairFaults.{number_at, good_pair, student_there, same_student, count_by-map}
+use Rattle.spa_model.proofs.PairFaults.{number_at, good_pair, students_below, same_student, count_by-map}
 
 -- one more
 pub assigned_more : (n : ℕ) (students projects : List ℕ) (m : List (Option ℕ)) (j s p : ℕ) → IsDistinct students → j < length students → length students ≡ length projects → get_or students j 0 ≡ s → get_or projects j 0 ≡ p → s < n
@@ -46,7 +46,7 @@ apart_pairs i lines students lawful sound is a b d before h e =
     let there : get_or lines a y ≡ y = get_or_default lines a y nobody (omega arith) in
     let first : get_or students a d ≡ student_in i y = get_or_default students a d 0 (omega arith) ∙ number_at (student_in i) lines students a y is (omega arith) there in
     let second : get_or students b d ≡ student_in i x = get_or_default students b d 0 h ∙ number_at (student_in i) lines students b x is (omega arith) here in
-    let known : student_in i x < length i.choices = rw (number_at (student_in i) lines students b x is (omega arith) here) at (student_there i lines students lawful (sound NoSuchStudent) is b x (omega arith) here) in
+    let known : student_in i x < length i.choices = rw (number_at (student_in i) lines students b x is (omega arith) here) at (students_below i lines students lawful (sound NoSuchStudent) is b 0 h) in
     let front : length (take b lines) ≡ b = length-take-le b lines (omega arith) in
     good_pair i lines StudentTwice (sound StudentTwice) b x (omega arith) here
     (a, y, omega arith, get_or-take b lines a y before ∙ there, same_student i x y lawful known (sym first ∙ e ∙ second))
@@ -55,11 +55,7 @@ apart_pairs i lines students lawful sound is a b d before h e =
     nobody = record { row = 0; student = []; project = [] }
 
 pub known_pairs : (i : Spa) (lines : List Pair) (students : List ℕ) → IsLawful i → AreSound i lines → students ≡ map (student_in i) lines → All (λ s. s < length i.choices) students
-known_pairs i lines students lawful sound is j d h =
-    let long : length students ≡ length lines = ap length is ∙ length-map lines (student_in i) in
-    let x : Pair = get_or lines j (record { row = 0; student = []; project = [] }) in
-    let here : get_or lines j x ≡ x = get_or_default lines j x (record { row = 0; student = []; project = [] }) (omega arith) in
-    rw (get_or_default students j d 0 h) (student_there i lines students lawful (sound NoSuchStudent) is j x (omega arith) here)
+known_pairs i lines students lawful sound is = students_below i lines students lawful (sound NoSuchStudent) is
 
 -- where no pair goes over, nothing is over
 within : (lines : List Pair) (number : Pair → ℕ) (limit : ℕ → ℕ) (q : ℕ) → ((n : ℕ) (x : Pair) → n < length lines → get_or lines n x ≡ x → limit (number x) < count_by (λ y. eqb (number y) (number x)) (take (n + 1) lines) → ⊥)

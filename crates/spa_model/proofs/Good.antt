@@ -1,7 +1,8 @@
 -- What the absence of faults says of lines.
-use Rattle.spa_model.proofs.Base.{◌≡◌, inl, inr, ℕ, ◌<◌, ◌≤◌, true, false, List, length, get_or, map, take, All, Any, Ordering, Less, Equal, Greater, refl, sym, ◌∙◌, ap, arith, nat_cmp, is_lt, slice_cmp, nat_list_cmp_total, cases_lt, get_or_default, get_or-take, length-take, length-map, Text, Rows, BadAt, HasNoneBefore, IsKeyOf, NamesNone, Repeats, TooMany, BadKey, KeyTwice, BadCapacity, NoSuchLecturer, RepeatInList, ListTooLong, NotApplicant, at_place, map_at, Rise, student_keys, project_keys, lecturer_keys, IsSortedByKey, ranks_by, sorted_far, true_from_ne_false, is_key, IsBadCapacity}
+use Rattle.spa_model.proofs.Base.{◌≡◌, inl, inr, ℕ, ◌<◌, ◌≤◌, true, false, List, length, get_or, map, take, All, Any, Ordering, Less, Equal, Greater, refl, sym, ◌∙◌, ap, arith, nat_cmp, is_lt, slice_cmp, nat_list_cmp_total, cases_lt, get_or_default, get_or-take, length-take, length-map, Text, Rows, BadAt, HasNoneBefore, IsKeyOf, AreKeysOf, Repeats, TooMany, BadKey, KeyTwice, BadCapacity, NoSuchLecturer, RepeatInList, ListTooLong, NotApplicant, at_place, map_at, Rise, student_keys, project_keys, lecturer_keys, IsSortedByKey, ranks_by, sorted_far, true_from_ne_false, is_key, IsBadCapacity}
 use Rattle.std.proofs.lemmas.Map.Lookups.{exact_bytes}
 use Rattle.spa_rows.specs.declared.faults.InstanceFault.TheVariants.{NoSuchProject}
+use Rattle.spa_model.proofs.Keys.{known, all_known}
 
 -- lines that are not bad
 none_bad : {X : Type 0} (lines : List X) (row : X → ℕ) (Bad : ℕ → X → Type 0) → ((r : ℕ) → BadAt lines row Bad r → ⊥) → (k : ℕ) (d : X) → k < length lines → Bad k (get_or lines k d) → ⊥
@@ -42,8 +43,8 @@ pub record AreGood (rows : Rows) : Type 0 where
   pub form_students : All (λ x. is_key x.key ≡ true) rows.students
   pub form_projects : All (λ x. is_key x.key ≡ true) rows.projects
   pub form_lecturers : All (λ x. is_key x.key ≡ true) rows.lecturers
-  pub known_projects : All (λ x. NamesNone rows.projects (λ y. y.key) x.list → ⊥) rows.students
-  pub known_lecturers : All (λ x. (IsKeyOf rows.lecturers (λ y. y.key) x.lecturer → ⊥) → ⊥) rows.projects
+  pub known_projects : All (λ x. AreKeysOf rows.projects (λ y. y.key) x.list) rows.students
+  pub known_lecturers : All (λ x. IsKeyOf rows.lecturers (λ y. y.key) x.lecturer) rows.projects
   pub apart_students : All (λ x. Repeats x.list → ⊥) rows.students
   pub apart_lecturers : All (λ x. Repeats x.list → ⊥) rows.lecturers
   pub short : All (λ x. length x.list ≤ 20) rows.students
@@ -61,8 +62,8 @@ are_good rows lecturers projects students none = record {
   form_students = λ k d h. true_from_ne_false _ (none_bad rows.students (λ x. x.row) _ (λ r bad. none BadKey (omega arith) r (inr (inr bad))) k d h);
   form_projects = λ k d h. true_from_ne_false _ (none_bad rows.projects (λ x. x.row) _ (λ r bad. none BadKey (omega arith) r (inr (inl bad))) k d h);
   form_lecturers = λ k d h. true_from_ne_false _ (none_bad rows.lecturers (λ x. x.row) _ (λ r bad. none BadKey (omega arith) r (inl bad)) k d h);
-  known_projects = none_bad rows.students (λ x. x.row) _ (none NoSuchProject (omega arith));
-  known_lecturers = none_bad rows.projects (λ x. x.row) _ (none NoSuchLecturer (omega arith));
+  known_projects = λ k d h. all_known (λ y. y.key) rows.projects _ (none_bad rows.students (λ x. x.row) _ (none NoSuchProject (omega arith)) k d h);
+  known_lecturers = λ k d h. known (λ y. y.key) rows.lecturers _ (none_bad rows.projects (λ x. x.row) _ (none NoSuchLecturer (omega arith)) k d h);
   apart_students = none_bad rows.students (λ x. x.row) _ (λ r bad. none RepeatInList (omega arith) r (inr bad));
   apart_lecturers = none_bad rows.lecturers (λ x. x.row) _ (λ r bad. none RepeatInList (omega arith) r (inl bad));
   short = λ k d h. not_over _ (none_bad rows.students (λ x. x.row) _ (none ListTooLong (omega arith)) k d h);

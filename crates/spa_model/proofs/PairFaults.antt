@@ -1,5 +1,5 @@
 -- The faults of pairs, among the first rows.
-use Rattle.spa_model.proofs.Base.{◌≡◌, ◌↔◌, inl, inr, ℕ, ◌+◌, ◌<◌, ◌≤◌, Bool, true, false, cond, eqb, List, [], ◌∷◌, ◌++◌, map, length, take, set, get_or, Option, Some, refl, sym, ◌∙◌, ap, arith, Contains, Any, count_by, cases_lt, cases_eq, eq-eqb, ne_eqb, get_or-map, get_or_default, get_or-take, length-map, length-take-le, length-set, get_or-set_same, get_or-set_other, take_more, count_by_more_no, sum_by-cons, Pair, IsLeastOf, BadBelow, MatchingFault, NoSuchStudent, NoSuchProject, NotAcceptable, StudentTwice, ProjectOver, LecturerOver, Spa, IsLawful, IsAcceptable, lecturer_of, capacity_of, limit_of, number_in, student_in, project_in, lecturer_in, HasNone, rules, take-map, count_by_more_yes, least_row, least_skip, least_take}
+use Rattle.spa_model.proofs.Base.{◌≡◌, ◌↔◌, inl, inr, ℕ, ◌+◌, ◌<◌, Bool, true, false, cond, eqb, List, [], ◌∷◌, ◌++◌, map, length, take, set, get_or, Option, None, Some, refl, sym, subst, All, IsTrue, nat_le, IfNone, leb-true, le-leb, at_place, Text, ◌∙◌, ap, arith, Contains, Any, count_by, cases_lt, cases_eq, eq-eqb, ne_eqb, get_or-map, get_or_default, get_or-take, length-map, length-take-le, length-set, get_or-set_same, get_or-set_other, take_more, count_by_more_no, sum_by-cons, Pair, IsLeastOf, BadAt, BadBelow, MatchingFault, NoSuchStudent, NoSuchProject, NotAcceptable, StudentTwice, ProjectOver, LecturerOver, Spa, IsLawful, IsAcceptable, lecturer_of, capacity_of, limit_of, number_in, student_in, project_in, lecturer_in, HasNone, rules, take-map, count_by_more_yes}
 use Rattle.std.proofs.lemmas.List.Elements.{Contains-push, Contains-append_left, Contains-push_cases}
 use Rattle.spa_model.specs.declared.matching.MatchingFault.TheVariants.{Memory}
 use Rattle.spa_model.proofs.Numbers.{number_known, known_number, number_is}
@@ -18,50 +18,41 @@ IsBadPair i lines Memory j x = ⊥
 abbrev pub FaultBelow : Spa → List Pair → MatchingFault → ℕ → ℕ → Type 0
 FaultBelow i lines fault n r = BadBelow lines (λ x. x.row) (IsBadPair i lines fault) n r
 
--- the pair at n has the fault: it may be the least row
-pub pair_take : (i : Spa) (lines : List Pair) (fault : MatchingFault) (n row r : ℕ) (x : Pair) (best best' : Option ℕ) → n < length lines → get_or lines n x ≡ x → row ≡ x.row → best' ≡ Some r → r ≡ least_row best row → IsBadPair i lines fault n x → IsLeastOf (FaultBelow i lines fault n) best → IsLeastOf (FaultBelow i lines fault (n + 1)) best'
-pair_take i lines fault n row r x best best' h e same is least_is bad least = rw (is, least_is, same) (least_take lines (λ y. y.row) (IsBadPair i lines fault) n x best h e bad least)
-
--- it has not
-pub pair_skip : (i : Spa) (lines : List Pair) (fault : MatchingFault) (n : ℕ) (x : Pair) (best best' : Option ℕ) → n < length lines → get_or lines n x ≡ x → best' ≡ best → (IsBadPair i lines fault n x → ⊥) → IsLeastOf (FaultBelow i lines fault n) best → IsLeastOf (FaultBelow i lines fault (n + 1)) best'
-pair_skip i lines fault n x best best' h e is good least = rw is (least_skip lines (λ y. y.row) (IsBadPair i lines fault) n x best h e good least)
-
 -- the number of the pair at n
 pub number_at : (f : Pair → ℕ) (lines : List Pair) (numbers : List ℕ) (n : ℕ) (x : Pair) → numbers ≡ map f lines → n < length lines → get_or lines n x ≡ x → get_or numbers n 0 ≡ f x
 number_at f lines numbers n x is h e = ap (λ ns. get_or ns n 0) is ∙ get_or-map f lines n x 0 h ∙ ap f e
 
-pub unknown_student : (i : Spa) (x : Pair) → IsLawful i → length i.choices ≤ student_in i x → Contains i.student_keys x.student → ⊥
-unknown_student i x lawful past has = omega (arith, number_known i.student_keys x.student has, lawful.student_rows)
-
-pub student_known : (i : Spa) (x : Pair) → IsLawful i → student_in i x < length i.choices → (Contains i.student_keys x.student → ⊥) → ⊥
-student_known i x lawful h none = none (known_number i.student_keys x.student (omega (arith, lawful.student_rows)))
-
-pub unknown_project : (i : Spa) (x : Pair) → IsLawful i → length i.lecturers ≤ project_in i x → Contains i.project_keys x.project → ⊥
-unknown_project i x lawful past has = omega (arith, number_known i.project_keys x.project has, lawful.project_key_rows)
-
-pub project_known : (i : Spa) (x : Pair) → IsLawful i → project_in i x < length i.lecturers → (Contains i.project_keys x.project → ⊥) → ⊥
-project_known i x lawful h none = none (known_number i.project_keys x.project (omega (arith, lawful.project_key_rows)))
+-- a number past the keys is that of a text that is no key
+pub past_number : (keys : List Text) (text : Text) (count n : ℕ) → count ≡ length keys → n ≡ number_in keys text → IsTrue (nat_le count n) ↔ (Contains keys text → ⊥)
+past_number keys text count n is at = (
+  λ past has. omega (arith, leb-true count n past, number_known keys text has),
+  λ none. elim (cases_lt n count) [ inl less ↦ absurd (none (known_number keys text (omega arith))) | inr past ↦ le-leb count n past ],
+)
 
 -- where no row has the fault, no pair has
 pub good_pair : (i : Spa) (lines : List Pair) (fault : MatchingFault) → ((r : ℕ) → FaultBelow i lines fault (length lines) r → ⊥) → (n : ℕ) (x : Pair) → n < length lines → get_or lines n x ≡ x → IsBadPair i lines fault n x → ⊥
 good_pair i lines fault none n x h e bad = none x.row (n, x, h, h, e, refl, bad)
 
--- where each text is a key, its number is that of a student
-pub student_there : (i : Spa) (lines : List Pair) (numbers : List ℕ) → IsLawful i → HasNone i lines NoSuchStudent → numbers ≡ map (student_in i) lines → (n : ℕ) (x : Pair) → n < length lines → get_or lines n x ≡ x → get_or numbers n 0 < length i.choices
-student_there i lines numbers lawful none is n x h e =
-    rw (number_at (student_in i) lines numbers n x is h e)
-    (elim (cases_lt (student_in i x) (length i.choices)) [
+-- where each text is a key, the numbers are those of keys
+all_below : (keys : List Text) (text_of : Pair → Text) (lines : List Pair) (numbers : List ℕ) → numbers ≡ map (λ x. number_in keys (text_of x)) lines → ((r : ℕ) → BadAt lines (λ x. x.row) (λ _ x. Contains keys (text_of x) → ⊥) r → ⊥) → All (λ n. n < length keys) numbers
+all_below keys text_of lines numbers is none j d h =
+    let low : j < length lines = omega (arith, ap length is, length-map lines (λ x. number_in keys (text_of x))) in
+    let x = at_place lines j low in
+    rw (get_or_default numbers j d 0 h, number_at (λ y. number_in keys (text_of y)) lines numbers j x.0 is low x.1) (elim (cases_lt (number_in keys (text_of x.0)) (length keys)) [
       | inl less ↦ less
-      | inr past ↦ absurd (good_pair i lines NoSuchStudent none n x h e (unknown_student i x lawful past))
+      | inr past ↦ absurd (none x.0.row (j, x.0, low, low, x.1, refl, λ has. omega (arith, number_known keys (text_of x.0) has)))
     ])
 
-pub project_there : (i : Spa) (lines : List Pair) (numbers : List ℕ) → IsLawful i → HasNone i lines NoSuchProject → numbers ≡ map (project_in i) lines → (n : ℕ) (x : Pair) → n < length lines → get_or lines n x ≡ x → get_or numbers n 0 < length i.lecturers
-project_there i lines numbers lawful none is n x h e =
-    rw (number_at (project_in i) lines numbers n x is h e)
-    (elim (cases_lt (project_in i x) (length i.lecturers)) [
-      | inl less ↦ less
-      | inr past ↦ absurd (good_pair i lines NoSuchProject none n x h e (unknown_project i x lawful past))
-    ])
+pub students_below : (i : Spa) (lines : List Pair) (numbers : List ℕ) → IsLawful i → HasNone i lines NoSuchStudent → numbers ≡ map (student_in i) lines → All (λ s. s < length i.choices) numbers
+students_below i lines numbers lawful none is = subst (λ n. All (λ s. s < n) numbers) lawful.student_rows (all_below i.student_keys (λ x. x.student) lines numbers is none)
+
+pub projects_below : (i : Spa) (lines : List Pair) (numbers : List ℕ) → IsLawful i → HasNone i lines NoSuchProject → numbers ≡ map (project_in i) lines → All (λ p. p < length i.lecturers) numbers
+projects_below i lines numbers lawful none is = subst (λ n. All (λ p. p < n) numbers) lawful.project_key_rows (all_below i.project_keys (λ x. x.project) lines numbers is none)
+
+-- what holds where no row has the fault
+pub if_none : (P : Type 0) (Bad : ℕ → Type 0) (row : Option ℕ) → (((r : ℕ) → Bad r → ⊥) → P) → IsLeastOf Bad row → IfNone row P
+if_none P Bad None so least = so least
+if_none P Bad (Some r) so least = tt
 
 -- who has the same number has the same key
 pub same_student : (i : Spa) (x y : Pair) → IsLawful i → student_in i x < length i.choices → student_in i y ≡ student_in i x → y.student ≡ x.student

@@ -1,7 +1,7 @@
 -- What one stage of building hands to the next.
-use Rattle.spa_model.proofs.Base.{◌≡◌, ℕ, ◌<◌, List, length, get_or, Option, All, refl, sym, ◌∙◌, subst, arith, AllZip, get_or_default, length-map, Rows, IsLeastOf, HasFault, HasNoneBefore, NamesNone, NotApplicant, ApplicantMissing, Student, Project, Lecturer, student_keys, project_keys, lecturer_keys, IsStudentOf, IsProjectOf, IsLecturerOf, MissesBelow, rules}
+use Rattle.spa_model.proofs.Base.{◌≡◌, ℕ, ◌<◌, List, length, get_or, Option, All, refl, sym, ◌∙◌, subst, arith, AllZip, get_or_default, length-map, Rows, IsLeastOf, HasFault, HasNoneBefore, AreKeysOf, NotApplicant, ApplicantMissing, Student, Project, Lecturer, student_keys, project_keys, lecturer_keys, IsStudentOf, IsProjectOf, IsLecturerOf, MissesBelow, rules}
 use Rattle.spa_rows.specs.Lines
-use Rattle.spa_model.proofs.Keys.{is_key_of}
+use Rattle.spa_model.proofs.Keys.{is_key_of, all_known}
 use Rattle.spa_model.proofs.Zips.{zip_all}
 use Rattle.spa_model.proofs.Ranks.{numbers_below}
 use Rattle.spa_model.proofs.Applicants.{least_same}
@@ -26,10 +26,11 @@ module _ (rows : Rows) (students : List Student) (projects : List Project) (so :
   other_least o least = least_same (Numbered.OthersAt rows students projects so) (HasFault rows NotApplicant) o (Numbered.others_fault rows students projects so) (Numbered.fault_others rows students projects so) least
 
   -- lists name students where no list names another
-  pub lists_known : HasNoneBefore rows ApplicantMissing → All (λ y. NamesNone rows.students (λ x. x.key) y.list → ⊥) rows.lecturers
-  lists_known none k d h (i, text, under, at, unknown) =
+  pub lists_known : HasNoneBefore rows ApplicantMissing → All (λ y. AreKeysOf rows.students (λ x. x.key) y.list) rows.lecturers
+  lists_known none k d h =
       let y : Lines.Lecturer = get_or rows.lecturers k d in
-      none NotApplicant (omega arith) y.row (Numbered.others_fault rows students projects so y.row (k, y, h, h, get_or_default rows.lecturers k y d h, refl, (i, text, under, at, λ found. unknown (is_key_of (λ x. x.key) rows.students found.0 text found.1))))
+      all_known (λ x. x.key) rows.students y.list (λ (i, text, under, at, unknown).
+      none NotApplicant (omega arith) y.row (Numbered.others_fault rows students projects so y.row (k, y, h, h, get_or_default rows.lecturers k y d h, refl, (i, text, under, at, λ found. unknown (is_key_of (λ x. x.key) rows.students found.0 text found.1)))))
 
   module _ (lecturers : List Lecturer) (lists : AllZip (IsLecturerOf (student_keys rows.students)) rows.lecturers lecturers) where
     -- projects are offered by lecturers

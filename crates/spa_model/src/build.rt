@@ -9,6 +9,7 @@ ghost use Rattle.std.specs.Cmp.Lexicographic.{slice_cmp};
 ghost use Rattle.spa_rows.specs.Faults.{HasNoneBefore, IsRefusal};
 ghost use Rattle.spa_rows.specs.declared.faults.InstanceFault.TheVariants.{NotApplicant, Memory};
 ghost use Rattle.spa_model.specs.Pairs.{StandsFor};
+ghost use Rattle.spa_model.specs.Spa.{IsLawful};
 ghost use Rattle.spa_model.specs.inner.Numbers.{rows_of};
 
 use crate::instance::Instance;
@@ -33,6 +34,7 @@ fn instance_of(
     requires faultless { HasNoneBefore
         (rows_of lecturers.now projects.now students.now) NotApplicant }
     ensures ok { IfOk result (λ i. StandsFor (rows_of lecturers.now projects.now students.now) i) }
+    ensures lawful { IfOk result (λ i. IsLawful i) }
     ensures sound { OnOk result
         (HasNoneBefore (rows_of lecturers.now projects.now students.now) Memory) }
     ensures err { IfErr result
@@ -60,6 +62,7 @@ impl Instance {
     /// Builds the instance of these rows, or returns their first fault as an error.
     pub fn build(alloc: Global, rows: InstanceRows) -> Result<Instance, BadInstance>
         ensures ok { IfOk result (λ i. StandsFor rows i) }
+        ensures lawful { IfOk result (λ i. IsLawful i) }
         ensures sound { OnOk result (HasNoneBefore rows Memory) }
         ensures err { IfErr result (λ e. IsRefusal rows e.fault e.row) }
     {

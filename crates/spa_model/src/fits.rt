@@ -41,7 +41,6 @@ pub(crate) fn projects_fit(instance: &Instance, projects: &[Option<usize>]) -> b
     requires { AreAcceptable instance.now projects.now }
     ensures { IsTrue result ↔ ((p : ℕ) → at_project projects.now p ≤ capacity_of instance.now p) }
 {
-    instance.lawful();
     for p in 0..instance.projects() {
         if count_at(projects, p) > instance.project_capacity(p) as usize {
             return false;
@@ -56,9 +55,11 @@ fn is_with(instance: &Instance, projects: &[Option<usize>], l: usize, s: usize) 
     requires in_range { s < length projects.now }
     ensures { result ≡ is_lecturer instance.now l (project_of projects.now s) }
 {
-    instance.lawful();
     match projects[s] {
-        Some(p) => instance.lecturer_of(p) == l,
+        Some(p) => {
+            prove!(p < instance.projects());
+            instance.lecturer_of(p) == l
+        }
         None => false,
     }
 }
@@ -83,7 +84,6 @@ pub(crate) fn lecturers_fit(instance: &Instance, projects: &[Option<usize>]) -> 
     ensures { IsTrue result
         ↔ ((l : ℕ) → at_lecturer instance.now projects.now l ≤ limit_of instance.now l) }
 {
-    instance.lawful();
     for l in 0..instance.lecturers() {
         if count_with(instance, projects, l) > instance.lecturer_capacity(l) as usize {
             return false;

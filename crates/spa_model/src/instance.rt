@@ -67,23 +67,18 @@ impl Instance {
         self.students.len()
     }
 
-    /// Gives a proof the fact that the instance is lawful (`IsLawful`), and does nothing else.
-    pub fn lawful(&self)
-        ensures { IsLawful self.now }
-    {
-        self.students();
-    }
-
     /// Returns the number of projects.
     pub fn projects(&self) -> usize
-        ensures { result ≡ length self.now.lecturers }
+        ensures count { result ≡ length self.now.lecturers }
+        ensures lawful { IsLawful self.now }
     {
         self.projects.len()
     }
 
     /// Returns the number of lecturers.
     pub fn lecturers(&self) -> usize
-        ensures { result ≡ length self.now.rankings }
+        ensures count { result ≡ length self.now.rankings }
+        ensures lawful { IsLawful self.now }
     {
         self.lecturers.len()
     }
@@ -117,6 +112,7 @@ impl Instance {
         requires { p < length self.now.lecturers }
         ensures gives { result ≡ lecturer_of self.now p }
         ensures in_range { result < length self.now.rankings }
+        ensures lawful { IsLawful self.now }
     {
         self.projects[p].lecturer
     }
@@ -140,7 +136,8 @@ impl Instance {
     /// Returns a student's list of projects, best first.
     pub fn choices(&self, s: usize) -> &[usize]
         requires { s < length self.now.choices }
-        ensures { result.now ≡ choices_of self.now s }
+        ensures gives { result.now ≡ choices_of self.now s }
+        ensures lawful { IsLawful self.now }
     {
         self.students[s].choices.as_slice()
     }
@@ -228,7 +225,7 @@ impl Instance {
         ensures acceptable { IfSome result (λ p. IsAcceptable self.now student p) }
         ensures in_range { IfSome result (λ p. p < length self.now.lecturers) }
     {
-        self.lawful();
+        prove!(student < self.students());
         matching.project(student)
     }
 

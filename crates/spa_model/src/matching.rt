@@ -76,12 +76,11 @@ impl Matching {
         ensures sound { OnOk result (AreSound instance.now pairs.items) }
         ensures err { IfErr result (λ e. IsPairRefusal instance.now pairs.items e.fault e.row) }
     {
-        instance.lawful();
         let lines = pairs.as_slice();
         let students = student_numbers(alloc, instance, lines)?;
         let projects = project_numbers(alloc, instance, lines)?;
         check_pairs(alloc, instance, lines, &students, &projects)?;
-        let own = assigned(alloc, instance, &students, &projects)?;
+        let own = assigned(alloc, instance.students(), &students, &projects)?;
         Ok(Matching { projects: own })
     }
 

@@ -1,17 +1,17 @@
 //! Checks the pairs of a matching, and finds each student's project in them.
 
-ghost use Rattle.std.specs.Prelude.{◌≡◌, ◌<◌, ◌≤◌, ◌↔◌, IfOk, IfErr, OnOk, All, IsTrue, length};
+ghost use Rattle.std.specs.Prelude.{◌≡◌, ◌<◌, IfOk, IfErr, IfNone, OnOk, All, length};
 ghost use Rattle.std.specs.Prelude.{map};
-ghost use Rattle.spa_rows.specs.inner.Least.{IsLeastOf, least_row};
+ghost use Rattle.spa_rows.specs.inner.Least.{IsLeastOf};
 ghost use Rattle.spa_model.specs.Spa.{IsDistinct};
 ghost use Rattle.spa_model.specs.Pairs.{HasPairFault, IsPairRefusal, student_in, project_in};
-ghost use Rattle.spa_model.specs.Pairs.{HasNone, AreSound};
+ghost use Rattle.spa_model.specs.Pairs.{AreSound};
 ghost use Rattle.spa_model.specs.inner.Fitting.{AreAssigned};
 
 use crate::fits::is_on;
 use crate::instance::Instance;
 use crate::matching::{BadMatching, MatchingFault};
-use spa_rows::PairLine;
+use spa_rows::{PairLine, least_with};
 use std::alloc::{AllocError, Global};
 
 /// Returns the index of each pair's student, or the number of students if it is unknown.
@@ -42,26 +42,16 @@ pub(crate) fn project_numbers(
         .collect(alloc)
 }
 
-/// Returns the smaller of a pair's `row` and `best`, or `row` if there is no `best`.
-fn least(best: Option<u32>, row: u32) -> u32
-    ensures { result ≡ least_row best row }
-{
-    match best {
-        Some(other) => other.min(row),
-        None => row,
-    }
-}
-
 /// Finds the lowest-numbered row of a pair with an unknown student.
 fn no_such_student(instance: &Instance, lines: &[PairLine], students: &[usize]) -> Option<u32>
     requires { students.now ≡ map (student_in instance.now) lines.now }
-    ensures { IsLeastOf (HasPairFault instance.now lines.now MatchingFault.NoSuchStudent) result }
+    ensures least { IsLeastOf (HasPairFault instance.now lines.now MatchingFault.NoSuchStudent) result }
+    ensures known { IfNone result (All (λ s. s < length instance.now.choices) students.now) }
 {
+    let count = instance.students();
     let mut best = None;
     for (j, line) in lines.iter().enumerate() {
-        if students[j] >= instance.students() {
-            best = Some(least(best, line.row));
-        }
+        best = least_with(best, line.row, students[j] >= count);
     }
     best
 }
@@ -69,14 +59,13 @@ fn no_such_student(instance: &Instance, lines: &[PairLine], students: &[usize]) 
 /// Finds the lowest-numbered row of a pair with an unknown project.
 fn no_such_project(instance: &Instance, lines: &[PairLine], projects: &[usize]) -> Option<u32>
     requires { projects.now ≡ map (project_in instance.now) lines.now }
-    ensures { IsLeastOf (HasPairFault instance.now lines.now MatchingFault.NoSuchProject) result }
+    ensures least { IsLeastOf (HasPairFault instance.now lines.now MatchingFault.NoSuchProject) result }
+    ensures known { IfNone result (All (λ p. p < length instance.now.lecturers) projects.now) }
 {
-    instance.lawful();
+    let count = instance.projects();
     let mut best = None;
     for (j, line) in lines.iter().enumerate() {
-        if projects[j] >= instance.projects() {
-            best = Some(least(best, line.row));
-        }
+        best = least_with(best, line.row, projects[j] >= count);
     }
     best
 }
@@ -90,15 +79,13 @@ fn not_acceptable(
 ) -> Option<u32>
     requires students { students.now ≡ map (student_in instance.now) lines.now }
     requires projects { projects.now ≡ map (project_in instance.now) lines.now }
-    requires known { HasNone instance.now lines.now MatchingFault.NoSuchStudent }
+    requires known { All (λ s. s < length instance.now.choices) students.now }
     ensures { IsLeastOf (HasPairFault instance.now lines.now MatchingFault.NotAcceptable) result }
 {
-    instance.lawful();
     let mut best = None;
     for (j, line) in lines.iter().enumerate() {
-        if !is_on(instance.choices(students[j]), projects[j]) {
-            best = Some(least(best, line.row));
-        }
+        let is_listed = is_on(instance.choices(students[j]), projects[j]);
+        best = least_with(best, line.row, !is_listed);
     }
     best
 }
@@ -111,7 +98,7 @@ fn student_twice(
     students: &[usize],
 ) -> Result<Option<u32>, AllocError>
     requires students { students.now ≡ map (student_in instance.now) lines.now }
-    requires known { HasNone instance.now lines.now MatchingFault.NoSuchStudent }
+    requires known { All (λ s. s < length instance.now.choices) students.now }
     ensures { IfOk result
         (IsLeastOf (HasPairFault instance.now lines.now MatchingFault.StudentTwice)) }
 {
@@ -119,9 +106,7 @@ fn student_twice(
     let mut best = None;
     for (j, line) in lines.iter().enumerate() {
         let s = students[j];
-        if seen[s] {
-            best = Some(least(best, line.row));
-        }
+        best = least_with(best, line.row, seen[s]);
         seen[s] = true;
     }
     Ok(best)
@@ -135,19 +120,17 @@ fn project_over(
     projects: &[usize],
 ) -> Result<Option<u32>, AllocError>
     requires projects { projects.now ≡ map (project_in instance.now) lines.now }
-    requires known { HasNone instance.now lines.now MatchingFault.NoSuchProject }
+    requires known { All (λ p. p < length instance.now.lecturers) projects.now }
     ensures { IfOk result
         (IsLeastOf (HasPairFault instance.now lines.now MatchingFault.ProjectOver)) }
 {
-    instance.lawful();
     let mut counts = vec![in alloc; 0; instance.projects()]?;
     let mut best = None;
     for (j, line) in lines.iter().enumerate() {
         let p = projects[j];
         counts[p] += 1;
-        if counts[p] > instance.project_capacity(p) as usize {
-            best = Some(least(best, line.row));
-        }
+        let is_over = counts[p] > instance.project_capacity(p) as usize;
+        best = least_with(best, line.row, is_over);
     }
     Ok(best)
 }
@@ -160,19 +143,17 @@ fn lecturer_over(
     projects: &[usize],
 ) -> Result<Option<u32>, AllocError>
     requires projects { projects.now ≡ map (project_in instance.now) lines.now }
-    requires known { HasNone instance.now lines.now MatchingFault.NoSuchProject }
+    requires known { All (λ p. p < length instance.now.lecturers) projects.now }
     ensures { IfOk result
         (IsLeastOf (HasPairFault instance.now lines.now MatchingFault.LecturerOver)) }
 {
-    instance.lawful();
     let mut counts = vec![in alloc; 0; instance.lecturers()]?;
     let mut best = None;
     for (j, line) in lines.iter().enumerate() {
         let l = instance.lecturer_of(projects[j]);
         counts[l] += 1;
-        if counts[l] > instance.lecturer_capacity(l) as usize {
-            best = Some(least(best, line.row));
-        }
+        let is_over = counts[l] > instance.lecturer_capacity(l) as usize;
+        best = least_with(best, line.row, is_over);
     }
     Ok(best)
 }
@@ -215,20 +196,19 @@ pub(crate) fn check_pairs(
     refused(MatchingFault::LecturerOver, over)
 }
 
-/// Returns the project that the pairs give each student, if any.
+/// Returns the project that the pairs give each of so many students, if any.
 pub(crate) fn assigned(
     alloc: Global,
-    instance: &Instance,
+    count: usize,
     students: &[usize],
     projects: &[usize],
 ) -> Result<Vec<Option<usize>>, AllocError>
     requires size { length students.now ≡ length projects.now }
-    requires known { All (λ s. s < length instance.now.choices) students.now }
+    requires known { All (λ s. s < count) students.now }
     requires apart { IsDistinct students.now }
-    ensures { IfOk result
-        (λ own. AreAssigned (length instance.now.choices) students.now projects.now own.items) }
+    ensures { IfOk result (λ own. AreAssigned count students.now projects.now own.items) }
 {
-    let mut own = vec![in alloc; None; instance.students()]?;
+    let mut own = vec![in alloc; None; count]?;
     for (j, s) in students.iter().enumerate() {
         own[*s] = Some(projects[j]);
     }

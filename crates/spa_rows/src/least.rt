@@ -11,11 +11,10 @@ ghost use Rattle.spa_rows.specs.inner.Least.{IsLeastOf, least_row};
 
 use crate::index::Places;
 use crate::key::is_key_text;
-use crate::kinds::{Limited, Line, Listing};
 use crate::limits::{LONGEST_CHOICE, is_capacity};
-use crate::lines::{LecturerLine, ProjectLine, StudentLine};
+use crate::lines::{LecturerLine, Limited, Line, Listing, ProjectLine, StudentLine};
 use std::alloc::{AllocError, Global};
-use std::collections::{BTreeSet, HashSet};
+use std::collections::BTreeSet;
 
 /// Returns the smaller of a line's `row` and `best`, or `row` if there is no `best`.
 pub(crate) fn least(best: Option<u32>, row: u32) -> u32
@@ -122,22 +121,9 @@ pub(crate) fn no_such_project(
     best
 }
 
-/// Returns whether a line's short list has the fault that a text occurs twice.
-fn repeats_in_few(alloc: Global, list: &[Vec<u8>]) -> Result<bool, AllocError>
-    ensures { IfOk result (λ yes. IsTrue yes ↔ Repeats (map (λ text. text.items) list.now)) }
-{
-    let mut seen = HashSet::with_capacity(alloc, list.len())?;
-    for text in list {
-        if !seen.insert(text.as_slice())? {
-            return Ok(true);
-        }
-    }
-    Ok(false)
-}
-
-/// Returns whether a line's long list has the fault that a text occurs twice. Crafted texts can
-/// collide in a hash set and make it slow. A tree stays fast.
-fn repeats_in_many(alloc: Global, list: &[Vec<u8>]) -> Result<bool, AllocError>
+/// Returns whether a line's list has the fault that a text occurs twice. Crafted texts can collide
+/// in a hash set and make it slow, so the texts go into a tree.
+fn repeats(alloc: Global, list: &[Vec<u8>]) -> Result<bool, AllocError>
     ensures { IfOk result (λ yes. IsTrue yes ↔ Repeats (map (λ text. text.items) list.now)) }
 {
     let mut seen = BTreeSet::new(alloc);
@@ -147,17 +133,6 @@ fn repeats_in_many(alloc: Global, list: &[Vec<u8>]) -> Result<bool, AllocError>
         }
     }
     Ok(false)
-}
-
-/// Returns whether a line's list has the fault that a text occurs twice.
-fn repeats(alloc: Global, list: &[Vec<u8>]) -> Result<bool, AllocError>
-    ensures { IfOk result (λ yes. IsTrue yes ↔ Repeats (map (λ text. text.items) list.now)) }
-{
-    if list.len() <= 256 {
-        repeats_in_few(alloc, list)
-    } else {
-        repeats_in_many(alloc, list)
-    }
 }
 
 /// Finds the lowest-numbered row whose list contains a text twice, in lines of one kind.

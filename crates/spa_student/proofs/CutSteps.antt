@@ -130,6 +130,7 @@ module _ (i : Spa) (q after : Progress) (marks : AreMarks i q) (w u : ℕ) (has 
 
   pub left_marks : KeepsCuts q after → IsPastCut i q w u → AreMarks i after
   left_marks cuts past = record {
+    lawful = marks.lawful;
     assigned = record {
       students = ap length leaves.projects ∙ length-set q.projects.items w None ∙ marks.assigned.students;
       acceptable = λ x v e. marks.assigned.acceptable x v (stays x v e).1;
@@ -329,6 +330,7 @@ pub state_at_first : (i : Spa) → IsLawful i → (q : Progress) → q.projects.
     → length q.lecturer_cuts.items ≡ length i.rankings → ((l : ℕ) → l < length i.rankings → get_or q.lecturer_cuts.items l 0 ≡ length (ranking_of i l)) → IsUnderWay i q
 state_at_first i lawful q nobody start no_counts no_counts_l rows cuts rows_l cuts_l = record {
   marks = record {
+    lawful = lawful;
     assigned = record { students = ap length nobody ∙ matching.students; acceptable = λ s p e. absurd (free s p e) };
     cursor_rows = ap length start ∙ length-replicate (length i.choices) 0;
     project_rows = rows;

@@ -1,18 +1,19 @@
-//! `solve` runs the SPA-student algorithm, with a cursor in each list and cut-offs in rankings.
+//! The state of the SPA-student algorithm: a cursor in each list, and cut-offs in rankings.
 
-ghost use Rattle.std.specs.Prelude.{◌≡◌, ◌≢◌, ◌<◌, ◌≤◌, ◌+◌, ◌↔◌, ◌⊎◌, ℕ, IfOk, IfSome};
-ghost use Rattle.std.specs.Prelude.{MatchOption, IsTrue, Some, None, length, slice_set};
-ghost use Rattle.std.specs.Prelude.{slice_index, sum, map};
-ghost use Rattle.spa_model.specs.Spa.{IsBest, IsWith, IsAcceptable, choices_of, project_of};
-ghost use Rattle.spa_model.specs.Spa.{lecturer_of, ranking_of};
+mod turns;
+
+ghost use Rattle.std.specs.Prelude.{◌≡◌, ◌<◌, ◌≤◌, ◌+◌, ◌↔◌, ◌⊎◌, ℕ, IfOk, MatchOption, IsTrue};
+ghost use Rattle.std.specs.Prelude.{Some, length, slice_set, slice_index, map};
+ghost use Rattle.spa_model.specs.Spa.{IsWith, IsAcceptable, choices_of, project_of, lecturer_of};
+ghost use Rattle.spa_model.specs.Spa.{ranking_of};
 ghost use Rattle.spa_student.specs.inner.Cuts.{IsPastCut, IsUncut, IsUnderWay, AreCounts, AreMarks};
 ghost use Rattle.spa_student.specs.inner.Cuts.{IsNextEntry, KeepsCuts, Puts, Leaves, Exchanges};
-ghost use Rattle.spa_student.specs.inner.Cuts.{IsSettled};
 ghost use Rattle.spa_student.specs.inner.Machine.{rank_of};
 ghost use Rattle.spa_student.specs.inner.Worst.{IsWorstAt, IsWorstWith};
 
-use spa_model::{Instance, Matching};
+use spa_model::Instance;
 use std::alloc::{AllocError, Global};
+pub use turns::solve;
 
 /// The state of the search for the student-optimal stable matching.
 #[derive(Drop)]
@@ -38,7 +39,6 @@ impl Progress {
         requires acceptable { IsAcceptable instance.now s p }
         ensures { IsTrue result ↔ IsPastCut instance.now self.now s p }
     {
-        instance.lawful();
         let l = instance.lecturer_of(p);
         match instance.rank(l, s) {
             Some(rank) => {
@@ -90,7 +90,6 @@ impl Progress {
         ensures { IsTrue result
             ↔ IsWith instance.now self.now.projects.items (lecturer_of instance.now p) s }
     {
-        instance.lawful();
         match self.projects[s] {
             Some(q) => instance.lecturer_of(q) == instance.lecturer_of(p),
             None => false,
@@ -107,7 +106,6 @@ impl Progress {
         ensures worst { IsWorstAt instance.now self.now.projects.items p
             (slice_index (ranking_of instance.now (lecturer_of instance.now p)) result) }
     {
-        instance.lawful();
         let ranking = instance.ranking(instance.lecturer_of(p));
         for k in (0..self.project_cuts[p]).rev() {
             if self.is_at(ranking[k], p) {
@@ -130,7 +128,6 @@ impl Progress {
             (lecturer_of instance.now p)
             (slice_index (ranking_of instance.now (lecturer_of instance.now p)) result) }
     {
-        instance.lawful();
         let l = instance.lecturer_of(p);
         let ranking = instance.ranking(l);
         for k in (0..self.lecturer_cuts[l]).rev() {
@@ -152,7 +149,6 @@ impl Progress {
         ensures marks { AreMarks instance.now self.new }
         ensures counts { AreCounts instance.now self.new }
     {
-        instance.lawful();
         let entries = instance.choices(w).len();
         prove!(self.cursors[w] < entries);
         let l = instance.lecturer_of(u);
@@ -178,7 +174,6 @@ impl Progress {
         ensures marks { AreMarks instance.now self.new }
         ensures counts { AreCounts instance.now self.new }
     {
-        instance.lawful();
         let rank = self.worst_at(instance, p);
         let w = instance.ranking(instance.lecturer_of(p))[rank];
         self.project_cuts[p] = rank;
@@ -204,7 +199,6 @@ impl Progress {
         ensures marks { AreMarks instance.now self.new }
         ensures counts { AreCounts instance.now self.new }
     {
-        instance.lawful();
         let l = instance.lecturer_of(p);
         let rank = self.worst_with(instance, p);
         let w = instance.ranking(l)[rank];
@@ -225,7 +219,6 @@ impl Progress {
         ensures marks { AreMarks instance.now self.new }
         ensures counts { AreCounts instance.now self.new }
     {
-        instance.lawful();
         let l = instance.lecturer_of(p);
         self.projects[s] = Some(p);
         self.project_counts[p] += 1;
@@ -241,7 +234,6 @@ impl Progress {
         ensures moves { MatchOption result (Puts s p self.old self.new)
             (λ w. Exchanges s p w self.old self.new) }
     {
-        instance.lawful();
         let l = instance.lecturer_of(p);
         self.place(instance, s, p);
         if self.project_counts[p] > instance.project_capacity(p) as usize {
@@ -253,62 +245,10 @@ impl Progress {
         None
     }
 
-    /// Moves a free student's cursor to the first entry that is not cut. Assigns the student to
-    /// that project, if there is one. Returns the student who is then removed, if any.
-    fn turn(&mut self, instance: &Instance, s: usize) -> Option<usize>
-        requires state { IsUnderWay instance.now self.old }
-        requires in_range { s < length instance.now.choices }
-        requires free { project_of self.old.projects.items s ≡ None }
-        ensures state { IsUnderWay instance.now self.new }
-        ensures settled { (x : ℕ) → result ≢ Some x → (x ≡ s) ⊎ IsSettled instance.now self.old x
-            → IsSettled instance.now self.new x }
-        ensures free { IfSome result (λ w. (w < length instance.now.choices)
-            × (project_of self.new.projects.items w ≡ None)) }
-        ensures moves { IfSome result
-            (λ w. sum self.old.cursors.items < sum self.new.cursors.items) }
-    {
-        let list = instance.choices(s);
-        let k = self.next(instance, s);
-        self.cursors[s] = k;
-        if k < list.len() {
-            self.put(instance, s, list[k])
-        } else {
-            None
-        }
-    }
-
-    /// Gives a free student a turn, then each student whom a turn removes, until nobody is removed.
-    fn settle(&mut self, instance: &Instance, s: usize)
-        requires state { IsUnderWay instance.now self.old }
-        requires in_range { s < length instance.now.choices }
-        requires free { project_of self.old.projects.items s ≡ None }
-        ensures state { IsUnderWay instance.now self.new }
-        ensures settled { (x : ℕ) → (x ≡ s) ⊎ IsSettled instance.now self.old x
-            → IsSettled instance.now self.new x }
-    {
-        let mut free = s;
-        while let Some(w) = self.turn(instance, free) {
-            free = w;
-        }
-    }
-
-    /// Settles each student who is free, one after the other.
-    fn run(&mut self, instance: &Instance)
-        requires { IsUnderWay instance.now self.old }
-        ensures { IsBest instance.now self.new.projects.items }
-    {
-        for s in 0..instance.students() {
-            if self.projects[s].is_none() {
-                self.settle(instance, s);
-            }
-        }
-    }
-
     /// Creates the initial state: nobody has a project, and nobody is cut.
     fn new(alloc: Global, instance: &Instance) -> Result<Progress, AllocError>
         ensures { IfOk result (λ q. IsUnderWay instance.now q) }
     {
-        instance.lawful();
         Ok(Progress {
             cursors: vec![in alloc; 0; instance.students()]?,
             projects: vec![in alloc; None; instance.students()]?,
@@ -341,13 +281,4 @@ fn first_lecturer_cuts(alloc: Global, instance: &Instance) -> Result<Vec<usize>,
         cuts.push(instance.ranking(l).len())?;
     }
     Ok(cuts)
-}
-
-/// Computes the student-optimal stable matching.
-pub fn solve(alloc: Global, instance: &Instance) -> Result<Matching, AllocError>
-    ensures { IfOk result (λ m. IsBest instance.now m) }
-{
-    let mut progress = Progress::new(alloc, instance)?;
-    progress.run(instance);
-    Ok(Matching::of(instance, progress.projects))
 }

@@ -2,7 +2,7 @@
 
 use crate::tests::devices::is_text;
 use crate::tests::portal::{NO_CALLER, fresh, reply, request};
-use portal_desk::serve_each;
+use portal_desk::serve_streams;
 use std::process::Abort;
 
 /// The second stream adds a lecturer, who is unknown in the first and known in the third.
@@ -22,7 +22,7 @@ fn each_stream_finds_what_the_one_before_left(rt: HostRuntime) {
 /// Checks what a fresh desk writes for three streams.
 fn gets(rt: &(impl Abort + AllocGlobal), streams: &[&[u8]], wanted: &[&[u8]; 3]) {
     let mut desk = fresh(rt);
-    let texts = serve_each(rt.alloc(), &mut desk, streams).expect(rt, "served");
+    let texts = serve_streams(rt.alloc(), &mut desk, streams).expect(rt, "served");
     are_texts(rt, &texts, wanted);
 }
 

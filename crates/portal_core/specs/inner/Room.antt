@@ -1,10 +1,11 @@
 -- What the pairs of the first round's result leave of a row, a matching's pairs, and the persons
 -- at each project.
-use Rattle.std.specs.Prelude.{ℕ, ◌-◌, nat_lt, if◌then◌else◌, count_by, List, map, filter, Option, Some, None, option_map, Vec, [], ◌∷◌, slice_index_or}
+use Rattle.std.specs.Prelude.{ℕ, ◌-◌, nat_lt, if◌then◌else◌, count_by, List, map, filter, Option, Some, None, option_map, Vec, [], ◌∷◌, codes, slice_index_or}
 use Rattle.portal_core.specs.declared.rows.LecturerRow.{LecturerRow}
 use Rattle.portal_core.specs.declared.rows.ProjectRow.{ProjectRow}
 use Rattle.portal_core.specs.Words.{Key, equals, has}
-use Rattle.portal_core.specs.Bodies.{students_at}
+use Rattle.serde_json.specs.Data.{Data, object, string, put as with_member}
+use Rattle.portal_core.specs.Bodies.{members, person, several, students_at}
 use Rattle.portal_core.specs.World.{project_key}
 use Rattle.std.specs.declared.alloc.Global.{Global}
 use Rattle.spa_rows.specs.declared.key.Key as kept
@@ -31,6 +32,10 @@ lecturer_left projects pairs l = option_map (λ n. record l { capacity = n }) (r
 -- the persons at each project
 abbrev pub by_project : List (kept.Key × Vec Person Global) → List (Key × List Person)
 by_project ps = map (λ p. (p.0, p.1.items)) ps
+
+-- a project as JSON, with its persons as a member of this name
+abbrev pub project_and_persons : List ℕ → Key × List Person → Data
+project_and_persons name p = object (with_member name (several (map person p.1)) (members ((codes "id", string p.0) ∷ [])))
 
 -- the pairs of a matching by numbers, for these students and projects, by student
 abbrev pub pairs_by : List Key → List Key → List (Option ℕ) → List (Key × Key)

@@ -8,8 +8,9 @@ ghost use Rattle.portal_core.specs.Words.{equals};
 ghost use Rattle.portal_core.specs.Faults as fault;
 ghost use Rattle.portal_core.specs.Faults.{is_applicant};
 ghost use Rattle.portal_core.specs.inner.Room.{by_project};
-ghost use Rattle.portal_core.specs.inner.Tables.{HasKeys, HasTexts};
+ghost use Rattle.portal_core.specs.inner.Tables.{HasKeys};
 
+use crate::by_key::keys_of;
 use crate::rows::Person;
 use spa_rows::Key;
 use std::alloc::{AllocError, Global};
@@ -87,17 +88,6 @@ impl<'a> Applicants<'a> {
     }
 }
 
-/// Collects the texts of a submitted ranking's keys, to find a missing applicant.
-fn texts_of<'a>(alloc: Global, keys: &'a [Key]) -> Result<HashSet<&'a [u8]>, AllocError>
-    ensures { IfOk result (HasTexts keys.now) }
-{
-    let mut texts = HashSet::with_capacity(alloc, keys.len())?;
-    for key in keys {
-        texts.insert(key.as_bytes())?;
-    }
-    Ok(texts)
-}
-
 /// Returns whether a submitted ranking's `keys` lack an applicant of the lecturer.
 pub(crate) fn lacks_one(
     alloc: Global,
@@ -106,7 +96,7 @@ pub(crate) fn lacks_one(
 ) -> Result<bool, AllocError>
     ensures { IfOk result (λ lacks. lacks ≡ fault.lacks_one (by_project applicants.now) keys.now) }
 {
-    let texts = texts_of(alloc, keys)?;
+    let texts = keys_of(alloc, keys)?;
     for (_, persons) in applicants {
         if leaves_out(&texts, persons) {
             return Ok(true);

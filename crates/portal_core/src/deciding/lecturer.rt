@@ -1,11 +1,8 @@
 //! Decides a lecturer's calls.
 
-ghost use Rattle.std.specs.Prelude.{◌≡◌, [], ◌∷◌, List, map, option_map, codes, Some, IfOk};
+ghost use Rattle.std.specs.Prelude.{◌≡◌, [], ◌∷◌, map, option_map, codes, Some, IfOk};
 ghost use Rattle.serde_json.specs.View as json;
-ghost use Rattle.serde_json.specs.Data.{string};
-ghost use Rattle.portal_core.specs.Words.{Key};
 ghost use Rattle.portal_core.specs.World as world;
-ghost use Rattle.portal_core.specs.World.{Person};
 ghost use Rattle.portal_core.specs.Bodies.{dictionary, several, texts_or_null};
 ghost use Rattle.portal_core.specs.Bodies as shown;
 ghost use Rattle.portal_core.specs.Faults.{ranking_fault};
@@ -13,15 +10,14 @@ ghost use Rattle.portal_core.specs.Sight.{AbstractCall};
 ghost use Rattle.portal_core.specs.Answer as answer;
 ghost use Rattle.portal_core.specs.Answer.{unless_faulty, to_lecturer};
 ghost use Rattle.portal_core.specs.Meaning.{call_model, texts_of, decision_model};
-ghost use Rattle.portal_core.specs.inner.Room.{by_project};
+ghost use Rattle.portal_core.specs.inner.Room.{by_project, project_and_persons};
 
-use crate::call::Call;
 use crate::deciding::bodies::{
-    catalogue_body, me_members, object_of, persons_value, put_person, put_text, texts,
+    array_of, catalogue_body, me_members, object_of, put_person, put_text,
 };
 use crate::deciding::lists::{bad_list, checked_ranking};
 use crate::deciding::replies::{applies, not_yours, shows, wrong_phase};
-use crate::decision::{Change, Decision};
+use crate::decision::{Call, Change, Decision};
 use crate::phase::Phase;
 use crate::rows::Person;
 use crate::view::LecturerView;
@@ -39,80 +35,49 @@ fn me_body(alloc: Global, view: &LecturerView) -> Result<Value, AllocError>
     Ok(Value::Object(me))
 }
 
-/// Makes a JSON object of a lecturer's project and its applicants.
-fn applicants_value(
+/// Makes a JSON object of a lecturer's project, with these persons as the member `name`.
+fn project_value(
     alloc: Global,
+    name: &str,
     project: &Key,
-    applicants: &[Person],
+    persons: &[Person],
 ) -> Result<Value, AllocError>
-    ensures { IfOk result (λ value. json.view value ≡ dictionary (
-        (codes "applicants", several (map shown.person applicants.now))
-        ∷ (codes "id", string project.now) ∷ [])) }
+    ensures { IfOk result (λ value. json.view value
+        ≡ project_and_persons name.now (project.now, persons.now)) }
 {
     let mut members = Map::new(alloc);
     put_text(&mut members, alloc, "id", project.as_str())?;
-    let applicants = persons_value(alloc, applicants)?;
-    put(&mut members, alloc, "applicants", applicants)?;
+    put(&mut members, alloc, name, array_of(alloc, persons)?)?;
     Ok(Value::Object(members))
 }
 
-/// Makes a JSON object of each of a lecturer's projects and its applicants.
-fn applicants_values(
+/// Makes a JSON object of each of a lecturer's projects, with its persons as the member `name`.
+fn project_values(
     alloc: Global,
+    name: &str,
     projects: &[(Key, Vec<Person>)],
 ) -> Result<Vec<Value>, AllocError>
     ensures { IfOk result (λ values. map json.view values.items
-        ≡ map (λ (p : Key × List Person). dictionary (
-        (codes "applicants", several (map shown.person p.1))
-        ∷ (codes "id", string p.0) ∷ [])) (by_project projects.now)) }
+        ≡ map (project_and_persons name.now) (by_project projects.now)) }
 {
     let mut values = Vec::new(alloc);
-    for (project, applicants) in projects {
-        values.push(applicants_value(alloc, project, applicants)?)?;
+    for (project, persons) in projects {
+        values.push(project_value(alloc, name, project, persons)?)?;
     }
     Ok(values)
 }
 
-/// Makes the body that shows a lecturer the applicants to each project.
-fn applicants_body(alloc: Global, projects: &[(Key, Vec<Person>)]) -> Result<Value, AllocError>
-    ensures { IfOk result (λ body. json.view body
-        ≡ shown.applicants_body (by_project projects.now)) }
+/// Makes the body that shows a lecturer's projects, each with its persons as the member `name`: the
+/// applicants, or the students whom the result places there.
+fn projects_body(
+    alloc: Global,
+    name: &str,
+    projects: &[(Key, Vec<Person>)],
+) -> Result<Value, AllocError>
+    ensures { IfOk result (λ body. json.view body ≡ dictionary (
+        (codes "projects", several (map (project_and_persons name.now) (by_project projects.now))) ∷ [])) }
 {
-    let values = applicants_values(alloc, projects)?;
-    object_of(alloc, "projects", Value::Array(values))
-}
-
-/// Makes a JSON object of a lecturer's project and the students whom the result places there.
-fn placed_value(alloc: Global, project: &Key, students: &[Person]) -> Result<Value, AllocError>
-    ensures { IfOk result (λ value. json.view value ≡ dictionary (
-        (codes "id", string project.now)
-        ∷ (codes "students", several (map shown.person students.now)) ∷ [])) }
-{
-    let mut members = Map::new(alloc);
-    put_text(&mut members, alloc, "id", project.as_str())?;
-    let students = persons_value(alloc, students)?;
-    put(&mut members, alloc, "students", students)?;
-    Ok(Value::Object(members))
-}
-
-/// Makes a JSON object of each of a lecturer's projects and the students placed there.
-fn placed_values(alloc: Global, projects: &[(Key, Vec<Person>)]) -> Result<Vec<Value>, AllocError>
-    ensures { IfOk result (λ values. map json.view values.items
-        ≡ map (λ (p : Key × List Person). dictionary ((codes "id", string p.0)
-        ∷ (codes "students", several (map shown.person p.1)) ∷ [])) (by_project projects.now)) }
-{
-    let mut values = Vec::new(alloc);
-    for (project, students) in projects {
-        values.push(placed_value(alloc, project, students)?)?;
-    }
-    Ok(values)
-}
-
-/// Makes the body that shows a lecturer the students whom the result places at each project.
-fn placed_body(alloc: Global, projects: &[(Key, Vec<Person>)]) -> Result<Value, AllocError>
-    ensures { IfOk result (λ body. json.view body ≡ shown.placed_body (by_project projects.now)) }
-{
-    let values = placed_values(alloc, projects)?;
+    let values = project_values(alloc, name, projects)?;
     object_of(alloc, "projects", Value::Array(values))
 }
 
@@ -123,7 +88,7 @@ fn ranking_value(alloc: Global, ranking: &Option<Vec<Key>>) -> Result<Value, All
 {
     match ranking {
         None => Ok(Value::Null),
-        Some(students) => texts(alloc, students),
+        Some(students) => array_of(alloc, students),
     }
 }
 
@@ -133,7 +98,7 @@ fn show_applicants(alloc: Global, view: &LecturerView) -> Result<Decision, Alloc
         ≡ to_lecturer view.now AbstractCall.Applicants) }
 {
     if view.phase.is_from_ranking() {
-        Ok(shows(applicants_body(alloc, &view.applicants)?))
+        Ok(shows(projects_body(alloc, "applicants", &view.applicants)?))
     } else {
         wrong_phase(alloc)
     }
@@ -162,7 +127,7 @@ fn replace_ranking(
         ≡ answer.applies (shown.students_body (Some students.items))
         (world.Ranks view.now.me.key students.items)) }
 {
-    let ranking = texts(alloc, &students)?;
+    let ranking = array_of(alloc, &students)?;
     let body = object_of(alloc, "students", ranking)?;
     let lecturer = view.me.key.copy(alloc)?;
     Ok(applies(body, Change::Ranking { lecturer, students }))
@@ -176,7 +141,7 @@ fn take_ranking(
 ) -> Result<Decision, AllocError>
     ensures { let texts = texts_of list.now in
         IfOk result (λ decision. decision_model decision
-        ≡ unless_faulty (ranking_fault view.now.applicants 1 [] texts)
+        ≡ unless_faulty (ranking_fault view.now.applicants texts)
         (answer.applies (shown.students_body (Some texts)) (world.Ranks view.now.me.key texts))) }
 {
     match checked_ranking(alloc, &view.applicants, list)? {
@@ -202,7 +167,7 @@ fn show_result(alloc: Global, view: &LecturerView) -> Result<Decision, AllocErro
         ≡ to_lecturer view.now AbstractCall.Result) }
 {
     if view.round.has_result(view.phase) {
-        Ok(shows(placed_body(alloc, &view.placed)?))
+        Ok(shows(projects_body(alloc, "students", &view.placed)?))
     } else {
         wrong_phase(alloc)
     }

@@ -1,35 +1,32 @@
 //! Decides the office's calls.
 
-ghost use Rattle.std.specs.Prelude.{◌≡◌, ◌∷◌, [], length, map, filter, not, codes, if◌then◌else◌};
-ghost use Rattle.std.specs.Prelude.{IfOk, OnOk};
+ghost use Rattle.std.specs.Prelude.{◌≡◌, ◌∷◌, [], codes, if◌then◌else◌, IfOk};
 ghost use Rattle.serde_json.specs.View as json;
-ghost use Rattle.serde_json.specs.Data.{string, put as with_member};
-ghost use Rattle.portal_core.specs.Words.{Key, is_empty};
+ghost use Rattle.serde_json.specs.Data.{string};
+ghost use Rattle.portal_core.specs.Words.{is_empty};
 ghost use Rattle.portal_core.specs.World as world;
-ghost use Rattle.portal_core.specs.World.{phase_word, is_ranking, Fill};
+ghost use Rattle.portal_core.specs.World.{is_ranking, Fill};
 ghost use Rattle.portal_core.specs.Bodies as form;
-ghost use Rattle.portal_core.specs.Bodies.{dictionary, members, count};
+ghost use Rattle.portal_core.specs.Bodies.{dictionary, count};
 ghost use Rattle.portal_core.specs.Faults as rolls;
 ghost use Rattle.portal_core.specs.Faults.{Took};
 ghost use Rattle.portal_core.specs.Answer as answer;
-ghost use Rattle.portal_core.specs.Answer.{Nothing, Apply, open_where, row_fault, publishes};
-ghost use Rattle.portal_core.specs.Answer.{moves_on, opens, moves_in, moves, to_office, blank};
+ghost use Rattle.portal_core.specs.Answer.{Nothing, Apply, open_where, row_fault, to_office, blank};
 ghost use Rattle.portal_core.specs.Answer.{emptied};
 ghost use Rattle.portal_core.specs.Meaning.{call_model, reply_model, act_model, decision_model};
 
-use crate::call::Call;
-use crate::deciding::bodies::{
-    catalogue_body, key_value, me_members, object_of, phase_body, put_text, texts,
-};
-use crate::deciding::kinds::{NewLecturers, NewProjects, NewStudents};
-use crate::deciding::new_rows::{Added, Roll, RollRefusal, take_rows};
+use crate::deciding::bodies::{array_of, catalogue_body, me_members, object_of, put_text};
+use crate::deciding::moves::move_to;
+use crate::deciding::new_rows::{Added, take_rows};
 use crate::deciding::replies::{
-    applies, json_reply, not_yours, refused, refuses, renders, shows, wrong_phase,
+    json_reply, not_yours, refused, refuses, renders, shows, wrong_phase,
 };
-use crate::decision::{Act, Change, Decision, Reply, Sheet};
+use crate::deciding::roll_refusal::RollRefusal;
+use crate::deciding::roll_rules::{NewLecturers, NewProjects, NewStudents, RollRules};
+use crate::deciding::status::status_body;
+use crate::decision::{Act, Call, Change, Decision, Reply, Sheet};
 use crate::phase::{Phase, Round};
-use crate::placing::Placings;
-use crate::rows::StudentRow;
+use crate::rows::Keyed;
 use crate::view::OfficeView;
 use serde_json::{Map, Value, put};
 use spa_rows::Key;
@@ -43,155 +40,11 @@ fn me_body(alloc: Global, view: &OfficeView) -> Result<Value, AllocError>
     Ok(Value::Object(me))
 }
 
-/// Makes a JSON string of the key of each of `students` without a project, for the office's status.
-fn unplaced_values(
-    alloc: Global,
-    placings: &Placings,
-    students: &[StudentRow],
-) -> Result<Vec<Value>, AllocError>
-    ensures { IfOk result (λ values. map json.view values.items
-        ≡ map string (map (λ s. s.key)
-        (filter (λ s. not (form.is_assigned placings.now.pairs s.key)) students.now))) }
-{
-    let mut values = Vec::new(alloc);
-    for student in students {
-        if !placings.is_placed(student) {
-            values.push(key_value(alloc, &student.key)?)?;
-        }
-    }
-    Ok(values)
-}
-
-/// Makes a JSON string of the key of each student without a project, for the office's status.
-fn unassigned_values(alloc: Global, view: &OfficeView) -> Result<Vec<Value>, AllocError>
-    ensures { IfOk result (λ values. map json.view values.items
-        ≡ map string (form.unassigned view.now)) }
-{
-    let placings = Placings::of(alloc, view)?;
-    unplaced_values(alloc, &placings, &view.students)
-}
-
-/// Adds the numbers of lecturers, projects and students to the JSON members.
-fn put_counts(
-    members: &mut Map<String, Value>,
-    alloc: Global,
-    view: &OfficeView,
-) -> Result<(), AllocError>
-    ensures { OnOk result (json.members_view members.new.entries
-        ≡ with_member (codes "students") (count (length view.now.students))
-        (with_member (codes "projects") (count (length view.now.projects))
-        (with_member (codes "lecturers") (count (length view.now.lecturers))
-        (json.members_view members.old.entries)))) }
-{
-    put(
-        members,
-        alloc,
-        "lecturers",
-        Value::from(view.lecturers.len()),
-    )?;
-    put(members, alloc, "projects", Value::from(view.projects.len()))?;
-    put(members, alloc, "students", Value::from(view.students.len()))
-}
-
-/// Makes the JSON members that the office's status has in every phase.
-fn status_members(alloc: Global, view: &OfficeView) -> Result<Map<String, Value>, AllocError>
-    ensures { IfOk result (λ status. json.members_view status.entries ≡ members (
-        (codes "lecturers", count (length view.now.lecturers))
-        ∷ (codes "phase", string (phase_word view.now.phase))
-        ∷ (codes "projects", count (length view.now.projects))
-        ∷ (codes "still_to_rank", form.texts view.now.still_to_rank)
-        ∷ (codes "students", count (length view.now.students))
-        ∷ (codes "without_list", form.texts view.now.without_list) ∷ [])) }
-{
-    let mut status = Map::new(alloc);
-    put_counts(&mut status, alloc, view)?;
-    put_text(&mut status, alloc, "phase", view.phase.word())?;
-    put(
-        &mut status,
-        alloc,
-        "still_to_rank",
-        texts(alloc, &view.still_to_rank)?,
-    )?;
-    put(
-        &mut status,
-        alloc,
-        "without_list",
-        texts(alloc, &view.without_list)?,
-    )?;
-    Ok(status)
-}
-
-/// Makes the JSON members of the office's status once there is a result.
-fn status_with_result(alloc: Global, view: &OfficeView) -> Result<Map<String, Value>, AllocError>
-    ensures { IfOk result (λ status. json.members_view status.entries ≡ members (
-        (codes "assigned", count (length view.now.pairs))
-        ∷ (codes "lecturers", count (length view.now.lecturers))
-        ∷ (codes "phase", string (phase_word view.now.phase))
-        ∷ (codes "projects", count (length view.now.projects))
-        ∷ (codes "still_to_rank", form.texts view.now.still_to_rank)
-        ∷ (codes "students", count (length view.now.students))
-        ∷ (codes "unassigned", form.texts (form.unassigned view.now))
-        ∷ (codes "without_list", form.texts view.now.without_list) ∷ [])) }
-{
-    let mut status = status_members(alloc, view)?;
-    let unassigned = Value::Array(unassigned_values(alloc, view)?);
-    put(
-        &mut status,
-        alloc,
-        "assigned",
-        Value::from(view.pairs.len()),
-    )?;
-    put(&mut status, alloc, "unassigned", unassigned)?;
-    Ok(status)
-}
-
-/// Makes the body that shows the office the status.
-fn status_body(alloc: Global, view: &OfficeView) -> Result<Value, AllocError>
-    ensures { IfOk result (λ body. json.view body ≡ form.status_body view.now) }
-{
-    match (view.round, view.phase) {
-        (Round::Second, _) => {
-            let mut status = status_with_result(alloc, view)?;
-            put(&mut status, alloc, "round", Value::from(2u32))?;
-            Ok(Value::Object(status))
-        }
-        (Round::First, Phase::Published) => { Ok(Value::Object(status_with_result(alloc, view)?)) }
-        (Round::First, _) => Ok(Value::Object(status_members(alloc, view)?)),
-    }
-}
-
-/// Makes a JSON object of a pair of the result, for the office.
-fn pair_value(alloc: Global, pair: &(Key, Key)) -> Result<Value, AllocError>
-    ensures { IfOk result (λ value. json.view value
-        ≡ dictionary ((codes "project", string pair.now.1) ∷ (codes "student", string pair.now.0)
-        ∷ [])) }
-{
-    let (student, project) = pair;
-    let mut members = Map::new(alloc);
-    put_text(&mut members, alloc, "project", project.as_str())?;
-    put_text(&mut members, alloc, "student", student.as_str())?;
-    Ok(Value::Object(members))
-}
-
-/// Makes a JSON object of each pair of the result, for the office.
-fn pair_values(alloc: Global, pairs: &[(Key, Key)]) -> Result<Vec<Value>, AllocError>
-    ensures { IfOk result (λ values. map json.view values.items
-        ≡ map (λ (x : Key × Key). dictionary
-        ((codes "project", string x.1) ∷ (codes "student", string x.0) ∷ [])) pairs.now) }
-{
-    let mut values = Vec::new(alloc);
-    for pair in pairs {
-        values.push(pair_value(alloc, pair)?)?;
-    }
-    Ok(values)
-}
-
 /// Makes the body that shows the office the result.
 fn allocation_body(alloc: Global, pairs: &[(Key, Key)]) -> Result<Value, AllocError>
     ensures { IfOk result (λ body. json.view body ≡ form.allocation_body pairs.now) }
 {
-    let pairs = Value::Array(pair_values(alloc, pairs)?);
-    object_of(alloc, "pairs", pairs)
+    object_of(alloc, "pairs", array_of(alloc, pairs)?)
 }
 
 /// Makes the body that refuses the office's new rows and names the faulty one.
@@ -227,7 +80,7 @@ fn roll_body(alloc: Global, new: usize, same: u64) -> Result<Value, AllocError>
 }
 
 /// Returns the act that adds the office's new rows, or `Nothing` if there are none.
-fn adds<X: Drop, R: Roll<X>>(roll: &R, new: Vec<X>) -> Act
+fn adds<X: Drop + Keyed, R: RollRules<X>>(roll: &R, new: Vec<X>) -> Act
     ensures { act_model result ≡
         (if is_empty new.items then Nothing else Apply (R.changes roll.now new.items)) }
 {
@@ -238,7 +91,7 @@ fn adds<X: Drop, R: Roll<X>>(roll: &R, new: Vec<X>) -> Act
 }
 
 /// Decides to accept the office's rows and to add the new ones.
-fn accepts<X: Drop, R: Roll<X>>(
+fn accepts<X: Drop + Keyed, R: RollRules<X>>(
     alloc: Global,
     roll: &R,
     added: Added<X>,
@@ -264,7 +117,7 @@ fn is_open_to_rolls(round: Round, phase: Phase) -> bool
 }
 
 /// Decides the office's call to add rows to a roll: accepted without a fault, if rolls are open.
-fn add_rows<X: Drop, R: Roll<X>>(
+fn add_rows<X: Drop + Keyed, R: RollRules<X>>(
     alloc: Global,
     is_open: bool,
     roll: &R,
@@ -282,105 +135,6 @@ fn add_rows<X: Drop, R: Roll<X>>(
     match take_rows(alloc, roll, on_roll, rows)? {
         Ok(added) => accepts(alloc, roll, added),
         Err(fault) => Ok(refuses(row_refusal(alloc, &fault)?)),
-    }
-}
-
-/// Makes the body that tells the office which lecturers are still to rank.
-fn still_to_rank_body(alloc: Global, keys: &[Key]) -> Result<Value, AllocError>
-    ensures { IfOk result (λ body. json.view body
-        ≡ dictionary ((codes "error", string (codes "still_to_rank"))
-        ∷ (codes "lecturers", form.texts keys.now) ∷ [])) }
-{
-    let mut body = Map::new(alloc);
-    put_text(&mut body, alloc, "error", "still_to_rank")?;
-    put(&mut body, alloc, "lecturers", texts(alloc, keys)?)?;
-    Ok(Value::Object(body))
-}
-
-/// Makes the reply that refuses to publish while lecturers are still to rank.
-fn still_to_rank(alloc: Global, keys: &[Key]) -> Result<Reply, AllocError>
-    ensures { IfOk result (λ reply. reply_model reply ≡ answer.still_to_rank keys.now) }
-{
-    Ok(json_reply(409, still_to_rank_body(alloc, keys)?))
-}
-
-/// Decides to publish, unless lecturers are still to rank. The reply does not contain the result.
-fn publish(alloc: Global, view: &OfficeView) -> Result<Decision, AllocError>
-    ensures { IfOk result (λ decision. decision_model decision ≡ publishes view.now) }
-{
-    if !view.still_to_rank.is_empty() {
-        return Ok(refuses(still_to_rank(alloc, &view.still_to_rank)?));
-    }
-    let body = phase_body(alloc, view.round, Phase::Published)?;
-    Ok(Decision {
-        reply: json_reply(200, body),
-        act: Act::Publish,
-    })
-}
-
-/// Decides to move to the round's next phase, or to the current one, which changes nothing.
-fn move_on(alloc: Global, view: &OfficeView, phase: Phase) -> Result<Decision, AllocError>
-    ensures { IfOk result (λ decision. decision_model decision
-        ≡ moves_on view.now view.now.phase phase) }
-{
-    match (view.phase, phase) {
-        (Phase::Setup, Phase::Setup)
-        | (Phase::Choosing, Phase::Choosing)
-        | (Phase::Ranking, Phase::Ranking)
-        | (Phase::Published, Phase::Published) => Ok(shows(phase_body(alloc, view.round, phase)?)),
-        (Phase::Setup, Phase::Choosing) | (Phase::Choosing, Phase::Ranking) => {
-            Ok(applies(phase_body(alloc, view.round, phase)?, Change::Phase(phase)))
-        }
-        (Phase::Ranking, Phase::Published) => publish(alloc, view),
-        _ => wrong_phase(alloc),
-    }
-}
-
-/// Decides to open the second round in choosing, once the first is published.
-fn open_second(alloc: Global, view: &OfficeView, phase: Phase) -> Result<Decision, AllocError>
-    ensures { IfOk result (λ decision. decision_model decision ≡ opens view.now.phase phase) }
-{
-    match (view.phase, phase) {
-        (Phase::Published, Phase::Choosing) => {
-            let body = phase_body(alloc, Round::Second, phase)?;
-            Ok(applies(body, Change::SecondRound))
-        }
-        _ => wrong_phase(alloc),
-    }
-}
-
-/// Decides to move to a phase of the named round: the current one, or the second. The second round
-/// opens only if a move names it.
-fn move_in(
-    alloc: Global,
-    view: &OfficeView,
-    round: Round,
-    phase: Phase,
-) -> Result<Decision, AllocError>
-    ensures { IfOk result (λ decision. decision_model decision
-        ≡ moves_in view.now view.now.round round phase) }
-{
-    match (view.round, round) {
-        (Round::First, Round::First) | (Round::Second, Round::Second) => {
-            move_on(alloc, view, phase)
-        }
-        (Round::First, Round::Second) => open_second(alloc, view, phase),
-        (Round::Second, Round::First) => wrong_phase(alloc),
-    }
-}
-
-/// Decides the office's move to a phase of the named round, or of the current one if none is named.
-fn move_to(
-    alloc: Global,
-    view: &OfficeView,
-    phase: Phase,
-    round: Option<Round>,
-) -> Result<Decision, AllocError>
-    ensures { IfOk result (λ decision. decision_model decision ≡ moves view.now phase round) }
-{
-    match round {
-        None => move_on(alloc, view, phase),
-        Some(round) => move_in(alloc, view, round, phase),
     }
 }
 
@@ -413,7 +167,7 @@ fn sheet(alloc: Global, view: &OfficeView, sheet: Sheet) -> Result<Decision, All
 fn filled_body(alloc: Global, keys: &[Key]) -> Result<Value, AllocError>
     ensures { IfOk result (λ body. json.view body ≡ form.filled_body keys.now) }
 {
-    object_of(alloc, "filled", texts(alloc, keys)?)
+    object_of(alloc, "filled", array_of(alloc, keys)?)
 }
 
 /// Returns the act of the office's fill, or `Nothing` if no ranking is missing.

@@ -11,13 +11,12 @@ ghost use Rattle.portal_core.specs.Answer as answer;
 ghost use Rattle.portal_core.specs.Answer.{unless_faulty, to_student};
 ghost use Rattle.portal_core.specs.Meaning.{call_model, texts_of, decision_model};
 
-use crate::call::Call;
 use crate::deciding::bodies::{
-    catalogue_body, key_value, me_members, object_of, put_person, texts,
+    ToJson, array_of, catalogue_body, me_members, object_of, put_person,
 };
 use crate::deciding::lists::{bad_list, checked_choices};
 use crate::deciding::replies::{already_placed, applies, not_yours, shows, wrong_phase};
-use crate::decision::{Change, Decision};
+use crate::decision::{Call, Change, Decision};
 use crate::phase::Phase;
 use crate::view::StudentView;
 use serde_json::Value;
@@ -37,7 +36,7 @@ fn me_body(alloc: Global, view: &StudentView) -> Result<Value, AllocError>
 fn choices_body(alloc: Global, choices: &[Key]) -> Result<Value, AllocError>
     ensures { IfOk result (λ body. json.view body ≡ shown.projects_body choices.now) }
 {
-    object_of(alloc, "projects", texts(alloc, choices)?)
+    object_of(alloc, "projects", array_of(alloc, choices)?)
 }
 
 /// Makes a JSON string of the key of the student's project, or null if there is none.
@@ -46,7 +45,7 @@ fn project_value(alloc: Global, project: &Option<Key>) -> Result<Value, AllocErr
 {
     match project {
         None => Ok(Value::Null),
-        Some(key) => key_value(alloc, key),
+        Some(key) => key.to_json(alloc),
     }
 }
 
@@ -76,7 +75,7 @@ fn replace_choices(
 fn take_choices(alloc: Global, view: &StudentView, list: &[Vec<u8>]) -> Result<Decision, AllocError>
     ensures { let texts = texts_of list.now in
         IfOk result (λ decision. decision_model decision
-        ≡ unless_faulty (choice_fault view.now.catalogue 1 [] texts)
+        ≡ unless_faulty (choice_fault view.now.catalogue texts)
         (answer.applies (shown.projects_body texts) (change.Choices view.now.me.key texts))) }
 {
     match checked_choices(alloc, &view.catalogue, list)? {

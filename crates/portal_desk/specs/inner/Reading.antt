@@ -3,8 +3,7 @@ use Rattle.std.specs.Prelude.{◌≡◌, ℕ, ◌≤◌, Bool, IsTrue, List, [],
 use Rattle.portal_frame.specs.declared.types.Frame.{Frame}
 use Rattle.portal_frame.specs.declared.types.Frame.TheVariants as frame
 use Rattle.portal_frame.specs.Stream.{Asked, Opens, whole, fault, over, seen, refused}
-use Rattle.portal_desk.specs.declared.reading.FrameFault.{FrameFault}
-use Rattle.portal_desk.specs.declared.reading.FrameFault.TheVariants as fault
+use Rattle.portal_frame.specs.declared.types.TheConstants.{LONGEST_REQUEST}
 
 -- the buffer and what the source has left are still the stream; at the end nothing is left
 abbrev pub ReadsMore : Option (List ℕ) → Option (List ℕ) → List ℕ → List ℕ → Bool → Type 0
@@ -24,20 +23,14 @@ Heads stream buffer rest (frame.Request request used) =
 Heads stream buffer rest (frame.Bad refusal head_only) = Opens stream (fault (refused refusal) head_only)
 
 -- the same, of what a source has left
-abbrev pub Follows : Option (List ℕ) → Option (List ℕ) → List ℕ → List ℕ → Frame → Type 0
-Follows old new before after found =
-    IfSome old (λ more. (rest : List ℕ) × (new ≡ Some rest) × (after ++ rest ≡ before ++ more) × Heads (before ++ more) after rest found)
+pub record Follows (old new : Option (List ℕ)) (before after : List ℕ) (found : Frame) : Type 0 where
+  pub goes : IfSome old (λ more. (rest : List ℕ) × (new ≡ Some rest) × (after ++ rest ≡ before ++ more) × Heads (before ++ more) after rest found)
 
 -- a request's bytes are in the buffer, and no more than the longest request
 abbrev pub IsWithin : List ℕ → Frame → Type 0
-IsWithin buffer (frame.Request request used) = (used ≤ length buffer) × (used ≤ 1064960)
+IsWithin buffer (frame.Request request used) = (used ≤ length buffer) × (used ≤ LONGEST_REQUEST)
 IsWithin buffer found = Unit {0}
 
 -- no request stands whole there
 abbrev pub NoneWhole : List ℕ → Type 0
 NoneWhole bytes = (a : Asked) → (after : List ℕ) → ¬ (Opens bytes (whole a after))
-
--- where reading failed, nothing whole was held
-abbrev pub HoldsNone : FrameFault → List ℕ → Type 0
-HoldsNone fault.Read buffer = NoneWhole buffer
-HoldsNone fault.Memory buffer = Unit {0}

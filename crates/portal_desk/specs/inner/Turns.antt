@@ -1,4 +1,4 @@
--- What a desk did for a stream.
+-- What a desk did for one request.
 use Rattle.std.specs.Prelude.{◌≡◌, ◌≢◌, ℕ, Bool, true, ◌||◌, List, [], take, Option, ◌⊎◌, false, Result, Ok, Err}
 use Rattle.std.specs.Io.KnownBytes.{Appends}
 use Rattle.portal_core.specs.Meaning.{StaysClean, LeavesBy}
@@ -7,19 +7,14 @@ use Rattle.portal_core.specs.Answer.{Answer}
 use Rattle.portal_core.specs.Run.{Request, Serves, unavailable}
 use Rattle.portal_desk.specs.declared.served.Cause.{Cause}
 use Rattle.portal_desk.specs.declared.served.Cause.TheVariants as cause
-use Rattle.portal_wire.specs.Conversation.{reply_text, more, Exchange, text}
-use Rattle.portal_desk.specs.Kept.{KeeperState, Deals, LastsOrBreaks, IsSettled}
+use Rattle.portal_wire.specs.Conversation.{reply_text}
+use Rattle.portal_desk.specs.Kept.{KeeperState, LastsOrBreaks, IsSettled}
 use Rattle.portal_core.specs.declared.decision.Reply.{Reply}
 use Rattle.portal_core.specs.declared.keeper.KeepFault.{KeepFault}
 use Rattle.portal_core.specs.declared.keeper.KeepFault.TheVariants.{Memory, Store}
 use Rattle.portal_frame.specs.declared.types.Refusal.{Refusal}
 use Rattle.portal_frame.specs.Stream.{refused}
 use Rattle.portal_wire.specs.Wish.{answer_to}
-
--- so far, with the bytes that are left
-abbrev pub ServesPart : KeeperState → KeeperState → Option (List ℕ) → Option (List ℕ) → List ℕ → List ℕ → ℕ → Type 0
-ServesPart old new before after bytes left count =
-    (es : List Exchange) × Deals old new bytes count es (more left) × Appends before after (text es)
 
 -- a first part of a text that could not be written whole
 abbrev pub Partly : Cause → Option (List ℕ) → Option (List ℕ) → List ℕ → Type 0

@@ -3,13 +3,14 @@
 use Rattle.std.specs.Prelude.{◌≡◌, ◌≤◌, Bool, true, false, List, [], ◌∷◌, ◌++◌, map, filter, length, Option, None, IfSome}
 use Rattle.std.specs.List.{AllByRecursion, list_any}
 use Rattle.portal_core.specs.declared.phase.Phase.{Phase}
+use Rattle.portal_core.specs.declared.phase.Round.{Round}
 use Rattle.portal_core.specs.declared.rows.LecturerRow.{LecturerRow}
 use Rattle.portal_core.specs.declared.rows.ProjectRow.{ProjectRow}
 use Rattle.portal_core.specs.declared.rows.StudentRow.{StudentRow}
 use Rattle.portal_core.specs.Words.{is_code, Key, has, Rise, AreDistinct}
 use Rattle.spa_model.specs.Spa.{IsStable}
 use Rattle.portal_core.specs.Good.{instance, matching_of, IsLecturer, IsProject, IsStudent, IsChoice, IsRanking}
-use Rattle.portal_core.specs.World.{World, Student, project_key, student_key, is_setup, is_published, is_from_ranking, is_second, is_left, projects_in}
+use Rattle.portal_core.specs.World.{World, Lecturer, Student, project_key, student_key, is_setup, is_published, is_from_ranking, is_second, is_left, projects_in}
 use Rattle.portal_core.specs.inner.Room.{own_keys}
 use Rattle.portal_list.specs.Rows.{AllEntries, entries_in}
 
@@ -42,12 +43,6 @@ pub record RollsFit (office : Key) (lecturers : List LecturerRow) (projects : Li
   pub lecturers_known : AllByRecursion (λ p. has (lecturer_row_keys lecturers) p.lecturer ≡ true) projects
   pub codes : AreDistinct (codes_in office lecturers students)
 
--- what there may be in a phase
-pub record PhaseFits (phase : Phase) (e : AllEntries) : Type 0 where
-  pub no_choices_yet : is_setup phase ≡ true → AllByRecursion (λ s. s.choice ≡ []) e.students
-  pub no_rankings_yet : is_from_ranking phase ≡ false → AllByRecursion (λ l. l.ranking ≡ None) e.lecturers
-  pub no_result_yet : is_published phase ≡ false → AllByRecursion (λ s. s.placed ≡ None) e.students
-
 -- nothing of an earlier round is there
 abbrev pub HasNothingEarlier : Student → Type 0
 HasNothingEarlier s = (s.earlier_choice ≡ []) × (s.earlier_placement ≡ None)
@@ -56,12 +51,22 @@ HasNothingEarlier s = (s.earlier_choice ≡ []) × (s.earlier_placement ≡ None
 abbrev pub IsOutIfPlaced : Student → Type 0
 IsOutIfPlaced s = is_left s ≡ false → (s.choice ≡ []) × (s.placed ≡ None)
 
--- what there may be of an earlier round
-pub record RoundFits (phase : Phase) (e : AllEntries) : Type 0 where
-  pub no_earlier_lists : is_second e.round ≡ false → AllByRecursion HasNothingEarlier e.students
-  pub no_earlier_rankings : is_second e.round ≡ false → AllByRecursion (λ l. l.earlier_ranking ≡ None) e.lecturers
+-- what a student may have in a phase of a round
+pub record StudentFits (phase : Phase) (round : Round) (s : Student) : Type 0 where
+  pub no_choice_yet : is_setup phase ≡ true → s.choice ≡ []
+  pub no_result_yet : is_published phase ≡ false → s.placed ≡ None
+  pub nothing_earlier : is_second round ≡ false → HasNothingEarlier s
+  pub out_if_placed : IsOutIfPlaced s
+
+-- what a lecturer may have
+pub record LecturerFits (phase : Phase) (round : Round) (l : Lecturer) : Type 0 where
+  pub no_ranking_yet : is_from_ranking phase ≡ false → l.ranking ≡ None
+  pub no_earlier_ranking : is_second round ≡ false → l.earlier_ranking ≡ None
+
+pub record EntriesFit (phase : Phase) (e : AllEntries) : Type 0 where
   pub no_second_setup : is_second e.round ≡ true → is_setup phase ≡ false
-  pub only_left : AllByRecursion IsOutIfPlaced e.students
+  pub students_fit : AllByRecursion (StudentFits phase e.round) e.students
+  pub lecturers_fit : AllByRecursion (LecturerFits phase e.round) e.lecturers
 
 -- each list is one of projects that take part in the round
 abbrev pub HasChoices : AllEntries → Type 0
@@ -82,8 +87,7 @@ pub record HasRanking (asked : Bool) (applicants : List Key) (ranking : Option (
   pub there : asked ≡ true → ranking ≡ None → applicants ≡ []
 
 pub record ListsFit (phase : Phase) (e : AllEntries) : Type 0 where
-  pub phase_fits : PhaseFits phase e
-  pub round_fits : RoundFits phase e
+  pub entries_fit : EntriesFit phase e
   pub choices : HasChoices e
   pub rankings : AllByRecursion (λ l. HasRanking (is_published phase) (applicant_keys e.projects e.students l.row.key) l.ranking) e.lecturers
 

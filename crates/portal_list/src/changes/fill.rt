@@ -1,12 +1,19 @@
-//! Adds the missing rankings to the entries: each lecturer's applicants in key order.
+//! Makes the missing rankings, each lecturer's applicants in key order: `fill_rankings` adds them to
+//! the entries, and `Entries::fills` returns them for the store.
 
-ghost use Rattle.std.specs.Prelude.{◌≡◌, IfOk, OnOk, OnErr, map};
+ghost use Rattle.std.specs.Prelude.{◌≡◌, IfOk, OnOk, OnErr, List, map};
+ghost use Rattle.portal_core.specs.Words as words;
+ghost use Rattle.portal_core.specs.World.{World};
+ghost use Rattle.portal_list.specs.Rows.{HasEntries};
 ghost use Rattle.portal_list.specs.inner.Parts.{applicant_keys};
 ghost use Rattle.portal_list.specs.inner.Fill.{unless_empty, missing, with_missing, filled};
+ghost use Rattle.portal_list.specs.inner.Fill.{fill_missing};
 
 use crate::applicant_index::ApplicantIndex;
-use crate::entries::{LecturerEntry, StudentEntry};
-use crate::lists::applicants;
+use crate::collecting::try_map;
+use crate::entries::{Entries, LecturerEntry, StudentEntry};
+use crate::list_checks::applicants;
+use crate::views::waiting;
 use portal_core::ProjectRow;
 use spa_rows::Key;
 use std::alloc::{AllocError, Global};
@@ -31,15 +38,11 @@ impl Model for Ranking {
 fn copies(alloc: Global, keys: &[&Key]) -> Result<Vec<Key>, AllocError>
     ensures { IfOk result (λ v. v.items ≡ map (λ k. k.now) keys.now) }
 {
-    let mut copies = Vec::with_capacity(alloc, keys.len())?;
-    for key in keys {
-        copies.push((*key).copy(alloc)?)?;
-    }
-    Ok(copies)
+    try_map(alloc, keys, |key| (*key).copy(alloc))
 }
 
 /// Returns the keys of the lecturer's applicants in key order, as a fill ranks them.
-pub(crate) fn applicants_by_key(
+fn applicants_by_key(
     alloc: Global,
     projects: &[ProjectRow],
     wanted: &ApplicantIndex<'_>,
@@ -119,4 +122,50 @@ pub(crate) fn fill_rankings(
         settle(lecturer, rankings[i].take());
     }
     Ok(())
+}
+
+/// Returns each of these lecturers with the keys of the lecturer's applicants, found in the index.
+fn fills_from(
+    alloc: Global,
+    lecturers: &[Key],
+    projects: &[ProjectRow],
+    wanted: &ApplicantIndex<'_>,
+) -> Result<Vec<(Key, Vec<Key>)>, AllocError>
+    ensures { IfOk result (λ v. map {B = words.Key × List words.Key} (λ f. (f.0, f.1.items)) v.items
+        ≡ map (λ k. (k, applicant_keys projects.now wanted.now k)) lecturers.now) }
+{
+    let mut fills = Vec::with_capacity(alloc, lecturers.len())?;
+    for lecturer in lecturers {
+        let keys = applicants_by_key(alloc, projects, wanted, lecturer)?;
+        fills.push((lecturer.copy(alloc)?, keys))?;
+    }
+    Ok(fills)
+}
+
+/// Returns each of these lecturers with the keys of the lecturer's applicants, for the store's
+/// fill.
+fn with_applicants(
+    alloc: Global,
+    lecturers: &[Key],
+    projects: &[ProjectRow],
+    students: &[StudentEntry],
+) -> Result<Vec<(Key, Vec<Key>)>, AllocError>
+    ensures { IfOk result (λ v. map {B = words.Key × List words.Key} (λ f. (f.0, f.1.items)) v.items
+        ≡ map (λ k. (k, applicant_keys projects.now students.now k)) lecturers.now) }
+{
+    let wanted = ApplicantIndex::of(alloc, students)?;
+    fills_from(alloc, lecturers, projects, &wanted)
+}
+
+impl Entries {
+    /// Returns the lecturers still to rank, in roll order, each with the applicants' keys in key
+    /// order. These are the rankings that a fill would add.
+    pub fn fills(&self, alloc: Global) -> Result<Vec<(Key, Vec<Key>)>, AllocError>
+        ensures { IfOk result (λ v. (w : World) → HasEntries self.now w
+            → map {B = words.Key × List words.Key} (λ f. (f.0, f.1.items)) v.items
+            ≡ fill_missing w) }
+    {
+        let lecturers = waiting(alloc, &self.lecturers, &self.projects, &self.students)?;
+        with_applicants(alloc, &lecturers, &self.projects, &self.students)
+    }
 }

@@ -4,8 +4,9 @@ ghost use Rattle.std.specs.Prelude.{◌≡◌, IfOk, OnOk, OnErr, map};
 ghost use Rattle.portal_core.specs.Words.{put_all};
 ghost use Rattle.portal_core.specs.World.{new_lecturer, new_student};
 
-use crate::by_key::put_rows;
+use crate::collecting::try_map;
 use crate::entries::{LecturerEntry, StudentEntry};
+use crate::keys::put_rows;
 use portal_core::{Keyed, LecturerRow, StudentRow};
 use std::alloc::{AllocError, Global};
 
@@ -16,15 +17,13 @@ pub(crate) fn new_lecturers(
 ) -> Result<Vec<LecturerEntry>, AllocError>
     ensures { IfOk result (λ v. v.items ≡ map new_lecturer rows.now) }
 {
-    let mut fresh = Vec::with_capacity(alloc, rows.len())?;
-    for row in rows {
-        fresh.push(LecturerEntry {
+    try_map(alloc, rows, |row| {
+        Ok(LecturerEntry {
             row: row.copy(alloc)?,
             ranking: None,
             earlier_ranking: None,
-        })?;
-    }
-    Ok(fresh)
+        })
+    })
 }
 
 /// Makes the entries of new students, without lists or placements.
@@ -34,17 +33,15 @@ pub(crate) fn new_students(
 ) -> Result<Vec<StudentEntry>, AllocError>
     ensures { IfOk result (λ v. v.items ≡ map new_student rows.now) }
 {
-    let mut fresh = Vec::with_capacity(alloc, rows.len())?;
-    for row in rows {
-        fresh.push(StudentEntry {
+    try_map(alloc, rows, |row| {
+        Ok(StudentEntry {
             row: row.copy(alloc)?,
             choice: Vec::new(alloc),
             placed: None,
             earlier_choice: Vec::new(alloc),
             earlier_placement: None,
-        })?;
-    }
-    Ok(fresh)
+        })
+    })
 }
 
 /// Adds rows to a roll in memory, in key order. If an allocation fails, nothing changes.

@@ -4,6 +4,7 @@ ghost use Rattle.std.specs.Prelude.{◌≡◌, IfOk, OnOk, OnErr, map};
 ghost use Rattle.portal_core.specs.World.{placement_in, with_place};
 ghost use Rattle.portal_list.specs.inner.Played.{placed_now};
 
+use crate::collecting::try_map;
 use crate::copies::place_copy;
 use crate::entries::StudentEntry;
 use portal_core::Pairs;
@@ -20,12 +21,9 @@ fn places_of(
         ≡ map (λ s. placement_in pairs.now s.row.key) students.now) }
 {
     let pairs = Pairs::of(alloc, pairs)?;
-    let mut places = Vec::with_capacity(alloc, students.len())?;
-    for student in students {
-        let project = pairs.project_of(student.row.key.as_bytes());
-        places.push(place_copy(alloc, project)?)?;
-    }
-    Ok(places)
+    try_map(alloc, students, |s| {
+        place_copy(alloc, pairs.project_of(s.row.key.as_bytes()))
+    })
 }
 
 /// Sets the project in the student's entry, unless the student has a project of the first round.

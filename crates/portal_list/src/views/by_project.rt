@@ -7,6 +7,7 @@ ghost use Rattle.portal_core.specs.View.{persons};
 ghost use Rattle.portal_list.specs.inner.Shown.{applicants_shown, placements_shown};
 
 use super::placements::placement_shown;
+use crate::collecting::try_map_where;
 use crate::copies::{holds, person_of};
 use crate::entries::StudentEntry;
 use portal_core::{Person, Phase, ProjectRow};
@@ -22,13 +23,12 @@ fn applicants_to(
     ensures { IfOk result (λ v. v.items
         ≡ persons (filter (λ s. has s.choice project.now) students.now)) }
 {
-    let mut applicants = Vec::new(alloc);
-    for student in students {
-        if holds(&student.choice, project) {
-            applicants.push(person_of(alloc, &student.row.key, &student.row.name)?)?;
-        }
-    }
-    Ok(applicants)
+    try_map_where(
+        alloc,
+        students,
+        |s| holds(&s.choice, project),
+        |s| person_of(alloc, &s.row.key, &s.row.name),
+    )
 }
 
 /// Returns whether the shown placement of an entry's student is this project.
@@ -51,13 +51,12 @@ fn placed_at(
     ensures { IfOk result (λ v. v.items
         ≡ persons (filter (λ s. is_at project.now (shown_placement phase s)) students.now)) }
 {
-    let mut found = Vec::new(alloc);
-    for student in students {
-        if is_given(placement_shown(phase, student), project) {
-            found.push(person_of(alloc, &student.row.key, &student.row.name)?)?;
-        }
-    }
-    Ok(found)
+    try_map_where(
+        alloc,
+        students,
+        |s| is_given(placement_shown(phase, s), project),
+        |s| person_of(alloc, &s.row.key, &s.row.name),
+    )
 }
 
 /// Finds the project's applicants in the entries if lists are closed, and otherwise nobody.

@@ -5,8 +5,9 @@ ghost use Rattle.portal_core.specs.View.{listing_with};
 ghost use Rattle.portal_core.specs.declared.rows.LecturerRow as rows;
 ghost use Rattle.portal_list.specs.inner.Shown.{name_of, offered, catalogue_in};
 
+use crate::collecting::try_filter_map;
 use crate::entries::{Entries, LecturerEntry};
-use crate::played::played;
+use crate::second_round::played;
 use portal_core::{LecturerRow, Listing, Name, ProjectRow, Round};
 use spa_rows::Key;
 use std::alloc::{AllocError, Global};
@@ -80,13 +81,7 @@ pub fn listings_of<L: HasLecturerRow>(
 ) -> Result<Vec<Listing>, AllocError>
     ensures { IfOk result (λ v. v.items ≡ offered (map L.row_of lecturers.now) projects.now) }
 {
-    let mut found = Vec::with_capacity(alloc, projects.len())?;
-    for project in projects {
-        if let Some(listing) = listing_among(alloc, lecturers, project)? {
-            found.push(listing)?;
-        }
-    }
-    Ok(found)
+    try_filter_map(alloc, projects, |p| listing_among(alloc, lecturers, p))
 }
 
 /// Makes the catalogue of the round from the entries.

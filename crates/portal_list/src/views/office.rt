@@ -6,9 +6,10 @@ ghost use Rattle.portal_core.specs.Words.{has, is_empty};
 ghost use Rattle.portal_list.specs.inner.Played.{takes_part};
 ghost use Rattle.portal_list.specs.inner.Shown.{is_wanted, is_waiting};
 
+use crate::collecting::{try_map, try_map_where};
 use crate::copies::{holds, project_rows_of};
 use crate::entries::{LecturerEntry, StudentEntry};
-use crate::played::takes_part;
+use crate::second_round::takes_part;
 use portal_core::{LecturerRow, ProjectRow, Round, StudentRow};
 use spa_rows::Key;
 use std::alloc::{AllocError, Global};
@@ -21,10 +22,7 @@ pub(super) fn lecturer_rows(
 ) -> Result<Rc<Vec<LecturerRow>>, AllocError>
     ensures { IfOk result (λ shared. shared.value.items ≡ map (λ l. l.row) lecturers.now) }
 {
-    let mut rows = Vec::with_capacity(alloc, lecturers.len())?;
-    for lecturer in lecturers {
-        rows.push(lecturer.row.copy(alloc)?)?;
-    }
+    let rows = try_map(alloc, lecturers, |l| l.row.copy(alloc))?;
     Ok(Rc::new(alloc, rows)?)
 }
 
@@ -46,10 +44,7 @@ pub(super) fn student_rows(
 ) -> Result<Rc<Vec<StudentRow>>, AllocError>
     ensures { IfOk result (λ shared. shared.value.items ≡ map (λ s. s.row) students.now) }
 {
-    let mut rows = Vec::with_capacity(alloc, students.len())?;
-    for student in students {
-        rows.push(student.row.copy(alloc)?)?;
-    }
+    let rows = try_map(alloc, students, |s| s.row.copy(alloc))?;
     Ok(Rc::new(alloc, rows)?)
 }
 
@@ -63,13 +58,12 @@ pub(super) fn without_list(
         ≡ map (λ s. s.row.key)
         (filter (λ s. takes_part round s && is_empty s.choice) students.now)) }
 {
-    let mut found = Vec::new(alloc);
-    for student in students {
-        if takes_part(round, student) && student.choice.is_empty() {
-            found.push(student.row.key.copy(alloc)?)?;
-        }
-    }
-    Ok(found)
+    try_map_where(
+        alloc,
+        students,
+        |s| takes_part(round, s) && s.choice.is_empty(),
+        |s| s.row.key.copy(alloc),
+    )
 }
 
 /// Returns whether some list in the entries contains the project.
@@ -98,13 +92,12 @@ pub(crate) fn waiting(
     ensures { IfOk result (λ v. v.items
         ≡ map (λ l. l.row.key) (filter (is_waiting students.now projects.now) lecturers.now)) }
 {
-    let mut found = Vec::new(alloc);
-    for lecturer in lecturers {
-        if lecturer.ranking.is_none() && has_applicant(students, projects, &lecturer.row.key) {
-            found.push(lecturer.row.key.copy(alloc)?)?;
-        }
-    }
-    Ok(found)
+    try_map_where(
+        alloc,
+        lecturers,
+        |l| l.ranking.is_none() && has_applicant(students, projects, &l.row.key),
+        |l| l.row.key.copy(alloc),
+    )
 }
 
 /// Finds in the entries the lecturers still to rank, or none while lists are open.

@@ -3,6 +3,8 @@
 ghost use Rattle.std.specs.Prelude.{◌≡◌, IfOk, option_map};
 ghost use Rattle.portal_core.specs.World.{shown_placement, pairs_with};
 
+use crate::collecting::try_filter_map;
+use crate::copies::pair_copy;
 use crate::entries::StudentEntry;
 use portal_core::Phase;
 use spa_rows::Key;
@@ -22,21 +24,6 @@ pub(super) fn placement_shown(phase: Phase, student: &StudentEntry) -> Option<&K
     }
 }
 
-/// Returns the pair of an entry's student and project, if the phase shows a placement.
-fn pair_of(
-    alloc: Global,
-    phase: Phase,
-    student: &StudentEntry,
-) -> Result<Option<(Key, Key)>, AllocError>
-    ensures { IfOk result (λ o. o
-        ≡ option_map (λ p. (student.now.row.key, p)) (shown_placement phase student.now)) }
-{
-    match placement_shown(phase, student) {
-        Some(project) => Ok(Some((student.row.key.copy(alloc)?, project.copy(alloc)?))),
-        None => Ok(None),
-    }
-}
-
 /// Returns the placements in the entries that the phase shows, as pairs of student and project.
 pub(super) fn pairs_of(
     alloc: Global,
@@ -45,11 +32,7 @@ pub(super) fn pairs_of(
 ) -> Result<Vec<(Key, Key)>, AllocError>
     ensures { IfOk result (λ v. v.items ≡ pairs_with (shown_placement phase) students.now) }
 {
-    let mut pairs = Vec::new(alloc);
-    for student in students {
-        if let Some(pair) = pair_of(alloc, phase, student)? {
-            pairs.push(pair)?;
-        }
-    }
-    Ok(pairs)
+    try_filter_map(alloc, students, |s| {
+        pair_copy(alloc, &s.row.key, placement_shown(phase, s))
+    })
 }

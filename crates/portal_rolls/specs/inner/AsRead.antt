@@ -6,7 +6,6 @@ use Rattle.portal_rolls.specs.Reading.{Record, unless}
 use Rattle.portal_rolls.specs.declared.line.File.{File}
 use Rattle.portal_rolls.specs.declared.fields.FourFields.{FourFields}
 use Rattle.portal_rolls.specs.declared.fields.ThreeFields.{ThreeFields}
-use Rattle.portal_rolls.specs.Views.{items}
 use Rattle.portal_rolls.specs.declared.fault.RollFault.{RollFault}
 use Rattle.portal_rolls.specs.declared.fault.RollFault.TheVariants as fault
 use Rattle.portal_rolls.specs.Lines.{is_number, digits_value, is_capacity}

@@ -5,50 +5,37 @@ use Rattle.portal_answer.specs.Answer.{Text}
 use Rattle.sqlite.specs.declared.error.Error.{Error}
 use Rattle.sqlite.specs.declared.error.Error.TheVariants.{SqliteFailure}
 use Rattle.sqlite.specs.declared.error.ErrorCode.TheVariants.{OutOfMemory}
-use Rattle.portal_serve.specs.declared.hall.Hall.{Hall}
-use Rattle.portal_serve.specs.declared.hall.Ended.TheVariants.{Full}
+use Rattle.portal_serve.specs.declared.server.Hall.{Hall}
+use Rattle.portal_serve.specs.declared.server.Ended.TheVariants.{Full}
 use Rattle.portal_store.specs.declared.store.CreateFault.{CreateFault}
 use Rattle.portal_store.specs.declared.store.CreateFault.TheVariants as creating
 use Rattle.portal_store.specs.declared.store.OpenFault.{OpenFault}
 use Rattle.portal_store.specs.declared.store.OpenFault.TheVariants as opening
-use Rattle.portal_run.specs.declared.refusal.Refusal.{Refusal}
-use Rattle.portal_run.specs.declared.refusal.Refusal.TheVariants.{NotPortal, OtherVersion, Damaged, Exists, Store, Memory}
+use Rattle.portal_store.specs.declared.store.UpgradeFault.{UpgradeFault}
+use Rattle.portal_store.specs.declared.store.UpgradeFault.TheVariants.{NotPortal, OtherVersion, Damaged, Exists, Store, Memory}
 
 -- a line was written, and its own status given; or 3, since the output failed
 pub record Says (line : Text) (own status : ℕ) (old new : Option Text) : Type 0 where
   pub given : (status ≡ own) ⊎ (status ≡ 3)
   pub written : status < 3 → Appends old new line
 
-abbrev pub refusal_line : Refusal → Text
-refusal_line NotPortal = codes "refused not_portal\n"
-refusal_line OtherVersion = codes "refused other_version\n"
-refusal_line Damaged = codes "refused damaged\n"
-refusal_line Exists = codes "refused exists\n"
-refusal_line Store = codes "fault store\n"
-refusal_line Memory = codes "fault memory\n"
-
 -- why no file was opened, no store, or none made
 
-abbrev pub connect_refusal : Error → Refusal
+abbrev pub connect_refusal : Error → UpgradeFault
 connect_refusal (SqliteFailure OutOfMemory) = Memory
 connect_refusal _ = Store
 
-abbrev pub open_refusal : OpenFault → Refusal
+abbrev pub open_refusal : OpenFault → UpgradeFault
 open_refusal opening.NotPortal = NotPortal
 open_refusal opening.OtherVersion = OtherVersion
 open_refusal opening.Damaged = Damaged
 open_refusal opening.Store = Store
 open_refusal opening.Memory = Memory
 
-abbrev pub create_refusal : CreateFault → Refusal
+abbrev pub create_refusal : CreateFault → UpgradeFault
 create_refusal creating.Exists = Exists
 create_refusal creating.Store = Store
 create_refusal creating.Memory = Memory
-
-abbrev pub status_of : Refusal → ℕ
-status_of Store = 3
-status_of Memory = 3
-status_of _ = 2
 
 -- n bytes were taken, and stand behind those that were there; none only at the end, or where none
 -- was asked for

@@ -1,13 +1,11 @@
 -- Names from below that the contracts use.
-pub use Rattle.portal_tables.specs.Base.{Key, equals, put_all, Phase, Choosing, Published, Ranking, Setup, Round, First, Second, Binary, id_in, Database, IsDatabase, Held, state, Kind, Integer, Text, Row, bytes, column, value_cmp, Schema, HasCleanDisk, IsRolledBack, IsUnchanged, State, Survives, Ghosts, Table, Term, col, lit, op2, Trees, rowid, Value, Blob, Int, Null, Real, Words, same_name, NoAction, Column, Index, Reference, View, And, Compare, Or, Eq, Ge, Le, number_in, plain, Order, AllByRecursion, AllZip, find, list_any, is_eq, Bool, IfOk, IsTrue, List, None, OnErr, OnOk, Option, Result, Some, [], bytes_eq, codes, false, filter, map, option_map, pos, take, true, ℕ, ℤ, ⊤}
+pub use Rattle.portal_tables.specs.Base.{Key, equals, put_all, Phase, Round, First, Second, Binary, id_in, Database, IsDatabase, Held, state, Integer, Row, bytes, column, value_cmp, Schema, HasCleanDisk, IsRolledBack, IsUnchanged, State, Survives, Ghosts, Table, Term, col, lit, op2, Trees, rowid, Value, Int, Null, Words, Column, Index, Reference, Compare, Eq, number_in, Order, AllByRecursion, AllZip, find, list_any, is_eq, Bool, IfOk, IsTrue, List, None, OnErr, OnOk, Option, Result, Some, [], codes, false, filter, map, option_map, pos, take, true, ℕ, ℤ, ⊤}
 pub use Rattle.portal_core.specs.Words.{is_code, is_name, Rise, has, is_before, is_empty, put}
 pub use Rattle.portal_core.specs.Good.{IsLecturer, IsProject, IsStudent}
 pub use Rattle.portal_core.specs.World.{is_published}
 pub use Rattle.portal_core.specs.declared.phase.Phase.{Phase as ThePhase}
 pub use Rattle.portal_core.specs.declared.phase.Round.TheVariants.{Second as InSecond}
 pub use Rattle.portal_core.specs.declared.rows.LecturerRow.{LecturerRow}
-pub use Rattle.portal_core.specs.declared.rows.Listing.{Listing}
-pub use Rattle.portal_core.specs.declared.rows.Person.{Person}
 pub use Rattle.portal_core.specs.declared.rows.ProjectRow.{ProjectRow}
 pub use Rattle.portal_core.specs.declared.rows.StudentRow.{StudentRow}
 pub use Rattle.spa_rows.specs.Lines.{is_key}
@@ -16,7 +14,7 @@ pub use Rattle.sqlite.specs.Edit.{is_taken, next_rowid}
 pub use Rattle.sqlite.specs.Given.{IsPlain}
 pub use Rattle.sqlite.specs.Listing.{understood}
 pub use Rattle.sqlite.specs.Order.{Row as Cells}
-pub use Rattle.sqlite.specs.State.{Begins, ExecutesIn, KeepsCommit, Shown, Shows}
+pub use Rattle.sqlite.specs.State.{Begins, ExecutesIn, IsLive, KeepsCommit, Shown, Shows}
 pub use Rattle.sqlite.specs.Tree.{put_row}
 pub use Rattle.sqlite.specs.Values.{bound}
 pub use Rattle.sqlite.specs.declared.error.Error.{Error}
@@ -30,5 +28,5 @@ pub use Rattle.std.specs.Cmp.Lexicographic.{slice_cmp}
 pub use Rattle.std.specs.List.{filter_map, flat_map}
 pub use Rattle.std.specs.List.Sorted.{IsPermutation, IsSorted}
 pub use Rattle.std.specs.Ordering.{int_cmp, is_lt, nat_cmp}
-pub use Rattle.std.specs.Prelude.{Err, IfNone, IfSome, Ok, Vec, is_some, length, not, slice_index_or}
+pub use Rattle.std.specs.Prelude.{Err, IfNone, IfSome, Ok, Vec, length, not}
 pub use Rattle.std.specs.declared.alloc.Global.{Global}

@@ -3,22 +3,22 @@ use Rattle.std.specs.Prelude.{◌∷◌, ◌++◌}
 use Rattle.portal_tables.specs.inner.Base.{codes, ℕ, List, [], Bool, Words, Row, Trees, Round, First, InSecond}
 use Rattle.portal_tables.specs.declared.select.Query.{Query}
 use Rattle.portal_tables.specs.declared.select.Query.TheVariants.{Office, Whole, LecturerByCode, StudentByCode, LecturerByKey, StudentTold, AllLists, ListOf, Choosers, Listed, ProjectsOf, Numbers, FirstPlacements, Second, SecondRanked, SecondRankedBy, SecondPlacements, SecondPlaceOf}
-use Rattle.portal_tables.specs.declared.select.Roll.{Roll}
-use Rattle.portal_tables.specs.declared.select.Roll.TheVariants.{Lecturers, Projects, Students}
+use Rattle.portal_tables.specs.declared.select.RollTable.{RollTable}
+use Rattle.portal_tables.specs.declared.select.RollTable.TheVariants.{Lecturers, Projects, Students}
 use Rattle.portal_tables.specs.declared.select.Table.{Table}
 use Rattle.portal_tables.specs.declared.select.Table.TheVariants.{OfRoll, OfLists, OfRanked, OfPlaces}
 use Rattle.portal_tables.specs.Rows.{has_text}
 use Rattle.portal_tables.specs.inner.Changes.{ListsBy, every, columns, has_number}
-use Rattle.portal_tables.specs.inner.Texts.{round_of, names}
+use Rattle.portal_tables.specs.inner.Texts.{all_text, list_text, round_of, names}
 use Rattle.portal_tables.specs.Tables.{tree_of, choice_table, portal_tree, lecturer_tree, project_tree, student_tree, second_tree, ranked2_tree, assigned2_tree}
 
-abbrev pub roll_tree : Roll → ℕ
+abbrev pub roll_tree : RollTable → ℕ
 roll_tree Lecturers = lecturer_tree
 roll_tree Projects = project_tree
 roll_tree Students = student_tree
 
 -- the columns of a roll, behind the key
-abbrev pub columns_of : Roll → List ℕ
+abbrev pub columns_of : RollTable → List ℕ
 columns_of Lecturers = 2 ∷ 3 ∷ 4 ∷ 5 ∷ []
 columns_of Projects = 2 ∷ 3 ∷ 4 ∷ []
 columns_of Students = 2 ∷ 3 ∷ 4 ∷ []
@@ -91,17 +91,23 @@ table_name (OfLists lists) = (names lists).name
 table_name OfRanked = codes "ranked2"
 table_name OfPlaces = codes "assigned2"
 
+abbrev pub numbers_text : Table → List ℕ
+numbers_text table = codes "SELECT rowid FROM " ++ table_name table ++ codes " ORDER BY rowid"
+
+abbrev pub whole_text : RollTable → List ℕ
+whole_text Lecturers = codes "SELECT key, name, code, capacity, ranked FROM lecturer ORDER BY key"
+whole_text Projects = codes "SELECT key, lecturer, title, capacity FROM project ORDER BY key"
+whole_text Students = codes "SELECT key, name, code, assigned FROM student ORDER BY key"
+
 abbrev pub query_text : Query → List ℕ
 query_text Office = codes "SELECT id, version, phase, office FROM portal ORDER BY id"
-query_text (Whole Lecturers) = codes "SELECT key, name, code, capacity, ranked FROM lecturer ORDER BY key"
-query_text (Whole Projects) = codes "SELECT key, lecturer, title, capacity FROM project ORDER BY key"
-query_text (Whole Students) = codes "SELECT key, name, code, assigned FROM student ORDER BY key"
+query_text (Whole roll) = whole_text roll
 query_text (LecturerByCode code) = codes "SELECT key, name, code, capacity, ranked FROM lecturer WHERE code = ?1 ORDER BY key"
 query_text (StudentByCode code) = codes "SELECT key, name, code, assigned FROM student WHERE code = ?1 ORDER BY key"
 query_text (LecturerByKey key) = codes "SELECT key FROM lecturer WHERE key = ?1 ORDER BY key"
 query_text (StudentTold key) = codes "SELECT key, name, assigned FROM student WHERE key = ?1 ORDER BY key"
-query_text (AllLists lists) = let t = names lists in codes "SELECT " ++ t.owner ++ codes ", place, " ++ t.item ++ codes " FROM " ++ t.name
-query_text (ListOf lists owner) = let t = names lists in codes "SELECT place, " ++ t.item ++ codes " FROM " ++ t.name ++ codes " WHERE " ++ t.owner ++ codes " = ?1 ORDER BY place"
+query_text (AllLists lists) = all_text (names lists)
+query_text (ListOf lists owner) = list_text (names lists)
 query_text (Choosers round project) = codes "SELECT student FROM " ++ (names (choice_table round)).name ++ codes " WHERE project = ?1 ORDER BY student"
 query_text (ProjectsOf lecturer) = codes "SELECT key FROM project WHERE lecturer = ?1 ORDER BY key"
 query_text (Listed round) = codes "SELECT student FROM " ++ (names (choice_table round)).name ++ codes " WHERE place = 1 ORDER BY student"
@@ -111,7 +117,7 @@ query_text SecondRanked = codes "SELECT lecturer FROM ranked2 ORDER BY lecturer"
 query_text (SecondRankedBy lecturer) = codes "SELECT lecturer FROM ranked2 WHERE lecturer = ?1 ORDER BY lecturer"
 query_text SecondPlacements = codes "SELECT student, project FROM assigned2 ORDER BY student"
 query_text (SecondPlaceOf student) = codes "SELECT student, project FROM assigned2 WHERE student = ?1 ORDER BY student"
-query_text (Numbers table) = codes "SELECT rowid FROM " ++ table_name table ++ codes " ORDER BY rowid"
+query_text (Numbers table) = numbers_text table
 
 abbrev pub given : Query → Row
 given (LecturerByCode code) = Words code.now ∷ []

@@ -2,8 +2,8 @@
 use Rattle.std.specs.Prelude.{◌≡◌, ◌∷◌}
 use Rattle.portal_tables.specs.inner.Base.{List, [], map, Row, Trees, Rise, put_all}
 use Rattle.portal_tables.specs.declared.sorted_rolls.Rolls.{Rolls}
-use Rattle.portal_tables.specs.declared.select.Roll.{Roll}
-use Rattle.portal_tables.specs.declared.select.Roll.TheVariants.{Lecturers, Projects, Students}
+use Rattle.portal_tables.specs.declared.select.RollTable.{RollTable}
+use Rattle.portal_tables.specs.declared.select.RollTable.TheVariants.{Lecturers, Projects, Students}
 use Rattle.portal_tables.specs.inner.Queries.{roll_tree, columns_of}
 use Rattle.portal_tables.specs.inner.Changes.{columns}
 use Rattle.portal_tables.specs.Rows.{row_key}
@@ -20,7 +20,7 @@ abbrev pub roll_columns : Row → Row
 roll_columns = columns (1 ∷ columns_of Students)
 
 -- a roll as it is shown: the columns of each row behind its number, by rising key
-abbrev pub roll_rows : Roll → Trees → List Row
+abbrev pub roll_rows : RollTable → Trees → List Row
 roll_rows roll db = map (columns (1 ∷ columns_of roll)) (by_key (db (roll_tree roll)))
 
 abbrev pub lecturers_shown : Trees → List Row
@@ -39,7 +39,7 @@ pub record AreRolls (db : Trees) (rolls : Rolls) : Type 0 where
   pub students_are : rolls.students.items ≡ students_shown db
 
 -- the keys of a roll rise
-abbrev pub RollRises : Roll → Trees → Type 0
+abbrev pub RollRises : RollTable → Trees → Type 0
 RollRises roll db = Rise (map row_key (by_key (db (roll_tree roll))))
 
 pub record RollsRise (db : Trees) : Type 0 where

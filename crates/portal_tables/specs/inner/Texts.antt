@@ -71,3 +71,10 @@ add_text t = codes "INSERT INTO " ++ t.name ++ codes " (" ++ t.owner ++ codes ",
 
 abbrev pub add_eight_text : ListTable → List ℕ
 add_eight_text t = add_text t ++ codes ", (?4, ?5, ?6), (?7, ?8, ?9), (?10, ?11, ?12), (?13, ?14, ?15), (?16, ?17, ?18), (?19, ?20, ?21), (?22, ?23, ?24)"
+
+-- the texts that show all rows, and the list of one owner
+abbrev pub all_text : ListTable → List ℕ
+all_text t = codes "SELECT " ++ t.owner ++ codes ", place, " ++ t.item ++ codes " FROM " ++ t.name
+
+abbrev pub list_text : ListTable → List ℕ
+list_text t = codes "SELECT place, " ++ t.item ++ codes " FROM " ++ t.name ++ codes " WHERE " ++ t.owner ++ codes " = ?1 ORDER BY place"

@@ -14,15 +14,13 @@ pub use Rattle.portal_core.specs.declared.rows.Listing.{Listing}
 pub use Rattle.portal_core.specs.declared.rows.Person.{Person}
 pub use Rattle.portal_core.specs.declared.rows.ProjectRow.{ProjectRow}
 pub use Rattle.portal_core.specs.declared.rows.StudentRow.{StudentRow}
-pub use Rattle.spa_rows.specs.Lines.{is_key}
 pub use Rattle.sqlite.specs.Effect.{Database, IsDatabase}
 pub use Rattle.sqlite.specs.Held.{state}
 pub use Rattle.sqlite.specs.Order.{Row, bytes, column}
-pub use Rattle.sqlite.specs.State.{HasCleanDisk}
 pub use Rattle.sqlite.specs.Tree.{Trees}
 pub use Rattle.sqlite_trees.specs.Objects.{number_in}
 pub use Rattle.std.specs.List.{AllByRecursion, filter_map, find}
-pub use Rattle.std.specs.Prelude.{Err, IfOk, IfSome, List, None, OnOk, Option, Some, Vec, [], false, filter, length, map, not, option_map, true}
+pub use Rattle.std.specs.Prelude.{Err, IfOk, IfSome, List, None, OnOk, Option, Some, Vec, [], false, filter, length, map, not, option_map}
 pub use Rattle.std.specs.declared.alloc.Global.{Global}
 
 -- a fault that blames the rows says that this is not so of the database

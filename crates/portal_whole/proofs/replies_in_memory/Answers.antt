@@ -7,10 +7,10 @@ use Rattle.portal_whole.proofs.replies_in_memory.Goals as goal
 
 pub returns : goal.returns
 returns c = record {
-  promised = on_some c.serve_each.result _ _ (λ texts each.
+  promised = on_some c.serve_streams.result _ _ (λ texts each.
       promised c.run_good.ensures c.published_best.ensures.step c.published_best.ensures.run
       (state_of (HasDisk over_memory) (IsCleanStore over_memory) (kept_world over_memory) (IsBrokenStore over_memory) (LeavesWorld over_memory))
-      c.new-desk.result.keeper c.serve_each.new.desk.keeper (first_world c.args.office) _ _ each
+      c.new-desk.result.keeper c.serve_streams.new.desk.keeper (first_world c.args.office) _ _ each
       (rw c.new-desk.ensures.keeper c.in-Ok.ensures.clean) (rw c.new-desk.ensures.keeper c.in-Ok.ensures.good) c.disk_in_memory.ensures c.unbroken_in_memory.ensures
-      (rw c.new-desk.ensures.keeper c.in-Ok.ensures.world)) c.serve_each.ensures.served;
+      (rw c.new-desk.ensures.keeper c.in-Ok.ensures.world)) c.serve_streams.ensures.served;
 }

@@ -2,7 +2,7 @@
 use Rattle.std.specs.Prelude.{◌≡◌, Option, Some, None, Result, Ok, Err, Bool, if◌then◌else◌}
 use Rattle.portal_wire.specs.declared.bodies.BodyFault.{BodyFault}
 use Rattle.portal_wire.specs.declared.bodies.BodyFault.TheVariants.{Bad, Memory}
-use Rattle.portal_core.specs.declared.call.Call.{Call}
+use Rattle.portal_core.specs.declared.decision.Call.{Call}
 use Rattle.portal_core.specs.Meaning.{call_model}
 use Rattle.portal_core.specs.Run.{Wish, Calls}
 use Rattle.portal_frame.specs.Stream.{Refuses}

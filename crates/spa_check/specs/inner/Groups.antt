@@ -3,7 +3,7 @@ use Rattle.std.specs.Prelude.{◌≡◌, ℕ, ◌+◌, ◌<◌, List, Option, So
 use Rattle.spa_model.specs.Spa.{Spa, IsWith, place, ranking_of, lecturer_of, project_of, at_project, at_lecturer, Blocks}
 use Rattle.spa_check.specs.declared.groups.Group.{Group}
 use Rattle.spa_model.specs.declared.letter.Letter.{Letter}
-use Rattle.spa_check.specs.declared.block.Block.{Block}
+use Rattle.spa_check.specs.declared.blocking.Block.{Block}
 use Rattle.spa_check.specs.Listed.{IsEarlier}
 
 -- the group counts n; it reaches down to the last place on the list of those who are in it, counted

@@ -3,7 +3,7 @@ use Rattle.std.specs.Prelude.{◌≡◌, ◌<◌, ℕ, List, [], All, Any, map, 
 use Rattle.std.specs.List.{AllZip}
 use Rattle.spa_rows.specs.Lines
 use Rattle.spa_rows.specs.Lines.{Text, Rows}
-use Rattle.spa_rows.specs.Faults.{BadAt}
+use Rattle.spa_rows.specs.Faults.{BadAt, IsKeyOf}
 use Rattle.spa_model.specs.declared.instance.Student.{Student}
 use Rattle.spa_model.specs.declared.instance.Project.{Project}
 use Rattle.spa_model.specs.declared.instance.Lecturer.{Lecturer}
@@ -23,6 +23,10 @@ project_keys lines = map (λ x. x.key) lines
 
 abbrev pub lecturer_keys : List Lines.Lecturer → List Text
 lecturer_keys lines = map (λ x. x.key) lines
+
+-- each text of a list is the key of one of these lines
+abbrev pub AreKeysOf : {X : Type 0} → List X → (X → Text) → List Text → Type 0
+AreKeysOf lines key list = All (IsKeyOf lines key) list
 
 -- each text of a list is the key of the number in its place
 abbrev pub AreNumbers : List Text → List Text → List ℕ → Type 0

@@ -60,7 +60,7 @@ fn lists_other(
     requires count { length students.now ≡ length lines.now }
     requires choices { HaveChoicesBelow (length projects.now) students.now }
     ensures { IsTrue result ↔ Any
-        (λ text. IsApplicantOf lines.now students.now projects.now lecturer text → ⊥)
+        (λ text. ¬ IsApplicantOf lines.now students.now projects.now lecturer text)
         (map (λ text. text.items) list.now) }
 {
     for text in list {
@@ -83,7 +83,7 @@ pub(crate) fn not_applicant(
     requires count { length students.now ≡ length lines.now }
     requires choices { HaveChoicesBelow (length projects.now) students.now }
     ensures { IfOk result (IsLeastOf (BadAt lecturers.now (λ x. x.row)
-        (λ l x. Any (λ text. IsApplicantOf lines.now students.now projects.now l text → ⊥)
+        (λ l x. Any (λ text. ¬ IsApplicantOf lines.now students.now projects.now l text)
         x.list))) }
 {
     let places = Places::of(alloc, lines)?;

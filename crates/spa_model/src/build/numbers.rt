@@ -2,15 +2,16 @@
 
 ghost use Rattle.std.specs.Prelude.{◌≡◌, ◌<◌, ◌≤◌, All, IfOk, true, length, map};
 ghost use Rattle.spa_rows.specs.Lines.{is_key};
-ghost use Rattle.spa_rows.specs.Faults.{IsKeyOf, NamesNone, Repeats};
+ghost use Rattle.spa_rows.specs.Faults.{IsKeyOf, Repeats};
 ghost use Rattle.spa_model.specs.Spa.{IsDistinct};
 ghost use Rattle.spa_model.specs.inner.Inside.{AreRanks};
 ghost use Rattle.spa_model.specs.inner.Numbers.{student_keys, project_keys, lecturer_keys};
-ghost use Rattle.spa_model.specs.inner.Numbers.{AreNumbers, IsStudentOf, IsProjectOf, IsLecturerOf};
+ghost use Rattle.spa_model.specs.inner.Numbers.{AreKeysOf, AreNumbers, IsStudentOf, IsProjectOf};
+ghost use Rattle.spa_model.specs.inner.Numbers.{IsLecturerOf};
 ghost use Rattle.std.specs.List.{AllZip};
 
 use crate::instance::{Lecturer, Project, Student};
-use spa_rows::{Key, KeyFault, LecturerLine, Places, ProjectLine, StudentLine};
+use spa_rows::{Key, KeyFault, LecturerLine, Line, Places, ProjectLine, StudentLine};
 use std::alloc::{AllocError, Global};
 
 /// Converts the bytes of a line's key, known to be well formed, into a key.
@@ -25,44 +26,24 @@ fn key_of(alloc: Global, bytes: &[u8]) -> Result<Key, AllocError>
     }
 }
 
-/// Returns the indices that replace the keys of projects on the list of a student's line.
-fn project_numbers(
+/// Returns the indices that replace the keys of lines on a list.
+fn numbers_of<L: Line>(
     alloc: Global,
-    lines: &Places<ProjectLine>,
+    lines: &Places<L>,
     list: &[Vec<u8>],
 ) -> Result<Vec<usize>, AllocError>
-    requires { NamesNone lines.now (λ x. x.key) (map (λ text. text.items) list.now) → ⊥ }
-    ensures { IfOk result (λ choices. AreNumbers (project_keys lines.now)
-        (map (λ text. text.items) list.now) choices.items) }
+    requires { AreKeysOf lines.now L.key_of (map (λ text. text.items) list.now) }
+    ensures { IfOk result (λ numbers. AreNumbers (map L.key_of lines.now)
+        (map (λ text. text.items) list.now) numbers.items) }
 {
-    let mut choices = Vec::with_capacity(alloc, list.len())?;
+    let mut numbers = Vec::with_capacity(alloc, list.len())?;
     for text in list {
-        let Some(project) = lines.find(text) else {
+        let Some(number) = lines.find(text) else {
             unreachable!()
         };
-        choices.push(project)?;
+        numbers.push(number)?;
     }
-    Ok(choices)
-}
-
-/// Returns the indices that replace the keys of students on the ranking of a lecturer's line.
-fn student_numbers(
-    alloc: Global,
-    lines: &Places<StudentLine>,
-    list: &[Vec<u8>],
-) -> Result<Vec<usize>, AllocError>
-    requires { NamesNone lines.now (λ x. x.key) (map (λ text. text.items) list.now) → ⊥ }
-    ensures { IfOk result (λ ranking. AreNumbers (student_keys lines.now)
-        (map (λ text. text.items) list.now) ranking.items) }
-{
-    let mut ranking = Vec::with_capacity(alloc, list.len())?;
-    for text in list {
-        let Some(student) = lines.find(text) else {
-            unreachable!()
-        };
-        ranking.push(student)?;
-    }
-    Ok(ranking)
+    Ok(numbers)
 }
 
 /// Converts a lecturer's ranking into each student's position on it, or none.
@@ -86,12 +67,12 @@ fn numbered_student(
     projects: &Places<ProjectLine>,
 ) -> Result<Student, AllocError>
     requires form { is_key line.now.key ≡ true }
-    requires known { NamesNone projects.now (λ x. x.key) line.now.list → ⊥ }
+    requires known { AreKeysOf projects.now (λ x. x.key) line.now.list }
     ensures { IfOk result (IsStudentOf (project_keys projects.now) line.now) }
 {
     Ok(Student {
         key: key_of(alloc, &line.key)?,
-        choices: project_numbers(alloc, projects, &line.list)?,
+        choices: numbers_of(alloc, projects, &line.list)?,
     })
 }
 
@@ -102,7 +83,7 @@ fn numbered_project(
     lecturers: &Places<LecturerLine>,
 ) -> Result<Project, AllocError>
     requires form { is_key line.now.key ≡ true }
-    requires known { (IsKeyOf lecturers.now (λ x. x.key) line.now.lecturer → ⊥) → ⊥ }
+    requires known { IsKeyOf lecturers.now (λ x. x.key) line.now.lecturer }
     ensures { IfOk result (IsProjectOf (lecturer_keys lecturers.now) line.now) }
 {
     let Some(number) = lecturers.find(&line.lecturer) else {
@@ -123,11 +104,11 @@ fn numbered_lecturer(
 ) -> Result<Lecturer, AllocError>
     requires form { is_key line.now.key ≡ true }
     requires count { length students.now ≤ 2000 }
-    requires known { NamesNone students.now (λ x. x.key) line.now.list → ⊥ }
-    requires apart { Repeats line.now.list → ⊥ }
+    requires known { AreKeysOf students.now (λ x. x.key) line.now.list }
+    requires apart { ¬ Repeats line.now.list }
     ensures { IfOk result (IsLecturerOf (student_keys students.now) line.now) }
 {
-    let ranking = student_numbers(alloc, students, &line.list)?;
+    let ranking = numbers_of(alloc, students, &line.list)?;
     let ranks = ranks_of(alloc, students.len(), &ranking)?;
     Ok(Lecturer {
         key: key_of(alloc, &line.key)?,
@@ -144,7 +125,7 @@ pub(crate) fn number_students(
     projects: &[ProjectLine],
 ) -> Result<Vec<Student>, AllocError>
     requires form { All (λ x. is_key x.key ≡ true) lines.now }
-    requires known { All (λ x. NamesNone projects.now (λ y. y.key) x.list → ⊥) lines.now }
+    requires known { All (λ x. AreKeysOf projects.now (λ y. y.key) x.list) lines.now }
     ensures { IfOk result (λ students. AllZip (IsStudentOf
         (project_keys projects.now)) lines.now students.items) }
 {
@@ -163,7 +144,7 @@ pub(crate) fn number_projects(
     lecturers: &[LecturerLine],
 ) -> Result<Vec<Project>, AllocError>
     requires form { All (λ x. is_key x.key ≡ true) lines.now }
-    requires known { All (λ x. (IsKeyOf lecturers.now (λ y. y.key) x.lecturer → ⊥) → ⊥) lines.now }
+    requires known { All (λ x. IsKeyOf lecturers.now (λ y. y.key) x.lecturer) lines.now }
     ensures { IfOk result (λ projects. AllZip (IsProjectOf
         (lecturer_keys lecturers.now)) lines.now projects.items) }
 {
@@ -183,8 +164,8 @@ pub(crate) fn number_lecturers(
 ) -> Result<Vec<Lecturer>, AllocError>
     requires form { All (λ x. is_key x.key ≡ true) lines.now }
     requires count { length students.now ≤ 2000 }
-    requires known { All (λ x. NamesNone students.now (λ y. y.key) x.list → ⊥) lines.now }
-    requires apart { All (λ x. Repeats x.list → ⊥) lines.now }
+    requires known { All (λ x. AreKeysOf students.now (λ y. y.key) x.list) lines.now }
+    requires apart { All (λ x. ¬ Repeats x.list) lines.now }
     ensures { IfOk result (λ lecturers. AllZip (IsLecturerOf
         (student_keys students.now)) lines.now lecturers.items) }
 {

@@ -1,6 +1,6 @@
 -- Cursors into the students' lists, and cuts in the lecturers' rankings.
 use Rattle.std.specs.Prelude.{◌≡◌, ◌⊎◌, ℕ, ◌+◌, ◌<◌, ◌≤◌, Some, None, length, slice_index, slice_set}
-use Rattle.spa_model.specs.Spa.{Spa, place, project_of, choices_of, lecturer_of, ranking_of, at_project, at_lecturer, IsAcceptable}
+use Rattle.spa_model.specs.Spa.{Spa, place, project_of, choices_of, lecturer_of, ranking_of, at_project, at_lecturer, IsAcceptable, IsLawful}
 use Rattle.spa_student.specs.declared.cuts.Progress.{Progress}
 use Rattle.spa_student.specs.inner.Machine.{rank_of, Holds}
 use Rattle.spa_student.specs.inner.Worst.{IsAssignment}
@@ -25,9 +25,10 @@ pub record AreCounts (i : Spa) (q : Progress) : Type 0 where
   pub at_projects : (p : ℕ) → slice_index q.project_counts.items p ≡ at_project q.projects.items p
   pub at_lecturers : (l : ℕ) → slice_index q.lecturer_counts.items l ≡ at_lecturer i q.projects.items l
 
--- cursors and cuts are within the lists, each entry before a cursor is past the cuts, and each
--- student's project is at the cursor
+-- in a lawful instance, cursors and cuts are within the lists, each entry before a cursor is past
+-- the cuts, and each student's project is at the cursor
 pub record AreMarks (i : Spa) (q : Progress) : Type 0 where
+  pub lawful : IsLawful i
   pub assigned : IsAssignment i q.projects.items
   pub cursor_rows : length q.cursors.items ≡ length i.choices
   pub project_rows : length q.project_cuts.items ≡ length i.lecturers

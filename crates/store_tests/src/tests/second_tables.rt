@@ -109,7 +109,7 @@ fn put_second(rt: &(impl Abort + AllocGlobal), tx: &mut Changes<'_>) {
     write_list(rt, tx, Lists::SecondRankings, b"L1", &[b"S2", b"S1"]);
     rank_second(tx, b"L1").expect(rt, "a row");
     rank_second(tx, b"L1").expect(rt, "a row that is there");
-    set_second(tx, 2).expect(rt, "a phase");
+    set_second(tx, Phase::Ranking).expect(rt, "a phase");
 }
 
 #[test]

@@ -1,9 +1,9 @@
 //! Tests each statement and each query, over a small department.
 
-use portal_core::{Code, LecturerRow, Name, ProjectRow, Round, StudentRow};
+use portal_core::{Code, LecturerRow, Name, Phase, ProjectRow, Round, StudentRow};
 use portal_tables::insert::{Lecturers, NewPlace, Projects, Students, add_all};
 use portal_tables::list_table::Lists;
-use portal_tables::select::{Query, Roll, Table, finds_any, read, read_each, read_rows};
+use portal_tables::select::{Query, RollTable, Table, finds_any, read, read_each, read_rows};
 use portal_tables::update::{set_phase, set_ranked};
 use portal_tables::{
     Assignment, PortalSchema, TableFault, assign_all, clear_list, create_portal, entries_in,
@@ -76,11 +76,11 @@ pub(crate) fn reads_rows(
     shows(rt, read_rows(rt.alloc(), conn, query), wanted);
 }
 
-pub(crate) const LECTURERS: Query<'static> = Query::Whole(Roll::Lecturers);
+pub(crate) const LECTURERS: Query<'static> = Query::Whole(RollTable::Lecturers);
 
-pub(crate) const PROJECTS: Query<'static> = Query::Whole(Roll::Projects);
+pub(crate) const PROJECTS: Query<'static> = Query::Whole(RollTable::Projects);
 
-pub(crate) const STUDENTS: Query<'static> = Query::Whole(Roll::Students);
+pub(crate) const STUDENTS: Query<'static> = Query::Whole(RollTable::Students);
 
 pub(crate) const CHOICES: Query<'static> = Query::AllLists(Lists::Choices);
 
@@ -275,7 +275,7 @@ fn assignment<'a>(student: &'a [u8], project: Option<&'a [u8]>) -> Assignment<'a
 }
 
 fn set_all(tx: &mut Changes<'_>) -> Result<(), Error> {
-    set_phase(tx, 3)?;
+    set_phase(tx, Phase::Published)?;
     set_ranked(tx, b"L1")?;
     assign_all(tx, &[assignment(b"S2", Some(b"P1".as_slice()))])?;
     clear_list(tx, Lists::Choices, b"S1")?;
@@ -293,7 +293,11 @@ pub(crate) fn change(rt: &impl Abort, conn: &mut Database) {
 
 /// Checks that the rowids of the rolls, lists and rankings of the first round are distinct.
 fn have_numbers(rt: &impl Abort, conn: &mut Database) {
-    for roll in [Roll::Lecturers, Roll::Projects, Roll::Students] {
+    for roll in [
+        RollTable::Lecturers,
+        RollTable::Projects,
+        RollTable::Students,
+    ] {
         are_apart(rt, conn, Table::OfRoll(roll));
     }
     for lists in [Lists::Choices, Lists::Rankings] {

@@ -4,8 +4,8 @@ use Rattle.portal_core.proofs.laws.legal_is_taken.Goals as goal
 
 pub returns : goal.returns
 returns c = record {
-  choices = taken.choice_taken;
-  rankings = taken.ranking_taken;
+  choices = taken.choice_legal;
+  rankings = taken.ranking_legal;
   lecturers = λ v rows fresh. taken.rows_taken (lecturer_roll v) 1 v.lecturers rows fresh;
   projects = λ v rows fresh. taken.rows_taken (project_roll v) 1 v.projects rows fresh;
   students = λ v rows fresh. taken.rows_taken (student_roll v) 1 v.students rows fresh;

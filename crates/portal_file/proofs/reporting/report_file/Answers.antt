@@ -1,11 +1,10 @@
 use Rattle.sqlite_wal.specs.Files.{image_at}
-use Rattle.portal_file.proofs.Base.{if_ok, reported_more}
+use Rattle.portal_file.proofs.Base.{if_ok}
 use Rattle.portal_file.proofs.reporting.report_file.Goals as goal
 
 pub returns-in-Ok-clause-process : goal.returns-in-Ok-clause-process
 returns-in-Ok-clause-process g c =
-    if_ok c.report_closing.result.1 _ _
-    (λ files did. reported_more c.report_closing.result.0 _ _ (λ same left honest may. same (image_at g.S.Start) left c.in-Ok.ensures.found honest may) did) c.report_closing.ensures.process
+    if_ok c.report_closing.result.1 _ _ (λ files did left honest may. did (image_at g.S.Start) left c.in-Ok.ensures.found honest may) c.report_closing.ensures.process
 
 pub returns-in-Ok-clause-text : goal.returns-in-Ok-clause-text
 returns-in-Ok-clause-text g c =

@@ -9,7 +9,7 @@ returns-in-Ok-clause-serves g c =
     let closes = subst (λ s. ClosesAs g.S.Store s c.close_tables.result) c.into_keeper.ensures.same c.close_tables.ensures.closes in
     let did = c.pipe-ended.ensures in
     serves_stream g.S.Store c.args.conn c.close_tables.result c.new-desk.result.keeper c.pipe-ended.new.desk.keeper c.run_good.ensures opens closes
-    c.pipe-ended.result c.pipe-ended.new.desk.failed _ _ _ _ did.moves did.served did.stopped
+    _ _ _ _ _ did.moves did.served
 
 pub returns-in-Err-clause-serves : goal.returns-in-Err-clause-serves
 returns-in-Err-clause-serves g c = ([], None, c.in-Err.ensures.refused, tt, tt)

@@ -1,12 +1,11 @@
-use Rattle.portal_file.proofs.Base.{if_ok_on, on_ok}
+use Rattle.portal_file.proofs.Base.{if_ok_on}
 use Rattle.portal_file.proofs.Served.{reported, serves_none}
 use Rattle.portal_file.proofs.tables.report_tables.Goals as goal
 
 pub returns-in-Ok-clause-serves : goal.returns-in-Ok-clause-serves
 returns-in-Ok-clause-serves g c =
-    on_ok c.report_of-told.result _ _
-    (λ lasts. serves_none g.S.Store c.args.conn c.close_tables.result c.in-Ok.store c.report_of-told.new.store c.run_good.ensures c.in-Ok.ensures.opens c.close_tables.ensures.closes
-    lasts c.report_of-told.ensures.same) c.report_of-told.ensures.lasts
+    serves_none g.S.Store c.args.conn c.close_tables.result c.in-Ok.store c.report_of-told.new.store c.run_good.ensures c.in-Ok.ensures.opens c.close_tables.ensures.closes
+    c.report_of-told.ensures.breaks c.report_of-told.ensures.leaves
 
 pub returns-in-Ok-clause-text : goal.returns-in-Ok-clause-text
 returns-in-Ok-clause-text g c =

@@ -6,3 +6,7 @@ pub returns-in-Ok-clause-upgraded : goal.returns-in-Ok-clause-upgraded
 returns-in-Ok-clause-upgraded g c =
     if_none c.upgrade_closing.result.0 _ _
     (λ did. if_ok c.upgrade_closing.result.1 _ _ (λ files same left w honest may holds. same (image_at g.S.Start) left w c.in-Ok.ensures.found honest may holds) did) c.upgrade_closing.ensures.upgraded
+
+pub returns-in-Ok-clause-process : goal.returns-in-Ok-clause-process
+returns-in-Ok-clause-process g c =
+    if_ok c.upgrade_closing.result.1 _ _ (λ files did left honest may. did (image_at g.S.Start) left c.in-Ok.ensures.found honest may) c.upgrade_closing.ensures.process

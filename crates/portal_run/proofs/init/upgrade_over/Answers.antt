@@ -1,7 +1,8 @@
 use Rattle.portal_run.proofs.Base.{inr, subst}
 use Rattle.portal_run.proofs.Known.{said_status}
 use Rattle.portal_run.proofs.Upgraded.{unconnected}
-use Rattle.portal_run.specs.inner.Lines.{Says, refusal_line, status_of}
+use Rattle.portal_run.specs.Run.{refusal_line, refusal_status}
+use Rattle.portal_run.specs.inner.Lines.{Says}
 use Rattle.portal_run.proofs.init.upgrade_over.Goals as goal
 
 pub returns-in-Ok-clause-says : goal.returns-in-Ok-clause-says
@@ -15,4 +16,4 @@ returns-in-Ok-clause-says g c small = inr (
 pub returns-in-Err-clause-says : goal.returns-in-Err-clause-says
 returns-in-Err-clause-says g c small =
     unconnected _ c.in-Err.error _ _ _
-    (subst (λ why. Says (refusal_line why) (status_of why) c.refuse.result (g.W.Write.contents c.args.writer.now) (g.W.Write.contents c.refuse.new.writer)) c.not_connected.ensures c.refuse.ensures) small
+    (subst (λ why. Says (refusal_line why) (refusal_status why) c.refuse.result (g.W.Write.contents c.args.writer.now) (g.W.Write.contents c.refuse.new.writer)) c.not_connected.ensures c.refuse.ensures) small

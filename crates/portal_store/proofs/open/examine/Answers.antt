@@ -35,3 +35,10 @@ returns-clause-shows g c settled clean =
     (λ same.
     let still = c.see_tables.ensures.looks.stays (λ on. settled_still old mid settled (c.see_first.ensures.looks.stays settled early on)) later same.0.was_open in
     version_still _ mid new (same.0.now_is ∙ still.1) (c.in_ok-see_first.ensures.shows early)) (c.judge_both.ensures.same clean tt)
+
+pub returns-clause-version : goal.returns-clause-version
+returns-clause-version g c settled first clean =
+    let mid = state g.S.Store c.see_first.new.conn in
+    let seen = state g.S.Store c.see_tables.new.conn in
+    let early = clean_before mid seen _ c.see_tables.ensures.looks.crash (clean_before seen (state g.S.Store c.judge_both.new.conn) _ c.judge_both.ensures.crash clean) in
+    on_ok_weaker c.judge_both.result (λ same. c.in_ok-see_first.ensures.version settled first early) (c.judge_both.ensures.same clean tt)

@@ -1,5 +1,5 @@
-use Rattle.portal_store.proofs.Base.{MatchResult-weaker, reads_any, reads_as, reads_open, reads_then_of, clean_before, looks_by, looks_then, on_ok_weaker, state}
-use Rattle.portal_store.proofs.Asked.{blamed, version_still}
+use Rattle.portal_store.proofs.Base.{Database, HasGoodFirst, MatchResult-weaker, first_version, reads_any, reads_as, reads_open, reads_then_of, clean_before, looks_by, looks_then, on_ok_weaker, state}
+use Rattle.portal_store.proofs.Asked.{blamed, told_before, version_still}
 use Rattle.portal_store.proofs.upgrade.examine_first.Goals as goal
 
 pub returns-clause-reads : goal.returns-clause-reads
@@ -16,3 +16,7 @@ returns-clause-shows g c clean =
     let mid = state g.S.Store c.see_first.new.conn in
     let new = state g.S.Store c.judge_first.new.conn in
     on_ok_weaker c.judge_first.result (λ same. version_still _ mid new same (c.in_ok-see_first.ensures.shows (clean_before mid new _ c.judge_first.ensures.crash clean))) (c.judge_first.ensures.now clean)
+
+pub returns-clause-judged : goal.returns-clause-judged
+returns-clause-judged g c settled first live clean =
+    told_before c.judge_first.result _ _ _ (λ (db : Database). HasGoodFirst first_version db.trees) settled c.see_first.ensures.looks c.judge_first.ensures clean first (λ on _. (live on).0) (λ e it. it.0.stands)

@@ -1,4 +1,5 @@
-use Rattle.portal_store.proofs.Base.{inr, subst, state, Database, IsAfter, Upgrades, clean_before, commits_asked, stays_then, survives_then, survives_weaker}
+use Rattle.portal_store.proofs.Base.{inr, sym, ◌∙◌, state, Upgrades, clean_before, commits_asked, stays_then, survives_weaker}
+use Rattle.portal_store.proofs.Upgraded.{leaves_upgraded, leaves_world}
 use Rattle.portal_store.proofs.upgrade.upgraded.Goals as goal
 
 pub returns-in-Err-clause-err : goal.returns-in-Err-clause-err
@@ -21,29 +22,23 @@ returns-in-Ok-upgrade_tables-clause-stands g c mine own live clean =
 
 pub returns-in-Ok-upgrade_tables-clause-crash : goal.returns-in-Ok-upgrade_tables-clause-crash
 returns-in-Ok-upgrade_tables-clause-crash g c =
-    let old = state g.S.Store c.args.conn.now in
-    let mid = state g.S.Store c.examine_first.new.conn in
-    let new = state g.S.Store c.upgrade_tables.new.conn in
-    survives_then old mid new _ _ (IsAfter Upgrades old) (λ clean db no. absurd no)
-    (λ clean db left. (
-      left.0,
-      λ first. (let same = (c.in-Ok.ensures.reads (c.requires.first.1 first)).same (clean_before mid new _ c.upgrade_tables.ensures.crash clean) tt in subst (λ (d : Database). Upgrades d left.0) same.0.now_is left.1) first,
-      left.2,
-    ))
-    c.examine_first.ensures.looks.crash c.upgrade_tables.ensures.crash
+    leaves_upgraded _ _ _ c.examine_first.ensures.looks.crash c.upgrade_tables.ensures.crash (sym c.requires.taken ∙ c.if-is_taken.false)
+    (λ first early. ((c.in-Ok.ensures.reads (c.requires.first.1 first)).same early tt).0.now_is)
+
+pub returns-in-Ok-upgrade_tables-clause-left : goal.returns-in-Ok-upgrade_tables-clause-left
+returns-in-Ok-upgrade_tables-clause-left g c mine own live =
+    leaves_world _ _ _ c.examine_first.ensures.looks.crash c.upgrade_tables.ensures.crash (c.requires.first.0 mine)
+    (λ early. (((c.in-Ok.ensures.reads mine).same early tt).0.now_is, ((c.in-Ok.ensures.reads mine).told own (λ on. (live on).0) early).0))
 
 pub returns-in-Err-upgrade_tables-clause-crash : goal.returns-in-Err-upgrade_tables-clause-crash
 returns-in-Err-upgrade_tables-clause-crash g c =
-    let old = state g.S.Store c.args.conn.now in
-    let mid = state g.S.Store c.examine_first.new.conn in
-    let new = state g.S.Store c.upgrade_tables.new.conn in
-    survives_then old mid new _ _ (IsAfter Upgrades old) (λ clean db no. absurd no)
-    (λ clean db left. (
-      left.0,
-      λ first. (let same = (c.in-Ok.ensures.reads (c.requires.first.1 first)).same (clean_before mid new _ c.upgrade_tables.ensures.crash clean) tt in subst (λ (d : Database). Upgrades d left.0) same.0.now_is left.1) first,
-      left.2,
-    ))
-    c.examine_first.ensures.looks.crash c.upgrade_tables.ensures.crash
+    leaves_upgraded _ _ _ c.examine_first.ensures.looks.crash c.upgrade_tables.ensures.crash (sym c.requires.taken ∙ c.if-is_taken.false)
+    (λ first early. ((c.in-Ok.ensures.reads (c.requires.first.1 first)).same early tt).0.now_is)
+
+pub returns-in-Err-upgrade_tables-clause-left : goal.returns-in-Err-upgrade_tables-clause-left
+returns-in-Err-upgrade_tables-clause-left g c mine own live =
+    leaves_world _ _ _ c.examine_first.ensures.looks.crash c.upgrade_tables.ensures.crash (c.requires.first.0 mine)
+    (λ early. (((c.in-Ok.ensures.reads mine).same early tt).0.now_is, ((c.in-Ok.ensures.reads mine).told own (λ on. (live on).0) early).0))
 
 pub returns-in-Err-upgrade_tables-clause-err : goal.returns-in-Err-upgrade_tables-clause-err
 returns-in-Err-upgrade_tables-clause-err g c clean on =
@@ -56,14 +51,23 @@ returns-in-Err-upgrade_tables-clause-err g c clean on =
 pub returns-in-Err-clause-crash : goal.returns-in-Err-clause-crash
 returns-in-Err-clause-crash g c = survives_weaker (state g.S.Store c.args.conn.now) (state g.S.Store c.examine_first.new.conn) _ _ (λ clean db no. absurd no) c.examine_first.ensures.looks.crash
 
+pub returns-in-Err-clause-left : goal.returns-in-Err-clause-left
+returns-in-Err-clause-left g c mine own live = survives_weaker (state g.S.Store c.args.conn.now) (state g.S.Store c.examine_first.new.conn) _ _ (λ clean db no. absurd no) c.examine_first.ensures.looks.crash
+
 pub returns-then-is_taken-clause-crash : goal.returns-then-is_taken-clause-crash
 returns-then-is_taken-clause-crash g c = survives_weaker (state g.S.Store c.args.conn.now) (state g.S.Store c.examine_first.new.conn) _ _ (λ clean db no. absurd no) c.examine_first.ensures.looks.crash
+
+pub returns-then-is_taken-clause-left : goal.returns-then-is_taken-clause-left
+returns-then-is_taken-clause-left g c mine own live = survives_weaker (state g.S.Store c.args.conn.now) (state g.S.Store c.examine_first.new.conn) _ _ (λ clean db no. absurd no) c.examine_first.ensures.looks.crash
 
 pub returns-then-is_taken-clause-err : goal.returns-then-is_taken-clause-err
 returns-then-is_taken-clause-err g c clean on = c.examine_first.ensures.looks.stays c.settled.ensures.settled clean on
 
 pub returns-then-is_taken-clause-order : goal.returns-then-is_taken-clause-order
 returns-then-is_taken-clause-order g c is clean = c.in-Ok.ensures.shows clean
+
+pub returns-then-is_taken-clause-judged : goal.returns-then-is_taken-clause-judged
+returns-then-is_taken-clause-judged g c is first live clean = c.in-Ok.ensures.judged c.settled.ensures.settled first live clean
 
 pub returns-in-Err-clause-idle : goal.returns-in-Err-clause-idle
 returns-in-Err-clause-idle g c = c.examine_first.ensures.looks.mode c.requires.idle

@@ -7,13 +7,13 @@ use Rattle.portal_tables.proofs.select.read_each.Goals as goal
 pub returns-clause-reads : goal.returns-clause-reads
 returns-clause-reads g c =
     let old = state g.S.Store c.args.conn.now in
-    let new = state g.S.Store c.read_each.new.conn in
+    let new = state g.S.Store c.query_each.new.conn in
     let schema = c.args.conn.now.schema in
     let values = ap bound c.values.ensures ∙ c.value.ensures in
-    let it = c.read_each.ensures in
-    asks c.args.query _ _ c.text.ensures values c.read_each.result old new it.leaves.same it.leaves.err it.leaves.mode it.leaves.survives
+    let it = c.query_each.ensures in
+    asks c.args.query _ _ c.text.ensures values c.query_each.result old new it.leaves.same it.leaves.err it.leaves.mode it.leaves.survives
     (λ own clean.
     let sure = plain c.args.query _ _ c.text.ensures values schema in
-    answered c.read_each.result _ _ (IfOk-weaker c.read_each.result _ _ (λ v. shows_weaker _ _ _ v.items (λ rows. shows c.args.query _ _ c.text.ensures values old new rows own)) (it.rows sure clean))
+    answered c.query_each.result _ _ (IfOk-weaker c.query_each.result _ _ (λ v. shows_weaker _ _ _ v.items (λ rows. shows c.args.query _ _ c.text.ensures values old new rows own)) (it.rows sure clean))
     (λ e is blamed. none_refused g.T.FromCells.is_fine _ c.text.result.now (bound c.values.result.now) old new sure (λ rows. shows c.args.query _ _ c.text.ensures values old new rows own) (ends c.args.query _ _ c.text.ensures values schema own)
     (it.refused sure clean (is ∙ ap Err blamed))))

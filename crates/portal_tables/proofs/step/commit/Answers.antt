@@ -1,4 +1,4 @@
-use Rattle.portal_tables.proofs.Base.{◌≡◌, rules, arith, not, IsTrue, ap, subst, ◌∙◌, HasCleanDisk, Survives, Held, state, Commits, IsAfter, Stays}
+use Rattle.portal_tables.proofs.Base.{◌≡◌, rules, arith, IsTrue, subst, HasCleanDisk, Survives, Held, state, Commits, IsAfter, Stays}
 use Rattle.portal_tables.proofs.Queries.{on_err}
 use Rattle.portal_tables.proofs.Runs.{ended_well, ended_crash, ended_badly}
 use Rattle.portal_tables.proofs.step.commit.Goals as goal
@@ -33,5 +33,5 @@ returns-in_err-commit-clause-err g c clean on =
     let P = λ (h : Held _). HasCleanDisk (state g.S.Store h) → IsTrue (state g.S.Store h).is_open → Stays (state g.S.Store c.args.conn.now) (state g.S.Store h) in
     on_err _ _ (subst P same (λ clean on.
     let mid : HasCleanDisk (state g.S.Store c.take.new.tx.conn.now) = omega (arith, clean, c.commit.ensures.survives.clean) in
-    ended_badly g.S.Store C c.args.conn.now c.transaction-tx.result.conn.now c.take.new.tx.conn.now c.commit.new.self.0 c.transaction-tx.ensures.begun c.in_err-commit.field-0.0 (c.is_autocommit-idle.ensures.settled (c.is_autocommit-idle.ensures.value ∙ ap not c.requires.idle))
+    ended_badly g.S.Store C c.args.conn.now c.transaction-tx.result.conn.now c.take.new.tx.conn.now c.commit.new.self.0 c.transaction-tx.ensures.begun c.in_err-commit.field-0.0 c.settled.ensures.settled
     (c.take.ensures.kept mid) (c.in_ok-take.ensures.done mid) (c.in_err-commit.ensures.err clean) on) clean on)

@@ -3,4 +3,4 @@ use Rattle.portal_tables.proofs.Statements.{phase_moved}
 use Rattle.portal_tables.proofs.update.set_phase.Goals as goal
 
 pub returns : goal.returns
-returns g c = does_more g.S.Store _ _ _ _ _ (rw c.to_sql.ensures at c.write.ensures) (phase_moved _ _ c.args.phase)
+returns g c = does_more g.S.Store _ _ _ _ _ (rw (c.to_sql.ensures, c.phase_number.ensures) at c.write.ensures) (phase_moved _ _ _)

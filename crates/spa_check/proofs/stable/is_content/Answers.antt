@@ -5,8 +5,8 @@ use Rattle.spa_check.proofs.stable.is_content.Goals as goal
 pub letter_of-requires-clause-project : goal.letter_of-requires-clause-project
 letter_of-requires-clause-project c =
     let p = get_or c.wanted-p-items.result.now c.loop-p.p-index 0 in
-    let wants : Wants c.args.instance.now c.args.matching.now c.args.s p = (c.wanted-p-items.ensures p).0 (Contains-get_or c.wanted-p-items.result.now c.loop-p.p-index 0 c.loop-p-test.true) in
-    c.lawful.ensures.known c.args.s p wants.0
+    let wants : Wants c.args.instance.now c.args.matching.now c.args.s p = (c.wanted-p-items.ensures.each p).0 (Contains-get_or c.wanted-p-items.result.now c.loop-p.p-index 0 c.loop-p-test.true) in
+    c.wanted-p-items.ensures.lawful.known c.args.s p wants.0
 
 pub loop-p-preserved : goal.loop-p-preserved
 loop-p-preserved c k x below = elim (cases_lt k c.loop-p.p-index) [
@@ -19,7 +19,7 @@ loop-p-preserved c k x below = elim (cases_lt k c.loop-p.p-index) [
 pub returns : goal.returns
 returns c = (
   λ _ p x b.
-      let on : Contains c.wanted-p-items.result.now p = (c.wanted-p-items.ensures p).1 (blocks_wants c.args.instance.now c.args.matching.now c.args.s p x b) in
+      let on : Contains c.wanted-p-items.result.now p = (c.wanted-p-items.ensures.each p).1 (blocks_wants c.args.instance.now c.args.matching.now c.args.s p x b) in
       let is_p : get_or c.wanted-p-items.result.now on.0 0 ≡ p = get_or_default c.wanted-p-items.result.now on.0 0 p on.1 ∙ on.2 in
       c.loop-p.invariant on.0 x (omega (arith, on.1)) (rw is_p b),
   λ _. refl,

@@ -131,5 +131,8 @@ invariant_of-result c =
 pub returns-clause-ok : goal.returns-clause-ok
 returns-clause-ok c = Lawful.stands_for _ _ _ _ (good (start (numbers (before c)))) (so (numbers (before c))) c.in_ok-lecturer_rows.ensures (faultless c)
 
+pub returns-clause-lawful : goal.returns-clause-lawful
+returns-clause-lawful c = Lawful.lawful _ _ _ _ (good (start (numbers (before c)))) (so (numbers (before c))) c.in_ok-lecturer_rows.ensures (faultless c)
+
 pub returns-clause-sound : goal.returns-clause-sound
 returns-clause-sound c = faultless c

@@ -1,10 +1,9 @@
-use Rattle.spa_model.proofs.Base.{◌≡◌, ◌+◌, ◌<◌, eqb, map, set, get_or, sym, ap, subst, length, take, arith, ◌∙◌, get_or_default, get_or-map, length-map, length-set, count_by, IsLeastOf, LecturerOver, length-take-le, count_by-le-length, lecturer_of, project_in, lecturer_in, rules}
-use Rattle.spa_model.proofs.PairFaults.{FaultBelow, AreCounts, pair_take, pair_skip, number_at, project_there, counts_more, count_pairs, lecturers_are}
+use Rattle.spa_model.proofs.Base.{◌≡◌, ◌+◌, ◌<◌, eqb, map, set, get_or, sym, ap, length, take, arith, ◌∙◌, get_or_default, get_or-map, length-map, length-set, count_by, LecturerOver, length-take-le, count_by-le-length, lecturer_of, project_in, lecturer_in, rules, ltb-true, lt-ltb, least_step, least_all}
+use Rattle.spa_model.proofs.PairFaults.{IsBadPair, AreCounts, number_at, counts_more, count_pairs, lecturers_are}
 use Rattle.spa_model.proofs.pairs.lecturer_over.Goals as goal
-use Rattle.spa_model.proofs.pairs.lecturer_over.Goals.{then-index-lecturer_capacity, else-index-lecturer_capacity}
 
 pub lecturer_of-l-requires : goal.lecturer_of-l-requires
-lecturer_of-l-requires c = search (rules, project_there)
+lecturer_of-l-requires c = search (rules, c.requires.known, length-map)
 
 pub overflow_add-index_mut : goal.overflow_add-index_mut
 overflow_add-index_mut c = search (rules, get_or_default, length-map, count_by-le-length, length-take-le)
@@ -27,12 +26,9 @@ loop-j-preserved c =
     record {
       size = size ∙ c.loop-j.invariant.size;
       counts = counts;
-      least = elim c.if-index-lecturer_capacity.branch [
-        | then-index-lecturer_capacity w ↦ pair_take c.args.instance.now c.args.lines.now LecturerOver c.loop-j.j c.line.inside.row w.least.result c.index-lines-j.result c.loop-j.best c.if-index-lecturer_capacity.best c.loop-j-test.true (sym c.index-lines-j.is) (ap (λ x. x.row) c.line.view_is) w.best-is w.least.ensures (rw (← l) (omega arith)) c.loop-j.invariant.least
-        | else-index-lecturer_capacity w ↦ pair_skip c.args.instance.now c.args.lines.now LecturerOver c.loop-j.j c.index-lines-j.result c.loop-j.best c.if-index-lecturer_capacity.best c.loop-j-test.true (sym c.index-lines-j.is) w.best-is (λ bad. let more = rw (← l) at bad in omega arith) c.loop-j.invariant.least
-      ];
+      least = least_step c.args.lines.now (λ x. x.row) (IsBadPair c.args.instance.now c.args.lines.now LecturerOver) c.loop-j.j c.index-lines-j.result c.loop-j.best _ _ _ c.least_with-best.ensures (ap (λ x. x.row) c.line.view_is) c.loop-j-test.true (sym c.index-lines-j.is)
+          (λ over. rw (← l) (omega (arith, ltb-true _ _ over)), λ bad. let more = rw (← l) at bad in lt-ltb _ _ (omega arith)) c.loop-j.invariant.least;
     }
 
 pub returns : goal.returns
-returns c =
-    subst (λ n. IsLeastOf (FaultBelow c.args.instance.now c.args.lines.now LecturerOver n) c.loop-j.best) (omega arith) c.loop-j.invariant.least
+returns c = least_all c.args.lines.now (λ x. x.row) (IsBadPair c.args.instance.now c.args.lines.now LecturerOver) c.loop-j.j c.loop-j.best (omega arith) c.loop-j.invariant.least

@@ -1,5 +1,5 @@
 use Rattle.std.proofs.Common.{rules}
 use Rattle.portal_core.proofs.deciding.lists.checked_ranking.Goals as goal
 
-pub returns-clause-good : goal.returns-clause-good
-returns-clause-good c = search rules
+pub returns-clause-fault : goal.returns-clause-fault
+returns-clause-fault c = search rules

@@ -1,6 +1,6 @@
 use Rattle.portal_core.proofs.Base.{◌≡◌, ◌+◌, ◌≤◌, ◌++◌, drop, reverse, HasRows, HasTexts}
 use Rattle.portal_core.specs.Faults as roll
-use Rattle.portal_core.proofs.Scan.{before}
+use Rattle.portal_core.proofs.RowFaults.{before}
 use Rattle.portal_core.proofs.deciding.new_rows.take_rows.Given as goal
 
 -- what is taken so far stands before what the rest adds
@@ -8,7 +8,7 @@ abbrev pub invariant-loop-row : goal.invariant-loop-row
 invariant-loop-row g l = record {
   place : l.at ≡ l.row-index;
   few : l.same ≤ l.row-index;
-  rows : HasRows (g.R.Roll.rules l.roll).key (reverse l.new.items ++ l.on_roll) l.register.rows;
-  texts : HasTexts (g.R.Roll.texts_beside l.roll (reverse l.new.items ++ l.on_roll)) l.register.texts;
-  rest : roll.take_rows (g.R.Roll.rules l.roll) 1 l.on_roll l.rows ≡ before l.new.items l.same (roll.take_rows (g.R.Roll.rules l.roll) (l.at + 1) (reverse l.new.items ++ l.on_roll) (drop l.row-index l.rows));
+  rows : HasRows g.X.Keyed.key_of (reverse l.new.items ++ l.on_roll) l.register.rows;
+  texts : HasTexts (g.R.RollRules.texts_beside l.roll (reverse l.new.items ++ l.on_roll)) l.register.texts;
+  rest : roll.take_rows (g.R.RollRules.rules l.roll) 1 l.on_roll l.rows ≡ before l.new.items l.same (roll.take_rows (g.R.RollRules.rules l.roll) (l.at + 1) (reverse l.new.items ++ l.on_roll) (drop l.row-index l.rows));
 }

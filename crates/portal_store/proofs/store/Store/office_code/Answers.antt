@@ -1,37 +1,43 @@
-use Rattle.portal_store.proofs.Base.{◌∙◌, AreEntries, HasCleanDisk, Held, IfOk-weaker, IsCacheOf, IsTrue, ap, clean_if_open, kept_world, reads_both, state}
+use Rattle.portal_store.proofs.Base.{◌∙◌, AreEntries, HasCleanDisk, IfOk-weaker, IsCacheOf, IsTrue, ap, clean_if_open, kept_world, reads_both, rules, state}
 use Rattle.portal_store.proofs.Ended.{told_if, told_on}
-use Rattle.portal_store.proofs.Keeps.{open_by, read_clean, read_keeps, read_lasts, read_same, read_still, read_told}
-use Rattle.portal_store.proofs.store.Store.office_code.Given.{Over}
+use Rattle.portal_store.proofs.Keeps.{open_by, read_breaks, read_clean, read_keeps, read_lasts, read_leaves, read_same, read_still, read_told, rests_by}
 use Rattle.portal_store.proofs.store.Store.office_code.Goals as goal
 
-law : (g : Over) (h : Held g.row.S.Denot) → IsTrue (state g.S.Store h).is_open → HasCleanDisk (state g.S.Store h)
-law g h = clean_if_open (state g.S.Store h).is_clean (state g.S.Store h).is_open (g.met.S.Store.shut_if_dirty h.store)
-
 pub invariant_of-self-2 : goal.invariant_of-self-2
-invariant_of-self-2 g c = record {
-  kept = read_keeps c.office_code-code.new.conn c.self.view_is c.self.invariant.kept c.in_default.ensures (law g c.office_code-code.new.conn) (reads_both c.office_code-code.ensures);
-  shown = read_still c.office_code-code.new.conn c.self.view_is c.self.invariant.kept c.in_default.ensures (law g c.office_code-code.new.conn) (reads_both c.office_code-code.ensures) (IsCacheOf c.self.inside.cache) c.self.invariant.shown;
-  entered = read_still c.office_code-code.new.conn c.self.view_is c.self.invariant.kept c.in_default.ensures (law g c.office_code-code.new.conn) (reads_both c.office_code-code.ensures) (AreEntries c.self.inside.entries) c.self.invariant.entered;
-}
+invariant_of-self-2 g c =
+    let new = c.office_code-code.new.conn in
+    let is = c.self.view_is in
+    let kept = c.self.invariant.kept in
+    let own = c.in_default.ensures in
+    let shut : IsTrue (state g.S.Store new).is_open → HasCleanDisk (state g.S.Store new) = clean_if_open (state g.S.Store new).is_clean (state g.S.Store new).is_open (g.met.S.Store.shut_if_dirty new.store) in
+    let reads = reads_both c.office_code-code.ensures in
+    record {
+      kept = read_keeps new is kept own shut reads;
+      shown = read_still new is kept own shut reads (IsCacheOf c.self.inside.cache) c.self.invariant.shown;
+      entered = read_still new is kept own shut reads (AreEntries c.self.inside.entries) c.self.invariant.entered;
+    }
 
-pub returns-clause-clean : goal.returns-clause-clean
-returns-clause-clean g c =
-    read_clean c.office_code-code.new.conn c.self.view_is c.self.invariant.kept c.in_default.ensures (law g c.office_code-code.new.conn) (reads_both c.office_code-code.ensures)
-
-pub returns-clause-same : goal.returns-clause-same
-returns-clause-same g c =
-    read_same c.office_code-code.new.conn c.self.view_is c.self.invariant.kept c.in_default.ensures (law g c.office_code-code.new.conn) (reads_both c.office_code-code.ensures)
-
-pub returns-clause-code : goal.returns-clause-code
-returns-clause-code g c on =
-    told_if _ c.office_code-code.result c.counted.result c.counted.ensures.same (IfOk-weaker c.office_code-code.result _ _ (λ code is. is ∙ ap (λ s. (kept_world g.S.Store s).office) c.self.view_is)
-    (read_told c.office_code-code.new.conn c.self.view_is c.self.invariant.kept c.in_default.ensures (law g c.office_code-code.new.conn) (reads_both c.office_code-code.ensures) (λ holds was. holds.1.sound) on))
-
-pub returns-clause-stays_open : goal.returns-clause-stays_open
-returns-clause-stays_open g c =
-    open_by g.S.Store c.self.inside.conn c.office_code-code.new.conn c.self.inside.own c.self.inside.faults c.counted.new.faults c.args.self.now _ c.self.view_is
-    (λ mine. c.office_code-code.ensures.crash)
-
-pub returns-clause-lasts : goal.returns-clause-lasts
-returns-clause-lasts g c =
-    told_on _ c.office_code-code.result c.counted.result c.counted.ensures.same (read_lasts c.office_code-code.new.conn c.self.view_is c.self.invariant.kept c.in_default.ensures (law g c.office_code-code.new.conn) (reads_both c.office_code-code.ensures))
+pub returns : goal.returns
+returns g c =
+    let new = c.office_code-code.new.conn in
+    let is = c.self.view_is in
+    let kept = c.self.invariant.kept in
+    let own = c.in_default.ensures in
+    let shut : IsTrue (state g.S.Store new).is_open → HasCleanDisk (state g.S.Store new) = clean_if_open (state g.S.Store new).is_clean (state g.S.Store new).is_open (g.met.S.Store.shut_if_dirty new.store) in
+    let reads = reads_both c.office_code-code.ensures in
+    let many = c.counted.new.faults in
+    let code = c.office_code-code.result in
+    let told = c.counted.ensures.same in
+    record {
+      clean = read_clean new is kept own shut reads;
+      code = λ on. told_if _ code c.counted.result told
+          (IfOk-weaker code _ _ (λ code is_code. is_code ∙ ap (λ s. (kept_world g.S.Store s).office) is) (read_told new is kept own shut reads (λ holds was. holds.1.sound) on));
+      same = read_same new is kept own shut reads;
+      own = search rules;
+      stays_open = open_by g.S.Store c.self.inside.conn new c.self.inside.own c.self.inside.faults many c.args.self.now _ is (λ mine. reads.crash);
+      lasts = told_on _ code c.counted.result told (read_lasts new is kept own shut reads);
+      breaks = λ clean. let all = read_breaks new is kept own shut reads many clean in (all.0, all.1, all.2, told_on _ code c.counted.result told all.3);
+      settled = rests_by g.S.Store new c.self.inside.own many (g.met.S.Store.settled new.store) (read_keeps new is kept own shut reads);
+      leaves = read_leaves new is kept own shut reads many;
+      counts = search rules;
+    }

@@ -74,3 +74,6 @@ returns-in-Err-examine-clause-crash_err g c = c.examine.ensures.looks.crash
 
 pub returns-clause-shows : goal.returns-clause-shows
 returns-clause-shows g c clean = c.in-Ok-examine.ensures.shows c.settled.ensures.settled clean
+
+pub returns-clause-version : goal.returns-clause-version
+returns-clause-version g c first clean = c.in-Ok-examine.ensures.version c.settled.ensures.settled first clean

@@ -1,4 +1,4 @@
-use Rattle.portal_store.proofs.Base.{◌≡◌, inl, inr, false, Err, IsTrue, sym, ap, subst, ◌∙◌, HasCleanDisk, Held, state, HasEntries, has_names, OfSecond, clean_before, clean_if_open}
+use Rattle.portal_store.proofs.Base.{inl, inr, Err, IsTrue, sym, ap, subst, ◌∙◌, HasCleanDisk, Held, state, HasEntries, has_names, OfSecond, clean_before, clean_if_open}
 use Rattle.portal_store.proofs.Keeps.{rests_by}
 use Rattle.portal_store.proofs.Upgraded.{first_untaken, not_taken, upgraded_kept, same_world, still_good}
 use Rattle.portal_store.proofs.store.Store.upgrade.Given.{Over}
@@ -43,9 +43,8 @@ returns-clause-good g c on =
 pub returns-in-Err-upgraded-clause-refused : goal.returns-in-Err-upgraded-clause-refused
 returns-in-Err-upgraded-clause-refused g c first clean =
     let mine = c.fits_first-own.ensures.first.1 first in
-    let free : c.is_there-is_taken.result ≡ false = c.is_there-is_taken.ensures ∙ ap (has_names OfSecond) c.schema.ensures.value ∙ first_untaken c.args.conn.schema first in
     elim (c.in-Err-upgraded.ensures.refused mine (c.fits_first-own.ensures.own mine) c.settled.ensures.live clean) [
-      | inl is ↦ absurd (not_taken c.is_there-is_taken.result free (c.in-Err-upgraded.ensures.exists (ap Err is)))
+      | inl is ↦ absurd (not_taken _ (first_untaken c.args.conn.schema first) (c.in-Err-upgraded.ensures.exists (ap Err is)))
       | inr bars ↦ bars
     ]
 
@@ -81,3 +80,15 @@ returns-in-Err-upgraded-clause-crash_err g c = c.upgraded.ensures.crash
 
 pub returns-in-Err-upgraded-clause-order : goal.returns-in-Err-upgraded-clause-order
 returns-in-Err-upgraded-clause-order g c is clean = c.in-Err-upgraded.ensures.order (ap Err is) clean
+
+pub returns-in-Err-upgraded-clause-judged : goal.returns-in-Err-upgraded-clause-judged
+returns-in-Err-upgraded-clause-judged g c is first clean = c.in-Err-upgraded.ensures.judged (ap Err is) first c.settled.ensures.live clean
+
+pub returns-clause-left_ok : goal.returns-clause-left_ok
+returns-clause-left_ok g c first = let mine = c.fits_first-own.ensures.first.1 first in c.upgraded.ensures.left mine (c.fits_first-own.ensures.own mine) c.settled.ensures.live
+
+pub returns-in-Err-upgraded-clause-left_err : goal.returns-in-Err-upgraded-clause-left_err
+returns-in-Err-upgraded-clause-left_err g c first = let mine = c.fits_first-own.ensures.first.1 first in c.upgraded.ensures.left mine (c.fits_first-own.ensures.own mine) c.settled.ensures.live
+
+pub upgraded-requires : goal.upgraded-requires
+upgraded-requires g c = record { idle = c.requires.idle; first = c.fits_first-own.ensures.first; taken = c.is_there-is_taken.ensures ∙ ap (has_names OfSecond) c.schema.ensures.value }

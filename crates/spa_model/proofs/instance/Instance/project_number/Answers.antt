@@ -12,5 +12,5 @@ pub returns-in-Err : goal.returns-in-Err
 returns-in-Err c =
     let rise : Rise (map (λ x. x.key) c.deref.result.now) = rw c.deref.ensures.value c.self.invariant.0.project_keys_rise in
     let part = c.in-Err.ensures.position (λ y. slice_cmp nat_cmp y.key c.args.text.now) (always_returns_same _ _ _ (λ a r g k. search rules)) (searchable_from_sorted nat_list_cmp_total (λ x. x.key) c.deref.result.now c.args.text.now (sorted_rows (λ x. x.key) c.deref.result.now rise)) in
-    let count : c.projects.result ≡ length c.deref.result.now = c.projects.ensures ∙ ap (λ i. length i.lecturers) (sym c.self.view_is) ∙ length-map c.self.inside.projects.items (λ x. x.lecturer) ∙ ap length (sym c.deref.ensures.value) in
+    let count : c.projects.result ≡ length c.deref.result.now = c.projects.ensures.count ∙ ap (λ i. length i.lecturers) (sym c.self.view_is) ∙ length-map c.self.inside.projects.items (λ x. x.lecturer) ∙ ap length (sym c.deref.ensures.value) in
     rw (count, ← c.self.view_is, ← c.deref.ensures.value) (number_none (λ x. x.key) c.deref.result.now c.args.text.now c.in-Err.field-0 (λ k d h. part.0 k d (omega arith) h) part.1)

@@ -11,7 +11,7 @@ leave-requires-clause-marks c =
     let in_range : c.worst_with-rank.result < length (ranking_of i own) = rw c.lecturer_of-l.ensures.gives c.worst_with-rank.ensures.in_range in
     let worst : IsWorstWith i c.args.self.now.projects.items own (get_or (ranking_of i own) c.worst_with-rank.result 0) = rw c.lecturer_of-l.ensures.gives c.worst_with-rank.ensures.worst in
     let row : own < length c.args.self.now.lecturer_cuts.items = omega (arith, c.lecturer_of-l.ensures.in_range, c.requires.marks.lecturer_rows) in
-    let found : rank_of i own (get_or (ranking_of i own) c.worst_with-rank.result 0) ≡ c.worst_with-rank.result = rank_found i c.lawful.ensures own c.worst_with-rank.result in_range in
+    let found : rank_of i own (get_or (ranking_of i own) c.worst_with-rank.result 0) ≡ c.worst_with-rank.result = rank_found i c.requires.marks.lawful own c.worst_with-rank.result in_range in
     search (rules, rank_with_below, fallen_lecturer_marks)
 
 pub leave-requires-clause-past : goal.leave-requires-clause-past

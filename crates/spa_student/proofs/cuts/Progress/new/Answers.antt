@@ -7,7 +7,7 @@ returns c =
     let i = c.args.instance.now in
     let cuts = c.in_ok-first_project_cuts.ensures in
     let cuts_l = c.in_ok-first_lecturer_cuts.ensures in
-    state_at_first i c.lawful.ensures _ (search rules) (search rules) (search rules) (search rules)
+    state_at_first i c.students.ensures.lawful _ (search rules) (search rules) (search rules) (search rules)
     (ap length cuts ∙ length-map i.lecturers (λ l. length (ranking_of i l)))
     (λ p h. rw cuts (get_or-map (λ l. length (ranking_of i l)) i.lecturers p 0 0 h))
     (ap length cuts_l ∙ length-map i.rankings length)

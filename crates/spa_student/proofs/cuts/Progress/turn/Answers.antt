@@ -8,8 +8,8 @@ put-requires-clause-state c = moved_state c.args.instance.now c.args.self.now c.
 
 pub put-requires-clause-next : goal.put-requires-clause-next
 put-requires-clause-next c =
-    let within : c.next-k.result < length (choices_of c.args.instance.now c.args.s) = omega (arith, ap length c.choices-list.ensures) in
-    rw c.choices-list.ensures (moved_next c.args.instance.now c.args.self.now c.requires.state c.args.s c.next-k.result c.requires.in_range c.requires.free c.next-k.ensures.from c.next-k.ensures.to c.next-k.ensures.cut _ refl within (c.next-k.ensures.uncut within))
+    let within : c.next-k.result < length (choices_of c.args.instance.now c.args.s) = omega (arith, ap length c.choices-list.ensures.gives) in
+    rw c.choices-list.ensures.gives (moved_next c.args.instance.now c.args.self.now c.requires.state c.args.s c.next-k.result c.requires.in_range c.requires.free c.next-k.ensures.from c.next-k.ensures.to c.next-k.ensures.cut _ refl within (c.next-k.ensures.uncut within))
 
 -- where somebody was let go, two cursors moved
 grown : (before moved after : Progress) (s k p : ℕ) → moved.cursors.items ≡ set before.cursors.items s k → s < length before.cursors.items → get_or before.cursors.items s 0 ≤ k → length moved.projects.items ≡ length before.cursors.items

@@ -1,0 +1,85 @@
+-- What one call of `serve` does: the requests of its stream, what is written, and how it ends.
+use Rattle.std.specs.Prelude.{ℕ, Bool, ◌≡◌, ◌⊎◌, ◌||◌, true, List, [], ◌∷◌, ◌++◌, length, take, Option, Some, Result, Ok, Err}
+use Rattle.std.specs.Io.KnownBytes.{Appends}
+use Rattle.portal_core.specs.Run.{unavailable}
+use Rattle.portal_frame.specs.Stream.{Asked, Opens, whole}
+use Rattle.portal_wire.specs.declared.TheConstants.{MOST_REQUESTS}
+use Rattle.portal_wire.specs.Conversation.{reply_text, Rest, more, Leads, Last, last, Ends, Requests, Exchange, asked_in, text}
+use Rattle.portal_desk.specs.declared.served.Cause.{Cause}
+use Rattle.portal_desk.specs.declared.served.Cause.TheVariants as cause
+use Rattle.portal_desk.specs.declared.served.Served.{Served}
+use Rattle.portal_desk.specs.declared.served.ServeFault.{ServeFault}
+use Rattle.portal_desk.specs.Kept.{KeeperState, Moves}
+
+-- how `serve` ends: as the stream does, or stopped (cause, has the store failed, unread bytes)
+pub data Finish : Type 0 where
+  Ended : Last → Finish
+  Stopped : Cause → Bool → Option (List ℕ) → Finish
+
+-- how a call with this result ends, by whether the desk has failed and what its source has left
+abbrev pub finish_of : Result Served ServeFault → Bool → Option (List ℕ) → Finish
+finish_of (Ok served) failed left = Ended (last served.ending)
+finish_of (Err fault) failed left = Stopped fault.cause failed left
+
+-- how many requests a result counts
+abbrev pub count_of : Result Served ServeFault → ℕ
+count_of (Ok served) = served.requests
+count_of (Err fault) = fault.requests
+
+-- all replies but the last, and a first part of the last, which closes after a fault of the store
+abbrev pub CutsLast : Bool → List Exchange → List ℕ → Type 0
+CutsLast failed es written =
+    (front : List Exchange) × (e : Exchange) × (k : ℕ) × (es ≡ front ++ e ∷ [])
+    × (written ≡ text front ++ take k (reply_text e.reply e.request.head (e.request.closes || failed)))
+
+-- all replies but the last
+abbrev pub LacksLast : List Exchange → List ℕ → Type 0
+LacksLast es written = (front : List Exchange) × (e : Exchange) × (es ≡ front ++ e ∷ []) × (written ≡ text front)
+
+-- all replies, and a first part of the refusal that follows
+abbrev pub CutsClosing : List Exchange → Rest → List ℕ → Type 0
+CutsClosing es rest written =
+    (end : Last) × (closing : List ℕ) × (k : ℕ) × Ends rest end closing × (written ≡ text es ++ take k closing)
+
+-- the bytes that were read hold no further whole request, and the others are still unread
+abbrev pub AllSeen : Rest → Option (List ℕ) → Type 0
+AllSeen rest left =
+    (held unread : List ℕ) × (rest ≡ more (held ++ unread)) × (left ≡ Some unread)
+    × ((a : Asked) → (after : List ℕ) → ¬ (Opens held (whole a after)))
+
+-- what is written, by the cause of the fault
+abbrev pub Wrote : Cause → Bool → List Exchange → Rest → Option (List ℕ) → List ℕ → Type 0
+Wrote cause.Read failed es rest left written = AllSeen rest left × (written ≡ text es)
+Wrote cause.Write failed es rest left written = CutsLast failed es written ⊎ CutsClosing es rest written
+Wrote cause.Memory failed es rest left written = LacksLast es written ⊎ (written ≡ text es)
+Wrote cause.Store failed es rest left written =
+    (failed ≡ true) × (front : List Exchange) × (e : Exchange) × (es ≡ front ++ e ∷ []) × (e.reply ≡ unavailable)
+    × (written ≡ text front ++ reply_text unavailable e.request.head true)
+
+-- the requests are the stream's; the text is all replies, or what the cause of a fault leaves
+abbrev pub Tells : Finish → List ℕ → List Exchange → List ℕ → Type 0
+Tells (Ended ending) bytes es written =
+    (closing : List ℕ) × Requests bytes (asked_in es) ending closing × (written ≡ text es ++ closing)
+Tells (Stopped why failed left) bytes es written =
+    (rest : Rest) × Leads MOST_REQUESTS bytes (asked_in es) rest × Wrote why failed es rest left written
+
+-- a call of `serve`: the keeper before and after it, the stream, what the sink holds before and
+-- after it, if that is known, the count of requests, how the call ends, and its exchanges
+pub record Session (K : Type 0) : Type 0 where
+  pub old : K
+  pub new : K
+  pub bytes : List ℕ
+  pub before : Option (List ℕ)
+  pub after : Option (List ℕ)
+  pub count : ℕ
+  pub finish : Finish
+  pub exchanges : List Exchange
+
+-- the exchanges serve the stream, or a first part of it: they are counted, have moved the keeper,
+-- and are told by what is written
+pub record IsSession {K : Type 0} (state : K → KeeperState) (s : Session K) : Type 0 where
+  pub moves : Moves (state s.old) (state s.new) s.exchanges
+  pub counted : s.count ≡ length s.exchanges
+  pub written : List ℕ
+  pub adds : Appends s.before s.after written
+  pub tells : Tells s.finish s.bytes s.exchanges written

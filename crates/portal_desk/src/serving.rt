@@ -1,0 +1,263 @@
+//! Serves streams of requests on a desk, from a source to a sink, or a reader to a writer.
+
+ghost use Rattle.std.specs.Prelude.{◌≡◌, ◌≢◌, ◌-◌, ◌<◌, true, false, List, map};
+ghost use Rattle.std.specs.Prelude.{IfSome, IfOk, OnOk, IfErr};
+ghost use Rattle.std.specs.Io.KnownBytes.{Appends};
+ghost use Rattle.portal_frame.specs.Stream.{seen, is_head};
+ghost use Rattle.portal_wire.specs.Conversation.{Exchange, request_of, closes_at, last, reply_text};
+ghost use Rattle.portal_wire.specs.inner.Calls.{last_for};
+ghost use Rattle.portal_desk.specs.Kept.{AtFirst, Blames, FailsAfter, FailsByCount, IsMoved};
+ghost use Rattle.portal_desk.specs.Kept.{TakesAtMost, state_of};
+ghost use Rattle.portal_desk.specs.Session.{IsSession, count_of, finish_of};
+ghost use Rattle.portal_desk.specs.Headline.{ServesEach};
+ghost use Rattle.portal_desk.specs.inner.Turns.{Broke, Replied};
+ghost use Rattle.portal_desk.specs.declared.served.Cause.TheVariants.{Read as ReadFailed};
+ghost use Rattle.portal_desk.specs.declared.served.Cause.TheVariants.{Write as WriteFailed};
+ghost use Rattle.portal_desk.specs.declared.served.Cause.TheVariants.{Store as StoreFailed};
+
+use crate::desk::Desk;
+use crate::devices::{Borrowed, Sink, Source};
+use crate::reading::{cut_front, next_frame};
+use crate::sending::{send_refusal, send_reply};
+use crate::served::{Cause, ServeFault, Served};
+use portal_core::Keeper;
+use portal_frame::{Frame, LONGEST_REQUEST, Request};
+use portal_wire::{Ending, MOST_REQUESTS};
+use std::alloc::Global;
+use std::io::{Read, Write};
+
+/// The most bytes that one call of `Desk::serve` takes from a source.
+pub const MOST_BYTES: usize = MOST_REQUESTS as usize * LONGEST_REQUEST;
+
+impl<K: Keeper> Desk<K> {
+    /// Acts on one request, and then writes the whole reply.
+    fn answer<W: Sink>(
+        &mut self,
+        alloc: Global,
+        request: &Request,
+        closes: bool,
+        sink: &mut W,
+    ) -> Result<(), Cause>
+        ensures clean { K.clean self.new.keeper → K.clean self.old.keeper }
+        ensures ok { let state = state_of K.disk K.clean K.world K.broken K.leaves in
+            OnOk result (Replied (state self.old.keeper) (state self.new.keeper)
+            (request_of closes (seen request.now))
+            (λ reply. (self.new.failed ≡ false)
+            × Appends (W.contents sink.old) (W.contents sink.new)
+            (reply_text reply (is_head request.now.method.items) closes))) }
+        ensures err { let state = state_of K.disk K.clean K.world K.broken K.leaves in
+            IfErr result (λ cause. Replied (state self.old.keeper) (state self.new.keeper)
+            (request_of closes (seen request.now))
+            (λ reply. Broke cause self.new.failed reply (is_head request.now.method.items) closes
+            (W.contents sink.old) (W.contents sink.new))) }
+        ensures stays { self.old.failed ≡ true → self.new ≡ self.old }
+        ensures calm { OnOk result (W.failed sink.new ≡ W.failed sink.old) }
+        ensures blames { IfErr result (λ cause. cause ≡ WriteFailed
+            → FailsAfter (W.failed sink.old) (W.failed sink.new)) }
+        ensures spared { IfErr result (λ cause. cause ≢ WriteFailed
+            → W.failed sink.new ≡ W.failed sink.old) }
+        ensures counts { FailsByCount self.old.failed self.new.failed (K.faults self.old.keeper)
+            (K.faults self.new.keeper) }
+        ensures unread { IfErr result (λ cause. cause ≢ ReadFailed) }
+        ensures store { IfErr result (λ cause. cause ≡ StoreFailed → self.new.failed ≡ true) }
+        ensures same_device { W.name sink.new ≡ W.name sink.old }
+    {
+        let reply = self.respond(alloc, request);
+        let lost = self.failed();
+        let shut = closes || lost;
+        match send_reply(alloc, reply, asks_head(request), shut, sink) {
+            Ok(()) => {}
+            Err(cause) => return Err(cause),
+        }
+        if lost {
+            return Err(Cause::Store);
+        }
+        Ok(())
+    }
+
+    /// Serves the requests of a stream in order, at most 256. It acts on a request and writes the
+    /// whole reply before it reads on.
+    ///
+    /// # Errors
+    ///
+    /// The source or the sink failed, memory ran out, or the store failed.
+    pub fn serve<R: Source, W: Sink>(
+        &mut self,
+        alloc: Global,
+        source: &mut R,
+        sink: &mut W,
+    ) -> Result<Served, ServeFault>
+        ensures clean { K.clean self.new.keeper → K.clean self.old.keeper }
+        ensures moves { let state = state_of K.disk K.clean K.world K.broken K.leaves in
+            IsMoved (state self.old.keeper) (state self.new.keeper) }
+        ensures served { IfSome (R.remaining source.old) (λ bytes. (exchanges : List Exchange)
+            × IsSession (state_of K.disk K.clean K.world K.broken K.leaves) (record {
+              old = self.old.keeper;
+              new = self.new.keeper;
+              bytes = bytes;
+              before = W.contents sink.old;
+              after = W.contents sink.new;
+              count = count_of result;
+              finish = finish_of result self.new.failed (R.remaining source.new);
+              exchanges = exchanges;
+            })) }
+        ensures blames { IfErr result (λ fault. Blames fault.cause (R.failed source.old)
+            (R.failed source.new) (W.failed sink.old) (W.failed sink.new)) }
+        ensures spared_source { IfErr result (λ fault. fault.cause ≢ ReadFailed
+            → R.failed source.new ≡ R.failed source.old) }
+        ensures spared_sink { IfErr result (λ fault. fault.cause ≢ WriteFailed
+            → W.failed sink.new ≡ W.failed sink.old) }
+        ensures taken { TakesAtMost MOST_BYTES (R.remaining source.old) (R.remaining source.new) }
+        ensures stays { self.old.failed ≡ true → self.new ≡ self.old }
+        ensures none { IfOk result (λ served. self.old.failed ≡ true → served.requests ≡ 0) }
+        ensures first { IfErr result (λ fault. self.old.failed ≡ true
+            → AtFirst fault.cause fault.requests) }
+        ensures counts { FailsByCount self.old.failed self.new.failed (K.faults self.old.keeper)
+            (K.faults self.new.keeper) }
+        ensures calm { OnOk result (self.new.failed ≡ self.old.failed) }
+        ensures unread { IfErr result (λ fault. fault.cause ≡ ReadFailed
+            → self.new.failed ≡ self.old.failed) }
+        ensures store { IfErr result (λ fault. fault.cause ≡ StoreFailed → self.new.failed ≡ true) }
+        ensures same_source { R.name source.new ≡ R.name source.old }
+        ensures same_sink { W.name sink.new ≡ W.name sink.old }
+    {
+        let mut buffer = Vec::new(alloc);
+        let mut done = 0u32;
+        loop {
+            let found = match next_frame(alloc, source, &mut buffer) {
+                Ok(found) => found,
+                Err(cause) => return Err(stopped(cause, done)),
+            };
+            match found {
+                Frame::Need => unreachable!(),
+                Frame::End => return Ok(served(done, Ending::End)),
+                Frame::Bad { refusal, head_only } => {
+                    match send_refusal(alloc, &refusal, head_only, sink) {
+                        Ok(()) => {}
+                        Err(cause) => return Err(stopped(cause, done)),
+                    }
+                    return Ok(served(done, Ending::Refused(refusal.word)));
+                }
+                Frame::Request(request, used) => {
+                    let closes = closes_now(&request, done);
+                    match self.answer(alloc, &request, closes, sink) {
+                        Ok(()) => {}
+                        Err(cause) => return Err(stopped(cause, done + 1)),
+                    }
+                    done += 1;
+                    if closes {
+                        return Ok(served(done, ending_of(request.close)));
+                    }
+                    cut_front(&mut buffer, used);
+                }
+            }
+        }
+    }
+}
+
+/// Returns whether the desk has to omit the reply's body: the method is HEAD.
+fn asks_head(request: &Request) -> bool
+    ensures { result ≡ is_head request.now.method.items }
+{
+    request.method.as_slice() == b"HEAD".as_slice()
+}
+
+/// Returns whether the desk stops after this request: it asks to close, or is the last that is
+/// answered. `done` requests came before it.
+fn closes_now(request: &Request, done: u32) -> bool
+    requires { done < MOST_REQUESTS }
+    ensures { result ≡ closes_at (MOST_REQUESTS - done) (seen request.now) }
+{
+    request.close || MOST_REQUESTS - done <= 1
+}
+
+/// Returns the ending after the desk's last reply to a stream: `Closed` or `Limit`. `close` says
+/// that the request closes the connection.
+fn ending_of(close: bool) -> Ending
+    ensures { last result ≡ last_for close }
+{
+    if close { Ending::Closed } else { Ending::Limit }
+}
+
+/// Makes the desk's result for a stream that it served to its end.
+fn served(requests: u32, ending: Ending) -> Served
+    ensures requests { result.requests ≡ requests }
+    ensures ending { result.ending ≡ ending }
+{
+    Served { requests, ending }
+}
+
+/// Makes the desk's fault for a stream that it served in part.
+fn stopped(cause: Cause, requests: u32) -> ServeFault
+    ensures cause { result.cause ≡ cause }
+    ensures requests { result.requests ≡ requests }
+{
+    ServeFault { cause, requests }
+}
+
+/// Serves a reader and a writer as one connection: reads requests, and writes replies.
+///
+/// # Errors
+///
+/// The reader or the writer failed, memory ran out, or the store failed.
+pub fn pipe<K: Keeper, R: Read, W: Write>(
+    alloc: Global,
+    desk: &mut Desk<K>,
+    reader: &mut R,
+    writer: &mut W,
+) -> Result<Served, ServeFault>
+    ensures clean { K.clean desk.new.keeper → K.clean desk.old.keeper }
+    ensures moves { let state = state_of K.disk K.clean K.world K.broken K.leaves in
+        IsMoved (state desk.old.keeper) (state desk.new.keeper) }
+    ensures served { IfSome (R.remaining reader.old) (λ bytes. (exchanges : List Exchange)
+        × IsSession (state_of K.disk K.clean K.world K.broken K.leaves) (record {
+          old = desk.old.keeper;
+          new = desk.new.keeper;
+          bytes = bytes;
+          before = W.contents writer.old;
+          after = W.contents writer.new;
+          count = count_of result;
+          finish = finish_of result desk.new.failed (R.remaining reader.new);
+          exchanges = exchanges;
+        })) }
+    ensures taken { TakesAtMost MOST_BYTES (R.remaining reader.old) (R.remaining reader.new) }
+    ensures stays { desk.old.failed ≡ true → desk.new ≡ desk.old }
+    ensures none { IfOk result (λ served. desk.old.failed ≡ true → served.requests ≡ 0) }
+    ensures first { IfErr result (λ fault. desk.old.failed ≡ true
+        → AtFirst fault.cause fault.requests) }
+    ensures counts { FailsByCount desk.old.failed desk.new.failed (K.faults desk.old.keeper)
+        (K.faults desk.new.keeper) }
+    ensures calm { OnOk result (desk.new.failed ≡ desk.old.failed) }
+    ensures unread { IfErr result (λ fault. fault.cause ≡ ReadFailed
+        → desk.new.failed ≡ desk.old.failed) }
+    ensures store { IfErr result (λ fault. fault.cause ≡ StoreFailed → desk.new.failed ≡ true) }
+{
+    let mut source = Borrowed::new(reader);
+    let mut sink = Borrowed::new(writer);
+    desk.serve(alloc, &mut source, &mut sink)
+}
+
+/// Serves a list of streams on a desk, one after another, and returns what was written for each.
+/// Returns `None` if serving a stream fails or memory runs out.
+pub fn serve_streams<K: Keeper>(
+    alloc: Global,
+    desk: &mut Desk<K>,
+    streams: &[&[u8]],
+) -> Option<Vec<Vec<u8>>>
+    ensures served { IfSome result (λ texts. ServesEach
+        (state_of K.disk K.clean K.world K.broken K.leaves) desk.old.keeper desk.new.keeper
+        (map (λ stream. stream.now) streams.now) (map (λ text. text.items) texts.items)) }
+{
+    let mut texts = Vec::new(alloc);
+    for stream in streams {
+        let mut rest = *stream;
+        let mut text = Vec::new(alloc);
+        let Ok(_) = pipe(alloc, desk, &mut rest, &mut text) else {
+            return None;
+        };
+        let Ok(()) = texts.push(text) else {
+            return None;
+        };
+    }
+    Some(texts)
+}

@@ -1,5 +1,0 @@
-use Rattle.portal_list.proofs.Base.{arith, common_steps}
-use Rattle.portal_list.proofs.good.first_lecturers.Goals as goal
-
-pub loop-lecturer-preserved : goal.loop-lecturer-preserved
-loop-lecturer-preserved c = grind (arith, common_steps)

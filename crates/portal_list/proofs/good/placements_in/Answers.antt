@@ -1,5 +1,0 @@
-use Rattle.portal_list.proofs.Base.{arith, common_steps}
-use Rattle.portal_list.proofs.good.placements_in.Goals as goal
-
-pub loop-student-preserved : goal.loop-student-preserved
-loop-student-preserved c = grind (arith, common_steps)

@@ -1,0 +1,7 @@
+use Rattle.portal_list.proofs.Base.{arith}
+use Rattle.portal_list.proofs.Steps.{some_more, none_more}
+use Rattle.portal_list.proofs.second_round.projects_played.Goals as goal
+use Rattle.portal_list.proofs.second_round.projects_played.Goals.{in-Some+in_ok-push, in_default}
+
+pub loop-project-preserved : goal.loop-project-preserved
+loop-project-preserved c = grind (arith, in-Some+in_ok-push, some_more, in_default, none_more)

@@ -1,0 +1,236 @@
+//! Checks the first round's tables, their version and rowids, and that loaded worlds are good.
+
+ghost use Rattle.std.specs.Prelude.{◌≡◌, ◌≢◌, ◌↔◌, ◌⊎◌, [], ◌∷◌, pos, Err, List, IfErr};
+ghost use Rattle.std.specs.Prelude.{OnOk, IsTrue};
+ghost use Rattle.sqlite.specs.declared.types.Value.TheVariants.{Int};
+ghost use Rattle.sqlite.specs.Order.{Row as Cells, column};
+ghost use Rattle.sqlite.specs.Effect.{IsDatabase};
+ghost use Rattle.sqlite.specs.Held.{state};
+ghost use Rattle.sqlite.specs.State.{HasCleanDisk};
+ghost use Rattle.portal_core.specs.Good.{Good, Sound};
+ghost use Rattle.portal_core.specs.declared.phase.Round.TheVariants.{First};
+ghost use Rattle.portal_tables.specs.Tables.{lecturer_tree, project_tree, student_tree};
+ghost use Rattle.portal_tables.specs.Tables.{choice_tree, ranking_tree, HasFirstSchema};
+ghost use Rattle.portal_tables.specs.Rows.{RowNumbersDiffer};
+ghost use Rattle.portal_tables.specs.inner.Queries.{table_tree, table_round};
+ghost use Rattle.portal_tables.specs.Steps.{Reads, Gives, IsSettled, OnlyLooks};
+ghost use Rattle.portal_tables.specs.inner.Reads.{Always, Answers};
+ghost use Rattle.portal_list.specs.Rows.{HasEntries};
+ghost use Rattle.portal_store.specs.Kept.{AllNumbersDiffer, HasGoodFirst};
+ghost use Rattle.portal_store.specs.inner.Keeping.{early_trees};
+ghost use Rattle.portal_store.specs.World.{world_in};
+ghost use Rattle.portal_store.specs.Crash.{HasVersion, RefusalSays, ShowsVersion};
+ghost use Rattle.portal_store.specs.inner.Asked.{Denies, SaysNothing, AdmitsAs};
+ghost use Rattle.portal_store.specs.inner.Reading.{IsSoundIfOpen};
+
+use crate::fault::{load_open_fault_of, open_fault_of, table_fault_of};
+use crate::load::first_keeper;
+use crate::store::OpenFault;
+use portal_list::{Entries, ListKeeper};
+use portal_tables::list_table::Lists;
+use portal_tables::select::{Query, RollTable, Table, read};
+use portal_tables::{is_number, row_numbers_differ};
+use sqlite::{Alter, Connection, Row};
+use std::alloc::Global;
+
+/// Checks that a single table can be queried.
+fn see_table<S: Alter>(conn: &mut Connection<S>, query: Query<'_>) -> Result<(), OpenFault>
+    ensures looks { OnlyLooks (state S.Store conn.old) (state S.Store conn.new) }
+    ensures damaged { result ≢ Err OpenFault.Damaged }
+    ensures version { result ≢ Err OpenFault.OtherVersion }
+{
+    match read(conn, query) {
+        Ok(_) => Ok(()),
+        Err(error) => Err(table_fault_of(error)),
+    }
+}
+
+/// Checks that tables can be queried, by these queries, unless they are the portal's own.
+pub(crate) fn see_tables<S: Alter>(
+    conn: &mut Connection<S>,
+    own: bool,
+    queries: &[Query<'_>],
+) -> Result<(), OpenFault>
+    ensures looks { OnlyLooks (state S.Store conn.old) (state S.Store conn.new) }
+    ensures same { IsTrue own → conn.new ≡ conn.old }
+    ensures none { IsTrue own → IfErr result (λ _. ⊥) }
+    ensures damaged { result ≢ Err OpenFault.Damaged }
+    ensures version { result ≢ Err OpenFault.OtherVersion }
+{
+    if own {
+        return Ok(());
+    }
+    for query in queries {
+        see_table(conn, *query)?;
+    }
+    Ok(())
+}
+
+/// Checks that there is a row of the office, and that it has this version.
+fn judge_office(rows: &[Row], version: u32) -> Result<(), OpenFault>
+    ensures none { (result ≡ Err OpenFault.NotPortal) ↔ (rows.now ≡ []) }
+    ensures version { OnOk result ((row : Cells) × (rest : List Cells) × (rows.now ≡ row ∷ rest)
+        × (column row 1 ≡ Int (pos version))) }
+    ensures there { result ≡ Err OpenFault.OtherVersion → rows.now ≢ [] }
+    ensures other { result ≡ Err OpenFault.OtherVersion → (row : Cells) → rows.now ≡ row ∷ []
+        → column row 1 ≡ Int (pos version) → ⊥ }
+    ensures judged { IfErr result (λ fault. (fault ≡ OpenFault.Damaged) → ⊥) }
+{
+    match rows {
+        [] => Err(OpenFault::NotPortal),
+        [row, ..] => {
+            if is_number(row, 1, version) {
+                Ok(())
+            } else {
+                Err(OpenFault::OtherVersion)
+            }
+        }
+    }
+}
+
+/// Checks that `portal` has a row, and that it has this version.
+fn see_office<S: Alter>(conn: &mut Connection<S>, version: u32) -> Result<(), OpenFault>
+    ensures reads { Reads First S.Store Always
+        (Answers (λ db _. HasVersion version db.trees)
+        (λ db fault. RefusalSays fault version (Unit {0}) db.trees))
+        result conn.old conn.new }
+    ensures shows { HasCleanDisk (state S.Store conn.new)
+        → OnOk result (ShowsVersion version (state S.Store conn.new)) }
+{
+    match read(conn, Query::Office) {
+        Ok(rows) => judge_office(&rows, version),
+        Err(error) => Err(open_fault_of(error)),
+    }
+}
+
+/// Checks that the first round's tables can be queried and have this version. `own` says that they
+/// are the portal's own.
+pub(crate) fn see_first<S: Alter>(
+    conn: &mut Connection<S>,
+    own: bool,
+    version: u32,
+) -> Result<(), OpenFault>
+    ensures looks { OnlyLooks (state S.Store conn.old) (state S.Store conn.new) }
+    ensures shows { HasCleanDisk (state S.Store conn.new)
+        → OnOk result (ShowsVersion version (state S.Store conn.new)) }
+    ensures version { IsSettled (state S.Store conn.old) → HasFirstSchema conn.old.schema
+        → HasCleanDisk (state S.Store conn.new)
+        → OnOk result (HasVersion version (state S.Store conn.old).now.trees) }
+    ensures reads { IsTrue own → Reads First S.Store Always
+        (Answers (λ db _. HasVersion version db.trees)
+        (λ db fault. RefusalSays fault version (Unit {0}) db.trees))
+        result conn.old conn.new }
+{
+    let queries = [
+        Query::Office,
+        Query::Whole(RollTable::Lecturers),
+        Query::Whole(RollTable::Projects),
+        Query::Whole(RollTable::Students),
+        Query::AllLists(Lists::Choices),
+        Query::AllLists(Lists::Rankings),
+    ];
+    see_tables(conn, own, &queries)?;
+    see_office(conn, version)
+}
+
+/// Checks that the rowids of a single table are distinct. They are in a sound database, so
+/// otherwise it returns `Store`.
+pub(crate) fn see_row_numbers<S: Alter>(
+    conn: &mut Connection<S>,
+    table: Table,
+) -> Result<(), OpenFault>
+    ensures refused { IfErr result SaysNothing }
+    ensures reads { Reads (table_round table) S.Store Always
+        (Gives (λ db _. RowNumbersDiffer (db.trees (table_tree table)))) result conn.old conn.new }
+{
+    match row_numbers_differ(conn, table) {
+        Ok(true) => Ok(()),
+        Ok(false) => Err(OpenFault::Store),
+        Err(error) => Err(open_fault_of(error)),
+    }
+}
+
+/// Checks that the rowids of each roll are distinct.
+fn see_rolls_numbers<S: Alter>(conn: &mut Connection<S>) -> Result<(), OpenFault>
+    ensures refused { IfErr result SaysNothing }
+    ensures reads { Reads First S.Store Always
+        (Gives (λ db _.
+        AllNumbersDiffer (lecturer_tree ∷ project_tree ∷ student_tree ∷ []) db.trees))
+        result conn.old conn.new }
+{
+    see_row_numbers(conn, Table::OfRoll(RollTable::Lecturers))?;
+    see_row_numbers(conn, Table::OfRoll(RollTable::Projects))?;
+    see_row_numbers(conn, Table::OfRoll(RollTable::Students))
+}
+
+/// Checks that the rowids of the first round's lists and rankings are distinct.
+fn see_lists_numbers<S: Alter>(conn: &mut Connection<S>) -> Result<(), OpenFault>
+    ensures refused { IfErr result SaysNothing }
+    ensures reads { Reads First S.Store Always
+        (Gives (λ db _. AllNumbersDiffer (choice_tree ∷ ranking_tree ∷ []) db.trees))
+        result conn.old conn.new }
+{
+    see_row_numbers(conn, Table::OfLists(Lists::Choices))?;
+    see_row_numbers(conn, Table::OfLists(Lists::Rankings))
+}
+
+/// Checks that a loaded world, in a keeper, is good.
+pub(crate) fn judge_world(alloc: Global, keeper: &ListKeeper) -> Result<(), OpenFault>
+    requires { Sound keeper.now }
+    ensures good { OnOk result (Good keeper.now) }
+    ensures damaged { result ≡ Err OpenFault.Damaged → Good keeper.now → ⊥ }
+    ensures judged { IfErr result (λ fault. (fault ≡ OpenFault.Damaged)
+        ⊎ (fault ≡ OpenFault.Memory)) }
+{
+    match keeper.is_good(alloc) {
+        Ok(true) => Ok(()),
+        Ok(false) => Err(OpenFault::Damaged),
+        Err(_) => Err(OpenFault::Memory),
+    }
+}
+
+/// Loads the first round's world, checks that it is good, and returns its entries.
+fn see_first_world<S: Alter>(
+    alloc: Global,
+    conn: &mut Connection<S>,
+    version: u32,
+) -> Result<Entries, OpenFault>
+    ensures { Reads First S.Store IsDatabase
+        (Answers (λ db e. HasGoodFirst version db.trees × HasEntries e (world_in First db.trees))
+        (λ db fault. Denies fault (HasGoodFirst version db.trees)))
+        result conn.old conn.new }
+{
+    match first_keeper(alloc, conn, version) {
+        Ok(keeper) => {
+            judge_world(alloc, &keeper)?;
+            Ok(keeper.into_entries())
+        }
+        Err(fault) => Err(load_open_fault_of(fault)),
+    }
+}
+
+/// Checks that rowids are distinct in the first round's tables of many rows.
+pub(crate) fn see_first_numbers<S: Alter>(conn: &mut Connection<S>) -> Result<(), OpenFault>
+    ensures refused { IfErr result SaysNothing }
+    ensures reads { Reads First S.Store Always
+        (Gives (λ db _. AllNumbersDiffer early_trees db.trees)) result conn.old conn.new }
+{
+    see_rolls_numbers(conn)?;
+    see_lists_numbers(conn)
+}
+
+/// Checks the first round's tables of this version: the rowids, then the world, whose entries it
+/// returns.
+pub(crate) fn judge_first<S: Alter>(
+    alloc: Global,
+    conn: &mut Connection<S>,
+    version: u32,
+) -> Result<Entries, OpenFault>
+    ensures { Reads First S.Store (IsSoundIfOpen S.Store conn.old)
+        (Answers (λ db e. AdmitsAs version db.trees × HasEntries e (world_in First db.trees))
+        (λ db fault. Denies fault (HasGoodFirst version db.trees)))
+        result conn.old conn.new }
+{
+    see_first_numbers(conn)?;
+    see_first_world(alloc, conn, version)
+}
