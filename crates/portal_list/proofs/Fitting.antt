@@ -1,4 +1,5 @@
 -- Rows and entries that fit each other.
+use Rattle.std.proofs.Common.{append_assoc}
 use Rattle.portal_list.proofs.Base.{◌≡◌, Bool, true, false, cond, List, [], ◌∷◌, ◌++◌, map, refl, sym, ◌∙◌, ap, subst, Option, Some, None, option_map, ◌&&◌, filter_map, cons_option, AllByRecursion, LecturerRow, Key, equals, is_before, is_empty, Rise, Round, First, Second, Lecturer, Student, pairs_with, is_same, is_own, not_before_itself, HasNothingEarlier, lecturers_fitting, students_fitting, rules, is_second, choices_in, earlier_choices_in, rankings_with, next_for, rest_for, earlier_for, earlier_rest, with_lists}
 use Rattle.portal_core.specs.declared.rows.StudentRow.{StudentRow}
 
@@ -13,11 +14,7 @@ rest_map {V} {W} f k (p ∷ ps) = elim (equals p.0 k) as (λ b. map {B = Key × 
 -- one more in front of what is still to come, or behind what is there
 pub moved : {X : Type 0} (es : List X) (e : X) (o : Option (List X)) → option_map (λ xs. (es ++ e ∷ []) ++ xs) o ≡ option_map (λ xs. es ++ xs) (option_map (λ xs. e ∷ xs) o)
 moved es e None = refl
-moved es e (Some xs) = ap Some (moved_list es)
-  where
-    moved_list : (ds : List _) → (ds ++ e ∷ []) ++ xs ≡ ds ++ (e ∷ xs)
-    moved_list [] = refl
-    moved_list (d ∷ ds) = ap (λ ys. d ∷ ys) (moved_list ds)
+moved es e (Some xs) = ap Some (append_assoc es (e ∷ []) xs)
 
 -- what is there of some rows, each under its key
 module _ {X V : Type 0} (key : X → Key) (opt : X → Option V) where
@@ -55,10 +52,11 @@ put_back {V} k (p ∷ ps) = at (equals p.0 k) refl
     at true e = λ i. (sym (is_same p.0 k e) i, p.1) ∷ ps
     at false e = refl
 
-none_left : {X Y Z : Type 0} (cs : List X) (ps : List Y) (y z : Z) → cond (is_empty cs && is_empty ps) (Some y) None ≡ Some z → (cs ≡ []) × (ps ≡ []) × (y ≡ z)
-none_left [] [] y z e = let same : y ≡ z = cc in (refl, refl, same)
-none_left [] (p ∷ ps) y z e = cc
-none_left (c ∷ cs) ps y z e = cc
+-- nothing is left of any
+four_left : {W X Y Z V : Type 0} (cs : List W) (ps : List X) (es : List Y) (qs : List Z) (y z : V) → cond (is_empty cs && is_empty ps && is_empty es && is_empty qs) (Some y) None ≡ Some z
+    → (cs ≡ []) × (ps ≡ []) × (es ≡ []) × (qs ≡ []) × (y ≡ z)
+four_left [] [] [] [] y z e = let same : y ≡ z = cc in (refl, refl, refl, refl, same)
+four_left _ ps es qs y z e = cc
 
 -- lecturers
 
@@ -77,7 +75,9 @@ abbrev lecturer_made : LecturerRow → List (Key × List Key) → List (Key × L
 lecturer_made r ps qs = record { row = r; ranking = next_for r.key ps; earlier_ranking = next_for r.key qs }
 
 pub lecturers_rows : (rs : List LecturerRow) (ps qs : List (Key × List Key)) (ls : List Lecturer) → lecturers_fitting rs ps qs ≡ Some ls → RowsAre ls rs ps qs
-lecturers_rows [] ps qs ls e = search (rules, none_left)
+lecturers_rows [] ps qs ls e =
+    let left = four_left {W = LecturerRow} {X = LecturerRow} [] [] ps qs [] ls e in
+    (ap (map (λ (l : Lecturer). l.row)) (sym left.4), ap (rankings_with (λ (l : Lecturer). l.ranking)) (sym left.4) ∙ sym left.2, ap (rankings_with (λ (l : Lecturer). l.earlier_ranking)) (sym left.4) ∙ sym left.3)
 lecturers_rows (r ∷ rs) ps qs ls e = at (lecturers_fitting rs (rest_for r.key ps) (rest_for r.key qs)) (λ ms f. lecturers_rows rs (rest_for r.key ps) (rest_for r.key qs) ms f) e
   where
     at : (o : Option (List Lecturer)) → ((ms : List Lecturer) → o ≡ Some ms → RowsAre ms rs (rest_for r.key ps) (rest_for r.key qs)) → option_map (λ ms. lecturer_made r ps qs ∷ ms) o ≡ Some ls → RowsAre ls (r ∷ rs) ps qs
@@ -131,11 +131,6 @@ earlier_back : (round : Round) (s : Student) (ts : List Student) (es : List (Key
     → earlier_choices_in round (s ∷ ts) ≡ es
 earlier_back First s ts es taken left = left
 earlier_back Second s ts es taken left = search (rules, put_back)
-
-four_left : {W X Y Z V : Type 0} (cs : List W) (ps : List X) (es : List Y) (qs : List Z) (y z : V) → cond (is_empty cs && is_empty ps && is_empty es && is_empty qs) (Some y) None ≡ Some z
-    → (cs ≡ []) × (ps ≡ []) × (es ≡ []) × (qs ≡ []) × (y ≡ z)
-four_left [] [] [] [] y z e = let same : y ≡ z = cc in (refl, refl, refl, refl, same)
-four_left _ ps es qs y z e = cc
 
 -- what the rows of students are
 abbrev ListsAre : Round → List Student → List StudentRow → List (Key × List Key) → List (Key × Key) → List (Key × List Key) → List (Key × Key) → Type 0

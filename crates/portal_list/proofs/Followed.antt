@@ -1,5 +1,5 @@
 -- The entries of a world after a change of it.
-use Rattle.portal_list.proofs.Base.{◌≡◌, true, List, map, refl, sym, ap, ◌∙◌, World, Lecturer, Student, catalogue, with_choice, with_ranking, changed, Choices, Ranks, Key, AllEntries, HasEntries, entries_in, filled, catalogue_in, Bool, false, cond, Some, None, is_none, not, ◌&&◌, is_empty, student_key, applicants_of, with_missing, rules, Change, To, Fill, with_fill, catalogue_chosen, catalogue_ranked, catalogue_filled, is_followed, unless_empty}
+use Rattle.portal_list.proofs.Base.{arith, ◌≡◌, true, List, map, refl, sym, ap, ◌∙◌, World, Lecturer, Student, catalogue, with_choice, with_ranking, changed, Choices, Ranks, Key, AllEntries, HasEntries, entries_in, filled, catalogue_in, Bool, cond, Some, None, is_none, not, ◌&&◌, is_empty, student_key, applicants_of, with_missing, rules, Change, To, Fill, with_fill, catalogue_chosen, catalogue_ranked, catalogue_filled, is_followed, unless_empty}
 use Rattle.portal_core.proofs.Kept.{empty_map}
 use Rattle.portal_list.proofs.Parted.{applicants_are}
 
@@ -13,10 +13,7 @@ module _ (w : World) where
     where
       by_case : (none empty : Bool) → with_missing l (cond none (cond empty None (Some (map student_key (applicants_of w l.row.key)))) None)
           ≡ cond (not empty && none) (record l { ranking = Some (map student_key (applicants_of w l.row.key)) }) l
-      by_case true true = refl
-      by_case true false = refl
-      by_case false true = refl
-      by_case false false = refl
+      by_case none empty = grind arith
 
   pub all_filled : map (filled w.projects w.students) w.lecturers ≡ map (with_fill w) w.lecturers
   all_filled = λ i. map (λ l. filled_is l i) w.lecturers

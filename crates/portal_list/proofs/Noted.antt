@@ -2,12 +2,12 @@
 use Rattle.portal_list.proofs.Base.{◌≡◌, ℕ, zero, suc, ◌+◌, ◌<◌, ◌≤◌, Bool, true, false, cond, List, [], ◌∷◌, ◌++◌, map, take, length, get_or, Bor, Vec, Global, Option, Some, None, refl, sym, ◌∙◌, ap, arith, ◌==◌, ◌||◌, ◌&&◌, slice_set, unwrap_or, list_any, or-true, or-false, length-take, map_push, text_eq, Key, equals, has, Student, is_same, passes_at, is_among, is_noted_in, is_noted, IsIndexOf, rules, replicate, eq-eqb, ne_eqb, or_assoc, and-true, and-false, get_or-set_same, get_or-set_other, list_any_more, list_any-append, is_sym}
 use Rattle.std.specs.HashMap as hash
 use Rattle.std.specs.HashMap.{HashMap}
+use Rattle.std.proofs.Math.Bool.{and-or_distrib_right}
 use lib.Dec.{eqb-zero-suc, eqb-suc-zero, eqb-suc-suc}
 use Rattle.portal_list.proofs.Steps.{grown}
 
 among_push : (ns : List ℕ) (n i : ℕ) → is_among (ns ++ n ∷ []) i ≡ (is_among ns i || (n == i))
-among_push [] n i = or-false (n == i)
-among_push (m ∷ ms) n i = ap (λ b. (m == i) || b) (among_push ms n i) ∙ sym (or_assoc (m == i) (is_among ms i) (n == i))
+among_push ns n i = list_any-append (λ m. m == i) ns (n ∷ []) ∙ ap (λ b. is_among ns i || b) (or-false (n == i))
 
 -- the places of an entry, or none
 abbrev pub noted : Option (Vec ℕ Global) → List ℕ
@@ -38,21 +38,12 @@ noted_put s t k v n updates items q i = go (equals q.now k.now) refl
         let now : hash.get text_eq t q ≡ hash.get text_eq s q = updates.0 q ∙ ap (λ b. cond b (Some v) (hash.get text_eq s q)) (is_sym k.now q.now ∙ e) in
         ap (λ o. is_noted_in o i) now ∙ sym (or-false (is_noted s q i)) ∙ ap (λ b. is_noted s q i || (b && (n == i))) (sym e)
 
-and_or : (a b c : Bool) → ((a && c) || (b && c)) ≡ ((a || b) && c)
-and_or true true c = or_self c
-  where
-    or_self : (x : Bool) → (x || x) ≡ x
-    or_self true = refl
-    or_self false = refl
-and_or true false c = or-false c
-and_or false b c = refl
-
 -- one more project of a list
 pub noted_more : (q k : Key) (choice : List Key) (j : ℕ) (d first old now : Bool) → old ≡ (first || (has (take j choice) q && d)) → now ≡ (old || (equals q k && d)) → j < length choice → get_or choice j k ≡ k
     → now ≡ (first || (has (take (j + 1) choice) q && d))
 noted_more q k choice j d first old now was is_now low at =
     is_now ∙ ap (λ b. b || (equals q k && d)) was ∙ or_assoc first (has (take j choice) q && d) (equals q k && d)
-    ∙ ap (λ b. first || b) (and_or (has (take j choice) q) (equals q k) d ∙ ap (λ b. b && d) (ap (λ x. has (take j choice) q || equals q x) (sym at) ∙ sym (list_any_more (equals q) choice j k low)))
+    ∙ ap (λ b. first || b) (sym (and-or_distrib_right (has (take j choice) q) (equals q k) d) ∙ ap (λ b. b && d) (ap (λ x. has (take j choice) q || equals q x) (sym at) ∙ sym (list_any_more (equals q) choice j k low)))
 
 module _ {X : Type 0} where
   pub passes_push : (p : X → Bool) (xs : List X) (x : X) (i : ℕ) → passes_at p (xs ++ x ∷ []) i ≡ (passes_at p xs i || (p x && (length xs == i)))

@@ -46,24 +46,9 @@ lecturers_fit phase round (l ∷ ls) a b = (record { no_ranking_yet = λ e. (a e
 
 module _ (w : World) where
   pub rolls_of : Sound w → RollsOf w
-  rolls_of sound = record {
-    rise = record {
-      lecturers_rise = subst Rise (sym (lecturer_keys_are w)) sound.lecturers_rise;
-      projects_rise = sound.projects_rise;
-      students_rise = subst Rise (sym (student_keys_are w)) sound.students_rise;
-    };
-    few = record {
-      few_lecturers = omega (arith, length-map w.lecturers (λ l. l.row), sound.few_lecturers);
-      few_projects = sound.few_projects;
-      few_students = omega (arith, length-map w.students (λ s. s.row), sound.few_students);
-    };
-    lecturer_forms = laws.all_map IsLecturer (λ l. l.row) w.lecturers sound.lecturer_forms;
-    project_forms = sound.project_forms;
-    student_forms = laws.all_map IsStudent (λ s. s.row) w.students sound.student_forms;
-    office_form = sound.office_form;
-    lecturers_known = subst (λ keys. AllByRecursion (λ p. has keys p.lecturer ≡ true) w.projects) (sym (lecturer_keys_are w)) sound.lecturers_known;
-    codes = subst AreDistinct (sym (codes_are w)) sound.codes;
-  }
+  rolls_of sound =
+      let codes : AreDistinct (codes_in w.office (world_rows w).lecturers (world_rows w).students) = subst AreDistinct (sym (codes_are w)) sound.codes in
+      search (rules, lecturer_keys_are, student_keys_are, length-map, laws.all_map)
 
   ranked : Sound w → AllByRecursion (λ l. HasRanking (is_published w.phase) (applicant_keys w.projects w.students l.row.key) l.ranking) w.lecturers
   ranked sound =

@@ -1,5 +1,5 @@
 -- Lists without repeats that hold the same keys are as long as each other.
-use Rattle.portal_list.proofs.Base.{◌≡◌, suc, ◌+◌, ◌≤◌, Bool, true, false, cond, List, [], ◌∷◌, length, refl, sym, ◌∙◌, subst, arith, ◌||◌, AllByRecursion, or-true, Key, equals, has, Rise, AreDistinct, IsRanking, is_same, is_own, all_weaker, all_both, none_of, rise_distinct}
+use Rattle.portal_list.proofs.Base.{◌≡◌, ◌+◌, ◌≤◌, Bool, true, false, cond, List, [], ◌∷◌, length, refl, arith, AllByRecursion, or-true, Key, equals, has, Rise, AreDistinct, IsRanking, is_same, is_own, all_weaker, all_both, none_of, rise_distinct}
 
 -- the keys without the first that is k
 without : Key → List Key → List Key
@@ -9,22 +9,12 @@ without k (a ∷ as') = cond (equals k a) as' (a ∷ without k as')
 length_without : (k : Key) (ks : List Key) → has ks k ≡ true → length (without k ks) + 1 ≡ length ks
 unfolding without
 length_without k [] h = cc
-length_without k (a ∷ ks) h = at (equals k a) (length_without k ks) h
-  where
-    at : (b : Bool) → (has ks k ≡ true → length (without k ks) + 1 ≡ length ks) → (b || has ks k) ≡ true → length (cond b ks (a ∷ without k ks)) + 1 ≡ suc (length ks)
-    at true again h = omega arith
-    at false again h = let rest : length (without k ks) + 1 ≡ length ks = again h in omega arith
+length_without k (a ∷ ks) h = grind (arith, length_without k ks)
 
 has_without : (k x : Key) (ks : List Key) → equals k x ≡ false → has ks x ≡ true → has (without k ks) x ≡ true
 unfolding without
 has_without k x [] other h = h
-has_without k x (a ∷ ks) other h = at (equals k a) (equals x a) refl refl (has_without k x ks other) h
-  where
-    at : (b c : Bool) → equals k a ≡ b → equals x a ≡ c → (has ks x ≡ true → has (without k ks) x ≡ true) → (c || has ks x) ≡ true → has (cond b ks (a ∷ without k ks)) x ≡ true
-    at true true e f again h = let same : x ≡ k = is_same x a f ∙ sym (is_same k a e) in let wrong : equals k x ≡ true = subst (λ y. equals k y ≡ true) (sym same) (is_own k) in cc
-    at true false e f again h = h
-    at false true e f again h = rw f refl
-    at false false e f again h = rw f (again h)
+has_without k x (a ∷ ks) other h = grind (arith, has_without k x ks other, is_same x a, is_same k a, is_own k)
 
 pub fits : (ks all : List Key) → AreDistinct ks → AllByRecursion (λ k. has all k ≡ true) ks → length ks ≤ length all
 fits [] all once known = omega arith

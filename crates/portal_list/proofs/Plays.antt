@@ -1,19 +1,15 @@
 -- Who takes part in the second round, from the rows and the pairs of the first round's result.
-use Rattle.portal_list.proofs.Base.{◌≡◌, Bool, true, false, cond, List, [], ◌∷◌, map, refl, sym, ◌∙◌, ap, filter, nat_lt, ◌&&◌, Option, Some, None, option_map, filter_map, Round, First, Second, ProjectRow, Key, has, Rise, Lecturer, Student, lecturer_key, project_key, pairs_with, lowered_lecturer, lecturers_left, projects_left, alone_lecturer, map_same, rise_kept, lecturer_played, project_played, takes_part, rules, lowered_project, students_in}
+use Rattle.portal_list.proofs.Base.{◌≡◌, Bool, true, cond, List, [], ◌∷◌, map, refl, sym, ◌∙◌, ap, filter, nat_lt, arith, ◌&&◌, Option, Some, None, option_map, filter_map, Round, First, Second, ProjectRow, Key, has, Rise, Lecturer, Student, lecturer_key, project_key, pairs_with, lowered_lecturer, lecturers_left, projects_left, alone_lecturer, map_same, rise_kept, lecturer_played, project_played, takes_part, rules, lowered_project, students_in}
 use Rattle.portal_core.proofs.AllLaws.{any_map}
 use Rattle.portal_core.proofs.InPlay.{filter_kept}
 use Rattle.portal_core.proofs.Rooms.{project_left_is, lecturer_left_is, each_left}
 use Rattle.portal_list.proofs.Rising.{map_map}
 
 mapped_case : {X Y : Type 0} (f : X → Y) (x : X) (b : Bool) → option_map f (cond b (Some x) None) ≡ cond b (Some (f x)) None
-mapped_case f x true = refl
-mapped_case f x false = refl
+mapped_case f x b = grind arith
 
 both_case : {X : Type 0} (x : X) (a b : Bool) → cond {A = Option X} b (cond a (Some x) None) None ≡ cond (a && b) (Some x) None
-both_case x true true = refl
-both_case x true false = refl
-both_case x false true = refl
-both_case x false false = refl
+both_case x a b = grind arith
 
 module _ (ls : List Lecturer) (ps : List ProjectRow) (ss : List Student) where
   abbrev pairs : List (Key × Key)
@@ -52,11 +48,7 @@ part_is Second ss = refl
 
 filter_both : {X : Type 0} (a b : X → Bool) (xs : List X) → filter (λ x. a x && b x) xs ≡ filter b (filter a xs)
 filter_both a b [] = refl
-filter_both {X} a b (x ∷ xs) = at (a x) (filter_both a b xs)
-  where
-    at : (c : Bool) → filter (λ x. a x && b x) xs ≡ filter b (filter a xs) → cond (c && b x) (x ∷ filter (λ x. a x && b x) xs) (filter (λ x. a x && b x) xs) ≡ filter b (cond c (x ∷ filter a xs) (filter a xs))
-    at true rest = ap (λ ys. cond (b x) (x ∷ ys) ys) rest
-    at false rest = rest
+filter_both a b (x ∷ xs) = grind (arith, filter_both a b xs)
 
 pub part_and : (b : Student → Bool) (r : Round) (ss : List Student) → filter (λ s. takes_part r s && b s) ss ≡ filter b (students_in r ss)
 part_and b r ss = filter_both (takes_part r) b ss ∙ ap (filter b) (part_is r ss)

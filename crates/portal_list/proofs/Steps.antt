@@ -1,5 +1,7 @@
 -- Steps of loops over lists.
-use Rattle.portal_list.proofs.Base.{◌≡◌, ℕ, ◌+◌, ◌<◌, Bool, true, false, cond, List, [], ◌∷◌, ◌++◌, map, take, length, get_or, append-nil, refl, sym, ◌∙◌, ap, subst, filter, Option, Some, None, AllByRecursion, filter_map, cons_option, filter_map-append, take_more, all_append}
+use Rattle.std.proofs.lemmas.List.{map-append}
+use Rattle.std.proofs.lemmas.List.Elements.{filter-append}
+use Rattle.portal_list.proofs.Base.{◌≡◌, ℕ, ◌+◌, ◌<◌, Bool, true, false, cond, List, [], ◌∷◌, ◌++◌, map, take, length, get_or, append-nil, sym, ◌∙◌, ap, subst, filter, Option, Some, None, AllByRecursion, filter_map, cons_option, filter_map-append, take_more, all_append}
 
 -- one more element
 pub grown : {X : Type 0} (xs : List X) (i : ℕ) (x : X) → i < length xs → get_or xs i x ≡ x → take (i + 1) xs ≡ take i xs ++ x ∷ []
@@ -8,21 +10,18 @@ grown xs i x low at = take_more xs i x low ∙ ap (λ y. take i xs ++ y ∷ []) 
 pub all_more : {X : Type 0} (P : X → Type 0) (xs : List X) (i : ℕ) (x : X) → i < length xs → get_or xs i x ≡ x → AllByRecursion P (take i xs) → P x → AllByRecursion P (take (i + 1) xs)
 all_more P xs i x low at all here = subst (AllByRecursion P) (sym (grown xs i x low at)) (all_append P (take i xs) (x ∷ []) all (here, tt))
 
-filter_push : {X Y : Type 0} (p : X → Bool) (f : X → Y) (xs : List X) (x : X) (b : Bool) → p x ≡ b → map f (filter p (xs ++ x ∷ [])) ≡ map f (filter p xs) ++ cond b (f x ∷ []) []
-filter_push p f [] x b e = rw e (last b)
-  where
-    last : (c : Bool) → map f (cond c (x ∷ []) []) ≡ cond c (f x ∷ []) []
-    last true = refl
-    last false = refl
-filter_push {X} {Y} p f (y ∷ ys) x b e = at (p y) (filter_push p f ys x b e)
-  where
-    at : (c : Bool) → map f (filter p (ys ++ x ∷ [])) ≡ map f (filter p ys) ++ cond b (f x ∷ []) []
-        → map f (cond c (y ∷ filter p (ys ++ x ∷ [])) (filter p (ys ++ x ∷ []))) ≡ map f (cond c (y ∷ filter p ys) (filter p ys)) ++ cond b (f x ∷ []) []
-    at true rest = ap (λ zs. f y ∷ zs) rest
-    at false rest = rest
+-- one more element, with what f makes of it if it passes
+module _ {X Y : Type 0} (p : X → Bool) (f : X → Y) (xs : List X) (i : ℕ) (x : X) (low : i < length xs) (at : get_or xs i x ≡ x) where
+  passed : (b : Bool) → p x ≡ b → map f (filter p (take (i + 1) xs)) ≡ map f (filter p (take i xs)) ++ map f (cond b (x ∷ []) [])
+  passed b e =
+      ap (λ ys. map f (filter p ys)) (grown xs i x low at) ∙ ap (map f) (filter-append p (take i xs) (x ∷ [])) ∙ map-append f (filter p (take i xs)) (filter p (x ∷ []))
+      ∙ ap (λ c. map f (filter p (take i xs)) ++ map f (cond c (x ∷ []) [])) e
 
-pub filter_more : {X Y : Type 0} (p : X → Bool) (f : X → Y) (xs : List X) (i : ℕ) (x : X) (b : Bool) → i < length xs → get_or xs i x ≡ x → p x ≡ b → map f (filter p (take (i + 1) xs)) ≡ map f (filter p (take i xs)) ++ cond b (f x ∷ []) []
-filter_more p f xs i x b low at e = ap (λ ys. map f (filter p ys)) (grown xs i x low at) ∙ filter_push p f (take i xs) x b e
+  pub kept_more : p x ≡ true → map f (filter p (take (i + 1) xs)) ≡ map f (filter p (take i xs)) ++ f x ∷ []
+  kept_more e = passed true e
+
+  pub left_more : p x ≡ false → map f (filter p (take (i + 1) xs)) ≡ map f (filter p (take i xs))
+  left_more e = passed false e ∙ append-nil (map f (filter p (take i xs)))
 
 -- one more element that gives something, or nothing
 module _ {X Y : Type 0} (h : X → Option Y) (xs : List X) (i : ℕ) (x : X) (low : i < length xs) (at : get_or xs i x ≡ x) where

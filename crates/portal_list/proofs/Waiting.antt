@@ -1,14 +1,10 @@
 -- A lecturer is still to rank.
-use Rattle.portal_list.proofs.Base.{◌≡◌, Bool, true, false, cond, List, [], ◌∷◌, refl, sym, ◌∙◌, ap, map, filter, is_none, not, ◌&&◌, ◌||◌, list_any, Key, equals, has, is_empty, World, Student, Lecturer, is_still_to_rank, ProjectRow, is_waiting, and_comm, any_or, any_nowhere, is_wanted}
+use Rattle.portal_list.proofs.Base.{◌≡◌, Bool, true, false, cond, List, [], ◌∷◌, refl, sym, ◌∙◌, ap, map, filter, is_none, not, ◌&&◌, ◌||◌, list_any, Key, equals, has, is_empty, World, Student, Lecturer, is_still_to_rank, ProjectRow, is_waiting, and_comm, any_or, any_nowhere, is_wanted, arith}
 
 -- some element passes
 any_left : {X : Type 0} (p : X → Bool) (xs : List X) → not (is_empty (filter p xs)) ≡ list_any p xs
 any_left p [] = refl
-any_left {X} p (x ∷ xs) =
-    elim (p x) as (λ b. not (is_empty (cond b (x ∷ filter p xs) (filter p xs))) ≡ (b || list_any p xs)) [
-      | true ↦ refl
-      | false ↦ any_left p xs
-    ]
+any_left p (x ∷ xs) = grind (arith, any_left p xs)
 
 -- some list holds a project of the lecturer
 wanted : (ss : List Student) (l : Key) (ps : List ProjectRow) → list_any (λ s. list_any (λ p. has s.choice p.key) (filter (λ p. equals p.lecturer l) ps)) ss ≡ is_wanted ss ps l

@@ -3,6 +3,7 @@
 ghost use Rattle.std.specs.Prelude.{◌≡◌, [], None, IfOk, option_map};
 ghost use Rattle.portal_core.specs.Words.{has};
 
+use crate::collecting::try_map;
 use crate::entries::StudentEntry;
 use portal_core::{Name, Person, ProjectRow, StudentRow, copy_keys};
 use spa_rows::Key;
@@ -29,10 +30,7 @@ pub(crate) fn person_of(alloc: Global, key: &Key, name: &Name) -> Result<Person,
 pub(crate) fn place_copy(alloc: Global, project: Option<&Key>) -> Result<Option<Key>, AllocError>
     ensures { IfOk result (λ o. o ≡ option_map (λ p. p.now) project.entry) }
 {
-    match project {
-        Some(key) => Ok(Some(key.copy(alloc)?)),
-        None => Ok(None),
-    }
+    project.map(|key| key.copy(alloc)).transpose()
 }
 
 /// Makes a pair from copies of the student's key and the project, if there is one.
@@ -58,10 +56,8 @@ pub(crate) fn ranking_copy(
     ensures { IfOk result (λ r. option_map (λ v. v.items) r
         ≡ option_map (λ v. v.items) ranking.now) }
 {
-    match ranking {
-        Some(keys) => Ok(Some(copy_keys(alloc, keys)?)),
-        None => Ok(None),
-    }
+    let keys = ranking.as_ref();
+    keys.map(|keys| copy_keys(alloc, keys)).transpose()
 }
 
 /// Makes a student's entry from copies of the row, the list and the placement, without data of an
@@ -96,9 +92,5 @@ pub(crate) fn project_rows_of(
 ) -> Result<Vec<ProjectRow>, AllocError>
     ensures { IfOk result (λ v. v.items ≡ rows.now) }
 {
-    let mut copies = Vec::with_capacity(alloc, rows.len())?;
-    for row in rows {
-        copies.push(row.copy(alloc)?)?;
-    }
-    Ok(copies)
+    try_map(alloc, rows, |row| row.copy(alloc))
 }

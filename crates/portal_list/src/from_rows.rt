@@ -106,39 +106,31 @@ fn fitted(alloc: Global, rows: WorldRows) -> Result<Entries, RowsFault>
     ensures refused { result ≡ Err RowsFault.NotGood → (w : World) → rows ≡ world_rows w → Sound w
         → ⊥ }
 {
-    let WorldRows {
-        round,
-        phase: _,
-        office: _,
-        lecturers,
-        projects,
-        students,
-        choices,
-        rankings,
-        pairs,
-        earlier_choices,
-        earlier_rankings,
-        earlier_pairs,
-    } = rows;
-    let Some(lecturers) = lecturer_entries(alloc, lecturers, rankings, earlier_rankings)? else {
+    let Some(lecturers) = lecturer_entries(
+        alloc,
+        rows.lecturers,
+        rows.rankings,
+        rows.earlier_rankings,
+    )?
+    else {
         return Err(RowsFault::NotGood);
     };
     let Some(students) = student_entries(
         alloc,
-        round,
-        students,
-        choices,
-        pairs,
-        earlier_choices,
-        earlier_pairs,
+        rows.round,
+        rows.students,
+        rows.choices,
+        rows.pairs,
+        rows.earlier_choices,
+        rows.earlier_pairs,
     )?
     else {
         return Err(RowsFault::NotGood);
     };
     Ok(Entries {
-        round,
+        round: rows.round,
         lecturers,
-        projects,
+        projects: rows.projects,
         students,
     })
 }

@@ -141,15 +141,13 @@ impl ListKeeper {
         ensures made { OnOk result (self.new ≡ changed self.old (Lecturers rows.now)) }
         ensures same { OnErr result (self.new ≡ self.old) }
     {
-        match self.entries.round {
-            Round::First => {
-                let fresh = new_lecturers(alloc, rows)?;
-                add_rows(&mut self.entries.lecturers, fresh)?;
-                self.catalogue = None;
-                Ok(())
-            }
-            Round::Second => Ok(()),
+        if self.entries.round == Round::Second {
+            return Ok(());
         }
+        let fresh = new_lecturers(alloc, rows)?;
+        add_rows(&mut self.entries.lecturers, fresh)?;
+        self.catalogue = None;
+        Ok(())
     }
 
     /// Adds projects in the first round, and does nothing in the second.
@@ -157,15 +155,13 @@ impl ListKeeper {
         ensures made { OnOk result (self.new ≡ changed self.old (Projects rows.now)) }
         ensures same { OnErr result (self.new ≡ self.old) }
     {
-        match self.entries.round {
-            Round::First => {
-                let fresh = project_rows_of(alloc, rows)?;
-                add_rows(&mut self.entries.projects, fresh)?;
-                self.catalogue = None;
-                Ok(())
-            }
-            Round::Second => Ok(()),
+        if self.entries.round == Round::Second {
+            return Ok(());
         }
+        let fresh = project_rows_of(alloc, rows)?;
+        add_rows(&mut self.entries.projects, fresh)?;
+        self.catalogue = None;
+        Ok(())
     }
 
     /// Adds students in the first round, and does nothing in the second.
@@ -173,13 +169,11 @@ impl ListKeeper {
         ensures made { OnOk result (self.new ≡ changed self.old (Students rows.now)) }
         ensures same { OnErr result (self.new ≡ self.old) }
     {
-        match self.entries.round {
-            Round::First => {
-                let fresh = new_students(alloc, rows)?;
-                add_rows(&mut self.entries.students, fresh)
-            }
-            Round::Second => Ok(()),
+        if self.entries.round == Round::Second {
+            return Ok(());
         }
+        let fresh = new_students(alloc, rows)?;
+        add_rows(&mut self.entries.students, fresh)
     }
 
     /// Opens the second round if the first is published, without allocating.

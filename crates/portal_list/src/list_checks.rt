@@ -13,7 +13,7 @@ use crate::applicant_index::ApplicantIndex;
 use crate::entries::{Entries, LecturerEntry, StudentEntry};
 use crate::keys::{is_known, keys_are_distinct};
 use crate::second_round::played;
-use portal_core::{Phase, ProjectRow, Round, own_keys};
+use portal_core::{Keyed, Phase, ProjectRow, Round, own_keys};
 use spa_rows::Key;
 use spa_rows::limits::LONGEST_CHOICE;
 use std::alloc::{AllocError, Global};
@@ -77,13 +77,12 @@ fn entries_fit(phase: Phase, entries: &Entries) -> bool
         && lecturers_fit(phase, entries.round, &entries.lecturers)
 }
 
-/// Returns whether every key on a list is that of a project.
-fn are_projects(projects: &[ProjectRow], keys: &[Key]) -> bool
-    requires { Rise (map project_key projects.now) }
-    ensures { IsTrue result
-        ↔ AllByRecursion (λ k. has (map project_key projects.now) k ≡ true) keys.now }
+/// Returns whether every key is that of one of the rows, whose keys rise.
+fn are_known<K: Keyed>(rows: &[K], keys: &[Key]) -> bool
+    requires { Rise (map K.key_of rows.now) }
+    ensures { IsTrue result ↔ AllByRecursion (λ k. has (map K.key_of rows.now) k ≡ true) keys.now }
 {
-    keys.iter().all(|key| is_known(projects, key))
+    keys.iter().all(|key| is_known(rows, key))
 }
 
 /// Returns whether a stored list obeys the rules: at most 20 keys, all of projects, all distinct.
@@ -94,7 +93,7 @@ fn is_choice(alloc: Global, projects: &[ProjectRow], choice: &[Key]) -> Result<b
     if choice.len() > LONGEST_CHOICE {
         return Ok(false);
     }
-    if !are_projects(projects, choice) {
+    if !are_known(projects, choice) {
         return Ok(false);
     }
     keys_are_distinct(alloc, choice)
@@ -146,15 +145,6 @@ pub(crate) fn applicants<'a>(
     wanted.wanting(alloc, &own)
 }
 
-/// Returns whether every key of a ranking is that of an applicant.
-fn are_applicants(applicants: &[&Key], keys: &[Key]) -> bool
-    requires { Rise (map (λ k. k.now) applicants.now) }
-    ensures { IsTrue result
-        ↔ AllByRecursion (λ k. has (map (λ a. a.now) applicants.now) k ≡ true) keys.now }
-{
-    keys.iter().all(|key| is_known(applicants, key))
-}
-
 /// Returns whether a stored ranking obeys the rules: each applicant once, and nobody else.
 fn is_ranking(alloc: Global, applicants: &[&Key], ranking: &[Key]) -> Result<bool, AllocError>
     requires { Rise (map (λ k. k.now) applicants.now) }
@@ -164,7 +154,7 @@ fn is_ranking(alloc: Global, applicants: &[&Key], ranking: &[Key]) -> Result<boo
     if ranking.len() != applicants.len() {
         return Ok(false);
     }
-    if !are_applicants(applicants, ranking) {
+    if !are_known(applicants, ranking) {
         return Ok(false);
     }
     keys_are_distinct(alloc, ranking)

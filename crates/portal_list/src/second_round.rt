@@ -63,13 +63,9 @@ fn lecturers_played(
     ensures { IfOk result (λ v. v.items
         ≡ filter_map (lecturer_played projects.now pairs.now) lecturers.now) }
 {
-    let mut found = Vec::new(alloc);
-    for lecturer in lecturers {
-        if let Some(left) = lecturer_played(alloc, projects, pairs, lecturer)? {
-            found.push(left)?;
-        }
-    }
-    Ok(found)
+    try_filter_map(alloc, lecturers, |l| {
+        lecturer_played(alloc, projects, pairs, l)
+    })
 }
 
 /// Returns whether one of the second round's lecturers has the key.
@@ -107,13 +103,9 @@ fn projects_played(
     ensures { IfOk result (λ v. v.items
         ≡ filter_map (project_played lecturers.now pairs.now) projects.now) }
 {
-    let mut found = Vec::new(alloc);
-    for project in projects {
-        if let Some(left) = project_played(alloc, lecturers, pairs, project)? {
-            found.push(left)?;
-        }
-    }
-    Ok(found)
+    try_filter_map(alloc, projects, |p| {
+        project_played(alloc, lecturers, pairs, p)
+    })
 }
 
 /// Selects the second round's students: copies those without a project of the first round. The

@@ -10,17 +10,18 @@ mod catalogue;
 mod office;
 mod placements;
 
-use crate::copies::{person_of, place_copy, ranking_copy};
+use crate::copies::{person_of, place_copy, project_rows_of, ranking_copy};
 use crate::entries::{LecturerEntry, StudentEntry};
 use crate::keeper::ListKeeper;
 use by_project::{applicants_by_project, placed_by_project};
 pub(crate) use catalogue::catalogue_of;
 pub use catalogue::{HasLecturerRow, listings_of};
 pub(crate) use office::waiting;
-use office::{lecturer_rows, project_rows, still_to_rank, student_rows, without_list};
+use office::{lecturer_rows, still_to_rank, student_rows, without_list};
 use placements::{pairs_of, placement_shown};
 use portal_core::{LecturerView, OfficeView, StudentView, copy_keys};
 use std::alloc::{AllocError, Global};
+use std::rc::Rc;
 
 /// Finds the entry of the lecturer with this code.
 pub(crate) fn lecturer_with<'a>(
@@ -106,9 +107,9 @@ pub(crate) fn office_view(alloc: Global, keeper: &ListKeeper) -> Result<OfficeVi
         round: entries.round,
         phase: keeper.phase,
         office_code: keeper.office.copy(alloc)?,
-        lecturers: lecturer_rows(alloc, &entries.lecturers)?,
-        projects: project_rows(alloc, &entries.projects)?,
-        students: student_rows(alloc, &entries.students)?,
+        lecturers: Rc::new(alloc, lecturer_rows(alloc, &entries.lecturers)?)?,
+        projects: Rc::new(alloc, project_rows_of(alloc, &entries.projects)?)?,
+        students: Rc::new(alloc, student_rows(alloc, &entries.students)?)?,
         catalogue: keeper.catalogue(alloc)?,
         without_list: without_list(alloc, entries.round, &entries.students)?,
         still_to_rank: still_to_rank(

@@ -4,7 +4,7 @@ ghost use Rattle.std.specs.Prelude.{◌≡◌, ◌↔◌, IfOk, IsTrue, true, ma
 ghost use Rattle.spa_model.specs.Pairs.{number_in};
 ghost use Rattle.spa_model.specs.Spa.{IsStable};
 ghost use Rattle.portal_core.specs.Good.{Good, Sound, IsRound};
-ghost use Rattle.portal_core.specs.World.{first, first_published, first_placed, is_second};
+ghost use Rattle.portal_core.specs.World.{first, first_published, is_second};
 ghost use Rattle.portal_list.specs.Rows.{HasSoundFirst};
 ghost use Rattle.portal_list.specs.inner.Parts.{IsStableIfPublished, RollsOf};
 ghost use Rattle.portal_list.specs.inner.Played.{takes_part};
@@ -73,18 +73,6 @@ fn first_lecturer(alloc: Global, lecturer: &LecturerEntry) -> Result<LecturerEnt
     })
 }
 
-/// Copies the student as of the first round's publication, to test that round's result.
-fn first_student(alloc: Global, student: &StudentEntry) -> Result<StudentEntry, AllocError>
-    ensures { IfOk result (λ s. s ≡ first_placed student.now) }
-{
-    student_copy(
-        alloc,
-        &student.row,
-        &student.earlier_choice,
-        student.earlier_placement.as_ref(),
-    )
-}
-
 impl ListKeeper {
     /// Returns whether the result of the current round, if published, is a stable matching.
     fn is_settled(&self, alloc: Global) -> Result<bool, AllocError>
@@ -112,7 +100,14 @@ impl ListKeeper {
                 round: Round::First,
                 lecturers: try_map(alloc, &self.entries.lecturers, |l| first_lecturer(alloc, l))?,
                 projects: project_rows_of(alloc, &self.entries.projects)?,
-                students: try_map(alloc, &self.entries.students, |s| first_student(alloc, s))?,
+                students: try_map(alloc, &self.entries.students, |s| {
+                    student_copy(
+                        alloc,
+                        &s.row,
+                        &s.earlier_choice,
+                        s.earlier_placement.as_ref(),
+                    )
+                })?,
             },
             catalogue: None,
         })

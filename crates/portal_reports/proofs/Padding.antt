@@ -1,5 +1,5 @@
 -- What std writes for a place of a width is the padding of the definition.
-use Rattle.portal_reports.proofs.Base.{◌≡◌, ℕ, ◌<◌, Bool, true, false, List, [], ◌∷◌, ◌++◌, length, refl, ap, ◌∙◌, arith, rules, IsTrue, decimal, ◌&&◌, nat_lt, nat_le, list_all, styled_text, styled_decimal, and_parts, common_steps, padded_left, padded_right, is_short, zero, suc, ◌+◌, ◌-◌, ◌≤◌, replicate, append-nil, if◌then◌else◌, ◌||◌, ◌==◌, repeat, format_spec, is_char_start, leb-true}
+use Rattle.portal_reports.proofs.Base.{◌≡◌, ℕ, Bool, true, false, List, [], ◌∷◌, ◌++◌, length, refl, ap, ◌∙◌, arith, IsTrue, decimal, ◌&&◌, nat_lt, nat_le, list_all, styled_text, styled_decimal, and_parts, common_steps, padded_left, padded_right, is_short, zero, suc, ◌+◌, ◌-◌, ◌≤◌, replicate, append-nil, if◌then◌else◌, ◌||◌, ◌==◌, repeat, format_spec, is_char_start, leb-true}
 use Rattle.std.specs.Char.{encode_utf8}
 use Rattle.std.specs.Fmt.{padded, padded_integral, take_chars, char_count}
 
@@ -34,20 +34,12 @@ unfolding take_chars
 take-all n [] all le = refl
 take-all n (b ∷ text) all le =
     let parts = and_parts (nat_lt b 128) (list_all (λ c. nat_lt c 128) text) all in
+    let positive : (n == 0) ≡ false = grind (arith, common_steps, le) in
     ap (λ t. if t then (if n == 0 then [] else b ∷ take_chars (n - 1) text) else b ∷ take_chars n text) (start b parts.0)
-    ∙ (ap (λ t. if t then [] else b ∷ take_chars (n - 1) text) (positive n (omega (arith, le)))
-    ∙ ap (λ xs. b ∷ xs) (take-all (n - 1) text parts.1 (omega (arith, le))))
-  where
-    positive : (n : ℕ) → 0 < n → (n == 0) ≡ false
-    positive n some = grind (arith, common_steps, some)
+    ∙ (ap (λ t. if t then [] else b ∷ take_chars (n - 1) text) positive ∙ ap (λ xs. b ∷ xs) (take-all (n - 1) text parts.1 (omega (arith, le))))
 
 short : (text : List ℕ) → IsTrue (is_short text) → (length text ≤ 16) × (list_all (λ b. nat_lt b 128) text ≡ true)
-short text is = go (nat_le (length text) 16) (list_all (λ b. nat_lt b 128) text) refl refl is
-  where
-    go : (p q : Bool) → nat_le (length text) 16 ≡ p → list_all (λ b. nat_lt b 128) text ≡ q → IsTrue (p && q) → (length text ≤ 16) × (list_all (λ b. nat_lt b 128) text ≡ true)
-    go true true e f is = (leb-true (length text) 16 e, f)
-    go true false e f is = absurd (search (rules, is))
-    go false q e f is = absurd (search (rules, is))
+short text is = let parts = and_parts (nat_le (length text) 16) (list_all (λ b. nat_lt b 128) text) is in (leb-true (length text) 16 parts.0, parts.1)
 
 pub left-is : (text : List ℕ) → IsTrue (is_short text) → styled_text (format_spec 32 1 0 16 18446744073709551615) text ≡ padded_left 16 text
 unfolding padded
@@ -78,8 +70,7 @@ after-blanks space room ds same =
     ∙ ap (λ xs. xs ++ ds) (fill space ∙ ap (λ k. replicate {A = ℕ} k 32) same)
 
 not-bare : (t : Bool) (bare padded : List ℕ) → t ≡ false → (if t && true && true then bare else padded) ≡ padded
-not-bare true bare padded e = absurd (cc)
-not-bare false bare padded e = refl
+not-bare t bare padded e = rw e refl
 
 pub right-is : (width n : ℕ) → (width == 0) ≡ false → styled_decimal (format_spec 32 3 0 width 18446744073709551615) n ≡ padded_right width (decimal n)
 unfolding padded_integral char_count

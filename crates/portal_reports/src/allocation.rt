@@ -1,27 +1,12 @@
 //! Writes the result as text.
 
-ghost use Rattle.std.specs.Prelude.{◌≡◌, ◌++◌, IfOk, OnOk, string_bytes};
+ghost use Rattle.std.specs.Prelude.{◌≡◌, ◌++◌, IfOk, OnOk};
 ghost use Rattle.std.specs.List.{flat_map};
 ghost use Rattle.portal_core.specs.Bodies as sheet;
 
 use crate::lines::{assigned_line, placed_line, project_line, unplaced_line};
 use portal_core::{OfficeView, Placings, StudentRow, students_at};
 use std::alloc::{AllocError, Global};
-
-/// Returns the result's line of a student, with a project or without.
-fn student_line(
-    alloc: Global,
-    placings: &Placings,
-    student: &StudentRow,
-) -> Result<String, AllocError>
-    ensures { IfOk result (λ line. string_bytes line
-        ≡ sheet.student_line placings.now student.now) }
-{
-    match placings.project_of(student) {
-        Some(project) => placed_line(alloc, &student.key, project),
-        None => unplaced_line(alloc, &student.key),
-    }
-}
 
 /// Appends the line of a student to the text of the result.
 fn put_student(
@@ -33,7 +18,10 @@ fn put_student(
     ensures { OnOk result (text.new.items ≡ text.old.items
         ++ sheet.student_line placings.now student.now) }
 {
-    let line = student_line(alloc, placings, student)?;
+    let line = match placings.project_of(student) {
+        Some(project) => placed_line(alloc, &student.key, project)?,
+        None => unplaced_line(alloc, &student.key)?,
+    };
     text.extend_from_slice(line.as_bytes())
 }
 

@@ -1,5 +1,5 @@
 -- A row of four columns whose fourth is bad.
-use Rattle.portal_rolls.proofs.Base.{◌≡◌, ℕ, Bool, true, false, not, [], ◌∷◌, Result, Ok, Err, position_from, Text, digits_value, is_capacity, unless_bad, Fails, unless, RollFault, by_columns, formed, limited}
+use Rattle.portal_rolls.proofs.Base.{◌≡◌, arith, ℕ, Bool, not, [], ◌∷◌, Result, Ok, Err, position_from, Text, digits_value, is_capacity, unless_bad, Fails, unless, RollFault, by_columns, formed, limited}
 use Rattle.portal_rolls.specs.declared.fault.RollFault.TheVariants as fault
 
 -- what is an error fails so
@@ -19,8 +19,4 @@ module _ {X : Type 0} (row : ℕ) (p q r : Text → Bool) (first second third ca
     where
       go : (s t u v : Bool) → unless s (fault.BadField row i) (Ok first) ≡ Ok x → unless t (fault.BadField row j) (Ok second) ≡ Ok y → unless u (fault.BadField row k) (Ok third) ≡ Ok z
           → Err e ≡ unless v (fault.BadField row 4) (Ok (digits_value capacity)) → unless_bad row (position_from not 1 (s ∷ t ∷ u ∷ v ∷ [])) line ≡ Err e
-      go true true true false a b c d = cc d
-      go true true true true a b c d = absurd (cc d)
-      go true true false v a b c d = absurd (cc c)
-      go true false u v a b c d = absurd (cc b)
-      go false t u v a b c d = absurd (cc a)
+      go s t u v a b c d = grind arith

@@ -1,12 +1,9 @@
--- Cutting a list field byte by byte, and adding a line at the end of its kind.
-use Rattle.portal_rolls.proofs.Base.{Bor, add-one, ◌≡◌, ◌≢◌, ◌∙◌, ◌+◌, ◌*◌, ◌^◌, ◌<◌, ◌≤◌, ℕ, zero, suc, Bool, true, false, cond, List, [], ◌∷◌, ◌++◌, length, drop, get_or, Some, None, Result, Ok, Err, refl, sym, ap, arith, append_assoc, inl, inr, is_utf8, list_all, nat_tests, eqb-true, le-leb, append-nil, drop_all, field_at, Text, digits_value, Record, rules, eqb, MatchResult, IsUtf8, is_ok, cases_Bool, File, file_of, cut_at_blanks, with_front, list_of, capacity_in}
+-- Cutting a list field byte by byte, and the fields of a record.
+use Rattle.portal_rolls.proofs.Base.{Bor, add-one, ◌≡◌, ◌≢◌, ◌∙◌, ◌+◌, ◌*◌, ◌^◌, ◌<◌, ◌≤◌, ℕ, zero, suc, Bool, true, false, cond, List, [], ◌∷◌, ◌++◌, length, drop, get_or, Some, None, Result, Ok, Err, refl, sym, ap, arith, append_assoc, inl, inr, is_utf8, list_all, nat_tests, eqb-true, le-leb, append-nil, drop_all, field_at, Text, digits_value, Record, rules, eqb, MatchResult, IsUtf8, is_ok, cases_Bool, cut_at_blanks, with_front, list_of, capacity_in}
 use Rattle.std.proofs.Math.Seq.{drop-cons}
 use Rattle.std.specs.Char.{is_ascii_digit}
 use Rattle.std.proofs.Math.Nat.{pow-suc}
 use Rattle.std.proofs.lemmas.Str.{IsUtf8-from_is_utf8, is_utf8-from_IsUtf8}
-use Rattle.std.proofs.lemmas.List.Elements.{filter_map-append}
-use Rattle.portal_rolls.specs.declared.line.Line.{Line}
-use Rattle.portal_rolls.specs.declared.line.Line.TheVariants as variant
 
 -- these bytes before the first piece
 abbrev pub before : Text → List Text → List Text
@@ -62,17 +59,6 @@ text_test (Err e) X bs h = elim (cases_Bool (is_utf8 bs)) [
   | inl is ↦ absurd (h.0 (IsUtf8-from_is_utf8 bs is))
   | inr isnt ↦ sym isnt
 ]
-
--- the file with a line more
-abbrev pub put : File → Line → File
-put f (variant.Lecturer x) = record f { lecturers = f.lecturers ++ x ∷ [] }
-put f (variant.Project x) = record f { projects = f.projects ++ x ∷ [] }
-put f (variant.Student x) = record f { students = f.students ++ x ∷ [] }
-put f (variant.Pair x) = record f { pairs = f.pairs ++ x ∷ [] }
-
-pub put_last : (lines : List Line) (l : Line) → put (file_of lines) l ≡ file_of (lines ++ l ∷ [])
-put_last lines (variant.Lecturer x) = simp (filter_map-append, append-nil)
-put_last lines l = simp (filter_map-append, append-nil)
 
 -- the bound on the value of some digits
 pub ten_pow : (i : ℕ) → i ≤ 6 → 10 ^ i ≤ 1000000

@@ -1,5 +1,5 @@
 -- What is read of a roll has its form.
-use Rattle.portal_rolls.proofs.Base.{◌≡◌, ◌==◌, ◌+◌, ◌≤◌, ◌&&◌, ℕ, Bool, true, false, not, List, [], ◌∷◌, length, map, Result, Ok, Err, IfOk, refl, arith, cons_option, enumerate_from, filter_map, list_all, position_from, result_ok, is_utf8, nat_tests, is_code, is_name, ProjectRow, StudentRow, is_key, Text, digits_value, is_capacity, unless_bad, Format, first_or, line_of, lines_of, reading, unless, Record, RollFault, rules, nat_le, AllByRecursion, is_number, lecturer, project, student, Gives}
+use Rattle.portal_rolls.proofs.Base.{◌≡◌, ◌==◌, ◌+◌, ◌≤◌, ℕ, Bool, true, false, not, List, [], ◌∷◌, length, map, Result, Ok, Err, IfOk, refl, arith, cons_option, enumerate_from, filter_map, list_all, position_from, result_ok, is_utf8, nat_tests, is_code, is_name, ProjectRow, StudentRow, is_key, Text, digits_value, is_capacity, unless_bad, Format, first_or, line_of, lines_of, reading, unless, Record, RollFault, rules, nat_le, AllByRecursion, lecturer, project, student, Gives}
 use Rattle.portal_core.specs.Good.{IsLecturer, IsProject, IsStudent}
 use Rattle.portal_core.specs.declared.rows.LecturerRow.{LecturerRow}
 use Rattle.portal_rolls.specs.declared.fault.RollFault.TheVariants as fault
@@ -40,13 +40,7 @@ columns_form row column (true ∷ forms) line x e = let rest = columns_form row 
 columns_form row column (false ∷ forms) line x e = absurd (cc e)
 
 capacity_form : (field : Text) → is_capacity field ≡ true → (1 ≤ digits_value field) × (digits_value field ≤ 200)
-capacity_form field e = go (is_number field) (nat_le 1 (digits_value field)) (nat_le (digits_value field) 200) refl refl e
-  where
-    go : (number low high : Bool) → nat_le 1 (digits_value field) ≡ low → nat_le (digits_value field) 200 ≡ high → (number && (low && high)) ≡ true → (1 ≤ digits_value field) × (digits_value field ≤ 200)
-    go true true true p q h = (grind (arith, nat_tests), grind (arith, nat_tests))
-    go true true false p q h = absurd (cc h)
-    go true false high p q h = absurd (cc h)
-    go false low high p q h = absurd (cc h)
+capacity_form field e = (grind (arith, nat_tests), grind (arith, nat_tests))
 
 pub student_form : (row : ℕ) (r : Record) (x : StudentRow) → student row r ≡ Ok x → IsStudent x
 student_form row (key ∷ name ∷ code ∷ []) x e = search (rules, columns_form)

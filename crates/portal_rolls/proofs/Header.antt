@@ -1,16 +1,15 @@
 -- A record beside the names of the columns, and the test that all fields are text.
-use Rattle.portal_rolls.proofs.Base.{Bor, ◌≡◌, ◌+◌, ◌<◌, ◌≤◌, ℕ, zero, suc, Bool, true, false, not, ◌&&◌, List, [], ◌∷◌, length, map, drop, get_or, Some, refl, ap, add-one, arith, drop_all, list_all, is_utf8, field_at, Record, same_record, bytes_eq}
+use Rattle.std.proofs.Math.Bool.{and-false}
+use Rattle.std.proofs.Math.Seq.{drop-cons}
+use Rattle.std.proofs.lemmas.List.{drop-map}
+use Rattle.portal_rolls.proofs.Base.{length-map, sym, Bor, ◌≡◌, ◌+◌, ◌<◌, ◌≤◌, ℕ, zero, suc, true, false, not, ◌&&◌, List, [], ◌∷◌, length, map, drop, get_or, Some, refl, ap, add-one, arith, drop_all, list_all, is_utf8, field_at, Record, same_record, bytes_eq}
 
 -- another count of fields
 pub other_count : (a b : Record) → (length a ≡ length b → ⊥) → false ≡ same_record a b
 other_count [] [] h = absurd (h refl)
 other_count [] (y ∷ b) h = refl
 other_count (x ∷ a) [] h = refl
-other_count (x ∷ a) (y ∷ b) h = rest (bytes_eq x y) (other_count a b (λ e. h (ap suc e)))
-  where
-    rest : (same : Bool) → false ≡ same_record a b → false ≡ (same && same_record a b)
-    rest true e = e
-    rest false e = refl
+other_count (x ∷ a) (y ∷ b) h = rw (← other_count a b (λ e. h (ap suc e))) (sym (and-false (bytes_eq x y)))
 
 -- the field at a place stands before those after it
 splits : (r : Record) (i : ℕ) (x : List ℕ) → Some x ≡ field_at r i → drop i r ≡ x ∷ drop (suc i) r
@@ -36,41 +35,20 @@ one_text r i x at is so_far = rw (split r i x at, ← is) at so_far
 abbrev pub texts : List (Bor (List ℕ)) → Record
 texts ns = map (λ n. n.now) ns
 
-pub texts_count : (ns : List (Bor (List ℕ))) → length (texts ns) ≡ length ns
-texts_count [] = refl
-texts_count (n ∷ ns) = ap suc (texts_count ns)
-
-name_splits : (ns : List (Bor (List ℕ))) (i : ℕ) (d : Bor (List ℕ)) → i < length ns → drop i (texts ns) ≡ (get_or ns i d).now ∷ drop (suc i) (texts ns)
-name_splits [] i d lt = absurd (omega arith)
-name_splits (n ∷ ns) zero d lt = refl
-name_splits (n ∷ ns) (suc i) d lt = name_splits ns i d (omega arith)
-
 name_split : (ns : List (Bor (List ℕ))) (i : ℕ) (d : Bor (List ℕ)) → i < length ns → drop i (texts ns) ≡ (get_or ns i d).now ∷ drop (i + 1) (texts ns)
-name_split ns i d lt = rw (add-one i) (name_splits ns i d lt)
+name_split ns i d lt = rw (add-one i, drop-map (λ n. n.now) i ns, drop-map (λ n. n.now) (suc i) ns, drop-cons ns i d lt) refl
 
-pub name_differs : (ns : List (Bor (List ℕ))) (r : Record) (i : ℕ) (d : Bor (List ℕ)) (x n : List ℕ) → i < length ns → Some x ≡ field_at r i → n ≡ (get_or ns i d).now
-    → true ≡ not (bytes_eq n x) → same_record (drop i (texts ns)) (drop i r) ≡ same_record (texts ns) r → false ≡ same_record (texts ns) r
-name_differs ns r i d x n lt at is isnt so_far = go (bytes_eq n x) refl isnt
-  where
-    here : (bytes_eq n x && same_record (drop (i + 1) (texts ns)) (drop (i + 1) r)) ≡ same_record (texts ns) r
-    here = rw (split r i x at, name_split ns i d lt, ← is) at so_far
+module _ (ns : List (Bor (List ℕ))) (r : Record) (i : ℕ) (d : Bor (List ℕ)) (x n : List ℕ) (lt : i < length ns) (at : Some x ≡ field_at r i) (is : n ≡ (get_or ns i d).now) where
+  here : same_record (drop i (texts ns)) (drop i r) ≡ same_record (texts ns) r → (bytes_eq n x && same_record (drop (i + 1) (texts ns)) (drop (i + 1) r)) ≡ same_record (texts ns) r
+  here so_far = rw (split r i x at, name_split ns i d lt, ← is) at so_far
 
-    go : (b : Bool) → bytes_eq n x ≡ b → true ≡ not b → false ≡ same_record (texts ns) r
-    go true e h = absurd (cc h)
-    go false e h = rw e at here
+  pub name_differs : true ≡ not (bytes_eq n x) → same_record (drop i (texts ns)) (drop i r) ≡ same_record (texts ns) r → false ≡ same_record (texts ns) r
+  name_differs isnt so_far = grind (arith, here so_far)
 
-pub name_same : (ns : List (Bor (List ℕ))) (r : Record) (i : ℕ) (d : Bor (List ℕ)) (x n : List ℕ) → i < length ns → Some x ≡ field_at r i → n ≡ (get_or ns i d).now
-    → false ≡ not (bytes_eq n x) → same_record (drop i (texts ns)) (drop i r) ≡ same_record (texts ns) r
-    → same_record (drop (i + 1) (texts ns)) (drop (i + 1) r) ≡ same_record (texts ns) r
-name_same ns r i d x n lt at is same so_far = go (bytes_eq n x) refl same
-  where
-    here : (bytes_eq n x && same_record (drop (i + 1) (texts ns)) (drop (i + 1) r)) ≡ same_record (texts ns) r
-    here = rw (split r i x at, name_split ns i d lt, ← is) at so_far
-
-    go : (b : Bool) → bytes_eq n x ≡ b → false ≡ not b → same_record (drop (i + 1) (texts ns)) (drop (i + 1) r) ≡ same_record (texts ns) r
-    go true e h = rw e at here
-    go false e h = absurd (cc h)
+  pub name_same : false ≡ not (bytes_eq n x) → same_record (drop i (texts ns)) (drop i r) ≡ same_record (texts ns) r
+      → same_record (drop (i + 1) (texts ns)) (drop (i + 1) r) ≡ same_record (texts ns) r
+  name_same same so_far = grind (arith, here so_far)
 
 pub all_names : (ns : List (Bor (List ℕ))) (r : Record) (i : ℕ) → length ns ≤ i → length r ≡ length ns → same_record (drop i (texts ns)) (drop i r) ≡ same_record (texts ns) r
     → true ≡ same_record (texts ns) r
-all_names ns r i le same so_far = rw (drop_all i (texts ns) (rw (texts_count ns) le), drop_all i r (rw same le)) at so_far
+all_names ns r i le same so_far = rw (drop_all i (texts ns) (rw (length-map ns (λ n. n.now)) le), drop_all i r (rw same le)) at so_far

@@ -6,11 +6,7 @@ use Rattle.csv.specs.declared.writer.WriterBuilder.{WriterBuilder}
 use Rattle.csv.specs.declared.writer.QuoteStyle.TheVariants as style
 
 regrouped : (p q r s : Bool) → ((((p || q) || (r || s)) || false) || false) ≡ (((p || q) || r) || s)
-regrouped true q r s = refl
-regrouped false true r s = refl
-regrouped false false true s = refl
-regrouped false false false true = refl
-regrouped false false false false = refl
+regrouped p q r s = grind arith
 
 needs-same : (b : ℕ) → needs_byte default_writer b ≡ needs_quotes b
 needs-same b = regrouped (b == 44) (b == 34) (b == 13) (b == 10)

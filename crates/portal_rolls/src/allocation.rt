@@ -13,10 +13,9 @@ fn put_record(writer: &mut Writer<Vec<u8>>, fields: &[&[u8]; 5]) -> Result<(), A
     ensures { OnOk result ((text : List ℕ) → HasWritten writer.old text
         → HasWritten writer.new (text ++ sheet.csv_record (map (λ f. f.now) fields.now))) }
 {
-    let Ok(()) = writer.write_fields(fields.as_slice()) else {
-        return Err(AllocError);
-    };
-    Ok(())
+    writer
+        .write_fields(fields.as_slice())
+        .map_err(|_| AllocError)
 }
 
 /// Writes the CSV record of a student, with the project that the result gives.
@@ -53,10 +52,7 @@ fn put_student(
 fn text_of(writer: Writer<Vec<u8>>) -> Result<Vec<u8>, AllocError>
     ensures { IfOk result (λ v. (text : List ℕ) → HasWritten writer text → v.items ≡ text) }
 {
-    match writer.into_inner() {
-        Ok(text) => Ok(text),
-        Err(_) => Err(AllocError),
-    }
+    writer.into_inner().map_err(|_| AllocError)
 }
 
 /// Returns the result as CSV: a header, then a record for each student, by key. An error means that

@@ -20,23 +20,6 @@ use spa_rows::{Key, KeyFault};
 use std::alloc::{AllocError, Global};
 use std::{mem, str};
 
-/// Four fields of a record.
-#[derive(Clone, Copy)]
-pub(crate) struct FourFields<'a> {
-    pub first: &'a [u8],
-    pub second: &'a [u8],
-    pub third: &'a [u8],
-    pub fourth: &'a [u8],
-}
-
-/// Three fields of a record.
-#[derive(Clone, Copy)]
-pub(crate) struct ThreeFields<'a> {
-    pub first: &'a [u8],
-    pub second: &'a [u8],
-    pub third: &'a [u8],
-}
-
 /// Returns the field with this index, which the record has.
 fn field(row: &ByteRecord, at: usize) -> &[u8]
     requires { at < length (fields_of row.now) }
@@ -49,28 +32,19 @@ fn field(row: &ByteRecord, at: usize) -> &[u8]
 }
 
 /// Returns the fields of a record that has four.
-pub(crate) fn four(row: &ByteRecord) -> FourFields<'_>
+pub(crate) fn four(row: &ByteRecord) -> (&[u8], &[u8], &[u8], &[u8])
     requires { length (fields_of row.now) ≡ 4 }
     ensures { fields_of row.now ≡ form.four result }
 {
-    FourFields {
-        first: field(row, 0),
-        second: field(row, 1),
-        third: field(row, 2),
-        fourth: field(row, 3),
-    }
+    (field(row, 0), field(row, 1), field(row, 2), field(row, 3))
 }
 
 /// Returns the fields of a record that has three.
-pub(crate) fn three(row: &ByteRecord) -> ThreeFields<'_>
+pub(crate) fn three(row: &ByteRecord) -> (&[u8], &[u8], &[u8])
     requires { length (fields_of row.now) ≡ 3 }
     ensures { fields_of row.now ≡ form.three result }
 {
-    ThreeFields {
-        first: field(row, 0),
-        second: field(row, 1),
-        third: field(row, 2),
-    }
+    (field(row, 0), field(row, 1), field(row, 2))
 }
 
 /// Returns whether the fields of a record are these names.

@@ -8,7 +8,7 @@ ghost use Rattle.portal_rolls.specs.Views as view;
 ghost use Rattle.portal_rolls.specs.inner.AsRead as form;
 
 use crate::fault::RollFault;
-use crate::fields::{FourFields, capacity_of, four, list_of};
+use crate::fields::{capacity_of, four, list_of};
 use crate::line::{File, Line};
 use crate::reading::{Kind, read_text};
 use csv::ByteRecord;
@@ -42,19 +42,17 @@ fn line_at(
     alloc: Global,
     mark: Mark,
     number: u32,
-    fields: FourFields<'_>,
+    key: &[u8],
+    value: &[u8],
+    list: &[u8],
 ) -> Result<Line, RollFault>
-    ensures { Gives form.same result
-        (spec.line_at (Some mark) number
-        fields.entry.second.now fields.entry.third.now fields.entry.fourth.now) }
+    ensures { Gives form.same result (spec.line_at (Some mark) number key.now value.now list.now) }
 {
-    let key = Vec::from_slice(alloc, fields.second)?;
+    let key = Vec::from_slice(alloc, key)?;
     match mark {
         Mark::Lecturer => {
-            let Some(capacity) = capacity_of(fields.third) else {
-                return Err(RollFault::BadField(number, 3));
-            };
-            let list = list_of(alloc, fields.fourth)?;
+            let capacity = capacity_of(value).ok_or(RollFault::BadField(number, 3))?;
+            let list = list_of(alloc, list)?;
             Ok(Line::Lecturer(LecturerLine {
                 row: number,
                 key,
@@ -63,10 +61,8 @@ fn line_at(
             }))
         }
         Mark::Project => {
-            let Some(capacity) = capacity_of(fields.third) else {
-                return Err(RollFault::BadField(number, 3));
-            };
-            let lecturer = Vec::from_slice(alloc, fields.fourth)?;
+            let capacity = capacity_of(value).ok_or(RollFault::BadField(number, 3))?;
+            let lecturer = Vec::from_slice(alloc, list)?;
             Ok(Line::Project(ProjectLine {
                 row: number,
                 key,
@@ -75,10 +71,10 @@ fn line_at(
             }))
         }
         Mark::Student => {
-            if !fields.third.is_empty() {
+            if !value.is_empty() {
                 return Err(RollFault::BadField(number, 3));
             }
-            let list = list_of(alloc, fields.fourth)?;
+            let list = list_of(alloc, list)?;
             Ok(Line::Student(StudentLine {
                 row: number,
                 key,
@@ -86,10 +82,10 @@ fn line_at(
             }))
         }
         Mark::Pair => {
-            if !fields.fourth.is_empty() {
+            if !list.is_empty() {
                 return Err(RollFault::BadField(number, 4));
             }
-            let project = Vec::from_slice(alloc, fields.third)?;
+            let project = Vec::from_slice(alloc, value)?;
             Ok(Line::Pair(PairLine {
                 row: number,
                 student: key,
@@ -116,11 +112,9 @@ impl Kind for InstanceFile {
     }
 
     fn says(alloc: Global, number: u32, row: &ByteRecord) -> Result<Line, RollFault> {
-        let fields = four(row);
-        let Some(mark) = mark_of(fields.first) else {
-            return Err(RollFault::BadField(number, 1));
-        };
-        line_at(alloc, mark, number, fields)
+        let (kind, key, value, list) = four(row);
+        let mark = mark_of(kind).ok_or(RollFault::BadField(number, 1))?;
+        line_at(alloc, mark, number, key, value, list)
     }
 }
 

@@ -61,19 +61,11 @@ impl File {
     pub(crate) fn into_parts(self) -> (InstanceRows, Vec<PairLine>)
         ensures { view.parts result ≡ form.file self }
     {
-        let File {
-            lecturers,
-            projects,
-            students,
-            pairs,
-        } = self;
-        (
-            InstanceRows {
-                lecturers,
-                projects,
-                students,
-            },
-            pairs,
-        )
+        let rows = InstanceRows {
+            lecturers: self.lecturers,
+            projects: self.projects,
+            students: self.students,
+        };
+        (rows, self.pairs)
     }
 }

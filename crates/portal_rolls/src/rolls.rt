@@ -33,16 +33,12 @@ impl Kind for LecturerRoll {
     }
 
     fn says(alloc: Global, number: u32, row: &ByteRecord) -> Result<LecturerRow, RollFault> {
-        let fields = four(row);
-        let key = key_at(alloc, number, 1, fields.first)?;
-        let name = name_at(alloc, number, 2, fields.second)?;
-        let code = code_at(alloc, number, 3, fields.third)?;
-        let capacity = limited(number, 4, fields.fourth)?;
+        let (key, name, code, capacity) = four(row);
         Ok(LecturerRow {
-            key,
-            name,
-            code,
-            capacity,
+            key: key_at(alloc, number, 1, key)?,
+            name: name_at(alloc, number, 2, name)?,
+            code: code_at(alloc, number, 3, code)?,
+            capacity: limited(number, 4, capacity)?,
         })
     }
 }
@@ -64,16 +60,12 @@ impl Kind for ProjectRoll {
     }
 
     fn says(alloc: Global, number: u32, row: &ByteRecord) -> Result<ProjectRow, RollFault> {
-        let fields = four(row);
-        let key = key_at(alloc, number, 1, fields.first)?;
-        let lecturer = key_at(alloc, number, 2, fields.second)?;
-        let title = name_at(alloc, number, 3, fields.third)?;
-        let capacity = limited(number, 4, fields.fourth)?;
+        let (key, lecturer, title, capacity) = four(row);
         Ok(ProjectRow {
-            key,
-            lecturer,
-            title,
-            capacity,
+            key: key_at(alloc, number, 1, key)?,
+            lecturer: key_at(alloc, number, 2, lecturer)?,
+            title: name_at(alloc, number, 3, title)?,
+            capacity: limited(number, 4, capacity)?,
         })
     }
 }
@@ -95,11 +87,12 @@ impl Kind for StudentRoll {
     }
 
     fn says(alloc: Global, number: u32, row: &ByteRecord) -> Result<StudentRow, RollFault> {
-        let fields = three(row);
-        let key = key_at(alloc, number, 1, fields.first)?;
-        let name = name_at(alloc, number, 2, fields.second)?;
-        let code = code_at(alloc, number, 3, fields.third)?;
-        Ok(StudentRow { key, name, code })
+        let (key, name, code) = three(row);
+        Ok(StudentRow {
+            key: key_at(alloc, number, 1, key)?,
+            name: name_at(alloc, number, 2, name)?,
+            code: code_at(alloc, number, 3, code)?,
+        })
     }
 }
 

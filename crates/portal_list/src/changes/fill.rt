@@ -6,8 +6,7 @@ ghost use Rattle.portal_core.specs.Words as words;
 ghost use Rattle.portal_core.specs.World.{World};
 ghost use Rattle.portal_list.specs.Rows.{HasEntries};
 ghost use Rattle.portal_list.specs.inner.Parts.{applicant_keys};
-ghost use Rattle.portal_list.specs.inner.Fill.{unless_empty, missing, with_missing, filled};
-ghost use Rattle.portal_list.specs.inner.Fill.{fill_missing};
+ghost use Rattle.portal_list.specs.inner.Fill.{missing, with_missing, filled, fill_missing};
 
 use crate::applicant_index::ApplicantIndex;
 use crate::collecting::try_map;
@@ -54,16 +53,6 @@ fn applicants_by_key(
     copies(alloc, &applicants)
 }
 
-/// Returns the ranking that a fill makes of these applicants, or `None` if there are none.
-fn filled_ranking(keys: Vec<Key>) -> Option<Ranking>
-    ensures { result ≡ unless_empty keys.items }
-{
-    if keys.is_empty() {
-        return None;
-    }
-    Some(Ranking { keys })
-}
-
 /// Returns the ranking that a fill adds: none if the lecturer has a ranking or no applicant.
 fn missing_ranking(
     alloc: Global,
@@ -77,7 +66,10 @@ fn missing_ranking(
         return Ok(None);
     }
     let keys = applicants_by_key(alloc, projects, wanted, &lecturer.row.key)?;
-    Ok(filled_ranking(keys))
+    if keys.is_empty() {
+        return Ok(None);
+    }
+    Ok(Some(Ranking { keys }))
 }
 
 /// Returns, for each lecturer, the ranking that a fill adds, or `None`.
@@ -90,11 +82,9 @@ fn missing_rankings(
     ensures { IfOk result (λ v. v.items ≡ map (missing projects.now students.now) lecturers.now) }
 {
     let wanted = ApplicantIndex::of(alloc, students)?;
-    let mut rankings = Vec::with_capacity(alloc, lecturers.len())?;
-    for lecturer in lecturers {
-        rankings.push(missing_ranking(alloc, projects, &wanted, lecturer)?)?;
-    }
-    Ok(rankings)
+    try_map(alloc, lecturers, |l| {
+        missing_ranking(alloc, projects, &wanted, l)
+    })
 }
 
 /// Gives the lecturer the ranking that the fill adds, if there is one.
@@ -142,21 +132,6 @@ fn fills_from(
     Ok(fills)
 }
 
-/// Returns each of these lecturers with the keys of the lecturer's applicants, for the store's
-/// fill.
-fn with_applicants(
-    alloc: Global,
-    lecturers: &[Key],
-    projects: &[ProjectRow],
-    students: &[StudentEntry],
-) -> Result<Vec<(Key, Vec<Key>)>, AllocError>
-    ensures { IfOk result (λ v. map {B = words.Key × List words.Key} (λ f. (f.0, f.1.items)) v.items
-        ≡ map (λ k. (k, applicant_keys projects.now students.now k)) lecturers.now) }
-{
-    let wanted = ApplicantIndex::of(alloc, students)?;
-    fills_from(alloc, lecturers, projects, &wanted)
-}
-
 impl Entries {
     /// Returns the lecturers still to rank, in roll order, each with the applicants' keys in key
     /// order. These are the rankings that a fill would add.
@@ -166,6 +141,7 @@ impl Entries {
             ≡ fill_missing w) }
     {
         let lecturers = waiting(alloc, &self.lecturers, &self.projects, &self.students)?;
-        with_applicants(alloc, &lecturers, &self.projects, &self.students)
+        let wanted = ApplicantIndex::of(alloc, &self.students)?;
+        fills_from(alloc, &lecturers, &self.projects, &wanted)
     }
 }

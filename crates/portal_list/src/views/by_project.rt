@@ -1,6 +1,6 @@
 //! Finds a lecturer's applicants and placed students in the entries, project by project.
 
-ghost use Rattle.std.specs.Prelude.{◌≡◌, IfOk, map, option_map, filter, [], if◌then◌else◌};
+ghost use Rattle.std.specs.Prelude.{◌≡◌, IfOk, map, filter, [], if◌then◌else◌};
 ghost use Rattle.portal_core.specs.Words.{has};
 ghost use Rattle.portal_core.specs.World.{is_at, shown_placement};
 ghost use Rattle.portal_core.specs.View.{persons};
@@ -13,33 +13,6 @@ use crate::entries::StudentEntry;
 use portal_core::{Person, Phase, ProjectRow};
 use spa_rows::Key;
 use std::alloc::{AllocError, Global};
-
-/// Finds the project's applicants in the entries: the students whose list contains it.
-fn applicants_to(
-    alloc: Global,
-    students: &[StudentEntry],
-    project: &Key,
-) -> Result<Vec<Person>, AllocError>
-    ensures { IfOk result (λ v. v.items
-        ≡ persons (filter (λ s. has s.choice project.now) students.now)) }
-{
-    try_map_where(
-        alloc,
-        students,
-        |s| holds(&s.choice, project),
-        |s| person_of(alloc, &s.row.key, &s.row.name),
-    )
-}
-
-/// Returns whether the shown placement of an entry's student is this project.
-fn is_given(place: Option<&Key>, project: &Key) -> bool
-    ensures { result ≡ is_at project.now (option_map (λ k. k.now) place.entry) }
-{
-    match place {
-        Some(key) => *key == *project,
-        None => false,
-    }
-}
 
 /// Finds the project's placed students in the entries: those whose shown placement it is.
 fn placed_at(
@@ -54,12 +27,13 @@ fn placed_at(
     try_map_where(
         alloc,
         students,
-        |s| is_given(placement_shown(phase, s), project),
+        |s| placement_shown(phase, s).is_some_and(|place| *place == *project),
         |s| person_of(alloc, &s.row.key, &s.row.name),
     )
 }
 
-/// Finds the project's applicants in the entries if lists are closed, and otherwise nobody.
+/// Finds the project's applicants in the entries, the students whose list contains it, if lists
+/// are closed, and otherwise nobody.
 fn shown_applicants(
     alloc: Global,
     closed: bool,
@@ -69,11 +43,15 @@ fn shown_applicants(
     ensures { IfOk result (λ v. v.items
         ≡ (if closed then persons (filter (λ s. has s.choice project.now) students.now) else [])) }
 {
-    if closed {
-        applicants_to(alloc, students, project)
-    } else {
-        Ok(Vec::new(alloc))
+    if !closed {
+        return Ok(Vec::new(alloc));
     }
+    try_map_where(
+        alloc,
+        students,
+        |s| holds(&s.choice, project),
+        |s| person_of(alloc, &s.row.key, &s.row.name),
+    )
 }
 
 /// Returns each project of the lecturer with its applicants, or with nobody while lists are open.

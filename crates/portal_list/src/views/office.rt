@@ -7,45 +7,31 @@ ghost use Rattle.portal_list.specs.inner.Played.{takes_part};
 ghost use Rattle.portal_list.specs.inner.Shown.{is_wanted, is_waiting};
 
 use crate::collecting::{try_map, try_map_where};
-use crate::copies::{holds, project_rows_of};
+use crate::copies::holds;
 use crate::entries::{LecturerEntry, StudentEntry};
 use crate::second_round::takes_part;
 use portal_core::{LecturerRow, ProjectRow, Round, StudentRow};
 use spa_rows::Key;
 use std::alloc::{AllocError, Global};
-use std::rc::Rc;
 
 /// Copies the roll of lecturers for the office's view.
 pub(super) fn lecturer_rows(
     alloc: Global,
     lecturers: &[LecturerEntry],
-) -> Result<Rc<Vec<LecturerRow>>, AllocError>
-    ensures { IfOk result (λ shared. shared.value.items ≡ map (λ l. l.row) lecturers.now) }
+) -> Result<Vec<LecturerRow>, AllocError>
+    ensures { IfOk result (λ v. v.items ≡ map (λ l. l.row) lecturers.now) }
 {
-    let rows = try_map(alloc, lecturers, |l| l.row.copy(alloc))?;
-    Ok(Rc::new(alloc, rows)?)
-}
-
-/// Copies the roll of projects for the office's view.
-pub(super) fn project_rows(
-    alloc: Global,
-    projects: &[ProjectRow],
-) -> Result<Rc<Vec<ProjectRow>>, AllocError>
-    ensures { IfOk result (λ shared. shared.value.items ≡ projects.now) }
-{
-    let rows = project_rows_of(alloc, projects)?;
-    Ok(Rc::new(alloc, rows)?)
+    try_map(alloc, lecturers, |l| l.row.copy(alloc))
 }
 
 /// Copies the roll of students for the office's view.
 pub(super) fn student_rows(
     alloc: Global,
     students: &[StudentEntry],
-) -> Result<Rc<Vec<StudentRow>>, AllocError>
-    ensures { IfOk result (λ shared. shared.value.items ≡ map (λ s. s.row) students.now) }
+) -> Result<Vec<StudentRow>, AllocError>
+    ensures { IfOk result (λ v. v.items ≡ map (λ s. s.row) students.now) }
 {
-    let rows = try_map(alloc, students, |s| s.row.copy(alloc))?;
-    Ok(Rc::new(alloc, rows)?)
+    try_map(alloc, students, |s| s.row.copy(alloc))
 }
 
 /// Finds in the entries the students who take part and have an empty list.

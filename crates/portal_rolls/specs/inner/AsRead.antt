@@ -1,11 +1,10 @@
 -- Fields and rows as the code reads them, without where they lie in memory.
 use Rattle.std.specs.Prelude.{ℕ, List, [], ◌∷◌, map, Vec, Bool, Option, Some, None, Result, Ok, if◌then◌else◌}
+use Rattle.std.specs.Borrow.{Bor}
 use Rattle.spa_rows.specs.Lines.{Text}
 use Rattle.portal_rolls.specs.Lines as spec
 use Rattle.portal_rolls.specs.Reading.{Record, unless}
 use Rattle.portal_rolls.specs.declared.line.File.{File}
-use Rattle.portal_rolls.specs.declared.fields.FourFields.{FourFields}
-use Rattle.portal_rolls.specs.declared.fields.ThreeFields.{ThreeFields}
 use Rattle.portal_rolls.specs.declared.fault.RollFault.{RollFault}
 use Rattle.portal_rolls.specs.declared.fault.RollFault.TheVariants as fault
 use Rattle.portal_rolls.specs.Lines.{is_number, digits_value, is_capacity}
@@ -21,11 +20,11 @@ file f = record { lecturers = f.lecturers.items; projects = f.projects.items; st
 
 -- the fields as a record again
 
-abbrev pub four : FourFields → Record
-four f = f.first.now ∷ f.second.now ∷ f.third.now ∷ f.fourth.now ∷ []
+abbrev pub four : Bor Text × Bor Text × Bor Text × Bor Text → Record
+four f = f.0.now ∷ f.1.now ∷ f.2.now ∷ f.3.now ∷ []
 
-abbrev pub three : ThreeFields → Record
-three f = f.first.now ∷ f.second.now ∷ f.third.now ∷ []
+abbrev pub three : Bor Text × Bor Text × Bor Text → Record
+three f = f.0.now ∷ f.1.now ∷ f.2.now ∷ []
 
 -- ---- what one field says by itself, for the contracts of the code
 

@@ -1,5 +1,5 @@
-use Rattle.portal_list.proofs.Base.{◌≡◌, true, false, [], ◌∷◌, ◌++◌, append-nil, refl, sym, ◌∙◌, ap}
-use Rattle.portal_list.proofs.Steps.{filter_more}
+use Rattle.portal_list.proofs.Base.{◌≡◌, [], ◌∷◌, ◌++◌, refl, sym, ◌∙◌, ap}
+use Rattle.portal_list.proofs.Steps.{kept_more, left_more}
 use Rattle.portal_list.proofs.collecting.try_map_where.Goals as goal
 use Rattle.portal_list.proofs.collecting.try_map_where.Goals.{then-keep+in_ok-make+in_ok-push, else-keep}
 
@@ -12,8 +12,6 @@ loop-item-preserved g c p f keeps makes =
       | then-keep+in_ok-make+in_ok-push w ↦
           let made : w.in_ok-make.field-0 ≡ f x = makes x w.in_ok-make.field-0 (record { shown = _; shows = refl; says = record { met = w.in_ok-make.ensures } }) in
           ap (λ v. v.items) w.made-is ∙ w.in_ok-push.ensures.items ∙ (λ j. c.loop-item.invariant p f keeps makes j ++ made j ∷ [])
-          ∙ sym (filter_more p f c.args.items.now i x true c.loop-item-test.true (sym c.item-item.is) (sym kept ∙ w.if-keep.true))
-      | else-keep w ↦
-          ap (λ v. v.items) w.made-is ∙ c.loop-item.invariant p f keeps makes ∙ sym (append-nil _)
-          ∙ sym (filter_more p f c.args.items.now i x false c.loop-item-test.true (sym c.item-item.is) (sym kept ∙ w.if-keep.false))
+          ∙ sym (kept_more p f c.args.items.now i x c.loop-item-test.true (sym c.item-item.is) (sym kept ∙ w.if-keep.true))
+      | else-keep w ↦ ap (λ v. v.items) w.made-is ∙ c.loop-item.invariant p f keeps makes ∙ sym (left_more p f c.args.items.now i x c.loop-item-test.true (sym c.item-item.is) (sym kept ∙ w.if-keep.false))
     ]

@@ -1,4 +1,4 @@
-use Rattle.portal_list.proofs.Base.{◌≡◌, ◌∙◌, sym, ap, subst₂, IsFitted, RowsOfWorld, World, world_with}
+use Rattle.portal_list.proofs.Base.{◌≡◌, ◌∙◌, sym, ap, subst₂, IsFitted, RowsOfWorld, world_with}
 use Rattle.std.specs.Prelude.{Err}
 use Rattle.std.proofs.lemmas.Result.{err_from_is_err_and}
 use Rattle.portal_list.specs.declared.from_rows.RowsFault.TheVariants.{NotGood}

@@ -1,7 +1,5 @@
-use Rattle.portal_list.proofs.Base.{arith}
-use Rattle.portal_list.proofs.Steps.{some_more, none_more}
+use Rattle.portal_list.proofs.Base.{IfOk-weaker, rules, lecturer_played}
 use Rattle.portal_list.proofs.second_round.lecturers_played.Goals as goal
-use Rattle.portal_list.proofs.second_round.lecturers_played.Goals.{in-Some+in_ok-push, in_default}
 
-pub loop-lecturer-preserved : goal.loop-lecturer-preserved
-loop-lecturer-preserved c = grind (arith, in-Some+in_ok-push, some_more, in_default, none_more)
+pub returns : goal.returns
+returns c = IfOk-weaker c.try_filter_map.result _ _ (λ v made. made (lecturer_played c.args.projects.now c.args.pairs.now) (λ x o h. search rules)) c.try_filter_map.ensures

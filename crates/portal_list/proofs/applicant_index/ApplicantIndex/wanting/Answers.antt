@@ -1,6 +1,6 @@
-use Rattle.portal_list.proofs.Base.{◌≡◌, ◌<◌, true, false, [], ◌∷◌, ◌++◌, List, Bool, map, take, length, get_or, append-nil, subst, sym, ◌∙◌, ap, arith, list_any, map_push, get_or_default, Key, has, Student, student_key, wanting}
+use Rattle.portal_list.proofs.Base.{◌≡◌, ◌<◌, false, [], ◌∷◌, ◌++◌, List, Bool, map, length, get_or, subst, sym, ◌∙◌, ap, arith, list_any, map_push, get_or_default, Key, has, Student, student_key}
 use Rattle.portal_list.proofs.Noted.{passes_here}
-use Rattle.portal_list.proofs.Steps.{filter_more}
+use Rattle.portal_list.proofs.Steps.{kept_more, left_more}
 use Rattle.portal_list.proofs.applicant_index.ApplicantIndex.wanting.Goals as goal
 use Rattle.portal_list.proofs.applicant_index.ApplicantIndex.wanting.Goals.{then-index+in_ok-push, else-index}
 
@@ -20,10 +20,9 @@ loop-i-preserved c =
           ∙ ap (map (λ k. k.now)) w.in_ok-push.ensures.items
           ∙ map_push (λ k. k.now) c.loop-i.keys.items _
           ∙ (λ j. c.loop-i.invariant j ++ (c.student.view_is j).row.key ∷ [])
-          ∙ sym (filter_more wants student_key c.args.self.now i student true low at (sym test ∙ w.if-index.true))
+          ∙ sym (kept_more wants student_key c.args.self.now i student low at (sym test ∙ w.if-index.true))
       | else-index w ↦
           ap (λ v. map (λ k. k.now) v.items) w.keys-is
           ∙ c.loop-i.invariant
-          ∙ sym (append-nil (map student_key (wanting own (take i c.args.self.now))))
-          ∙ sym (filter_more wants student_key c.args.self.now i student false low at (sym test ∙ w.if-index.false))
+          ∙ sym (left_more wants student_key c.args.self.now i student low at (sym test ∙ w.if-index.false))
     ]

@@ -2,9 +2,9 @@ use Rattle.portal_rolls.proofs.Base.{err_from_is_err_and, is_key, is_name}
 use Rattle.portal_rolls.proofs.Columns.{fourth_fails}
 use Rattle.portal_rolls.proofs.rolls.ProjectRollKind.says.Goals as goal
 
-pub returns-in_err-capacity : goal.returns-in_err-capacity
-returns-in_err-capacity c =
-    let f = c.four-fields.result in
-    let (e, returned, is) = err_from_is_err_and c.from_residual-in_err-capacity.result c.from_residual-in_err-capacity.ensures.1 in
-    rw (returned, is, c.four-fields.ensures)
-    (fourth_fails c.args.number is_key is_key is_name f.first.now f.second.now f.third.now f.fourth.now _ _ _ _ _ _ _ c.in_err-capacity.field-0.0 c.in_ok-key.ensures c.in_ok-lecturer.ensures c.in_ok-title.ensures c.in_err-capacity.ensures)
+pub returns-in_err-limited : goal.returns-in_err-limited
+returns-in_err-limited c =
+    let f = c.four.result in
+    let (e, returned, is) = err_from_is_err_and c.from_residual-in_err-limited.result c.from_residual-in_err-limited.ensures.1 in
+    rw (returned, is, c.four.ensures)
+    (fourth_fails c.args.number is_key is_key is_name f.0.now f.1.now f.2.now f.3.now _ _ _ _ _ _ _ c.in_err-limited.field-0.0 c.in_ok-key_at.ensures c.in_ok-key_at-2.ensures c.in_ok-name_at.ensures c.in_err-limited.ensures)
