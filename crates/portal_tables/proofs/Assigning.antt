@@ -8,7 +8,7 @@ use Rattle.portal_tables.proofs.Owned.{current_own}
 use Rattle.portal_tables.proofs.Query.{passes, shown_as}
 use Rattle.portal_tables.proofs.Shapes.{IsStudentRow, student_rows_formed}
 use Rattle.portal_tables.proofs.Sorted.{map_twice, map_alike}
-use Rattle.portal_tables.proofs.Statements.{Updates, no_acts}
+use Rattle.portal_tables.proofs.Statements.{no_acts}
 use Rattle.portal_tables.proofs.Tests.{param, has_key, same_key_of}
 use Rattle.portal_tables.proofs.Weak.{portal_with, own_is}
 use Rattle.portal_tables.proofs.Writes.{HasNumber, AltersIn, altered, cast_int}
@@ -18,10 +18,6 @@ update_one = codes "UPDATE student SET assigned = ?2 WHERE key = ?1"
 
 abbrev with_last : List Term
 with_last = col 1 0 ∷ col 1 1 ∷ col 1 2 ∷ col 1 3 ∷ param 1 ∷ []
-
-update_one_is : Updates update_one 3 6 (has_key 1) with_last
-unfolding understood everything
-update_one_is = record { command = λ checks more. refl; plain = λ checks more. (refl, refl) }
 
 -- as it is bound
 pub assigned_bound : (project : Option (List ℕ)) → bound_value (text_cell project) ≡ text_cell project
@@ -76,6 +72,7 @@ module _ (key : List ℕ) (project : Option (List ℕ)) where
       ∙ sym (map-append student_columns (map written hits) others)
 
   pub one_assigned : (old new : State) → Ran update_one params old new → Made (Assigns ((key, project) ∷ [])) old new
+  unfolding understood everything
   one_assigned old new h = record {
     shown = h.shown;
     changed = λ own sound apart.
@@ -86,7 +83,7 @@ module _ (key : List ℕ) (project : Option (List ℕ)) where
         let p = passes (has_key 1) params in
         let numbers = all_map HasNumber written (filter p rows) (all_weaker IsStudentRow (λ r. HasNumber (written r)) numbered (filter p rows) (all-filter IsStudentRow p rows formed)) in
         let a = subst (λ q. AltersIn s 6 q written old.now new.now) (same_key_of 1 key (text_cell project ∷ []))
-        (altered s update_one 3 _ 6 _ _ _ _ _ _ _ _ refl (has_key 1) with_last (update_one_is.command w.o.checks w.o.terms) (update_one_is.plain w.o.checks w.o.terms) (no_acts w.o.checks w.o.terms student_tree)
+        (altered s update_one 3 _ 6 _ _ _ _ _ _ _ _ refl (has_key 1) with_last refl (refl, refl) (no_acts w.o.checks w.o.terms student_tree)
         params old new h.count w.is apart numbers h.runs) in
         record {
           schema_is = a.schema_is ∙ sym w.is;

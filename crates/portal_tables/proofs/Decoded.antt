@@ -1,5 +1,5 @@
 -- Rows that are decoded one at a time, as they are read.
-use Rattle.portal_tables.proofs.Base.{◌≡◌, ◌∷◌, ◌++◌, ◌⊎◌, inl, inr, all_has, has_left, has_right, IsPlainIfAny, Refuses, Leaves, ReadsEach, FindsRow, ℕ, Bool, true, false, refl, List, [], None, Some, Option, sym, ap, subst, ◌∙◌, map-append, map-id, timed, Error, EndsIn, begins_shown, Compiled, Database, HasGiven, Advances, Held, state, understood, reads_listing, IsSourceOf, Row, State, Begins, Shown, ShowsRows, IsUnchanged, IsUnchangedOrUndone, HasCleanDisk, FailsToQuery, Survives, survives_weaker, survives_then, given_begin, unchanged, unchanged_then, Ok, Err, Result, IfOk, OnOk, OnErr, option_copied, Bor, AllByRecursion, ShowsAs, FindsAny, IsRefused, IfErr-at_err, IfOk-from_err, IsErr, IsErrAnd, TableFault, Damaged, Vec, Global, is_some}
+use Rattle.portal_tables.proofs.Base.{◌≡◌, ◌∷◌, ◌++◌, ◌⊎◌, inl, inr, all_has, has_left, has_right, IsPlainIfAny, Refuses, Leaves, ReadsEach, FindsRow, ℕ, Bool, true, false, refl, List, [], None, Some, Option, sym, ap, subst, ◌∙◌, map-append, timed, Error, EndsIn, begins_shown, Compiled, Database, HasGiven, Advances, Held, state, understood, reads_listing, IsSourceOf, Row, State, Begins, Shown, ShowsRows, IsUnchanged, IsUnchangedOrUndone, HasCleanDisk, FailsToQuery, Survives, survives_weaker, survives_then, given_begin, unchanged, unchanged_then, Ok, Err, Result, IfOk, OnOk, OnErr, option_copied, Bor, AllByRecursion, ShowsAs, FindsAny, IsRefused, IfErr-at_err, IfOk-from_err, IsErr, IsErrAnd, TableFault, Damaged, Vec, Global, is_some}
 use Rattle.sqlite.specs.Given.{HasBegun, Returns}
 use Rattle.sqlite.specs.Tree.{Trees}
 use Rattle.sqlite_resolve.specs.declared.error.CompileError.{CompileError}
@@ -7,7 +7,7 @@ unfoldable use Rattle.sqlite.specs.State.{CommitsShowing}
 use Rattle.sqlite.specs.State.{Fails}
 use Rattle.sqlite_trees.specs.declared.store.Store.{Ghosts}
 use Rattle.portal_tables.proofs.InTurn.{clean_before, then_leaves}
-use Rattle.portal_tables.proofs.Queries.{failed_leaves, on_err, on_ok, none_ok}
+use Rattle.portal_tables.proofs.Queries.{failed_leaves, on_err, on_ok}
 
 -- a plain query returns no rows of a write
 never_returns : (r : Result Compiled CompileError) → IsPlainIfAny r → Returns r → ⊥
@@ -49,7 +49,7 @@ module _ {S X : Type 0} (g : Ghosts S) (sql : List ℕ) (params : Row) (old new 
 
   pub leaves_refused : {V E : Type 0} (a : Result V E) → IsErr a → Leaves g sql a old new
   leaves_refused a failed = record {
-    same = λ plain clean. none_ok _ a failed;
+    same = λ plain clean. IfOk-from_err a _ failed;
     err = λ plain clean. on_err _ a (refused_leaves plain clean);
     mode = it.mode;
     survives = refused_survives;
@@ -102,7 +102,7 @@ module _ {S : Type 0} (g : Ghosts S) (sql : List ℕ) (old mid : Held S) {Given 
     -- it stops with an error
     pub leaves_stopped : {V E : Type 0} (r : Result V E) → IsErr r → (e : Error) → (HasCleanDisk (state g new) → Fails (state g mid) (state g new) ⊥ e ⊎ IsUnchanged (state g mid) (state g new)) → Leaves g sql r old new
     leaves_stopped r failed e kept = record {
-      same = λ plain clean. none_ok _ r failed;
+      same = λ plain clean. IfOk-from_err r _ failed;
       err = λ plain clean. on_err _ r (then_leaves _ _ _ way.survives.counts (way.same plain (before clean)) (undone (kept clean)));
       mode = λ idle. mode (way.mode idle);
       survives = after;
@@ -185,13 +185,6 @@ module _ {S T : Type 0} (g : Ghosts S) (decode : Row → T) (sql : List ℕ) (pa
     shown = on sql params so_far.rows so_far.shown;
     decoded = is ∙ ap (λ ts. ts ++ decode row ∷ []) so_far.decoded ∙ sym (map-append decode so_far.rows (row ∷ []));
   }
-
--- rows that are decoded to themselves
-pub as_shown : (IsShown : List Row → Type 0) (rows : List Row) → ShowsAs (λ c. c) IsShown rows → IsShown rows
-as_shown IsShown rows h = subst IsShown (sym (h.decoded ∙ map-id h.rows)) h.shown
-
-pub shows_weaker : {T : Type 0} (decode : Row → T) (A B : List Row → Type 0) (items : List T) → ((rows : List Row) → A rows → B rows) → ShowsAs decode A items → ShowsAs decode B items
-shows_weaker decode A B items more h = record { rows = h.rows; shown = more h.rows h.shown; decoded = h.decoded }
 
 -- whether a row is shown, by the first that is read
 pub found_any : (IsShown : List Row → Type 0) (sql : List ℕ) (params : Row) (old new : State) → IsPlainIfAny (understood old.now.schema sql) → ((rows : List Row) → Shown sql params old new rows → IsShown rows)

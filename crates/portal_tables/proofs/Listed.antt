@@ -97,17 +97,17 @@ module _ (rest : List ℕ) (table shown : List Row) (h : ListsBy (1 ∷ []) ever
 
 -- the list of one owner by its places
 
-pub less_is : (m n : ℕ) → m < n → is_before (m ∷ []) (n ∷ []) ≡ true
+less_is : (m n : ℕ) → m < n → is_before (m ∷ []) (n ∷ []) ≡ true
 less_is m n less = ap (λ o. is_lt (ordering_then o Equal)) (sym (nat_cmp_is m n Less less))
 
-abbrev one : ℕ → Key
+abbrev pub one : ℕ → Key
 one n = n ∷ []
 
 above : (m n : ℕ) (ms : List ℕ) → m < n → CountUp n ms → AllByRecursion (λ l. is_before (one m) l ≡ true) (map one ms)
 above m n [] less up = tt
 above m n (k ∷ ms) less up = (less_is m k (omega (arith, less, up.0)), above m (n + 1) ms (omega (arith, less)) up.1)
 
-counts_rise : (n : ℕ) (ms : List ℕ) → CountUp n ms → Rise (map one ms)
+pub counts_rise : (n : ℕ) (ms : List ℕ) → CountUp n ms → Rise (map one ms)
 counts_rise n [] up = tt
 counts_rise n (k ∷ ms) up = (above k (n + 1) ms (omega (arith, up.0)) up.1, counts_rise (n + 1) ms up.1)
 

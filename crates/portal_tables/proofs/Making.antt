@@ -6,9 +6,6 @@ use Rattle.portal_tables.proofs.Sorted.{all_two}
 use Rattle.portal_tables.proofs.Weak.{same_with, with_checks, first_with, first_is}
 use Rattle.portal_tables.proofs.Writes.{went, same_value}
 
-abbrev trees_of : Schema → List ℕ
-trees_of s = map (λ (t : Table). t.tree) s.tables
-
 -- what has to be computed of a text that makes a table, in the tree after those that are there
 pub record Defines (schema : Schema) (sql : List ℕ) (table : Table) (kept : List ℕ) (next : ℕ) : Type 0 where
   pub defined : table_defined_by sql ≡ Ok table
@@ -16,7 +13,7 @@ pub record Defines (schema : Schema) (sql : List ℕ) (table : Table) (kept : Li
   pub statement : statement_of sql (understood schema sql) ≡ sql
   pub plain : IsPlain (understood schema sql)
   pub uncounted : lacks_sequence (created schema table) ≡ false
-  pub trees : trees_of schema ≡ kept
+  pub trees : map (λ (t : Table). t.tree) schema.tables ≡ kept
   pub tree : next_tree schema ≡ next
 
 -- the same of schemas by what is left open in them

@@ -1,9 +1,10 @@
 -- Whom a row names is on the roll, by the foreign keys of the tables.
-use Rattle.portal_tables.proofs.Base.{◌≡◌, ◌&&◌, ◌||◌, ◌∷◌, ℤ, inl, inr, ℕ, Bool, true, false, cond, map, List, [], refl, sym, ap, subst, ◌∙◌, and_parts, cases_Bool, AllByRecursion, list_any, is_eq, or-true, Value, Int, Words, Binary, Row, column, bytes, value_cmp, Database, IsDatabase, Trees, ForeignKey, OfLists, equal, Key, equals, has, is_same, is_own, lecturer_tree, project_tree, student_tree, round_of, tree_of, Lists, Choices, Rankings, SecondChoices, SecondRankings, HasRound, RowNumbersDiffer, has_text, everything, place_cells, row_key, of_key, named_by}
+use Rattle.portal_tables.proofs.Base.{◌≡◌, ◌&&◌, ◌∷◌, ℤ, inl, inr, ℕ, Bool, true, false, map, List, [], refl, sym, ap, subst, ◌∙◌, all_weaker, any_map, filter_none, some_from, and_parts, cases_Bool, AllByRecursion, list_any, is_eq, Value, Int, Words, Binary, Row, column, bytes, value_cmp, Database, IsDatabase, Trees, ForeignKey, OfLists, equal, Key, equals, has, is_same, is_own, lecturer_tree, project_tree, student_tree, round_of, tree_of, Lists, Choices, Rankings, SecondChoices, SecondRankings, HasRound, RowNumbersDiffer, has_text, everything, place_cells, row_key, of_key, named_by}
 use Rattle.portal_tables.proofs.Weak.{Open, own_is}
 use Rattle.portal_tables.proofs.Shapes.{IsPlace, Follows, followed, place_rows_formed, text_equals}
 use Rattle.portal_tables.proofs.Sorted.{all_two}
 use Rattle.portal_tables.proofs.Tests.{equals_text}
+use Rattle.sqlite_rules.proofs.ListLemmas.{some_has}
 
 -- a parent is found by its key
 equals_key : (v : Value) (t : Key) → is_eq (value_cmp v (Words t)) ≡ true → v ≡ Words t
@@ -23,16 +24,14 @@ Found roll k = list_any (λ parent. equal Binary (column parent 1) (Words k) && 
 
 -- the rolls on which a list's owner and its items are
 abbrev pub owners_of : Lists → ℕ
-owners_of Choices = student_tree
 owners_of Rankings = lecturer_tree
-owners_of SecondChoices = student_tree
 owners_of SecondRankings = lecturer_tree
+owners_of _ = student_tree
 
 abbrev pub items_of : Lists → ℕ
 items_of Choices = project_tree
-items_of Rankings = student_tree
 items_of SecondChoices = project_tree
-items_of SecondRankings = student_tree
+items_of _ = student_tree
 
 both_found : (l : Lists) (o : Open) (db : Trees) (n : ℤ) (k : Key) (p : ℤ) (m : Key) → Follows ForeignKey (OfLists l) o db (Int n ∷ place_cells k p m) ≡ (Found (db (owners_of l)) k && (Found (db (items_of l)) m && true))
 unfolding everything
@@ -40,11 +39,10 @@ both_found Choices o db n k p m = refl
 both_found _ o db n k p m = refl
 
 pub on_roll : (roll : List Row) (k : Key) → Found roll k ≡ true → OnRoll roll k
-on_roll [] k h = absurd (cc)
-on_roll (r ∷ roll) k h = elim (cases_Bool (has_text 1 k r)) [
-  | inl is_so ↦ ap (λ b. b || has (map row_key roll) k) (ap (λ v. equals k (bytes v)) (text_there 1 k r is_so) ∙ is_own k)
-  | inr is_not ↦ ap (λ b. equals k (row_key r) || b) (on_roll roll k (ap (λ b. b || Found roll k) (sym (equals_text (column r 1) k ∙ is_not)) ∙ h)) ∙ or-true (equals k (row_key r))
-]
+on_roll roll k h =
+    let found = some_has (λ parent. equal Binary (column parent 1) (Words k) && true) roll h in
+    let text : column found.0 1 ≡ Words k = text_there 1 k found.0 (sym (equals_text (column found.0 1) k) ∙ found.2) in
+    any_map (equals k) row_key roll ∙ some_from (λ r. equals k (row_key r)) roll found.0 found.1 (ap (λ v. equals k (bytes v)) text ∙ is_own k)
 
 -- each row of a list has its owner on a roll, and its item
 pub place_parents : (db : Database) (l : Lists) → HasRound (round_of l) db.schema → IsDatabase db → RowNumbersDiffer (db.trees (tree_of l))
@@ -63,8 +61,7 @@ place_parents db l own sound apart =
 
 -- who is not on the roll has no row
 pub none_of : (Q : Row → Type 0) (roll : List Row) (k : Key) (rows : List Row) → AllByRecursion (λ r. OnRoll roll (row_key r) × Q r) rows → has (map row_key roll) k ≡ false → of_key k rows ≡ []
-none_of Q roll k [] all off = refl
-none_of Q roll k (r ∷ rows) all off = elim (cases_Bool (has_text 1 k r)) [
-  | inl is_so ↦ absurd (let there : has (map row_key roll) k ≡ true = sym (ap (λ v. has (map row_key roll) (bytes v)) (text_there 1 k r is_so)) ∙ all.0.0 in let e : true ≡ false = sym there ∙ off in cc)
-  | inr other ↦ ap (λ b. cond b (r ∷ of_key k rows) (of_key k rows)) other ∙ none_of Q roll k rows all.1 off
-]
+none_of Q roll k rows all off = filter_none (has_text 1 k) rows (all_weaker _ _ (λ r both. elim (cases_Bool (has_text 1 k r)) [
+  | inl is_so ↦ absurd (let there : has (map row_key roll) k ≡ true = sym (ap (λ v. has (map row_key roll) (bytes v)) (text_there 1 k r is_so)) ∙ both.0 in let e : true ≡ false = sym there ∙ off in cc)
+  | inr other ↦ other
+]) rows all)

@@ -1,10 +1,11 @@
 -- A list that is put, whole, in place of another.
-use Rattle.portal_tables.proofs.Base.{◌≡◌, ◌+◌, ◌<◌, ◌∷◌, ◌++◌, ◌&&◌, arith, ℕ, pos, List, [], Bool, true, false, not, cond, map, filter, filter_none, all_of, length, refl, sym, ap, ap₂, subst, ◌∙◌, get_or, take, suc, zero-add, AllByRecursion, IsPermutation, map-append, append-nil, append_assoc, length_push, length-take-le, State, Made, GoesOn, and-false, filter-append, IsPermutation-refl, IsPermutation-trans, IsPermutation-sym, IsPermutation-cons, IsPermutation-middle, IsPermutation-to_front, is_eq, Value, Int, Words, Row, value_cmp, column, next_rowid, is_taken, put_row, Database, value_cmp_total, Key, equals, is_before, Rise, is_sym, IsCurrentSchema, has_text, with_rows, AreNew, Adds, Clears, place_cells, of_key, place_key, by_place, list_in_order, CountUp, IsWhole, numbered, placed, list_cells, PutsList, Equal-is}
+use Rattle.portal_tables.proofs.Base.{◌≡◌, ◌+◌, ◌<◌, ◌∷◌, ◌++◌, ◌&&◌, arith, ℕ, pos, List, [], Bool, true, false, not, cond, map, filter, filter_none, all_of, length, refl, sym, ap, ap₂, subst, ◌∙◌, get_or, take, suc, zero-add, IsPermutation, map-append, map-map, append-nil, append_assoc, length_push, length-take-le, State, Made, GoesOn, and-false, filter-append, IsPermutation-refl, IsPermutation-trans, IsPermutation-sym, IsPermutation-cons, IsPermutation-middle, IsPermutation-to_front, is_eq, Value, Int, Words, Row, value_cmp, column, next_rowid, is_taken, put_row, Database, value_cmp_total, Key, equals, Rise, is_sym, IsCurrentSchema, has_text, with_rows, AreNew, Adds, Clears, place_cells, of_key, place_key, by_place, list_in_order, CountUp, IsWhole, numbered, placed, list_cells, PutsList, Equal-is}
+use Rattle.std.proofs.Math.Bool.{not-and_self}
 use Rattle.portal_tables.proofs.Runs.{made_goes, goes_both}
 use Rattle.portal_tables.proofs.InTurn.{next_item}
 use Rattle.portal_tables.proofs.Keeping.{puts_apart, drops_apart, keeps_then}
 use Rattle.portal_tables.proofs.Lists.{filter_same, filter-filter, put_splits, eq_self}
-use Rattle.portal_tables.proofs.Listed.{less_is}
+use Rattle.portal_tables.proofs.Listed.{one, counts_rise}
 use Rattle.portal_tables.proofs.Sorted.{in_order, put_all_map, map_twice}
 use Rattle.portal_tables.proofs.Shapes.{text_equals}
 
@@ -21,11 +22,7 @@ kept_key key s rows other = filter-filter (has_text 1 key) (λ r. not (has_text 
     go r false e = rw e (and-false (not (has_text 1 s r)))
 
 pub none_left : (s : Key) (rows : List Row) → of_key s (filter (λ r. not (has_text 1 s r)) rows) ≡ []
-none_left s rows = filter-filter (has_text 1 s) (λ r. not (has_text 1 s r)) rows ∙ filter_none _ rows (all_of _ (λ r. neither (has_text 1 s r)) rows)
-  where
-    neither : (b : Bool) → (not b && b) ≡ false
-    neither true = refl
-    neither false = refl
+none_left s rows = filter-filter (has_text 1 s) (λ r. not (has_text 1 s r)) rows ∙ filter_none _ rows (all_of _ (λ r. not-and_self (has_text 1 s r)) rows)
 
 -- once the owner's rows are gone nothing is put
 put_begun : (tree : ℕ) (owner : Key) (first now : Database) → Clears tree owner first now → PutsList tree owner [] first now
@@ -46,10 +43,9 @@ split_key key front back new b e = filter-append (has_text 1 key) front (new ∷
 
 numbered_more : (n : ℕ) (done : List Key) (k : Key) → numbered n (done ++ k ∷ []) ≡ numbered n done ++ (length done + n, k) ∷ []
 numbered_more n [] k = ap (λ m. (m, k) ∷ []) (sym (zero-add n))
-numbered_more n (d ∷ done) k = ap (λ l. (n, d) ∷ l) (numbered_more (n + 1) done k ∙ ap (λ m. numbered (n + 1) done ++ (m, k) ∷ []) (shifted (length done) n))
-  where
-    shifted : (m n : ℕ) → m + (n + 1) ≡ suc m + n
-    shifted m n = omega arith
+numbered_more n (d ∷ done) k =
+    let shifted : length done + (n + 1) ≡ suc (length done) + n = omega arith in
+    ap (λ l. (n, d) ∷ l) (numbered_more (n + 1) done k ∙ ap (λ m. numbered (n + 1) done ++ (m, k) ∷ []) shifted)
 
 more_places : (front back : List Row) (new : Row) (done : List Key) (k : Key) → placed new ≡ (length done + 1, k)
     → IsPermutation (map placed (front ++ back)) (numbered 1 done)
@@ -118,31 +114,18 @@ put_whole tree owner list first mid now puts adds own apart =
       places = subst (λ t. IsPermutation (map placed (of_key owner t)) (numbered 1 list)) (sym put.rows) listed.places;
     }
 
--- a list that is written row by row
-pub cells_more : (owner : Key) (done : List Key) (k : Key) → list_cells owner (done ++ k ∷ []) ≡ list_cells owner done ++ place_cells owner (pos (length done + 1)) k ∷ []
-cells_more owner done k =
-    ap (map (λ (p : ℕ × Key). place_cells owner (pos p.0) p.1)) (numbered_more 1 done k)
-    ∙ map-append (λ (p : ℕ × Key). place_cells owner (pos p.0) p.1) (numbered 1 done) ((length done + 1, k) ∷ [])
-
 -- the loop's turn: the row of the place at i is written
 pub cells_next : {X : Type 0} (cells_of : X → Row) (rows : List X) (x : X) (owner k : Key) (keys : List Key) (i place : ℕ) → place ≡ i → i < length keys → k ≡ get_or keys i k
     → cells_of x ≡ place_cells owner (pos (place + 1)) k
     → map cells_of rows ≡ list_cells owner (take i keys) → map cells_of (rows ++ x ∷ []) ≡ list_cells owner (take (i + 1) keys)
 cells_next cells_of rows x owner k keys i place at within equals cell was =
+    let cell_of : ℕ × Key → Row = λ p. place_cells owner (pos p.0) p.1 in
     let at_end : place + 1 ≡ length (take i keys) + 1 = omega (arith, at, length-take-le i keys (omega (arith, within))) in
     map-append cells_of rows (x ∷ []) ∙ ap₂ (λ l c. l ++ c ∷ []) was (cell ∙ ap (λ n. place_cells owner (pos n) k) at_end)
-    ∙ sym (cells_more owner (take i keys) k) ∙ ap (list_cells owner) (sym (next_item keys i k equals within))
+    ∙ sym (ap (map cell_of) (numbered_more 1 (take i keys) k) ∙ map-append cell_of (numbered 1 (take i keys)) ((length (take i keys) + 1, k) ∷ [])) ∙ ap (list_cells owner) (sym (next_item keys i k equals within))
 
 abbrev pair_key : ℕ × Key → Key
 pair_key p = p.0 ∷ []
-
-numbers_above : (m n : ℕ) (ks : List Key) → m < n → AllByRecursion (λ l. is_before (m ∷ []) l ≡ true) (map pair_key (numbered n ks))
-numbers_above m n [] less = tt
-numbers_above m n (k ∷ ks) less = (less_is m n less, numbers_above m (n + 1) ks (omega (arith, less)))
-
-numbers_rise : (n : ℕ) (ks : List Key) → Rise (map pair_key (numbered n ks))
-numbers_rise n [] = tt
-numbers_rise n (k ∷ ks) = (numbers_above n (n + 1) ks (omega arith), numbers_rise (n + 1) ks)
 
 names_in : (n : ℕ) (ks : List Key) → map (λ (p : ℕ × Key). p.1) (numbered n ks) ≡ ks
 names_in n [] = refl
@@ -151,6 +134,9 @@ names_in n (k ∷ ks) = ap (λ l. k ∷ l) (names_in (n + 1) ks)
 count_up : (n : ℕ) (ks : List Key) → CountUp n (map (λ (p : ℕ × Key). p.0) (numbered n ks))
 count_up n [] = tt
 count_up n (k ∷ ks) = (refl, count_up (n + 1) ks)
+
+numbers_rise : (n : ℕ) (ks : List Key) → Rise (map pair_key (numbered n ks))
+numbers_rise n ks = subst Rise (map-map one (λ (p : ℕ × Key). p.0) (numbered n ks)) (counts_rise n _ (count_up n ks))
 
 -- rows that are these places, in whatever order, are the list, and it has no gap
 module _ (rows : List Row) (list : List Key) (same : IsPermutation (map placed rows) (numbered 1 list)) where

@@ -1,5 +1,5 @@
 -- What a query of one table shows, in the order of a column.
-use Rattle.portal_tables.proofs.Base.{◌≡◌, ◌∷◌, inl, inr, Ok, Err, Result, OnErr, OnOk, IsErr, ℕ, List, [], map, filter, refl, ap, subst, ◌∙◌, IsPermutation, IsSorted, Null, Binary, ascending, Row, column, Term, col, Trees, Query, IsAnswer, output, Output, IsProgramAnswer, answer_alone, State, Shown, ShowsRows, IsUnchanged, FailsToQuery, FailsToShow, IsNotRun, Error, IsUnchangedOrUndone, timed, understood, IsPlainIfAny, ListsBy, columns, key_cmp, map-map}
+use Rattle.portal_tables.proofs.Base.{◌≡◌, ◌∷◌, inl, inr, Ok, Err, Result, OnErr, OnOk, ℕ, List, [], map, filter, refl, ap, subst, ◌∙◌, IsPermutation, IsSorted, Null, Binary, ascending, Row, column, Term, col, Trees, Query, IsAnswer, output, Output, IsProgramAnswer, answer_alone, State, Shown, ShowsRows, IsUnchanged, FailsToQuery, FailsToShow, IsNotRun, Error, IsUnchangedOrUndone, timed, understood, IsPlainIfAny, ListsBy, columns, key_cmp, map-map}
 use Rattle.sqlite_value.specs.declared.keys.Key.{Key}
 use Rattle.portal_tables.proofs.Query.{one_table, passes, shown_as}
 use Rattle.portal_tables.proofs.Lists.{looped}
@@ -51,8 +51,3 @@ on_err A (Err e) h = h
 pub on_ok : {V E : Type 0} (A : Type 0) (r : Result V E) → A → OnOk r A
 on_ok A (Ok v) h = h
 on_ok A (Err e) h = tt
-
--- and of no answer anything holds
-pub none_ok : {V E : Type 0} (A : Type 0) (r : Result V E) → IsErr r → OnOk r A
-none_ok A (Ok v) failed = absurd (cc)
-none_ok A (Err e) failed = tt

@@ -1,6 +1,5 @@
 -- Steps of a transaction in turn, whatever the change.
-use Rattle.portal_tables.proofs.Base.{◌≡◌, arith, inl, inr, Bool, true, false, IsTrue, IsErr, Result, Ok, refl, sym, ap, subst, ◌∙◌, on_ok_weaker, Error, Transaction, cases_Bool, Database, State, HasCleanDisk, Survives, KeepsCommit, Shows, IsRolledBack, FailsToCommit, Ghosts, Held, state, doubt, no_doubt, survives_then, survives_begin, kept_then, Made, GoesOn, Does, Commits, IsAfter, Stays}
-use Rattle.portal_tables.proofs.Queries.{none_ok}
+use Rattle.portal_tables.proofs.Base.{◌≡◌, arith, inl, inr, Bool, true, false, IsTrue, IsErr, Result, Ok, refl, sym, ap, subst, ◌∙◌, on_ok_weaker, IfOk-from_err, Error, Transaction, cases_Bool, Database, State, HasCleanDisk, Survives, KeepsCommit, Shows, IsRolledBack, FailsToCommit, Ghosts, Held, state, doubt, no_doubt, survives_then, survives_begin, kept_then, Made, GoesOn, Does, Commits, IsAfter, Stays}
 
 -- a step after another
 pub made_then : (A B C : Database → Database → Type 0) (old mid new : State) → Made A old mid → Made B mid new → (A old.now mid.now → B mid.now new.now → C old.now new.now) → Made C old new
@@ -53,10 +52,10 @@ does_then g P Q R a r old mid new before after joined = record {
 -- an error is answered: what it left, after a call that was made, and where none was
 module _ {S B : Type 0} (g : Ghosts S) {Q : State → State → Type 0} (s : Result B Error) (failed : IsErr s) where
   pub does_failed : {A : Type 0} {P : State → State → Type 0} {r : Result A Error} {old new : Transaction S} → Does g P r old new → Does g Q s old new
-  does_failed does = record { same_reference = does.same_reference; done = λ clean. none_ok _ s failed; kept = does.kept; survives = does.survives }
+  does_failed does = record { same_reference = does.same_reference; done = λ clean. IfOk-from_err s _ failed; kept = does.kept; survives = does.survives }
 
   pub does_nothing : (tx : Transaction S) → Does g Q s tx tx
-  does_nothing tx = record { same_reference = refl; done = λ clean. none_ok _ s failed; kept = λ clean. kept_same (state g tx.conn.now); survives = survives_same (state g tx.conn.now) }
+  does_nothing tx = record { same_reference = refl; done = λ clean. IfOk-from_err s _ failed; kept = λ clean. kept_same (state g tx.conn.now); survives = survives_same (state g tx.conn.now) }
 
 -- a call after another, where only that they were made counts
 pub does_both : {S A B : Type 0} (g : Ghosts S) {P Q : State → State → Type 0} {a : A} {r : Result B Error} {old mid new : Transaction S} → Does g P (Ok a) old mid → Does g Q r mid new → Does g (λ _ _. Unit {0}) r old new

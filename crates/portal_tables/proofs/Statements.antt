@@ -108,20 +108,14 @@ module _ (at : ℕ) (name : List ℕ) (tree : ℕ) (columns : List Column) (key 
       record { schema_is = done.schema_is; rows = done.rows ∙ ap (put_row made) left; others = done.others; sound = done.sound }
 
 -- the row of `portal` with a version, and that of `second`
-portal_one : Inserts (codes "INSERT INTO portal (version, phase, office) VALUES (?1, 0, ?2)") 0 (lit Null ∷ lit Null ∷ param 0 ∷ lit (Int (pos 0)) ∷ param 1 ∷ []) 5
-unfolding understood everything
-portal_one = record { command = λ checks more. refl; plain = λ checks more. (refl, refl) }
-
 pub portal_added : {S : Type 0} (g : Ghosts S) (version : ℕ) → AddsBy g (codes "INSERT INTO portal (version, phase, office) VALUES (?1, 0, ?2)") 1 portal_tree (λ office. Int (pos version) ∷ Text office ∷ []) (portal_cells (pos version) (pos 0))
-portal_added g version = rows_added 0 _ 0 _ _ _ _ _ _ (λ checks more. refl) g (λ office. Int (pos version) ∷ Text office ∷ []) (portal_cells (pos version) (pos 0))
-    (λ checks more office. rw (cast_null, cast_int (pos version), cast_int (pos 0)) refl) 1 _ _ 5 portal_one (by_one (λ office more. refl))
-
-second_one : Inserts (codes "INSERT INTO second (phase) VALUES (0)") 6 (lit Null ∷ lit Null ∷ lit (Int (pos 0)) ∷ []) 3
 unfolding understood everything
-second_one = record { command = λ checks more. refl; plain = λ checks more. (refl, refl) }
+portal_added g version = rows_added 0 _ 0 _ _ _ _ _ _ (λ checks more. refl) g (λ office. Int (pos version) ∷ Text office ∷ []) (portal_cells (pos version) (pos 0))
+    (λ checks more office. rw (cast_null, cast_int (pos version), cast_int (pos 0)) refl) 1 _ (lit Null ∷ lit Null ∷ param 0 ∷ lit (Int (pos 0)) ∷ param 1 ∷ []) 5 (record { command = λ checks more. refl; plain = λ checks more. (refl, refl) }) (by_one (λ office more. refl))
 
 pub second_added : {S : Type 0} (g : Ghosts S) → AddsBy {R = ⊤} g (codes "INSERT INTO second (phase) VALUES (0)") 1 second_tree (λ _. []) (λ _. second_cells (pos 0))
-second_added g = rows_added 6 _ 15 _ _ _ _ _ _ (λ checks more. refl) g (λ _. []) (λ _. second_cells (pos 0)) (λ checks more none. rw (cast_null, cast_int (pos 0)) refl) 1 _ _ 3 second_one (by_one (λ none more. refl))
+unfolding understood everything
+second_added g = rows_added 6 _ 15 _ _ _ _ _ _ (λ checks more. refl) g (λ _. []) (λ _. second_cells (pos 0)) (λ checks more none. rw (cast_null, cast_int (pos 0)) refl) 1 _ (lit Null ∷ lit Null ∷ lit (Int (pos 0)) ∷ []) 3 (record { command = λ checks more. refl; plain = λ checks more. (refl, refl) }) (by_one (λ none more. refl))
 
 abbrev lecturer_terms : ℕ → List Term
 lecturer_terms n = lit Null ∷ param n ∷ param (n + 1) ∷ param (n + 2) ∷ param (n + 3) ∷ lit (Int (pos 0)) ∷ []
@@ -196,27 +190,18 @@ pub list_cleared : (l : Lists) (old new : State) (owner : List ℕ) → Ran (cle
 list_cleared l = cleared (place_among l) _ (tree_of l) _ _ _ _ _ _ (stands l) (clear_text (names l)) (clear_is l)
 
 -- who has a ranking in the second round
-unrank_is : Deletes (codes "DELETE FROM ranked2 WHERE lecturer = ?1") 8 19 (has_key 1)
-unfolding understood everything
-unrank_is = record { command = λ checks more. refl; plain = λ checks more. (refl, refl) }
-
 pub rank_cleared : (old new : State) (owner : List ℕ) → Ran (codes "DELETE FROM ranked2 WHERE lecturer = ?1") (Text owner ∷ []) old new → Made (Clears ranked2_tree owner) old new
-rank_cleared = cleared 8 _ 19 _ _ _ _ _ _ (λ checks more. refl) (codes "DELETE FROM ranked2 WHERE lecturer = ?1") unrank_is
-
-rank_one : Inserts (codes "INSERT INTO ranked2 (lecturer) VALUES (?1)") 8 (lit Null ∷ param 0 ∷ []) 2
 unfolding understood everything
-rank_one = record { command = λ checks more. refl; plain = λ checks more. (refl, refl) }
+rank_cleared = cleared 8 _ 19 _ _ _ _ _ _ (λ checks more. refl) (codes "DELETE FROM ranked2 WHERE lecturer = ?1") (record { command = λ checks more. refl; plain = λ checks more. (refl, refl) })
 
 pub rank_added : {S : Type 0} (g : Ghosts S) → AddsBy g (codes "INSERT INTO ranked2 (lecturer) VALUES (?1)") 1 ranked2_tree (λ k. Text k ∷ []) (λ k. Text k ∷ [])
-rank_added g = rows_added 8 _ 19 _ _ _ _ _ _ (λ checks more. refl) g (λ k. Text k ∷ []) (λ k. Text k ∷ []) (λ checks more k. rw (cast_null) refl) 1 _ _ 2 rank_one (by_one (λ k more. refl))
+unfolding understood everything
+rank_added g = rows_added 8 _ 19 _ _ _ _ _ _ (λ checks more. refl) g (λ k. Text k ∷ []) (λ k. Text k ∷ []) (λ checks more k. rw (cast_null) refl) 1 _ (lit Null ∷ param 0 ∷ []) 2 (record { command = λ checks more. refl; plain = λ checks more. (refl, refl) }) (by_one (λ k more. refl))
 
 -- the result of the second round
-empty_is : Deletes (codes "DELETE FROM assigned2") 10 24 []
-unfolding understood everything
-empty_is = record { command = λ checks more. refl; plain = λ checks more. (refl, refl) }
-
 pub places_dropped : (old new : State) → Ran (codes "DELETE FROM assigned2") [] old new → IsCurrentSchema old.now.schema → RowNumbersDiffer (old.now.trees assigned2_tree) → Drops assigned2_tree every old.now new.now
-places_dropped = dropped 10 _ 24 _ _ _ _ _ _ (λ checks more. refl) (codes "DELETE FROM assigned2") [] empty_is []
+unfolding understood everything
+places_dropped = dropped 10 _ 24 _ _ _ _ _ _ (λ checks more. refl) (codes "DELETE FROM assigned2") [] (record { command = λ checks more. refl; plain = λ checks more. (refl, refl) }) []
 
 abbrev pair_terms : ℕ → List Term
 pair_terms n = lit Null ∷ param n ∷ param (n + 1) ∷ []
@@ -235,54 +220,39 @@ pairs_added g count sql terms = rows_added 10 _ 24 _ _ _ _ _ _ (λ checks more. 
 abbrev pub update_ranked : List ℕ
 update_ranked = codes "UPDATE lecturer SET ranked = 1 WHERE key = ?1"
 
-abbrev update_ranked_row : List Term
-update_ranked_row = col 1 0 ∷ col 1 1 ∷ col 1 2 ∷ col 1 3 ∷ col 1 4 ∷ lit (Int (pos 1)) ∷ []
-
-update_ranked_is : Updates update_ranked 1 1 (has_key 1) update_ranked_row
-unfolding understood everything
-update_ranked_is = record { command = λ checks more. refl; plain = λ checks more. (refl, refl) }
-
 pub lecturer_ranked : (old new : State) (key : List ℕ) → Ran update_ranked (Text key ∷ []) old new → Made (Ranks key) old new
+unfolding understood everything
 lecturer_ranked old new key h = record {
   shown = h.shown;
   changed = λ own apart number name code capacity ranked one.
       let w = own_is Second old.now.schema own in
       let s = portal_with w.o.checks w.o.terms in
       let r = Int number ∷ lecturer_cells key name code capacity ranked in
-      let set = updated s update_ranked 1 _ 1 _ _ _ _ _ _ _ _ refl (λ P all. all) (has_key 1) update_ranked_row (update_ranked_is.command w.o.checks w.o.terms) (update_ranked_is.plain w.o.checks w.o.terms) (λ was row. refl)
+      let set = updated s update_ranked 1 _ 1 _ _ _ _ _ _ _ _ refl (λ P all. all) (has_key 1) (col 1 0 ∷ col 1 1 ∷ col 1 2 ∷ col 1 3 ∷ col 1 4 ∷ lit (Int (pos 1)) ∷ []) refl (refl, refl) (λ was row. refl)
       (Text key ∷ []) r old new h.count w.is apart (ap (λ p. filter p (old.now.trees 1)) (same_key 1 key) ∙ one) h.runs in
       subst₂ (λ p row. Sets 1 p row old.now new.now) (same_key 1 key) (rw (cast_int number, cast_int capacity, cast_int (pos 1)) refl) set;
 }
 
-phase_is : Updates (codes "UPDATE portal SET phase = ?1 WHERE id = 1") 0 0 the_one (col 1 0 ∷ lit Null ∷ col 1 2 ∷ param 0 ∷ col 1 4 ∷ [])
-unfolding understood everything
-phase_is = record { command = λ checks more. refl; plain = λ checks more. (refl, refl) }
-
 pub phase_moved : (old new : State) (phase : ℕ) → Ran (codes "UPDATE portal SET phase = ?1 WHERE id = 1") (Int (pos phase) ∷ []) old new → Made (MovesTo phase) old new
+unfolding understood everything
 phase_moved old new phase h = record {
   shown = h.shown;
-  changed = λ own version was office. one_changed 0 _ 0 _ _ _ _ _ _ (λ checks more. refl) _ _ phase_is (Int (pos phase) ∷ []) (portal_row version was office) _ refl refl
+  changed = λ own version was office. one_changed 0 _ 0 _ _ _ _ _ _ (λ checks more. refl) _ (col 1 0 ∷ lit Null ∷ col 1 2 ∷ param 0 ∷ col 1 4 ∷ []) (record { command = λ checks more. refl; plain = λ checks more. (refl, refl) }) (Int (pos phase) ∷ []) (portal_row version was office) _ refl refl
       (λ checks more. rw (cast_int (pos 1), cast_null, cast_int version, cast_int (pos phase)) refl) old new h own;
 }
 
-version_is : Updates (codes "UPDATE portal SET version = ?1 WHERE id = 1") 0 0 the_one (col 1 0 ∷ lit Null ∷ param 0 ∷ col 1 3 ∷ col 1 4 ∷ [])
-unfolding understood everything
-version_is = record { command = λ checks more. refl; plain = λ checks more. (refl, refl) }
-
 pub version_set : (old new : State) (version : ℕ) → Ran (codes "UPDATE portal SET version = ?1 WHERE id = 1") (Int (pos version) ∷ []) old new → Made (IsOfVersion version) old new
+unfolding understood everything
 version_set old new version h = record {
   shown = h.shown;
-  changed = λ own was phase office. one_changed 0 _ 0 _ _ _ _ _ _ (λ checks more. refl) _ _ version_is (Int (pos version) ∷ []) (portal_row was phase office) _ refl refl
+  changed = λ own was phase office. one_changed 0 _ 0 _ _ _ _ _ _ (λ checks more. refl) _ (col 1 0 ∷ lit Null ∷ param 0 ∷ col 1 3 ∷ col 1 4 ∷ []) (record { command = λ checks more. refl; plain = λ checks more. (refl, refl) }) (Int (pos version) ∷ []) (portal_row was phase office) _ refl refl
       (λ checks more. rw (cast_int (pos 1), cast_null, cast_int (pos version), cast_int phase) refl) old new h own;
 }
 
-second_is : Updates (codes "UPDATE second SET phase = ?1 WHERE id = 1") 6 15 the_one (col 1 0 ∷ lit Null ∷ param 0 ∷ [])
-unfolding understood everything
-second_is = record { command = λ checks more. refl; plain = λ checks more. (refl, refl) }
-
 pub second_moved : (old new : State) (phase : ℕ) → Ran (codes "UPDATE second SET phase = ?1 WHERE id = 1") (Int (pos phase) ∷ []) old new → Made (MovesSecond phase) old new
+unfolding understood everything
 second_moved old new phase h = record {
   shown = h.shown;
-  changed = λ own was. one_changed 6 _ 15 _ _ _ _ _ _ (λ checks more. refl) _ _ second_is (Int (pos phase) ∷ []) (second_row was) _ refl refl
+  changed = λ own was. one_changed 6 _ 15 _ _ _ _ _ _ (λ checks more. refl) _ (col 1 0 ∷ lit Null ∷ param 0 ∷ []) (record { command = λ checks more. refl; plain = λ checks more. (refl, refl) }) (Int (pos phase) ∷ []) (second_row was) _ refl refl
       (λ checks more. rw (cast_int (pos 1), cast_null, cast_int (pos phase)) refl) old new h own;
 }

@@ -1,5 +1,5 @@
 -- What a statement on one table does to its rows.
-use Rattle.portal_tables.proofs.Base.{◌≡◌, ◌⊎◌, ◌∷◌, ◌++◌, ◌&&◌, ◌≢◌, ◌/◌, inl, inr, ℕ, ℤ, List, [], map, slice_get, Bool, true, false, not, cond, Option, Some, None, Ok, Err, Result, refl, sym, ap, ap₂, subst, ◌∙◌, filter, length, drop, AllByRecursion, and_parts, Null, Int, Row, Term, col, unary, Table, Schema, Values, Insert, Delete, Update, Edit, edit_of, put_all, next_rowid, is_taken, are_fresh, without_all, id_in, taken_by, cast, cast_row, Chosen, Given, Tally, Written, Edited, Trees, put_row, rowid, has_rowid, understood, Database, IsDatabase, value_rows, State, mode_of, Executes, IsPlain, command_of, statement_of, runs_as, one_step, one_permutation, works, Enforced, Column, Reference, Order, schema_of, own_trees, InsertsRows, Drops, Sets, RowNumbersDiffer, with_rows, AreNew, IsPermutation, IsPermutation-map, IsPermutation-trans, IsPermutation-append_left, list_any-IsPermutation, IsProgramAnswer, ids_of, Program, map-map, any_map}
+use Rattle.portal_tables.proofs.Base.{◌≡◌, ◌⊎◌, ◌∷◌, ◌++◌, ◌≢◌, ◌/◌, inl, inr, ℕ, ℤ, List, [], map, slice_get, Bool, true, false, not, cond, Option, Some, None, Ok, Err, Result, refl, sym, ap, ap₂, subst, ◌∙◌, filter, length, drop, AllByRecursion, and_parts, Null, Int, Row, Term, col, unary, Table, Schema, Values, Insert, Delete, Update, Edit, edit_of, put_all, next_rowid, is_taken, are_fresh, without_all, id_in, taken_by, cast, cast_row, Chosen, Given, Tally, Written, Edited, Trees, put_row, rowid, has_rowid, understood, Database, IsDatabase, value_rows, State, mode_of, Executes, IsPlain, command_of, statement_of, runs_as, one_step, one_permutation, works, Enforced, Column, Reference, Order, schema_of, own_trees, InsertsRows, Drops, Sets, RowNumbersDiffer, with_rows, AreNew, IsPermutation, IsPermutation-map, IsPermutation-trans, IsPermutation-append_left, list_any-IsPermutation, IsProgramAnswer, ids_of, Program, map-map, any_map}
 use Rattle.sqlite.specs.Kind.TheVariants as kind
 use Rattle.sqlite.specs.Edit.{numbered}
 use Rattle.sqlite.specs.Does.{Does}
@@ -10,16 +10,12 @@ use Rattle.portal_tables.proofs.Listed.{permuted}
 use Rattle.portal_tables.proofs.Queries.{listed}
 use Rattle.portal_tables.proofs.Sorted.{all_permuted}
 
--- the other tables of a schema are as they were
-abbrev KeepsIn : Schema → ℕ → Database → Database → Type 0
-KeepsIn schema tree old new = AllByRecursion (λ t. t.tree ≢ tree → new.trees t.tree ≡ old.trees t.tree) schema.tables
-
 -- in place of each row that passes stands what is made of it
 pub record AltersIn (schema : Schema) (tree : ℕ) (p : Row → Bool) (made : Row → Row) (old new : Database) : Type 0 where
   pub schema_is : new.schema ≡ schema
   pub apart : RowNumbersDiffer (new.trees tree)
   pub rows : IsPermutation (map made (filter p (old.trees tree)) ++ filter (λ r. not (p r)) (old.trees tree)) (new.trees tree)
-  pub others : KeepsIn schema tree old new
+  pub others : AllByRecursion (λ t. t.tree ≢ tree → new.trees t.tree ≡ old.trees t.tree) schema.tables
   pub sound : IsDatabase new
 
 either : {X : Type 0} (b : Bool) (x : X) → cond b x x ≡ x
@@ -41,10 +37,6 @@ went (inr on) = on
 
 pub same_value : {B E : Type 0} {a b : B} → ◌≡◌ {A = Result B E} (Ok a) (Ok b) → a ≡ b
 same_value e = cc
-
-only_new : (b : Bool) → (not b && true) ≡ true → b ≡ false
-only_new true h = absurd (cc)
-only_new false h = refl
 
 -- a row before it has its number
 abbrev pub unnumbered : Row → Row
@@ -180,7 +172,7 @@ module _ (schema : Schema) (sql : List ℕ) (at : ℕ) (name : List ℕ) (tree :
         ap (without_all (db tree)) (ap ids_of (sym rows)) ∙ left_is (passes tests params) (shown_as project params) (db tree) queried.0 apart shown in
         record {
           schema_is = ap (λ (d : Database). d.schema) now ∙ sym has;
-          free = only_new (is_taken (filter (λ x. not (passes tests params x)) (db tree)) fresh) (subst (λ l. are_fresh l (fresh ∷ []) ≡ true) left wrote.fresh);
+          free = not_true _ (and_parts (not (is_taken (filter (λ x. not (passes tests params x)) (db tree)) fresh)) true (subst (λ l. are_fresh l (fresh ∷ []) ≡ true) left wrote.fresh)).0;
           rows = ap (λ (t : Trees). t tree) after ∙ wrote.rows ∙ ap (put_row fresh) left;
           others = own (λ t. t ≢ tree → new.now.trees t ≡ db t) (subst (λ (t : Trees). AllByRecursion (λ s. s.tree ≢ tree → t s.tree ≡ db s.tree) schema.tables) (sym after) wrote.tables);
           sound = w.sound;

@@ -94,11 +94,7 @@ pub fn assigned_at(alloc: Global, row: &Row, at: usize) -> Result<Option<Key>, T
 {
     match row.get_ref(at) {
         Ok(ValueRef::Null) | Err(_) => Ok(None),
-        Ok(ValueRef::Text(text)) => match Key::parse(alloc, text) {
-            Ok(key) => Ok(Some(key)),
-            Err(KeyFault::BadKey) => Err(TableFault::Damaged),
-            Err(KeyFault::Memory) => Err(TableFault::Memory),
-        },
+        Ok(ValueRef::Text(_)) => Ok(Some(key_at(alloc, row, at)?)),
         Ok(_) => Err(TableFault::Damaged),
     }
 }

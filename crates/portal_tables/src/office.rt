@@ -2,7 +2,7 @@
 
 ghost use Rattle.std.specs.Prelude.{◌≡◌, ◌↔◌, ◌∷◌};
 ghost use Rattle.portal_tables.specs.inner.Base.{[], pos, true, Err, IfOk, IfSome, IfNone, IsTrue};
-ghost use Rattle.portal_tables.specs.inner.Base.{List, ℕ, Int, Words, Cells, column, is_code};
+ghost use Rattle.portal_tables.specs.inner.Base.{List, ℕ, Int, Cells, column, is_code};
 ghost use Rattle.portal_tables.specs.inner.Base.{ThePhase, First, InSecond, IsDatabase};
 ghost use Rattle.portal_tables.specs.Tables.{portal_tree, second_tree};
 ghost use Rattle.portal_tables.specs.Steps.{Reads};
@@ -70,19 +70,6 @@ pub(crate) fn phase_at(row: &Row, at: usize) -> Option<Phase>
     }
 }
 
-/// Decodes the code in the office's row. Fails with `Damaged` unless the cell holds a valid code as
-/// text.
-fn text_code_at(alloc: Global, row: &Row, at: usize) -> Result<Code, TableFault>
-    ensures ok { IfOk result (λ code. column row.now at ≡ Words code) }
-    ensures damaged { result ≡ Err TableFault.Damaged → (code : List ℕ)
-        → column row.now at ≡ Words code → is_code code ≡ true → ⊥ }
-{
-    match row.get_ref(at) {
-        Ok(ValueRef::Text(_)) => code_at(alloc, row, at),
-        _ => Err(TableFault::Damaged),
-    }
-}
-
 /// Decodes the only row of the office's table. Fails with `Damaged` unless there is exactly one
 /// row, with id 1, this version, a phase and a code.
 fn office_from(alloc: Global, rows: &[Row], version: u32) -> Result<Office, TableFault>
@@ -101,7 +88,10 @@ fn office_from(alloc: Global, rows: &[Row], version: u32) -> Result<Office, Tabl
     let Some(phase) = phase_at(row, 2) else {
         return Err(TableFault::Damaged);
     };
-    let code = text_code_at(alloc, row, 3)?;
+    let Ok(ValueRef::Text(_)) = row.get_ref(3) else {
+        return Err(TableFault::Damaged);
+    };
+    let code = code_at(alloc, row, 3)?;
     Ok(Office { phase, code })
 }
 

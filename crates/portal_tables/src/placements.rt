@@ -1,12 +1,11 @@
 //! Reads placements of both rounds; tests whether a student takes part in a round.
 
-ghost use Rattle.std.specs.Prelude.{◌≡◌, ◌≤◌, is_none, if◌then◌else◌};
-ghost use Rattle.portal_tables.specs.inner.Base.{true, Err, None, IfOk, option_map, length, map};
-ghost use Rattle.portal_tables.specs.inner.Base.{AllByRecursion, filter_map, is_key, is_published};
+ghost use Rattle.std.specs.Prelude.{◌≡◌, is_none};
+ghost use Rattle.portal_tables.specs.inner.Base.{true, Err, None, IfOk, AllByRecursion, filter_map};
 ghost use Rattle.portal_tables.specs.inner.Base.{IsDatabase, IsStudent, First, InSecond};
 ghost use Rattle.portal_tables.specs.Steps.{Reads};
 ghost use Rattle.portal_tables.specs.inner.Reads.{MayRead, Always, Answers, Blames};
-ghost use Rattle.portal_tables.specs.inner.Shown.{as_list, first_cell, shown_name, shown_student};
+ghost use Rattle.portal_tables.specs.inner.Shown.{shown_student};
 ghost use Rattle.portal_tables.specs.inner.Placements as meant;
 ghost use Rattle.portal_tables.specs.Rows.{second_placement};
 ghost use Rattle.portal_tables.specs.inner.Placements.{placement_shown, placement_before};
@@ -18,24 +17,14 @@ ghost use Rattle.portal_tables.specs.inner.Rolls.{RollRises};
 ghost use Rattle.portal_tables.specs.declared.select.RollTable.TheVariants.{Students};
 
 use crate::cells::{assigned_at, bytes_at, is_null, key_at};
-use crate::decode::{at_most_one, decoded, push_some};
+use crate::decode::{at_most_one, push_some};
 use crate::fault::TableFault;
-use crate::select::{Query, read_rows};
+use crate::select::{Query, read_each};
 use crate::sorted_rolls::rising;
 use portal_core::{Phase, Round};
 use spa_rows::Key;
 use sqlite::{Alter, Connection, Row};
 use std::alloc::Global;
-
-/// Returns the project in the only row of a placement, or `None` without rows.
-fn only_name(alloc: Global, rows: &[Row]) -> Result<Option<Key>, TableFault>
-    ensures ok { IfOk result (λ p. as_list p ≡ map shown_name rows.now) }
-    ensures damaged { result ≡ Err TableFault.Damaged → length rows.now ≤ 1
-        → AllByRecursion (λ c. is_key (shown_name c) ≡ true) rows.now → ⊥ }
-{
-    let names: Vec<Key> = decoded(alloc, rows)?;
-    at_most_one(names)
-}
 
 /// Reads the second round's placement of the student with this key.
 pub fn second_placement_in<S: Alter>(
@@ -48,8 +37,8 @@ pub fn second_placement_in<S: Alter>(
         (λ db fault. Blames fault (HasSecondPlace db.trees student.now)))
         result conn.old conn.new }
 {
-    let rows = read_rows(alloc, conn, Query::SecondPlaceOf(student))?;
-    only_name(alloc, &rows)
+    let names: Vec<Key> = read_each(alloc, conn, Query::SecondPlaceOf(student))?;
+    at_most_one(names)
 }
 
 /// Returns a round's placement of the student in this row. Fails with `Damaged` if it is not a
@@ -93,27 +82,6 @@ pub fn takes_part(round: Round, row: &Row) -> bool
     }
 }
 
-/// Returns a round's placement of the student in this row if the phase is `Published`, otherwise
-/// `None`.
-fn published_in<S: Alter>(
-    alloc: Global,
-    conn: &mut Connection<S>,
-    round: Round,
-    phase: Phase,
-    row: &Row,
-) -> Result<Option<Key>, TableFault>
-    ensures { MayRead round S.Store IsDatabase
-        (Answers (λ db p. p ≡
-        (if is_published phase then placement_shown round db.trees row.now else None))
-        (λ db fault. Blames fault (HasPlacement round db.trees row.now)))
-        result conn.old conn.new }
-{
-    match phase {
-        Phase::Published => placement_in(alloc, conn, round, row),
-        Phase::Setup | Phase::Choosing | Phase::Ranking => Ok(None),
-    }
-}
-
 /// Returns the placement that the student in this row sees. It is the earlier one, or else the
 /// round's own once it is published. Fails like `placement_in`.
 pub fn result_in<S: Alter>(
@@ -131,7 +99,10 @@ pub fn result_in<S: Alter>(
     if let Some(place) = place_before_at(alloc, round, row)? {
         return Ok(Some(place));
     }
-    published_in(alloc, conn, round, phase, row)
+    match phase {
+        Phase::Published => placement_in(alloc, conn, round, row),
+        Phase::Setup | Phase::Choosing | Phase::Ranking => Ok(None),
+    }
 }
 
 /// Returns a round's placement of the student in this row, or the one that the student sees. Given
@@ -154,21 +125,6 @@ fn placement_asked<S: Alter>(
     }
 }
 
-/// Pairs the key of the student in this row with the placement, if there is one.
-fn with_placement(
-    alloc: Global,
-    row: &Row,
-    place: Option<Key>,
-) -> Result<Option<(Key, Key)>, TableFault>
-    ensures ok { IfOk result (λ pair. pair ≡ option_map (λ p. (first_cell row.now, p)) place) }
-    ensures damaged { result ≡ Err TableFault.Damaged → IsStudent (shown_student row.now) → ⊥ }
-{
-    match place {
-        Some(project) => Ok(Some((key_at(alloc, row, 0)?, project))),
-        None => Ok(None),
-    }
-}
-
 /// Returns the key of the student in this row with the placement from `placement_asked`.
 fn pair_in<S: Alter>(
     alloc: Global,
@@ -182,8 +138,10 @@ fn pair_in<S: Alter>(
         (λ db fault. Blames fault (IsStudent (shown_student row.now)
         × HasPlacementAsked round phase db.trees row.now))) result conn.old conn.new }
 {
-    let place = placement_asked(alloc, conn, round, phase, row)?;
-    with_placement(alloc, row, place)
+    match placement_asked(alloc, conn, round, phase, row)? {
+        Some(project) => Ok(Some((key_at(alloc, row, 0)?, project))),
+        None => Ok(None),
+    }
 }
 
 /// Reads a round's placements as pairs of student and project, in the order of the students' rows.

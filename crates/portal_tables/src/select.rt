@@ -181,15 +181,7 @@ impl<'a> Query<'a> {
             | Query::ProjectsOf(key)
             | Query::SecondRankedBy(key)
             | Query::SecondPlaceOf(key) => Some(ValueRef::Text(key)),
-            Query::Office
-            | Query::Whole(_)
-            | Query::AllLists(_)
-            | Query::Listed(_)
-            | Query::FirstPlacements
-            | Query::Second
-            | Query::SecondRanked
-            | Query::SecondPlacements
-            | Query::Numbers(_) => None,
+            _ => None,
         }
     }
 }

@@ -4,13 +4,8 @@ use Rattle.portal_views.proofs.Choosers.{chooser, choosers_known}
 use Rattle.portal_views.proofs.Owners.{keys_shown}
 use Rattle.portal_views.proofs.OneKey.{roll_keys_rise}
 use Rattle.portal_tables.proofs.Lists.{sifted}
-use Rattle.sqlite_rules.proofs.ListLemmas.{has_filtered}
-
--- what is found of what is made of a list is made of what is found
-find_mapped : {X Y : Type 0} (t : Y → Bool) (f : X → Y) (xs : List X) → find t (map f xs) ≡ option_map f (find (λ x. t (f x)) xs)
-find_mapped t f [] = refl
-find_mapped t f (x ∷ xs) =
-    elim (t (f x)) as (λ b. cond b (Some (f x)) (find t (map f xs)) ≡ option_map f (cond b (Some x) (find (λ y. t (f y)) xs))) [ true ↦ refl | false ↦ find_mapped t f xs ]
+use Rattle.portal_core.proofs.Keys.{find_map}
+use Rattle.sqlite_rules.proofs.ListLemmas.{has_filtered, some_has}
 
 only_told : (shown : List Row) (l : ApplicantLine) → map told_line shown ≡ l ∷ [] → (c : Row) × (shown ≡ c ∷ []) × (told_line c ≡ l)
 only_told (c ∷ []) l e = (c, refl, cc)
@@ -24,7 +19,7 @@ first_told db tables key lines shows l only =
     let table = db.trees student_tree in
     let told = found (1 ∷ []) (has_text 1 key) (columns (1 ∷ 2 ∷ 4 ∷ [])) (λ r. shown_line First db.trees (roll_columns r)) told_line (λ (x : ApplicantLine). equals x.person.key key) (λ r. refl) table shows.rows
     (all_weaker IsStudentRow (λ r. has_text 1 key r ≡ equals (row_key r) key) (student_test key) table (student_rows_formed db tables.own tables.sound tables.apart.1.1.1.0)) shows.shown (Some one.0) (sym one.1) in
-    ap Some (sym one.2) ∙ told ∙ ap (find (λ (x : ApplicantLine). equals x.person.key key)) (map_twice (shown_line First db.trees) roll_columns (by_key table)) ∙ find_mapped (λ (x : ApplicantLine). equals x.person.key key) (shown_line First db.trees) (students_shown db.trees)
+    ap Some (sym one.2) ∙ told ∙ ap (find (λ (x : ApplicantLine). equals x.person.key key)) (map_twice (shown_line First db.trees) roll_columns (by_key table)) ∙ find_map (shown_line First db.trees) (λ c. equals (first_cell c) key) (λ (x : ApplicantLine). equals x.person.key key) (λ c. refl) (students_shown db.trees)
 
 -- of either round, with its place
 by_round : (round : Round) (db : Trees) (o : Option Row) → option_map (in_round round db) (option_map (shown_line First db) o) ≡ option_map (shown_line round db) o
@@ -44,8 +39,7 @@ some_back (l ∷ ls) = ap (λ r. l ∷ r) (some_back ls)
 
 -- a key that stands among keys
 there : (ks : List Key) (k : Key) → has ks k ≡ true → Has ks k
-there [] k h = absurd (cc)
-there (x ∷ ks) k h = elim (cases_Bool (equals k x)) [ inl same ↦ inl (is_same k x same) | inr other ↦ inr (there ks k (ap (λ b. b || has ks k) (sym other) ∙ h)) ]
+there ks k h = let found = some_has (equals k) ks h in subst (Has ks) (sym (is_same k found.0 found.2)) found.1
 
 -- of rows some pass, those whose keys are among these
 module _ (ks : List Key) (q : Row → Bool) where

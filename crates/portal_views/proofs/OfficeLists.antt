@@ -1,5 +1,7 @@
 -- Who has a list, and whether some list holds a project, of what queries of the lists show.
-use Rattle.portal_views.proofs.Base.{◌∙◌, ◌&&◌, ◌||◌, ◌∷◌, ◌≡◌, AllByRecursion, Bool, Database, HasWholeLists, Int, IsDatabase, IsPlace, IsWhole, Key, List, ListsBy, Reading, Result, Round, Row, [], all-filter, all_map, all_of, all_permuted, all_weaker, and_comm, any_alike, any_map, ap, by_place, bytes, cases_Bool, choice_table, chosen, column, columns, equals, false, filter, filter_alike, filtered_any, first_cell, has, has_number, has_text, has_text_of, inl, inr, is_chosen_shown, is_eq, is_none, is_sym, list_any, list_any-IsPermutation, map, named_by, not, of_key, passes, permutes, place_key, placement_before, pos, reads_of, refl, row_key, student_tree, students_shown, subst, sym, tree_of, true, unlisted, value_cmp, ℤ, negsuc, or-true, State, is_empty, any_nowhere, choice_shown, CountUp, place_of, eq_self, none_of}
+use Rattle.portal_views.proofs.Base.{◌∙◌, ◌&&◌, ◌||◌, ◌∷◌, ◌≡◌, AllByRecursion, Database, HasWholeLists, Int, IsDatabase, IsPlace, IsWhole, Key, List, ListsBy, Reading, Result, Round, Row, [], all-filter, all_map, all_of, all_permuted, all_weaker, and_comm, any_alike, any_map, ap, by_place, bytes, cases_Bool, choice_table, chosen, column, columns, equals, filter, filter_alike, filtered_any, first_cell, has, has_number, has_text, has_text_of, inl, inr, is_chosen_shown, is_eq, is_none, is_sym, list_any, list_any-IsPermutation, map, named_by, not, of_key, permutes, place_key, placement_before, pos, reads_of, refl, row_key, student_tree, students_shown, subst, sym, tree_of, true, unlisted, value_cmp, ℤ, negsuc, State, is_empty, any_nowhere, choice_shown, CountUp, place_of, eq_self, none_of}
+use Rattle.std.proofs.Math.Bool.{not-not}
+use Rattle.sqlite_rules.proofs.ListLemmas.{some_has, some_from}
 use Rattle.sqlite_trees.specs.Objects.{number_in}
 use Rattle.portal_core.proofs.Kept.{empty_map}
 use Rattle.portal_list.proofs.Members.{has_all}
@@ -7,18 +9,12 @@ use Rattle.portal_views.proofs.Choosers.{named_where, choices_formed, choices_pa
 
 -- somebody names the project
 
-some_more : {X : Type 0} (f g : X → Bool) (xs : List X) → ((x : X) → f x ≡ true → g x ≡ true) → list_any f xs ≡ true → list_any g xs ≡ true
-some_more f g [] more h = absurd (cc)
-some_more f g (x ∷ xs) more h = elim (cases_Bool (f x)) [
-  | inl passes ↦ ap (λ b. b || list_any g xs) (more x passes)
-  | inr fails ↦ ap (λ b. g x || b) (some_more f g xs more (sym (ap (λ b. b || list_any f xs) fails) ∙ h)) ∙ or-true (g x)
-]
-
 -- of rows that begin with these keys there is one, where there is a key
 anyone : (ks : List Key) (rows : List Row) → AllByRecursion (λ k. has (map first_cell rows) k ≡ true) ks → list_any (λ c. has ks (first_cell c)) rows ≡ not (is_empty ks)
 anyone [] rows all = any_nowhere rows
 anyone (k ∷ ks) rows all =
-    some_more (λ c. equals k (first_cell c)) (λ c. equals (first_cell c) k || has ks (first_cell c)) rows (λ c e. ap (λ b. b || has ks (first_cell c)) (is_sym (first_cell c) k ∙ e)) (sym (any_map (equals k) first_cell rows) ∙ all.0)
+    let found = some_has (λ c. equals k (first_cell c)) rows (sym (any_map (equals k) first_cell rows) ∙ all.0) in
+    some_from (λ c. equals (first_cell c) k || has ks (first_cell c)) rows found.0 found.1 (ap (λ b. b || has ks (first_cell found.0)) (is_sym (first_cell found.0) k ∙ found.2))
 
 module _ (round : Round) (db : Database) (lists : HasWholeLists round db) (p : Key) (shown : List Row) (told : ListsBy (1 ∷ []) (has_text 3 p) (columns (1 ∷ [])) (db.trees (tree_of (choice_table round))) shown) where
   pub some_chooser : not (is_empty shown) ≡ is_chosen_shown round db.trees p
@@ -75,14 +71,10 @@ module _ (round : Round) (db : Database) (lists : HasWholeLists round db) (shown
       ∙ list_any-IsPermutation (has_number 2 1) mine (by_place mine) (permutes place_key mine)
       ∙ begins (by_place mine) (all_permuted IsPlace mine (by_place mine) (permutes place_key mine) (all-filter IsPlace (has_text 1 k) table formed)) (every_whole round db lists k)
 
-  twice : (b : Bool) → not (not b) ≡ b
-  twice true = refl
-  twice false = refl
-
   pub unlisted_are : (students : List Row) → map first_cell (filter (λ c. is_none (placement_before round c) && not (has (map first_cell shown) (first_cell c))) students) ≡ unlisted round db.trees students
   unlisted_are students =
       ap (map first_cell) (filter_alike (λ c. is_none (placement_before round c) && not (has (map first_cell shown) (first_cell c))) (λ c. is_none (placement_before round c) && is_empty (choice_shown round db.trees c)) students
-      (all_of _ (λ c. ap (λ b. is_none (placement_before round c) && b) (ap not (lister (first_cell c)) ∙ twice (is_empty (chosen table (first_cell c))))) students))
+      (all_of _ (λ c. ap (λ b. is_none (placement_before round c) && b) (ap not (lister (first_cell c)) ∙ not-not (is_empty (chosen table (first_cell c))))) students))
 
 -- a read of sound tables
 pub reads_whole : {round : Round} {On : State → Type 0} {V E : Type 0} {Told : Database → Result V E → Type 0} {r : Result V E} {a b : State} → Reading round On IsDatabase Told r a b → Reading round On (HasWholeLists round) Told r a b

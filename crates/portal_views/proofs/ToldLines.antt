@@ -1,5 +1,6 @@
 -- Reading a student's line never refuses the student's one row on the roll, with cells in form.
-use Rattle.portal_views.proofs.Base.{◌∙◌, ◌||◌, ◌∷◌, ◌≡◌, ◌≤◌, AllByRecursion, ApplicantLine, Bool, Database, First, HasFirstPlace, HasPlacement, HasStudents, HasTables, IsStudentKey, IsStudentRow, Key, List, ListsBy, None, Option, Round, Row, ShowsAs, Some, Students, [], all-filter, all_map, all_permuted, all_two, all_unmap, all_weaker, any_alike, any_map, ap, arith, by_key, columns, cond, equals, false, filter, find, first_cell, has, has_text, is_sym, length, list_any, list_any-IsPermutation, map, of_key, option_map, permuted, permutes, refl, roll_columns, row_key, shown_line, student_rows_formed, student_test, student_tree, students_shown, subst, sym, told_line, true, length-map, length_permutation, IsPermutation-sym, IsNamed, IsTold}
+use Rattle.portal_views.proofs.Base.{◌∙◌, ◌∷◌, ◌≡◌, ◌≤◌, AllByRecursion, ApplicantLine, Bool, Database, First, HasFirstPlace, HasPlacement, HasStudents, HasTables, IsStudentKey, IsStudentRow, Key, List, ListsBy, None, Option, Round, Row, ShowsAs, Some, Students, [], all-filter, all_map, all_permuted, all_two, all_unmap, all_weaker, any_alike, any_map, ap, arith, by_key, columns, equals, filter, find, first_cell, has, has_text, is_sym, length, list_any, list_any-IsPermutation, map, of_key, option_map, permuted, permutes, refl, roll_columns, row_key, shown_line, student_rows_formed, student_test, student_tree, students_shown, sym, told_line, true, length-map, length_permutation, IsPermutation-sym, IsNamed, IsTold}
+use Rattle.sqlite_rules.proofs.ListLemmas.{all_has, contains_had, has_found, has_kept, some_has}
 use Rattle.portal_views.proofs.LineRows.{first_told}
 use Rattle.portal_views.proofs.OneKey.{one_row}
 use Rattle.portal_views.proofs.Owners.{keys_shown}
@@ -8,16 +9,10 @@ use Rattle.portal_views.proofs.Owners.{keys_shown}
 pub of_first : (round : Round) (db : Database) → HasStudents round db → HasStudents First db
 of_first round db students = record { tables = students.tables; persons = students.persons; first = students.first; places = students.first }
 
--- what holds of all holds of what is found
-found_in : (P : Row → Type 0) (t : Row → Bool) (rows : List Row) (c : Row) → AllByRecursion P rows → find t rows ≡ Some c → P c
-found_in P t [] c all is = absurd (cc)
-found_in P t (r ∷ rows) c all is =
-    (elim (t r) as (λ b. cond b (Some r) (find t rows) ≡ Some c → P c) [ true ↦ λ e. let same : r ≡ c = cc in subst P same all.0 | false ↦ λ e. found_in P t rows c all.1 e ]) is
-
 some_kept : (p : Row → Bool) (rows : List Row) → list_any p rows ≡ true → 1 ≤ length (filter p rows)
-some_kept p [] h = absurd (cc)
-some_kept p (r ∷ rows) h =
-    (elim (p r) as (λ b. (b || list_any p rows) ≡ true → 1 ≤ length (cond b (r ∷ filter p rows) (filter p rows))) [ true ↦ λ e. omega arith | false ↦ λ e. some_kept p rows e ]) h
+some_kept p rows h =
+    let found = some_has p rows h in
+    let at = contains_had (filter p rows) found.0 (has_kept p rows found.0 found.1 found.2) in omega (arith, at.1)
 
 module _ (db : Database) (key : Key) where
   abbrev table : List Row
@@ -62,4 +57,4 @@ module _ (db : Database) (key : Key) where
       go None is e = absurd (cc)
       go (Some c) is e =
           let same : shown_line First db.trees c ≡ l = cc in
-          (c, ap (λ (x : ApplicantLine). x.person.key) same, found_in (HasPlacement round db.trees) (λ c. equals (first_cell c) key) (students_shown db.trees) c students.places is)
+          (c, ap (λ (x : ApplicantLine). x.person.key) same, all_has (HasPlacement round db.trees) (students_shown db.trees) c students.places (has_found (λ c. equals (first_cell c) key) (students_shown db.trees) c is).0)

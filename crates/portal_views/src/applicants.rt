@@ -5,7 +5,7 @@ ghost use Rattle.portal_views.specs.inner.Base.{[], IfOk, OnOk, map, length, put
 ghost use Rattle.portal_views.specs.inner.Base.{is_from_ranking, Contradicts};
 ghost use Rattle.portal_views.specs.inner.Base.{Person as ThatPerson};
 ghost use Rattle.portal_views.specs.inner.Callers.{with_persons, lines_shown, persons_at};
-ghost use Rattle.portal_views.specs.inner.Callers.{placed_among, persons_before, placed_at_shown};
+ghost use Rattle.portal_views.specs.inner.Callers.{persons_before, placed_at_shown};
 ghost use Rattle.portal_views.specs.inner.Callers.{AreTold, person_key};
 ghost use Rattle.portal_views.specs.inner.Lines.{HasTables, HasStudents};
 ghost use Rattle.portal_tables.specs.inner.Reads.{MayRead, Answers};
@@ -60,22 +60,6 @@ fn placed_at(
         }
     }
     Ok(found)
-}
-
-/// Returns what `placed_at` returns from the applicants' lines if the result is published, and
-/// otherwise nobody.
-fn placed_if_published(
-    alloc: Global,
-    phase: Phase,
-    lines: &[ApplicantLine],
-    project: &Key,
-) -> Result<Vec<Person>, AllocError>
-    ensures { IfOk result (λ v. v.items ≡ placed_among phase project.now lines.now) }
-{
-    match phase {
-        Phase::Published => placed_at(alloc, lines, project),
-        Phase::Setup | Phase::Choosing | Phase::Ranking => Ok(Vec::new(alloc)),
-    }
 }
 
 /// Reads the students whom the first round placed at the project, if this is the second.
@@ -147,8 +131,10 @@ fn placed_with<S: Alter>(
         (Contradicts (HasStudents round))) result conn.old conn.new }
 {
     let mut placed = before_in(alloc, conn, round, project)?;
-    let more = placed_if_published(alloc, phase, lines, project)?;
-    put_persons(&mut placed, more)?;
+    if phase != Phase::Published {
+        return Ok(placed);
+    }
+    put_persons(&mut placed, placed_at(alloc, lines, project)?)?;
     Ok(placed)
 }
 

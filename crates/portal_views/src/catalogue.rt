@@ -3,8 +3,7 @@
 ghost use Rattle.std.specs.Prelude.{◌≡◌};
 ghost use Rattle.portal_core.specs.inner.Room as left_by;
 ghost use Rattle.portal_core.specs.declared.phase.Round.TheVariants.{First, Second};
-ghost use Rattle.portal_views.specs.inner.Base.{Err, IfOk, AllByRecursion, IsLecturer, IsProject};
-ghost use Rattle.portal_views.specs.inner.Base.{filter_map, map, IsDatabase, Contradicts};
+ghost use Rattle.portal_views.specs.inner.Base.{IfOk, filter_map, map, IsDatabase, Contradicts};
 ghost use Rattle.portal_views.specs.inner.Catalogue.{offered_in, catalogue_shown, HasOffers};
 ghost use Rattle.portal_views.specs.inner.Catalogue.{HasPairs};
 ghost use Rattle.portal_tables.specs.inner.Placements.{first_pairs};
@@ -19,7 +18,7 @@ use portal_tables::decode::{decoded, push_some};
 use portal_tables::select::RollTable;
 use portal_tables::{TableFault, first_pairs_in, roll_in};
 use spa_rows::Key;
-use sqlite::{Alter, Connection, Row};
+use sqlite::{Alter, Connection};
 use std::alloc::{AllocError, Global};
 use std::rc::Rc;
 
@@ -100,23 +99,6 @@ fn listings_in<S: Alter>(
     }
 }
 
-/// Decodes rows of lecturers and projects, to make the catalogue of them.
-fn offers_from(
-    alloc: Global,
-    lecturers: &[Row],
-    projects: &[Row],
-) -> Result<(Vec<LecturerRow>, Vec<ProjectRow>), TableFault>
-    ensures lecturers { IfOk result (λ rows. rows.0.items ≡ map shown_lecturer lecturers.now) }
-    ensures projects { IfOk result (λ rows. rows.1.items ≡ map shown_project projects.now) }
-    ensures damaged { result ≡ Err TableFault.Damaged
-        → AllByRecursion (λ c. IsLecturer (shown_lecturer c)) lecturers.now
-        → AllByRecursion (λ c. IsProject (shown_project c)) projects.now → ⊥ }
-{
-    let lecturers: Vec<LecturerRow> = decoded(alloc, lecturers)?;
-    let projects: Vec<ProjectRow> = decoded(alloc, projects)?;
-    Ok((lecturers, projects))
-}
-
 /// Reads the rolls of lecturers and projects, to make the catalogue of them. Both are sorted by
 /// key.
 fn offers_in<S: Alter>(
@@ -130,7 +112,7 @@ fn offers_in<S: Alter>(
 {
     let lecturers = roll_in(alloc, conn, RollTable::Lecturers)?;
     let projects = roll_in(alloc, conn, RollTable::Projects)?;
-    offers_from(alloc, &lecturers, &projects)
+    Ok((decoded(alloc, &lecturers)?, decoded(alloc, &projects)?))
 }
 
 /// Makes a round's catalogue by queries, sorted by project key. For the second round it also reads

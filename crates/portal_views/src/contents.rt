@@ -1,18 +1,13 @@
 //! Reads the rolls, and one round's lists, rankings and result.
 
-ghost use Rattle.std.specs.Prelude.{◌≡◌};
-ghost use Rattle.portal_views.specs.inner.Base.{Err, IfOk, map, AllByRecursion, IsDatabase};
-ghost use Rattle.portal_views.specs.inner.Base.{IsLecturer, IsProject, IsStudent};
-ghost use Rattle.portal_views.specs.inner.Contents.{rows_held, rows_with, HasRead};
-ghost use Rattle.portal_views.specs.inner.Contents.{HasFineRolls};
-ghost use Rattle.portal_tables.specs.inner.Owners.{with_list};
+ghost use Rattle.portal_views.specs.inner.Base.{IsDatabase};
+ghost use Rattle.portal_views.specs.inner.Contents.{rows_held, HasRead, HasFineRolls};
 ghost use Rattle.portal_tables.specs.Steps.{Reads};
 ghost use Rattle.portal_tables.specs.inner.Reads.{Answers, Blames};
-ghost use Rattle.portal_tables.specs.inner.Shown.{shown_lecturer, shown_project, shown_student};
 
 use portal_core::{LecturerRow, ProjectRow, Round, StudentRow};
 use portal_tables::list_table::Lists;
-use portal_tables::{Rolls, TableFault, entries_in, pairs_in, parts_of, rolls_in};
+use portal_tables::{TableFault, entries_in, pairs_in, parts_of, rolls_in};
 use spa_rows::Key;
 use sqlite::{Alter, Connection};
 use std::alloc::Global;
@@ -29,33 +24,6 @@ pub struct Contents {
     pub rankings: Vec<(Key, Vec<Key>)>,
     /// The result: pairs of a student and a project, by student.
     pub pairs: Vec<(Key, Key)>,
-}
-
-/// Decodes the rolls and adds the lists, the rankings and the result.
-fn contents_from(
-    alloc: Global,
-    rolls: &Rolls,
-    choices: Vec<(Key, Vec<Key>)>,
-    rankings: Vec<(Key, Vec<Key>)>,
-    pairs: Vec<(Key, Key)>,
-) -> Result<Contents, TableFault>
-    ensures rows { IfOk result (λ rows. rows_held rows
-        ≡ rows_with rolls.now (map with_list choices.items)
-        (map with_list rankings.items) pairs.items) }
-    ensures damaged { result ≡ Err TableFault.Damaged
-        → AllByRecursion (λ c. IsLecturer (shown_lecturer c)) rolls.now.lecturers.items
-        → AllByRecursion (λ c. IsProject (shown_project c)) rolls.now.projects.items
-        → AllByRecursion (λ c. IsStudent (shown_student c)) rolls.now.students.items → ⊥ }
-{
-    let parts = parts_of(alloc, rolls)?;
-    Ok(Contents {
-        lecturers: parts.lecturers,
-        projects: parts.projects,
-        students: parts.students,
-        choices,
-        rankings,
-        pairs,
-    })
 }
 
 /// Reads the rolls, with the lists, the rankings and the result of a round. It makes queries for
@@ -76,5 +44,13 @@ pub fn contents_in<S: Alter>(
     let choices = entries_in(alloc, conn, Lists::choices_of(round), &rolls.students)?;
     let rankings = entries_in(alloc, conn, Lists::rankings_of(round), &rolls.lecturers)?;
     let pairs = pairs_in(alloc, conn, round, None, &rolls.students)?;
-    contents_from(alloc, &rolls, choices, rankings, pairs)
+    let parts = parts_of(alloc, &rolls)?;
+    Ok(Contents {
+        lecturers: parts.lecturers,
+        projects: parts.projects,
+        students: parts.students,
+        choices,
+        rankings,
+        pairs,
+    })
 }

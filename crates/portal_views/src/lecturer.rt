@@ -1,20 +1,18 @@
 //! Makes a lecturer's view by queries for projects, applicants and ranking.
 
-ghost use Rattle.std.specs.Prelude.{◌≡◌, ◌≤◌};
-ghost use Rattle.spa_rows.specs.declared.limits.TheConstants.{MOST_PLACES};
-ghost use Rattle.portal_views.specs.inner.Base.{Err, IfOk, AllByRecursion, option_map, map, column};
-ghost use Rattle.portal_views.specs.inner.Base.{number_in, IsDatabase, Contradicts};
-ghost use Rattle.portal_views.specs.inner.Callers.{with_persons, own_keys_shown, HasOwnKeys};
-ghost use Rattle.portal_views.specs.inner.Callers.{lecturer_sees_with, lecturer_shown};
+ghost use Rattle.std.specs.Prelude.{◌≡◌};
+ghost use Rattle.portal_views.specs.inner.Base.{Err, IfOk, AllByRecursion, option_map, map};
+ghost use Rattle.portal_views.specs.inner.Base.{IsDatabase, Contradicts};
+ghost use Rattle.portal_views.specs.inner.Callers.{own_keys_shown, HasOwnKeys, lecturer_shown};
 ghost use Rattle.portal_views.specs.inner.Callers.{IsReadableByLecturer};
-ghost use Rattle.portal_views.specs.inner.Lines.{HasTables, HasKey, IsNamed};
+ghost use Rattle.portal_views.specs.inner.Lines.{HasTables, HasKey};
 ghost use Rattle.portal_views.specs.inner.Catalogue.{IsCatalogue, own_listed};
 ghost use Rattle.portal_tables.specs.Tables.{ranking_table};
 ghost use Rattle.portal_tables.specs.inner.Owners.{IsFine, with_list, ranking_shown};
 ghost use Rattle.portal_tables.specs.inner.Reads.{MayRead, Answers, Blames};
 ghost use Rattle.portal_tables.specs.inner.Shown.{first_cell};
 
-use crate::applicants::{ProjectStudents, project_students};
+use crate::applicants::project_students;
 use crate::lines::person_at;
 use portal_core::{LecturerView, Listing, Phase, Round};
 use portal_tables::cells::{bytes_at, capacity_at, key_at};
@@ -106,35 +104,6 @@ fn ranking_in<S: Alter>(
     Ok(list_of(entry))
 }
 
-/// Assembles a lecturer's view from the parts that were read.
-fn lecturer_view_from(
-    alloc: Global,
-    round: Round,
-    phase: Phase,
-    row: &Row,
-    catalogue: Rc<Vec<Listing>>,
-    ranking: Option<Vec<Key>>,
-    told: ProjectStudents,
-) -> Result<LecturerView, TableFault>
-    ensures ok { IfOk result (λ v. v
-        ≡ lecturer_sees_with round phase row.now catalogue.value.items
-        (option_map (λ r. r.items) ranking)
-        (map with_persons told.applicants.items) (map with_persons told.placed.items)) }
-    ensures damaged { result ≡ Err TableFault.Damaged → IsNamed row.now
-        → 1 ≤ number_in (column row.now 3) → number_in (column row.now 3) ≤ MOST_PLACES → ⊥ }
-{
-    Ok(LecturerView {
-        round,
-        phase,
-        me: person_at(alloc, row)?,
-        capacity: capacity_at(row, 3)?,
-        catalogue,
-        applicants: told.applicants,
-        ranking,
-        placed: told.placed,
-    })
-}
-
 /// Makes by queries the view of the lecturer in this row, for this round and phase. In the first
 /// round the lecturer's projects come from the catalogue, which must be that of the tables. Fails
 /// with `Damaged` if rows are not as the portal writes them. Fails with `Store` if the store
@@ -155,5 +124,14 @@ pub fn lecturer_view<S: Alter>(
     let own = own_projects(alloc, conn, round, bytes_at(row, 0), &catalogue)?;
     let ranking = ranking_in(alloc, conn, round, row)?;
     let told = project_students(alloc, conn, round, phase, &own)?;
-    lecturer_view_from(alloc, round, phase, row, catalogue, ranking, told)
+    Ok(LecturerView {
+        round,
+        phase,
+        me: person_at(alloc, row)?,
+        capacity: capacity_at(row, 3)?,
+        catalogue,
+        applicants: told.applicants,
+        ranking,
+        placed: told.placed,
+    })
 }

@@ -146,29 +146,8 @@ fn waiting_in<S: Alter>(
     wanted_in(alloc, conn, round, projects, lecturer)
 }
 
-/// Finds by queries the lecturers who have an applicant and no ranking.
-fn all_waiting<S: Alter>(
-    alloc: Global,
-    conn: &mut Connection<S>,
-    round: Round,
-    projects: &[Row],
-    lecturers: &[Row],
-) -> Result<Vec<Key>, TableFault>
-    ensures damaged { result ≡ Err TableFault.Damaged → AllByRecursion HasKey lecturers.now → ⊥ }
-    ensures reads { MayRead round S.Store (HasWholeLists round)
-        (Gives (λ db v. v.items
-        ≡ waiting_keys round db.trees (map shown_project projects.now) lecturers.now))
-        result conn.old conn.new }
-{
-    let mut keys = Vec::new(alloc);
-    for lecturer in lecturers {
-        let key = waiting_in(alloc, conn, round, projects, lecturer)?;
-        push_some(&mut keys, key)?;
-    }
-    Ok(keys)
-}
-
-/// Finds by queries the lecturers still to rank, or none before the ranking phase.
+/// Finds by queries the lecturers still to rank: those who have an applicant and no ranking. Before
+/// the ranking phase there are none.
 pub(crate) fn still_to_rank<S: Alter>(
     alloc: Global,
     conn: &mut Connection<S>,
@@ -184,8 +163,13 @@ pub(crate) fn still_to_rank<S: Alter>(
         (map shown_project rolls.now.projects.items) rolls.now.lecturers.items else [])))
         result conn.old conn.new }
 {
-    if phase.is_from_ranking() {
-        return all_waiting(alloc, conn, round, &rolls.projects, &rolls.lecturers);
+    let mut keys = Vec::new(alloc);
+    if !phase.is_from_ranking() {
+        return Ok(keys);
     }
-    Ok(Vec::new(alloc))
+    for lecturer in &rolls.lecturers {
+        let key = waiting_in(alloc, conn, round, &rolls.projects, lecturer)?;
+        push_some(&mut keys, key)?;
+    }
+    Ok(keys)
 }

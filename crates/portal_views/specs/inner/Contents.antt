@@ -6,7 +6,6 @@ use Rattle.portal_tables.specs.Tables.{choice_table, ranking_table}
 use Rattle.portal_tables.specs.inner.Placements.{pair_shown, HasPlacement}
 use Rattle.portal_tables.specs.inner.Rolls.{RollsRise, lecturers_shown, projects_shown, students_shown}
 use Rattle.portal_tables.specs.inner.Shown.{shown_lecturer, shown_project, shown_student}
-use Rattle.portal_tables.specs.declared.sorted_rolls.Rolls.{Rolls}
 use Rattle.portal_views.specs.declared.contents.Contents.{Contents}
 
 pub record AllRows : Type 0 where
@@ -30,18 +29,6 @@ rows_held c =
       choices = map with_list c.choices.items;
       rankings = map with_list c.rankings.items;
       pairs = c.pairs.items;
-    }
-
--- those of rolls that were read, decoded, with lists and a result
-abbrev pub rows_with : Rolls → List (Key × List Key) → List (Key × List Key) → List (Key × Key) → AllRows
-rows_with rolls choices rankings pairs =
-    record {
-      lecturers = map shown_lecturer rolls.lecturers.items;
-      projects = map shown_project rolls.projects.items;
-      students = map shown_student rolls.students.items;
-      choices = choices;
-      rankings = rankings;
-      pairs = pairs;
     }
 
 -- those of shown rows, with the lists and places of a round in the tables

@@ -1,5 +1,5 @@
 use Rattle.portal_tables.proofs.Base.{◌∙◌, Err, ap, IfOk-weaker, state, bound}
-use Rattle.portal_tables.proofs.Decoded.{shows_weaker, none_refused}
+use Rattle.portal_tables.proofs.Decoded.{none_refused}
 use Rattle.portal_tables.proofs.Shows.{plain, shows, ends, asks}
 use Rattle.portal_tables.proofs.InTurn.{answered}
 use Rattle.portal_tables.proofs.select.read_each.Goals as goal
@@ -14,6 +14,6 @@ returns-clause-reads g c =
     asks c.args.query _ _ c.text.ensures values c.query_each.result old new it.leaves.same it.leaves.err it.leaves.mode it.leaves.survives
     (λ own clean.
     let sure = plain c.args.query _ _ c.text.ensures values schema in
-    answered c.query_each.result _ _ (IfOk-weaker c.query_each.result _ _ (λ v. shows_weaker _ _ _ v.items (λ rows. shows c.args.query _ _ c.text.ensures values old new rows own)) (it.rows sure clean))
+    answered c.query_each.result _ _ (IfOk-weaker c.query_each.result _ _ (λ v all. record { rows = all.rows; shown = shows c.args.query _ _ c.text.ensures values old new all.rows own all.shown; decoded = all.decoded }) (it.rows sure clean))
     (λ e is blamed. none_refused g.T.FromCells.is_fine _ c.text.result.now (bound c.values.result.now) old new sure (λ rows. shows c.args.query _ _ c.text.ensures values old new rows own) (ends c.args.query _ _ c.text.ensures values schema own)
     (it.refused sure clean (is ∙ ap Err blamed))))

@@ -1,4 +1,5 @@
-use Rattle.portal_views.proofs.Base.{◌∙◌, AllByRecursion, IsLecturer, ap, both, judged, map, reads_handed, reads_more, reads_open, reads_then, shown_lecturer, shown_project, subst, sym, IsProject}
+use Rattle.portal_views.proofs.Base.{◌∙◌, AllByRecursion, IsLecturer, ap, Err, map, reads_handed, reads_more, reads_open, reads_then, shown_lecturer, shown_project, subst, sym, IsProject}
+use Rattle.portal_views.proofs.Turns.{reads_rejected}
 use Rattle.portal_views.proofs.catalogue.offers_in.Goals as goal
 
 pub returns-in_err-projects : goal.returns-in_err-projects
@@ -6,13 +7,20 @@ returns-in_err-projects g c =
     reads_handed c.from_residual-in_err-projects.ensures.1 (reads_then c.in_ok-lecturers.ensures (reads_open c.in_err-projects.ensures))
     (λ own any told damaged offers. told.1 damaged (offers.sound, offers.projects_rise))
 
+pub returns-in_err-decoded : goal.returns-in_err-decoded
+returns-in_err-decoded g c =
+    reads_rejected c.in_err-decoded.field-0.0 c.from_residual-in_err-decoded.ensures.1 (reads_then c.in_ok-lecturers.ensures (reads_open c.in_ok-projects.ensures))
+    (λ own any told damaged offers. c.in_err-decoded.ensures.damaged (ap Err damaged) (subst (AllByRecursion (λ r. IsLecturer (shown_lecturer r))) (sym (c.deref.ensures.value ∙ told.0)) offers.lecturers))
+
+pub returns-in_err-decoded-2 : goal.returns-in_err-decoded-2
+returns-in_err-decoded-2 g c =
+    reads_rejected c.in_err-decoded-2.field-0.0 c.from_residual-in_err-decoded-2.ensures.1 (reads_then c.in_ok-lecturers.ensures (reads_open c.in_ok-projects.ensures))
+    (λ own any told damaged offers. c.in_err-decoded-2.ensures.damaged (ap Err damaged) (subst (AllByRecursion (λ r. IsProject (shown_project r))) (sym (c.deref-2.ensures.value ∙ told.1)) offers.projects))
+
 pub returns : goal.returns
 returns g c =
-    let r = c.offers_from.result in
     reads_more (reads_then c.in_ok-lecturers.ensures (reads_open c.in_ok-projects.ensures))
-    (λ own any told.
-    let lecturers = c.deref.ensures.value ∙ told.0 in
-    let projects = c.deref-2.ensures.value ∙ told.1 in
-    judged r _ _ (both r _ _ _ (λ v ls ps. (ls ∙ ap (map shown_lecturer) lecturers, ps ∙ ap (map shown_project) projects)) c.offers_from.ensures.lecturers c.offers_from.ensures.projects)
-    (λ damaged offers. c.offers_from.ensures.damaged damaged (subst (AllByRecursion (λ r. IsLecturer (shown_lecturer r))) (sym lecturers) offers.lecturers)
-    (subst (AllByRecursion (λ r. IsProject (shown_project r))) (sym projects) offers.projects)))
+    (λ own any told. (
+      c.in_ok-decoded.ensures.ok ∙ ap (map shown_lecturer) (c.deref.ensures.value ∙ told.0),
+      c.in_ok-decoded-2.ensures.ok ∙ ap (map shown_project) (c.deref-2.ensures.value ∙ told.1),
+    ))

@@ -1,8 +1,8 @@
-use Rattle.portal_views.proofs.Base.{◌∙◌, Database, HasFineRows, HasReadOf, HasRound, IfOk-weaker, IsDatabase, Round, judged, reads_handed, reads_more, reads_open, reads_then, rows_from, rows_held, state, subst₃, sym}
+use Rattle.portal_views.proofs.Base.{Database, HasFineRows, HasReadOf, HasRound, IsDatabase, Round, ap, Err, reads_handed, reads_more, reads_open, reads_then, rows_from, state, subst₃, sym}
 use Rattle.portal_tables.specs.declared.sorted_rolls.Rolls.{Rolls}
 use Rattle.portal_tables.specs.inner.Rolls.{AreRolls}
 use Rattle.portal_views.specs.inner.Contents.{HasFineRolls}
-use Rattle.portal_views.proofs.Turns.{reads_first, reads_moved}
+use Rattle.portal_views.proofs.Turns.{reads_first, reads_moved, reads_rejected}
 use Rattle.portal_views.proofs.Owners.{choices_owned, rankings_owned}
 use Rattle.portal_views.proofs.contents.contents_in.Goals as goal
 
@@ -38,25 +38,30 @@ returns-in_err-pairs g c =
     (reads_then (reads_open (reads_moved c.rankings_of.ensures.round c.in_ok-rankings.ensures)) (rw c.deref-3.ensures.value at c.in_err-pairs.ensures))))
     (λ own sound told damaged fine. let all = fine_rows c.args.round (state g.S.Store c.args.conn.now).now _ own sound told.0 fine in told.1.1.1 damaged (all.fine.student_forms, all.fine.places))
 
+pub returns-in_err-parts : goal.returns-in_err-parts
+returns-in_err-parts g c =
+    reads_rejected c.in_err-parts.field-0.0 c.from_residual-in_err-parts.ensures.1
+    (reads_then (reads_first c.in_ok-rolls.ensures)
+    (reads_then (reads_open (reads_moved c.choices_of.ensures.round c.in_ok-choices.ensures))
+    (reads_then (reads_open (reads_moved c.rankings_of.ensures.round c.in_ok-rankings.ensures)) c.in_ok-pairs.ensures)))
+    (λ own sound told damaged fine.
+    let all = fine_rows c.args.round (state g.S.Store c.args.conn.now).now _ own sound told.0 fine in
+    c.in_err-parts.ensures.damaged (ap Err damaged) all.fine.lecturer_forms all.fine.project_forms all.fine.student_forms)
+
 pub returns : goal.returns
 returns g c =
-    let r = c.contents_from.result in
     let db = (state g.S.Store c.args.conn.now).now in
     let round = c.args.round in
     let rolls = c.in_ok-rolls.rolls in
     let from = rows_from round db.trees rolls.lecturers.items rolls.projects.items rolls.students.items in
     let choices = reads_moved c.choices_of.ensures.round c.in_ok-choices.ensures in
     let rankings = reads_moved c.rankings_of.ensures.round c.in_ok-rankings.ensures in
+    let parts = c.in_ok-parts.ensures in
     reads_more
     (reads_then (reads_first c.in_ok-rolls.ensures)
     (reads_then (reads_open (rw (c.choices_of.ensures.is, c.deref.ensures.value) at choices))
     (reads_then (reads_open (rw (c.rankings_of.ensures.is, c.deref-2.ensures.value) at rankings)) (rw c.deref-3.ensures.value at c.in_ok-pairs.ensures))))
-    (λ own sound told.
-    let it = told.0 in
-    judged r _ _
-    (IfOk-weaker r _ _
-    (λ v is. subst₃ (HasReadOf round (rows_held v) db.trees) it.lecturers_are it.projects_are it.students_are
-    (is ∙ (λ i. record from { choices = told.1.0.are i; rankings = told.1.1.0.are i; pairs = told.1.1.1 i }), record { choices = told.1.0.read; rankings = told.1.1.0.read })) c.contents_from.ensures.rows)
-    (λ damaged fine.
-    let all = fine_rows round db rolls own sound it fine in
-    c.contents_from.ensures.damaged damaged all.fine.lecturer_forms all.fine.project_forms all.fine.student_forms))
+    (λ own sound told. let it = told.0 in subst₃ (HasReadOf round _ db.trees) it.lecturers_are it.projects_are it.students_are (
+      λ i. record from { lecturers = parts.lecturers i; projects = parts.projects i; students = parts.students i; choices = told.1.0.are i; rankings = told.1.1.0.are i; pairs = told.1.1.1 i },
+      record { choices = told.1.0.read; rankings = told.1.1.0.read },
+    ))

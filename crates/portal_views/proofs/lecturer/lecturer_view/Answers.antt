@@ -1,4 +1,5 @@
-use Rattle.portal_views.proofs.Base.{◌∙◌, ◌≡◌, Global, IfOk-weaker, Listing, Vec, ap, applicants_told, judged, lecturer_shown, own_keys_shown, placed_told, reads_handed, reads_more, reads_of, reads_then, reads_then_of, state, subst, sym, HasOwnKeys}
+use Rattle.portal_views.proofs.Base.{◌∙◌, ◌≡◌, Global, Err, Listing, Vec, ap, applicants_told, lecturer_shown, own_keys_shown, placed_told, reads_handed, reads_more, reads_of, reads_then, reads_then_of, state, subst, sym, HasOwnKeys}
+use Rattle.portal_views.proofs.Turns.{reads_rejected}
 use Rattle.portal_views.proofs.lecturer.lecturer_view.Goals as goal
 
 pub returns-in_err-own : goal.returns-in_err-own
@@ -17,9 +18,20 @@ returns-in_err-told g c =
     (reads_then c.in_ok-own.ensures (reads_then (reads_of (λ own. own) (λ own tables. tables.sound) c.in_ok-ranking.ensures) c.in_err-told.ensures))
     (λ own tables told damaged fine. told.1.1 damaged fine.students)
 
+pub returns-in_err-person_at : goal.returns-in_err-person_at
+returns-in_err-person_at g c =
+    reads_rejected c.in_err-person_at.field-0.0 c.from_residual-in_err-person_at.ensures.1
+    (reads_then c.in_ok-own.ensures (reads_then (reads_of (λ own. own) (λ own tables. tables.sound) c.in_ok-ranking.ensures) c.in_ok-told.ensures))
+    (λ own tables told damaged fine. c.in_err-person_at.ensures.damaged (ap Err damaged) fine.person)
+
+pub returns-in_err-capacity_at : goal.returns-in_err-capacity_at
+returns-in_err-capacity_at g c =
+    reads_rejected c.in_err-capacity_at.field-0.0 c.from_residual-in_err-capacity_at.ensures.1
+    (reads_then c.in_ok-own.ensures (reads_then (reads_of (λ own. own) (λ own tables. tables.sound) c.in_ok-ranking.ensures) c.in_ok-told.ensures))
+    (λ own tables told damaged fine. c.in_err-capacity_at.ensures.damaged (ap Err damaged) fine.low fine.high)
+
 pub returns : goal.returns
 returns g c =
-    let r = c.lecturer_view_from.result in
     let db = (state g.S.Store c.args.conn.now).now.trees in
     let round = c.args.round in
     let phase = c.args.phase in
@@ -29,9 +41,12 @@ returns g c =
     let offers : c.deref-2.result.now ≡ catalogue = c.deref-2.ensures.value ∙ ap (λ (v : Vec Listing Global). v.items) c.deref.ensures in
     reads_more
     (reads_then c.in_ok-own.ensures (reads_then (reads_of (λ own. own) (λ own tables. tables.sound) c.in_ok-ranking.ensures) c.in_ok-told.ensures))
-    (λ own tables told.
-    judged r _ _
-    (IfOk-weaker r _ _ (λ v is offered.
+    (λ own tables told offered.
     let keys = c.deref-3.ensures.value ∙ told.0 (λ is. offers ∙ offered is) ∙ ap (own_keys_shown db) c.bytes_at.ensures in
-    is ∙ (λ i. record from { applicants = (told.1.1.applicants ∙ ap (applicants_told round db phase) keys) i; ranking = told.1.0 i; placed = (told.1.1.placed ∙ ap (placed_told round db phase) keys) i })) c.lecturer_view_from.ensures.ok)
-    (λ damaged fine. c.lecturer_view_from.ensures.damaged damaged fine.person fine.low fine.high))
+    λ i. record from {
+      me = c.in_ok-person_at.ensures.ok i;
+      capacity = c.in_ok-capacity_at.ensures.ok i;
+      applicants = (told.1.1.applicants ∙ ap (applicants_told round db phase) keys) i;
+      ranking = told.1.0 i;
+      placed = (told.1.1.placed ∙ ap (placed_told round db phase) keys) i;
+    })

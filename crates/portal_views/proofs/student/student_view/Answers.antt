@@ -1,5 +1,5 @@
-use Rattle.portal_views.proofs.Base.{◌∙◌, IfOk-weaker, judged, reads_handed, reads_more, reads_open, reads_then, state, student_shown}
-use Rattle.portal_views.proofs.Turns.{reads_any, reads_moved}
+use Rattle.portal_views.proofs.Base.{ap, Err, reads_handed, reads_more, reads_open, reads_then, state, student_shown}
+use Rattle.portal_views.proofs.Turns.{reads_any, reads_moved, reads_rejected}
 use Rattle.portal_views.proofs.student.student_view.Goals as goal
 
 pub returns-in_err-choices : goal.returns-in_err-choices
@@ -13,12 +13,14 @@ returns-in_err-place g c =
     reads_handed c.from_residual-in_err-place.ensures.1 (reads_then (reads_open (reads_any (reads_moved c.choices_of.ensures.round c.in_ok-choices.ensures))) c.in_err-place.ensures)
     (λ own sound told damaged fine. told.1 damaged (fine.first, fine.place))
 
+pub returns-in_err-person_at : goal.returns-in_err-person_at
+returns-in_err-person_at g c =
+    reads_rejected c.in_err-person_at.field-0.0 c.from_residual-in_err-person_at.ensures.1 (reads_then (reads_open (reads_any (reads_moved c.choices_of.ensures.round c.in_ok-choices.ensures))) c.in_ok-place.ensures)
+    (λ own sound told damaged fine. c.in_err-person_at.ensures.damaged (ap Err damaged) fine.person)
+
 pub returns : goal.returns
 returns g c =
-    let r = c.student_view_from.result in
     let from = student_shown c.args.round (state g.S.Store c.args.conn.now).now.trees c.args.phase c.args.row.now c.args.catalogue.value.items in
     let read = reads_moved c.choices_of.ensures.round c.in_ok-choices.ensures in
     reads_more (reads_then (reads_open (reads_any (rw (c.choices_of.ensures.is, c.in_ok-student.ensures.ok) at read))) c.in_ok-place.ensures)
-    (λ own sound told.
-    judged r _ _ (IfOk-weaker r _ _ (λ v is. is ∙ (λ i. record from { choices = told.0.are i; result = told.1 i })) c.student_view_from.ensures.ok)
-    (λ damaged fine. c.student_view_from.ensures.damaged damaged fine.person))
+    (λ own sound told i. record from { me = c.in_ok-person_at.ensures.ok i; choices = told.0.are i; result = told.1 i })
