@@ -35,86 +35,66 @@ listed_with i m l lawful fits t (q, e, same) = rw same at (lawful.ranked t q (fi
 pub worse_with : (i : Spa) (m : List (Option ℕ)) (l s depth : ℕ) (g : Group) → IsLawful i → IsMatching i m → IsGroup (ranking_of i l) (IsWith i m l) (at_lecturer i m l) g → depth ≡ place (ranking_of i l) s + 1 → (depth < g.depth) ↔ SomeWorseWith i m l s
 worse_with i m l s depth g lawful fits group is = search (rules, worse_from_depth, listed_with, depth_from_worse)
 
--- the groups of the first n students
-abbrev pub IsAtBefore : List (Option ℕ) → ℕ → ℕ → ℕ → Type 0
-IsAtBefore m n p t = (t < n) × (project_of m t ≡ Some p)
+-- the groups of the first n students, each on its own list
+pub record AreGroupsBefore (lists : ℕ → List ℕ) (IsIn : ℕ → ℕ → Type 0) (count : ℕ → ℕ → ℕ) (rows n : ℕ) (groups : List Group) : Type 0 where
+  pub size : length groups ≡ rows
+  pub each : (p : ℕ) (d : Group) → p < length groups → IsGroup (lists p) (λ t. (t < n) × IsIn p t) (count p n) (get_or groups p d)
 
-abbrev pub IsWithBefore : Spa → List (Option ℕ) → ℕ → ℕ → ℕ → Type 0
-IsWithBefore i m n l t = (t < n) × IsWith i m l t
+module _ (lists : ℕ → List ℕ) (IsIn : ℕ → ℕ → Type 0) (count : ℕ → ℕ → ℕ) (rows n : ℕ) (groups : List Group) (so_far : AreGroupsBefore lists IsIn count rows n groups) where
+  -- a group that the student n is not in
+  still : (p : ℕ) (d : Group) → (IsIn p n → ⊥) × (count p (n + 1) ≡ count p n) → p < length groups → IsGroup (lists p) (λ t. (t < n + 1) × IsIn p t) (count p (n + 1)) (get_or groups p d)
+  still p d off k =
+      group_same (lists p) (λ t. (t < n) × IsIn p t) (λ t. (t < n + 1) × IsIn p t) (count p n) (count p (n + 1)) (get_or groups p d) (λ t there. (omega (arith, there.0), there.1))
+      (λ t there. elim (cases_lt t n) [ inl before ↦ (before, there.1) | inr past ↦ let here : t ≡ n = omega (arith, there.0) in absurd (off.0 (rw here at there.1)) ]) off.1 (so_far.each p d k)
 
-pub record AreProjectGroupsBefore (i : Spa) (m : List (Option ℕ)) (n : ℕ) (groups : List Group) : Type 0 where
-  pub size : length groups ≡ length i.lecturers
-  pub each : (p : ℕ) (d : Group) → p < length groups → IsGroup (ranking_of i (lecturer_of i p)) (IsAtBefore m n p) (at_project (take n m) p) (get_or groups p d)
+  groups_skip : ((p : ℕ) → (IsIn p n → ⊥) × (count p (n + 1) ≡ count p n)) → AreGroupsBefore lists IsIn count rows (n + 1) groups
+  groups_skip off = record { size = so_far.size; each = λ p d. still p d (off p) }
 
-pub record AreLecturerGroupsBefore (i : Spa) (m : List (Option ℕ)) (n : ℕ) (groups : List Group) : Type 0 where
-  pub size : length groups ≡ length i.rankings
-  pub each : (l : ℕ) (d : Group) → l < length groups → IsGroup (ranking_of i l) (IsWithBefore i m n l) (at_lecturer i (take n m) l) (get_or groups l d)
+  groups_more : (p depth : ℕ) (old new : Group) → IsIn p n → count p (n + 1) ≡ count p n + 1 → ((q : ℕ) → (q ≡ p → ⊥) → (IsIn q n → ⊥) × (count q (n + 1) ≡ count q n)) → p < length groups → old ≡ get_or groups p old → depth ≡ place (lists p) n + 1 → new.count ≡ old.count + 1 → new.depth ≡ max old.depth depth
+      → AreGroupsBefore lists IsIn count rows (n + 1) (set groups p new)
+  groups_more p depth old new at more others in_range read deep count_is depth_is = record {
+    size = length-set groups p new ∙ so_far.size;
+    each = λ q d k. elim (cases_eq q p) [
+      | inl same ↦
+          let mine : get_or (set groups p new) q d ≡ new = ap (λ r. get_or (set groups p new) r d) same ∙ get_or-set_same groups p new d in_range in
+          rw (mine, same) (group_joined (lists p) (λ t. (t < n) × IsIn p t) (λ t. (t < n + 1) × IsIn p t) (count p n) (count p (n + 1)) n depth old new (λ t there. (omega (arith, there.0), there.1))
+          (λ t there. elim (cases_lt t n) [ inl before ↦ inl (before, there.1) | inr past ↦ inr (omega (arith, there.0)) ]) (omega arith, at) more deep count_is depth_is
+          (let group = so_far.each p old in_range in rw (sym read) at group))
+      | inr other ↦ rw (get_or-set_other groups p q new d other) (still q d (others q other) (omega (arith, length-set groups p new)))
+    ];
+  }
+
+abbrev pub AreProjectGroupsBefore : Spa → List (Option ℕ) → ℕ → List Group → Type 0
+AreProjectGroupsBefore i m = AreGroupsBefore (λ p. ranking_of i (lecturer_of i p)) (λ p t. project_of m t ≡ Some p) (λ p k. at_project (take k m) p) (length i.lecturers)
+
+abbrev pub AreLecturerGroupsBefore : Spa → List (Option ℕ) → ℕ → List Group → Type 0
+AreLecturerGroupsBefore i m = AreGroupsBefore (ranking_of i) (IsWith i m) (λ l k. at_lecturer i (take k m) l) (length i.rankings)
 
 module _ (i : Spa) (m : List (Option ℕ)) where
-  before_or_here : (n t : ℕ) → t < n + 1 → (t < n) ⊎ (t ≡ n)
-  before_or_here n t h = elim (cases_lt t n) [ inl k ↦ inl k | inr k ↦ inr (omega arith) ]
-
-  -- the student n has no project of these
-  other_at : (n p : ℕ) → (project_of m n ≡ Some p → ⊥) → (t : ℕ) → IsAtBefore m (n + 1) p t → IsAtBefore m n p t
-  other_at n p off t there = elim (before_or_here n t there.0) [ inl k ↦ (k, there.1) | inr k ↦ absurd (off (rw k at there.1)) ]
-
-  other_with : (n l : ℕ) → (IsWith i m l n → ⊥) → (t : ℕ) → IsWithBefore i m (n + 1) l t → IsWithBefore i m n l t
-  other_with n l off t there = elim (before_or_here n t there.0) [ inl k ↦ (k, there.1) | inr k ↦ absurd (off (rw k at there.1)) ]
+  -- the student n is not at q, or not with l
+  not_at : (n q : ℕ) → n < length m → (project_of m n ≡ Some q → ⊥) → (project_of m n ≡ Some q → ⊥) × (at_project (take (n + 1) m) q ≡ at_project (take n m) q)
+  not_at n q h off = (off, count_by_more_no (is_project q) m n None h (off_project q (get_or m n None) off))
 
   off_lecturer : (l : ℕ) (o : Option ℕ) → ((q : ℕ) → o ≡ Some q → lecturer_of i q ≡ l → ⊥) → is_lecturer i l o ≡ false
   off_lecturer l None off = refl
   off_lecturer l (Some q) off = ne_eqb (lecturer_of i q) l (off q refl)
 
+  not_with : (n l : ℕ) → n < length m → (IsWith i m l n → ⊥) → (IsWith i m l n → ⊥) × (at_lecturer i (take (n + 1) m) l ≡ at_lecturer i (take n m) l)
+  not_with n l h off = (off, count_by_more_no (is_lecturer i l) m n None h (off_lecturer l (get_or m n None) (λ q e f. off (q, e, f))))
+
   pub project_groups_skip : (n : ℕ) (groups : List Group) → n < length m → project_of m n ≡ None → AreProjectGroupsBefore i m n groups → AreProjectGroupsBefore i m (n + 1) groups
-  project_groups_skip n groups h free so_far = record {
-    size = so_far.size;
-    each = λ p d k. group_same (ranking_of i (lecturer_of i p)) (IsAtBefore m n p) (IsAtBefore m (n + 1) p) (at_project (take n m) p) (at_project (take (n + 1) m) p) (get_or groups p d)
-        (λ t there. (omega (arith, there.0), there.1)) (other_at n p (λ e. absurd (cc))) (count_by_more_no (is_project p) m n None h (ap (is_project p) free)) (so_far.each p d k);
-  }
+  project_groups_skip n groups h free so_far = groups_skip (λ p. ranking_of i (lecturer_of i p)) (λ p t. project_of m t ≡ Some p) (λ p k. at_project (take k m) p) (length i.lecturers) n groups so_far (λ p. not_at n p h (λ e. absurd (cc)))
 
   pub lecturer_groups_skip : (n : ℕ) (groups : List Group) → n < length m → project_of m n ≡ None → AreLecturerGroupsBefore i m n groups → AreLecturerGroupsBefore i m (n + 1) groups
-  lecturer_groups_skip n groups h free so_far = record {
-    size = so_far.size;
-    each = λ l d k. group_same (ranking_of i l) (IsWithBefore i m n l) (IsWithBefore i m (n + 1) l) (at_lecturer i (take n m) l) (at_lecturer i (take (n + 1) m) l) (get_or groups l d)
-        (λ t there. (omega (arith, there.0), there.1)) (other_with n l (λ (q, e, _). absurd (cc))) (count_by_more_no (is_lecturer i l) m n None h (ap (is_lecturer i l) free)) (so_far.each l d k);
-  }
+  lecturer_groups_skip n groups h free so_far = groups_skip (ranking_of i) (IsWith i m) (λ l k. at_lecturer i (take k m) l) (length i.rankings) n groups so_far (λ l. not_with n l h (λ (q, e, _). absurd (cc)))
 
   pub project_groups_more : (n p depth : ℕ) (groups : List Group) (old new : Group) → n < length m → project_of m n ≡ Some p → p < length groups → old ≡ get_or groups p old → depth ≡ place (ranking_of i (lecturer_of i p)) n + 1 → new.count ≡ old.count + 1 → new.depth ≡ max old.depth depth
       → AreProjectGroupsBefore i m n groups → AreProjectGroupsBefore i m (n + 1) (set groups p new)
   project_groups_more n p depth groups old new h at in_range read deep count_is depth_is so_far =
-      let size : length (set groups p new) ≡ length groups = length-set groups p new in
-      record {
-        size = size ∙ so_far.size;
-        each = λ q d k. elim (cases_eq q p) [
-          | inl same ↦
-              let mine : get_or (set groups p new) q d ≡ new = ap (λ r. get_or (set groups p new) r d) same ∙ get_or-set_same groups p new d in_range in
-              rw (mine, same) (group_joined (ranking_of i (lecturer_of i p)) (IsAtBefore m n p) (IsAtBefore m (n + 1) p) (at_project (take n m) p) (at_project (take (n + 1) m) p) n depth old new
-              (λ t there. (omega (arith, there.0), there.1)) (λ t there. elim (before_or_here n t there.0) [ inl b ↦ inl (b, there.1) | inr b ↦ inr b ]) (omega arith, at)
-              (count_by_more_yes (is_project p) m n None h (ap (is_project p) at ∙ eq-eqb p p refl)) deep count_is depth_is
-              (let group = so_far.each p old in_range in rw (sym read) at group))
-          | inr other ↦
-              let off : project_of m n ≡ Some q → ⊥ = λ e. other (same_Some _ _ (sym e ∙ at)) in
-              rw (get_or-set_other groups p q new d other) (group_same (ranking_of i (lecturer_of i q)) (IsAtBefore m n q) (IsAtBefore m (n + 1) q) (at_project (take n m) q) (at_project (take (n + 1) m) q) (get_or groups q d)
-              (λ t there. (omega (arith, there.0), there.1)) (other_at n q off) (count_by_more_no (is_project q) m n None h (off_project q (get_or m n None) off)) (so_far.each q d (omega arith)))
-        ];
-      }
+      groups_more (λ p. ranking_of i (lecturer_of i p)) (λ p t. project_of m t ≡ Some p) (λ p k. at_project (take k m) p) (length i.lecturers) n groups so_far p depth old new at (count_by_more_yes (is_project p) m n None h (ap (is_project p) at ∙ eq-eqb p p refl)) (λ q other. not_at n q h (λ e. other (same_Some _ _ (sym e ∙ at)))) in_range read deep count_is depth_is
 
   pub lecturer_groups_more : (n p l depth : ℕ) (groups : List Group) (old new : Group) → n < length m → project_of m n ≡ Some p → l ≡ lecturer_of i p → l < length groups → old ≡ get_or groups l old → depth ≡ place (ranking_of i l) n + 1 → new.count ≡ old.count + 1 → new.depth ≡ max old.depth depth
       → AreLecturerGroupsBefore i m n groups → AreLecturerGroupsBefore i m (n + 1) (set groups l new)
   lecturer_groups_more n p l depth groups old new h at is in_range read deep count_is depth_is so_far =
-      let size : length (set groups l new) ≡ length groups = length-set groups l new in
-      record {
-        size = size ∙ so_far.size;
-        each = λ q d k. elim (cases_eq q l) [
-          | inl same ↦
-              let mine : get_or (set groups l new) q d ≡ new = ap (λ r. get_or (set groups l new) r d) same ∙ get_or-set_same groups l new d in_range in
-              rw (mine, same) (group_joined (ranking_of i l) (IsWithBefore i m n l) (IsWithBefore i m (n + 1) l) (at_lecturer i (take n m) l) (at_lecturer i (take (n + 1) m) l) n depth old new
-              (λ t there. (omega (arith, there.0), there.1)) (λ t there. elim (before_or_here n t there.0) [ inl b ↦ inl (b, there.1) | inr b ↦ inr b ]) (omega arith, (p, at, sym is))
-              (count_by_more_yes (is_lecturer i l) m n None h (ap (is_lecturer i l) at ∙ eq-eqb (lecturer_of i p) l (sym is))) deep count_is depth_is
-              (let group = so_far.each l old in_range in rw (sym read) at group))
-          | inr other ↦
-              let off : IsWith i m q n → ⊥ = λ (r, e, f). other (sym f ∙ ap (lecturer_of i) (same_Some _ _ (sym e ∙ at)) ∙ sym is) in
-              rw (get_or-set_other groups l q new d other) (group_same (ranking_of i q) (IsWithBefore i m n q) (IsWithBefore i m (n + 1) q) (at_lecturer i (take n m) q) (at_lecturer i (take (n + 1) m) q) (get_or groups q d)
-              (λ t there. (omega (arith, there.0), there.1)) (other_with n q off) (count_by_more_no (is_lecturer i q) m n None h (off_lecturer q (get_or m n None) (λ r e f. off (r, e, f)))) (so_far.each q d (omega arith)))
-        ];
-      }
+      groups_more (ranking_of i) (IsWith i m) (λ l k. at_lecturer i (take k m) l) (length i.rankings) n groups so_far l depth old new (p, at, sym is) (count_by_more_yes (is_lecturer i l) m n None h (ap (is_lecturer i l) at ∙ eq-eqb (lecturer_of i p) l (sym is)))
+      (λ q other. not_with n q h (λ (r, e, f). other (sym f ∙ ap (lecturer_of i) (same_Some _ _ (sym e ∙ at)) ∙ sym is))) in_range read deep count_is depth_is

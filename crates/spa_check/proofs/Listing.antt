@@ -1,15 +1,8 @@
 -- The list of blocking pairs, pair by pair.
 use Rattle.spa_check.proofs.Base.{◌≡◌, ℕ, ◌+◌, ◌<◌, ◌≤◌, ◌⊎◌, inl, inr, List, [], ◌∷◌, Option, Some, None, refl, arith, false, cases_lt, Letter, Spa, Blocks, Wants, AreBlocksBefore, ◌++◌, MatchOption, is_some, All-push, All-weaker, Contains-append_left, Contains-push, IsEarlier, IsPassed}
 use Rattle.std.proofs.lemmas.List.Quantifiers.{all_pairs_push}
-use Rattle.spa_model.specs.declared.letter.Letter.TheVariants.{A, B, C}
-use Rattle.spa_model.proofs.OneOnly.{one_letter}
+use Rattle.spa_model.proofs.OneOnly.{one_letter, blocks_wants}
 use Rattle.spa_check.specs.declared.blocking.Block.{Block}
-
--- a pair that blocks is wanted
-pub blocks_wants : (i : Spa) (m : List (Option ℕ)) (s p : ℕ) (x : Letter) → Blocks i m s p x → Wants i m s p
-blocks_wants i m s p A b = b.0
-blocks_wants i m s p B b = b.0
-blocks_wants i m s p C b = b.0
 
 further : (s n p t q : ℕ) → n ≤ p → IsPassed s n t q → IsPassed s p t q
 further s n p t q h (inl k) = inl k

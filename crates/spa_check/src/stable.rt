@@ -63,10 +63,7 @@ fn may_replace(instance: &Instance, matching: &Matching, l: usize, s: usize) -> 
     ensures { IsTrue result ↔ (IsWith instance.now matching.now l s
         ⊎ SomeWorseWith instance.now matching.now l s) }
 {
-    if is_with(instance, matching, l, s) {
-        return true;
-    }
-    has_worse_with(instance, matching, l, s)
+    is_with(instance, matching, l, s) || has_worse_with(instance, matching, l, s)
 }
 
 /// Returns the letter of the pair if it blocks the matching, without allocating memory. The student

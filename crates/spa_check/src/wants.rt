@@ -62,10 +62,5 @@ pub fn better_off(instance: &Instance, matching: &Matching, other: &Matching) ->
     ensures { MatchOption result ((s : ℕ) → IsBetterOff instance.now matching.now other.now s → ⊥)
         (IsFirstBetterOff instance.now matching.now other.now) }
 {
-    for s in 0..instance.students() {
-        if is_better_off(instance, matching, other, s) {
-            return Some(s);
-        }
-    }
-    None
+    (0..instance.students()).find(|s| is_better_off(instance, matching, other, *s))
 }

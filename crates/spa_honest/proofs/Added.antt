@@ -1,6 +1,6 @@
 -- A matching that adds places to another: who is where it was blocks no more than there.
-use Rattle.spa_honest.proofs.Base.{◌≡◌, ◌⊎◌, inl, inr, ℕ, zero, suc, ◌+◌, ◌<◌, ◌≤◌, Bool, true, false, cond, List, [], ◌∷◌, length, Option, Some, None, refl, sym, ◌∙◌, ap, subst, arith, count_by, eq-eqb, cases_lt, Letter, A, B, C, Spa, is_project, is_lecturer, at_project, at_lecturer, project_of, lecturer_of, capacity_of, limit_of, Improves, IsWith, SomeWorseWith, Wants, Blocks, count_by-le, student_in_range, is_project-at, project_from_test, AddsTo}
-use Rattle.spa_honest.proofs.Assigned.{count_by-lt, one_there}
+use Rattle.spa_honest.proofs.Base.{count_by-lt, ◌≡◌, ◌⊎◌, inl, inr, ℕ, zero, suc, ◌+◌, ◌<◌, ◌≤◌, Bool, true, false, cond, List, [], ◌∷◌, length, Option, Some, None, refl, sym, ◌∙◌, ap, subst, arith, count_by, eq-eqb, true_from_ne_false, cases_lt, Letter, A, B, C, Spa, is_project, is_lecturer, at_project, at_lecturer, project_of, lecturer_of, capacity_of, limit_of, Improves, IsWith, SomeWorseWith, Wants, Blocks, count_by-le, student_in_range, is_project-at, project_from_test, AddsTo}
+use Rattle.spa_honest.proofs.Assigned.{one_there}
 
 -- the places of some students in x, and those of the others in n
 abbrev pub joined : (ℕ → Bool) → List (Option ℕ) → List (Option ℕ) → List (Option ℕ)
@@ -8,7 +8,7 @@ joined r [] n = []
 joined r (o ∷ x) [] = []
 joined r (o ∷ x) (q ∷ n) = cond (r 0) o q ∷ joined (λ s. r (suc s)) x n
 
-joined_length : (r : ℕ → Bool) (x n : List (Option ℕ)) → length x ≡ length n → length (joined r x n) ≡ length n
+pub joined_length : (r : ℕ → Bool) (x n : List (Option ℕ)) → length x ≡ length n → length (joined r x n) ≡ length n
 joined_length r [] [] e = refl
 joined_length r [] (q ∷ n) e = absurd (omega arith)
 joined_length r (o ∷ x) [] e = absurd (omega arith)
@@ -39,11 +39,8 @@ module _ (i : Spa) (n x : List (Option ℕ)) (adds : AddsTo i n x) where
 
   -- and where x has no more, nobody else
   nobody_new : (f : Option ℕ → Bool) → f None ≡ false → count_by f x ≤ count_by f n → (s : ℕ) → s < length x → f (project_of x s) ≡ true → f (project_of n s) ≡ true
-  nobody_new f off level s low on = by_test (f (project_of n s)) refl
-    where
-      by_test : (b : Bool) → f (project_of n s) ≡ b → f (project_of n s) ≡ true
-      by_test true e = e
-      by_test false e = absurd (omega (arith, level, count_by-lt f n x s (sym adds.students) (counted f off) low e on))
+  nobody_new f off level s low on =
+      true_from_ne_false (f (project_of n s)) (λ e. omega (arith, level, count_by-lt f n x s (sym adds.students) (counted f off) low e on))
 
   was_at : (u z : ℕ) → at_project x u ≤ at_project n u → project_of x z ≡ Some u → project_of n z ≡ Some u
   was_at u z level at = project_from_test u (project_of n z) (nobody_new (is_project u) refl level z (student_in_range i x z u at) (is_project-at u (project_of x z) at))

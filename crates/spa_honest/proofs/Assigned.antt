@@ -1,20 +1,11 @@
 -- In any two stable matchings the same students have a project, and each lecturer has as many.
-use Rattle.spa_honest.proofs.Base.{◌≡◌, ◌⊎◌, inl, inr, ℕ, zero, suc, ◌+◌, ◌<◌, ◌≤◌, Bool, true, false, cond, eqb, List, [], ◌∷◌, length, get_or, Option, Some, None, refl, sym, ◌∙◌, ap, subst, arith, count_by, eqb-true, eq-eqb, ne_eqb, cases_lt, A, Spa, is_lecturer, at_project, at_lecturer, project_of, lecturer_of, IsAcceptable, IsAsGood, Wants, IsStable, IsBest, one_if, count_by-cons, sum_below, sum_below-lt, IsRanked, student_in_range, count_by-le, sum_below-le, sum_below-add, sum_below-same, sum_below-zero, sum_below-one, share, at_lecturer-sum, one_le, no_more, AssignTheSame}
+use Rattle.spa_honest.proofs.Base.{◌≡◌, ◌⊎◌, inl, inr, ℕ, zero, suc, ◌+◌, ◌<◌, ◌≤◌, Bool, true, false, eqb, List, [], ◌∷◌, length, Option, Some, None, refl, sym, ◌∙◌, ap, subst, arith, count_by, eqb-true, eq-eqb, ne_eqb, cases_Bool, true_from_ne_false, cases_lt, A, Spa, is_lecturer, at_project, at_lecturer, project_of, lecturer_of, IsAcceptable, IsAsGood, Wants, IsStable, IsBest, one_if, count_by-cons, sum_below, sum_below-lt, IsRanked, student_in_range, count_by-le, sum_below-le, sum_below-add, sum_below-same, sum_below-zero, sum_below-one, share, at_lecturer-sum, count_by-lt, no_more, AssignTheSame}
 use Rattle.spa_honest.proofs.Exists.{has_project, greatest, best_of}
 
 -- who has a project
 abbrev pub has_one : Option ℕ → Bool
 has_one None = false
 has_one (Some q) = true
-
--- where each that counts in m counts in n, and one more counts in n, m has fewer
-pub count_by-lt : (p : Option ℕ → Bool) (m n : List (Option ℕ)) (j : ℕ) → length m ≡ length n → ((s : ℕ) → p (get_or m s None) ≡ true → p (get_or n s None) ≡ true) → j < length n → p (get_or m j None) ≡ false → p (get_or n j None) ≡ true → count_by p m + 1 ≤ count_by p n
-count_by-lt p m [] j e h l off on = absurd (omega arith)
-count_by-lt p [] (y ∷ n) j e h l off on = absurd (omega arith)
-count_by-lt p (x ∷ m) (y ∷ n) zero e h l off on =
-    omega (arith, count_by-cons p x m, count_by-cons p y n, ap one_if off, ap one_if on, count_by-le p m n (omega arith) (λ s. h (suc s)))
-count_by-lt p (x ∷ m) (y ∷ n) (suc j) e h l off on =
-    omega (arith, count_by-cons p x m, count_by-cons p y n, one_le (p x) (p y) (h 0), count_by-lt p m n j (omega arith) (λ s. h (suc s)) (omega arith) off on)
 
 -- one student adds to one lecturer
 one_lecturer : (i : Spa) (n : ℕ) (o : Option ℕ) → ((q : ℕ) → o ≡ Some q → lecturer_of i q < n) → sum_below (λ l. one_if (is_lecturer i l o)) n ≡ one_if (has_one o)
@@ -46,12 +37,10 @@ pub more_over : (i : Spa) (l : ℕ) (m n : List (Option ℕ)) (extra : ℕ → �
 more_over i l m n extra known_m known_n more =
     let count : ℕ = length i.lecturers in
     let term = greater_term (share i m l) (λ u. share i n l u + extra u) count (omega (arith, more, at_lecturer-sum i l count m known_m, at_lecturer-sum i l count n known_n, sum_below-add (share i n l) extra count)) in
-    let here = own term.0 (eqb (lecturer_of i term.0) l) refl term.2 in
-    (term.0, here.0, here.1)
-  where
-    own : (u : ℕ) (b : Bool) → eqb (lecturer_of i u) l ≡ b → cond b (at_project n u) 0 + extra u < cond b (at_project m u) 0 → (lecturer_of i u ≡ l) × (at_project n u + extra u < at_project m u)
-    own u true e h = (eqb-true (lecturer_of i u) l e, h)
-    own u false e h = absurd (omega arith)
+    elim (cases_Bool (eqb (lecturer_of i term.0) l)) [
+      | inl own ↦ (term.0, eqb-true (lecturer_of i term.0) l own, rw own at term.2)
+      | inr other ↦ absurd (let less : 0 + extra term.0 < 0 = rw other at term.2 in omega arith)
+    ]
 
 -- where m has more with a lecturer, it has more at a project of the lecturer
 pub more_at : (i : Spa) (l : ℕ) (m n : List (Option ℕ)) → ((s q : ℕ) → project_of m s ≡ Some q → q < length i.lecturers) → ((s q : ℕ) → project_of n s ≡ Some q → q < length i.lecturers) → at_lecturer i n l < at_lecturer i m l
@@ -65,15 +54,11 @@ pub one_there : (i : Spa) (m n : List (Option ℕ)) (u : ℕ) → length m ≡ l
 one_there i m n u same more =
     elim (greatest (λ s. (project_of m s ≡ Some u) × (project_of n s ≡ Some u → ⊥)) test (λ s. 0) (length m)) [
       | inl one ↦ (one.0, one.2.0, one.2.1)
-      | inr none ↦ absurd (omega (arith, no_more m n u same (λ s at. stays s at none (has_project u (project_of n s)))))
+      | inr none ↦ absurd (omega (arith, no_more m n u same (λ s at. elim (has_project u (project_of n s)) [ inl both ↦ both | inr alone ↦ absurd (none s (student_in_range i m s u at) (at, alone)) ])))
     ]
   where
     test : (s : ℕ) → ((project_of m s ≡ Some u) × (project_of n s ≡ Some u → ⊥)) ⊎ ((project_of m s ≡ Some u) × (project_of n s ≡ Some u → ⊥) → ⊥)
     test s = grind (arith, has_project)
-
-    stays : (s : ℕ) → project_of m s ≡ Some u → ((x : ℕ) → x < length m → (project_of m x ≡ Some u) × (project_of n x ≡ Some u → ⊥) → ⊥) → (project_of n s ≡ Some u) ⊎ (project_of n s ≡ Some u → ⊥) → project_of n s ≡ Some u
-    stays s at none (inl both) = both
-    stays s at none (inr alone) = absurd (none s (student_in_range i m s u at) (at, alone))
 
 -- who is elsewhere in n wants the project of the best matching
 pub wants_best : (i : Spa) (n : List (Option ℕ)) (s u : ℕ) → IsAcceptable i s u → (project_of n s ≡ Some u → ⊥) → (o : Option ℕ) → project_of n s ≡ o → IsAsGood i s (Some u) o → Wants i n s u
@@ -133,21 +118,17 @@ module _ (i : Spa) (law : IsRanked i) (m n : List (Option ℕ)) (best : IsBest i
 
   -- whoever has one in the best matching has a project
   pub has_any : (s : ℕ) → has_one (project_of m s) ≡ true → has_one (project_of n s) ≡ true
-  has_any s on = by_test (has_one (project_of n s)) refl
+  has_any s on = true_from_ne_false (has_one (project_of n s)) (λ e. omega (
+    arith,
+    all_m 0,
+    all_n 0,
+    count_by-lt has_one n m s (sym same_length) has_best (in_range (project_of m s) refl on) e on,
+    sum_below-le (at_lecturer i m) (at_lecturer i n) (bound i 0) no_more_with,
+  ))
     where
       in_range : (o : Option ℕ) → project_of m s ≡ o → has_one o ≡ true → s < length m
       in_range None e h = absurd (cc)
       in_range (Some q) e h = student_in_range i m s q e
-
-      by_test : (b : Bool) → has_one (project_of n s) ≡ b → has_one (project_of n s) ≡ true
-      by_test true e = e
-      by_test false e = absurd (omega (
-        arith,
-        all_m 0,
-        all_n 0,
-        count_by-lt has_one n m s (sym same_length) has_best (in_range (project_of m s) refl on) e on,
-        sum_below-le (at_lecturer i m) (at_lecturer i n) (bound i 0) no_more_with,
-      ))
 
 -- ANY TWO STABLE MATCHINGS ASSIGN THE SAME
 pub same_assigned : (i : Spa) → IsRanked i → (m n : List (Option ℕ)) → IsStable i m → IsStable i n → AssignTheSame i m n

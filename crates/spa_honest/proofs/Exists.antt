@@ -1,5 +1,5 @@
 -- A ranked instance has a best matching: students propose in order; pairs before a cursor are gone.
-use Rattle.spa_honest.proofs.Base.{◌≡◌, ◌≢◌, ◌⊎◌, inl, inr, ℕ, zero, suc, ◌+◌, ◌<◌, ◌≤◌, cond, eqb, List, length, get_or, set, replicate, Option, Some, None, refl, sym, ◌∙◌, ap, subst, arith, get_or-set_same, get_or-set_other, eq-eqb, ne_eqb, cases_lt, cases_eq, Spa, place, at_project, at_lecturer, project_of, choices_of, lecturer_of, capacity_of, limit_of, IsBefore, IsAcceptable, IsBest, place-injective, sum_below, sum_below-lt, IsRanked, rank_of, IsSpent, Holds, student_in_range, put_same, put_cases, place_holds, delete_holds, best_at_end, nobody_matches, acceptable_in_range, rules, ◌-◌, IsWith, place-get_or, swap_at_project_holds, swap_at_lecturer_holds}
+use Rattle.spa_honest.proofs.Base.{◌≡◌, ◌≢◌, ◌⊎◌, inl, inr, ℕ, zero, suc, ◌+◌, ◌<◌, ◌≤◌, cond, eqb, List, length, get_or, set, replicate, Option, Some, None, refl, sym, ◌∙◌, ap, subst, arith, get_or-set_same, get_or-set_other, eq-eqb, ne_eqb, cases_lt, cases_eq, Spa, place, at_project, at_lecturer, project_of, choices_of, lecturer_of, capacity_of, limit_of, IsBefore, IsAcceptable, IsBest, place-injective, sum_below, sum_below-lt, IsRanked, rank_of, IsSpent, Holds, student_in_range, put_same, put_cases, put_on, place_holds, delete_holds, best_at_end, nobody_matches, acceptable_in_range, rules, ◌-◌, IsWith, place-get_or, swap_at_project_holds, swap_at_lecturer_holds}
 use Rattle.spa_student.proofs.Start.{none_there}
 
 -- of the numbers below n with a property, one of the greatest rank; or there is none
@@ -18,6 +18,10 @@ greatest P test rank (suc n) = elim (test n) [
     ]
   ]
 ]
+
+-- one of the greatest rank, where there is one
+the_greatest : (P : ℕ → Type 0) → ((x : ℕ) → P x ⊎ (P x → ⊥)) → (rank : ℕ → ℕ) (n s : ℕ) → s < n → P s → (w : ℕ) × (w < n) × P w × ((x : ℕ) → x < n → P x → rank x ≤ rank w)
+the_greatest P test rank n s low p = elim (greatest P test rank n) [ inl one ↦ one | inr none ↦ absurd (none s low p) ]
 
 -- whether a student has nothing, has p, or has a project of l
 pub has_none : (o : Option ℕ) → (o ≡ None) ⊎ (o ≡ None → ⊥)
@@ -72,58 +76,6 @@ pub record IsNext (i : Spa) (m : List (Option ℕ)) (c : ℕ → ℕ) (s : ℕ) 
   pub free : project_of m s ≡ None
   pub left : c s < length (choices_of i s)
 
--- A TURN of a free student s, whose next entry is p
-module _ (i : Spa) (law : IsRanked i) (m : List (Option ℕ)) (c : ℕ → ℕ) (state : UnderWay i m c) (s p : ℕ) (next : IsNext i m c s) (on : IsAcceptable i s p) (here : place (choices_of i s) p ≡ c s) where
-  students : length m ≡ length i.choices
-  students = state.holds.matching.students
-
-  first : (q : ℕ) → IsBefore (choices_of i s) q p → Passed i c s q
-  first q before = (omega (arith, before.0, before.1), omega (arith, before.0))
-
-  put_cursor : (x q : ℕ) → project_of (set m s (Some p)) x ≡ Some q → place (choices_of i x) q ≡ c x
-  put_cursor x q e = elim (put_cases i m s p next.in_range next.free x q e) [ inl new ↦ rw (new.0, new.1) here | inr old ↦ state.at_cursor x q old ]
-
-  put_on : (x q : ℕ) → project_of (set m s (Some p)) x ≡ Some q → IsAcceptable i x q
-  put_on x q e = elim (put_cases i m s p next.in_range next.free x q e) [ inl new ↦ rw (new.0, new.1) on | inr old ↦ state.holds.matching.acceptable x q old ]
-
-  -- s is put
-  put_turns : (k : ℕ) → turns i (set m s (Some p)) c k ≤ turns i m c k
-  put_turns k = search (rules, put_same, get_or-set_other)
-
-  put_less : turns i (set m s (Some p)) c s + 1 ≤ turns i m c s
-  put_less = rw (put_same i m s p next.in_range next.free, next.free) (omega arith)
-
--- w, who has u by then, is let go
-module _ (i : Spa) (law : IsRanked i) (m : List (Option ℕ)) (c : ℕ → ℕ) (state : UnderWay i m c) (s p : ℕ) (next : IsNext i m c s) (on : IsAcceptable i s p) (here : place (choices_of i s) p ≡ c s) (w u : ℕ) (has : project_of (set m s (Some p)) w ≡ Some u) where
-  w_cursor : place (choices_of i w) u ≡ c w
-  w_cursor = put_cursor i law m c state s p next on here w u has
-
-  w_on : IsAcceptable i w u
-  w_on = put_on i law m c state s p next on here w u has
-
-  w_free : project_of (set (set m s (Some p)) w None) w ≡ None
-  w_free = get_or-set_same (set m s (Some p)) w None None (student_in_range i (set m s (Some p)) w u has)
-
-  gone_other : (k : ℕ) → k ≢ w → project_of (set (set m s (Some p)) w None) k ≡ project_of (set m s (Some p)) k
-  gone_other k other = get_or-set_other (set m s (Some p)) w k None None other
-
-  let_go : Holds i (set (set m s (Some p)) w None) (Passed i c) → IsSpent i (set (set m s (Some p)) w None) w u → UnderWay i (set (set m s (Some p)) w None) (moved c w)
-  let_go holds spent = record {
-    holds = delete_holds i (set (set m s (Some p)) w None) (Passed i c) (Passed i (moved c w)) law holds (λ x q old. (old.0, omega (arith, old.1, moved_more c w x))) new;
-    at_cursor = λ x q e. elim (cases_eq x w) [
-      | inl same ↦ absurd (let none : project_of (set (set m s (Some p)) w None) x ≡ None = rw same w_free in cc)
-      | inr other ↦ put_cursor i law m c state s p next on here x q (sym (gone_other x other) ∙ e) ∙ sym (moved_other c w x other)
-    ];
-  } where
-    new : (x q : ℕ) → Passed i (moved c w) x q → Passed i c x q ⊎ IsSpent i (set (set m s (Some p)) w None) x q
-    new x q passed = grind (arith, moved_other, moved_same, place-injective, w_on, w_cursor)
-
-  go_turns : (k : ℕ) → turns i (set (set m s (Some p)) w None) (moved c w) k ≤ turns i m c k
-  go_turns k = search (rules, moved_same, w_free, get_or-set_other, w_cursor, w_on, gone_other, moved_other, put_turns, state)
-
-  go_less : turns i (set (set m s (Some p)) w None) (moved c w) s + 1 ≤ turns i m c s
-  go_less = search (rules, w_free, moved_same, gone_other, moved_other, put_less, state)
-
 -- after a turn of s: no cursor goes back, it moves only if its student is let go, others stay free
 pub record Turned (i : Spa) (m : List (Option ℕ)) (c : ℕ → ℕ) (s : ℕ) : Type 0 where
   pub after : List (Option ℕ)
@@ -134,68 +86,97 @@ pub record Turned (i : Spa) (m : List (Option ℕ)) (c : ℕ → ℕ) (s : ℕ) 
   pub still : (x : ℕ) → x ≢ s → project_of m x ≡ None → project_of after x ≡ None
   pub fewer : sum_below (turns i after cursors) (length i.choices) + 1 ≤ sum_below (turns i m c) (length i.choices)
 
-turn : (i : Spa) → IsRanked i → (m : List (Option ℕ)) (c : ℕ → ℕ) → UnderWay i m c → (s p : ℕ) → IsNext i m c s → IsAcceptable i s p → place (choices_of i s) p ≡ c s → Turned i m c s
-turn i law m c state s p next on here =
-    let l : ℕ = lecturer_of i p in
-    let n : ℕ = length i.choices in
-    let s_in : s < n = acceptable_in_range i s p on in
-    elim (cases_lt (at_project m p) (capacity_of i p)) [
-      | inl room ↦ elim (cases_lt (at_lecturer i m l) (limit_of i l)) [
-        | inl room_l ↦ record {
-          after = set m s (Some p);
-          cursors = c;
-          state = record {
-            holds = place_holds i m (Passed i c) state.holds s p next.in_range next.free on (first i law m c state s p next on here) room room_l;
-            at_cursor = put_cursor i law m c state s p next on here;
-          };
-          onward = λ x. omega arith;
-          moves = λ x. inl refl;
-          still = λ x other free. get_or-set_other m s x (Some p) None other ∙ free;
-          fewer = sum_below-lt (turns i (set m s (Some p)) c) (turns i m c) n s (put_turns i law m c state s p next on here) s_in (put_less i law m c state s p next on here);
-        }
-        | inr full_l ↦ with_worst room (omega (arith, state.holds.matching.lecturers l)) (greatest (IsWith i (set m s (Some p)) l) (λ x. has_lecturer i l (project_of (set m s (Some p)) x)) (rank_of i l) n)
-      ]
-      | inr full ↦ at_worst (omega (arith, state.holds.matching.projects p)) (greatest (λ x. project_of (set m s (Some p)) x ≡ Some p) (λ x. has_project p (project_of (set m s (Some p)) x)) (rank_of i l) n)
-    ]
-  where
-    in_range : (x q : ℕ) → project_of (set m s (Some p)) x ≡ Some q → x < length i.choices
-    in_range x q e = acceptable_in_range i x q (put_on i law m c state s p next on here x q e)
+-- A TURN of a free student s, whose next entry is p
+module _ (i : Spa) (law : IsRanked i) (m : List (Option ℕ)) (c : ℕ → ℕ) (state : UnderWay i m c) (s p : ℕ) (next : IsNext i m c s) (on : IsAcceptable i s p) (here : place (choices_of i s) p ≡ c s) where
+  first : (q : ℕ) → IsBefore (choices_of i s) q p → Passed i c s q
+  first q before = (omega (arith, before.0, before.1), omega (arith, before.0))
 
-    s_has : project_of (set m s (Some p)) s ≡ Some p
-    s_has = put_same i m s p next.in_range next.free
+  put_cursor : (x q : ℕ) → project_of (set m s (Some p)) x ≡ Some q → place (choices_of i x) q ≡ c x
+  put_cursor x q e = elim (put_cases i m s p next.in_range next.free x q e) [ inl new ↦ rw (new.0, new.1) here | inr old ↦ state.at_cursor x q old ]
 
-    goes : (w u : ℕ) → (has : project_of (set m s (Some p)) w ≡ Some u) → Holds i (set (set m s (Some p)) w None) (Passed i c) → IsSpent i (set (set m s (Some p)) w None) w u → Turned i m c s
-    goes w u has holds spent = record {
+  -- s is put
+  put_turns : (k : ℕ) → turns i (set m s (Some p)) c k ≤ turns i m c k
+  put_turns k = search (rules, put_same, get_or-set_other)
+
+  put_less : turns i (set m s (Some p)) c s + 1 ≤ turns i m c s
+  put_less = rw (put_same i m s p next.in_range next.free, next.free) (omega arith)
+
+  -- w, who has u by then, is let go
+  module _ (w u : ℕ) (has : project_of (set m s (Some p)) w ≡ Some u) where
+    w_cursor : place (choices_of i w) u ≡ c w
+    w_cursor = put_cursor w u has
+
+    w_on : IsAcceptable i w u
+    w_on = put_on i m (Passed i c) state.holds s p next.in_range next.free on first w u has
+
+    w_free : project_of (set (set m s (Some p)) w None) w ≡ None
+    w_free = get_or-set_same (set m s (Some p)) w None None (student_in_range i (set m s (Some p)) w u has)
+
+    gone_other : (k : ℕ) → k ≢ w → project_of (set (set m s (Some p)) w None) k ≡ project_of (set m s (Some p)) k
+    gone_other k other = get_or-set_other (set m s (Some p)) w k None None other
+
+    let_go : Holds i (set (set m s (Some p)) w None) (Passed i c) → IsSpent i (set (set m s (Some p)) w None) w u → UnderWay i (set (set m s (Some p)) w None) (moved c w)
+    let_go holds spent = record {
+      holds = delete_holds i (set (set m s (Some p)) w None) (Passed i c) (Passed i (moved c w)) law holds (λ x q old. (old.0, omega (arith, old.1, moved_more c w x))) new;
+      at_cursor = λ x q e. elim (cases_eq x w) [
+        | inl same ↦ absurd (let none : project_of (set (set m s (Some p)) w None) x ≡ None = rw same w_free in cc)
+        | inr other ↦ put_cursor x q (sym (gone_other x other) ∙ e) ∙ sym (moved_other c w x other)
+      ];
+    } where
+      new : (x q : ℕ) → Passed i (moved c w) x q → Passed i c x q ⊎ IsSpent i (set (set m s (Some p)) w None) x q
+      new x q passed = grind (arith, moved_other, moved_same, place-injective, w_on, w_cursor)
+
+    go_turns : (k : ℕ) → turns i (set (set m s (Some p)) w None) (moved c w) k ≤ turns i m c k
+    go_turns k = search (rules, moved_same, w_free, get_or-set_other, w_cursor, w_on, gone_other, moved_other, put_turns, state)
+
+    go_less : turns i (set (set m s (Some p)) w None) (moved c w) s + 1 ≤ turns i m c s
+    go_less = search (rules, w_free, moved_same, gone_other, moved_other, put_less, state)
+
+    goes : Holds i (set (set m s (Some p)) w None) (Passed i c) → IsSpent i (set (set m s (Some p)) w None) w u → Turned i m c s
+    goes holds spent = record {
       after = set (set m s (Some p)) w None;
       cursors = moved c w;
-      state = let_go i law m c state s p next on here w u has holds spent;
+      state = let_go holds spent;
       onward = moved_more c w;
-      moves = λ x. elim (cases_eq x w) [ inl same ↦ inr (rw same (w_free i law m c state s p next on here w u has)) | inr other ↦ inl (moved_other c w x other) ];
-      still = λ x other free. elim (cases_eq x w) [
-        | inl same ↦ rw same (w_free i law m c state s p next on here w u has)
-        | inr apart ↦ gone_other i law m c state s p next on here w u has x apart ∙ get_or-set_other m s x (Some p) None other ∙ free
-      ];
-      fewer = sum_below-lt (turns i (set (set m s (Some p)) w None) (moved c w)) (turns i m c) (length i.choices) s (go_turns i law m c state s p next on here w u has) (acceptable_in_range i s p on) (go_less i law m c state s p next on here w u has);
+      moves = λ x. elim (cases_eq x w) [ inl same ↦ inr (rw same w_free) | inr other ↦ inl (moved_other c w x other) ];
+      still = λ x other free. elim (cases_eq x w) [ inl same ↦ rw same w_free | inr apart ↦ gone_other x apart ∙ get_or-set_other m s x (Some p) None other ∙ free ];
+      fewer = sum_below-lt (turns i (set (set m s (Some p)) w None) (moved c w)) (turns i m c) (length i.choices) s go_turns (acceptable_in_range i s p on) go_less;
     }
 
-    at_worst : at_project m p ≡ capacity_of i p
-        → ((w : ℕ) × (w < length i.choices) × (project_of (set m s (Some p)) w ≡ Some p) × ((x : ℕ) → x < length i.choices → project_of (set m s (Some p)) x ≡ Some p → rank_of i (lecturer_of i p) x ≤ rank_of i (lecturer_of i p) w))
-        ⊎ ((x : ℕ) → x < length i.choices → project_of (set m s (Some p)) x ≡ Some p → ⊥)
-        → Turned i m c s
-    at_worst full (inr none) = absurd (none s (in_range s p s_has) s_has)
-    at_worst full (inl worst) =
-        let done = swap_at_project_holds i m (Passed i c) law state.holds s p worst.0 next.in_range next.free on (first i law m c state s p next on here) full worst.2 (λ x e. worst.3 x (in_range x p e) e) in
-        goes worst.0 p worst.2 done.0 (inr done.1)
+  in_range : (x q : ℕ) → project_of (set m s (Some p)) x ≡ Some q → x < length i.choices
+  in_range x q e = acceptable_in_range i x q (put_on i m (Passed i c) state.holds s p next.in_range next.free on first x q e)
 
-    with_worst : at_project m p < capacity_of i p → at_lecturer i m (lecturer_of i p) ≡ limit_of i (lecturer_of i p)
-        → ((w : ℕ) × (w < length i.choices) × IsWith i (set m s (Some p)) (lecturer_of i p) w × ((x : ℕ) → x < length i.choices → IsWith i (set m s (Some p)) (lecturer_of i p) x → rank_of i (lecturer_of i p) x ≤ rank_of i (lecturer_of i p) w))
-        ⊎ ((x : ℕ) → x < length i.choices → IsWith i (set m s (Some p)) (lecturer_of i p) x → ⊥)
-        → Turned i m c s
-    with_worst room full (inr none) = absurd (none s (in_range s p s_has) (p, s_has, refl))
-    with_worst room full (inl worst) =
-        let u : ℕ = worst.2.0 in
-        let done = swap_at_lecturer_holds i m (Passed i c) law state.holds s p worst.0 u next.in_range next.free on (first i law m c state s p next on here) room full worst.2.1 worst.2.2 (λ x q e own. worst.3 x (in_range x q e) (q, e, own)) in
-        goes worst.0 u worst.2.1 done.0 (inl done.1)
+  s_has : project_of (set m s (Some p)) s ≡ Some p
+  s_has = put_same i m s p next.in_range next.free
+
+  turn : Turned i m c s
+  turn =
+      let l : ℕ = lecturer_of i p in
+      let n : ℕ = length i.choices in
+      let s_in : s < n = acceptable_in_range i s p on in
+      elim (cases_lt (at_project m p) (capacity_of i p)) [
+        | inl room ↦ elim (cases_lt (at_lecturer i m l) (limit_of i l)) [
+          | inl room_l ↦ record {
+            after = set m s (Some p);
+            cursors = c;
+            state = record { holds = place_holds i m (Passed i c) state.holds s p next.in_range next.free on first room room_l; at_cursor = put_cursor };
+            onward = λ x. omega arith;
+            moves = λ x. inl refl;
+            still = λ x other free. get_or-set_other m s x (Some p) None other ∙ free;
+            fewer = sum_below-lt (turns i (set m s (Some p)) c) (turns i m c) n s put_turns s_in put_less;
+          }
+          | inr full_l ↦
+              let worst = the_greatest (IsWith i (set m s (Some p)) l) (λ x. has_lecturer i l (project_of (set m s (Some p)) x)) (rank_of i l) n s s_in (p, s_has, refl) in
+              let full : at_lecturer i m l ≡ limit_of i l = omega (arith, full_l, state.holds.matching.lecturers l) in
+              let done = swap_at_lecturer_holds i m (Passed i c) state.holds s p next.in_range next.free on first law worst.0 worst.2.0 room full worst.2.1 worst.2.2 (λ x q e own. worst.3 x (in_range x q e) (q, e, own)) in
+              goes worst.0 worst.2.0 worst.2.1 done.0 (inl done.1)
+        ]
+        | inr past ↦
+            let worst = the_greatest (λ x. project_of (set m s (Some p)) x ≡ Some p) (λ x. has_project p (project_of (set m s (Some p)) x)) (rank_of i l) n s s_in s_has in
+            let full : at_project m p ≡ capacity_of i p = omega (arith, past, state.holds.matching.projects p) in
+            let done = swap_at_project_holds i m (Passed i c) state.holds s p next.in_range next.free on first law worst.0 full worst.2 (λ x e. worst.3 x (in_range x p e) e) in
+            goes worst.0 p worst.2 done.0 (inr done.1)
+      ]
 
 -- a turn of s, who is free and has some of the list left
 pub turn_of : (i : Spa) → IsRanked i → (m : List (Option ℕ)) (c : ℕ → ℕ) → UnderWay i m c → (s : ℕ) → s < length i.choices → project_of m s ≡ None → c s < length (choices_of i s) → Turned i m c s
@@ -236,14 +217,30 @@ Never x = ⊥
 pub never : (x : ℕ) → Never x ⊎ (Never x → ⊥)
 never x = inr (λ e. e)
 
--- turns until nobody has one
-run : (i : Spa) → IsRanked i → (fuel : ℕ) (m : List (Option ℕ)) (c : ℕ → ℕ) → UnderWay i m c → sum_below (turns i m c) (length i.choices) < fuel → (n : List (Option ℕ)) × IsBest i n
-run i law zero m c state enough = absurd (omega arith)
-run i law (suc fuel) m c state enough = elim (next_or_done i m c Never never) [
+-- SOME KEEP STILL, and the others go on until none of them has a turn
+pub record Rested (i : Spa) (Still : ℕ → Type 0) (c : ℕ → ℕ) : Type 0 where
+  pub after : List (Option ℕ)
+  pub cursors : ℕ → ℕ
+  pub state : UnderWay i after cursors
+  pub onward : (x : ℕ) → c x ≤ cursors x
+  pub still : (x : ℕ) → Still x → project_of after x ≡ None
+  pub done : (x p : ℕ) → (Still x → ⊥) → project_of after x ≡ None → IsAcceptable i x p → Passed i cursors x p
+
+pub rest : (i : Spa) → IsRanked i → (Still : ℕ → Type 0) → ((x : ℕ) → Still x ⊎ (Still x → ⊥)) → (fuel : ℕ) (m : List (Option ℕ)) (c : ℕ → ℕ) → UnderWay i m c → ((x : ℕ) → Still x → project_of m x ≡ None) → sum_below (turns i m c) (length i.choices) < fuel → Rested i Still c
+rest i law Still test zero m c state free enough = absurd (omega arith)
+rest i law Still test (suc fuel) m c state free enough = elim (next_or_done i m c Still test) [
   | inl next ↦
       let one : Turned i m c next.0 = turn_of i law m c state next.0 next.1 next.2.1 next.2.2 in
-      run i law fuel one.after one.cursors one.state (omega (arith, one.fewer))
-  | inr done ↦ (m, best_at_end i m (Passed i c) state.holds (λ s p. done s p (λ e. e)))
+      let all = rest i law Still test fuel one.after one.cursors one.state (λ x keeps. one.still x (λ e. next.2.0 (subst Still e keeps)) (free x keeps)) (omega (arith, one.fewer)) in
+      record {
+        after = all.after;
+        cursors = all.cursors;
+        state = all.state;
+        onward = λ x. omega (arith, one.onward x, all.onward x);
+        still = all.still;
+        done = all.done;
+      }
+  | inr done ↦ record { after = m; cursors = c; state = state; onward = λ x. omega arith; still = free; done = done }
 ]
 
 -- where nobody has a project and no cursor has moved
@@ -262,4 +259,6 @@ start i = record {
 
 -- EACH RANKED INSTANCE HAS A BEST MATCHING
 pub best_of : (i : Spa) → IsRanked i → (m : List (Option ℕ)) × IsBest i m
-best_of i law = run i law (suc (sum_below (turns i (replicate (length i.choices) None) (λ s. 0)) (length i.choices))) (replicate (length i.choices) None) (λ s. 0) (start i) (omega arith)
+best_of i law =
+    let all = rest i law Never never (suc (sum_below (turns i (replicate (length i.choices) None) (λ s. 0)) (length i.choices))) (replicate (length i.choices) None) (λ s. 0) (start i) (λ s keeps. absurd keeps) (omega arith) in
+    (all.after, best_at_end i all.after (Passed i all.cursors) all.state.holds (λ s p. all.done s p (λ e. e)))

@@ -1,5 +1,5 @@
 -- A matching is stable where each project that a student would rather have is taken, or its lecturer is.
-use Rattle.spa_honest.proofs.Base.{◌≡◌, ◌⊎◌, inl, inr, ℕ, List, Option, Some, refl, arith, cases_lt, cases_order, Letter, A, B, C, Spa, place, at_project, at_lecturer, project_of, choices_of, lecturer_of, ranking_of, capacity_of, limit_of, IsBefore, IsMatching, Wants, Blocks, IsStable, IsRanked, place-injective, IsTaken, IsBusy}
+use Rattle.spa_honest.proofs.Base.{◌≡◌, ◌⊎◌, inl, inr, ℕ, List, Option, Some, refl, arith, cases_lt, cases_order, A, B, C, Spa, place, at_project, at_lecturer, project_of, choices_of, lecturer_of, ranking_of, capacity_of, limit_of, IsBefore, IsMatching, Wants, IsStable, IsRanked, place-injective, IsTaken, IsBusy, blocks_wants, spent_unblocked}
 
 -- who wants p has it not
 module _ (i : Spa) (m : List (Option ℕ)) (s p : ℕ) (wants : Wants i m s p) where
@@ -39,20 +39,10 @@ module _ (i : Spa) (m : List (Option ℕ)) (s p : ℕ) (wants : Wants i m s p) w
 
 -- the other way round
 pub stable_so : (i : Spa) (m : List (Option ℕ)) → IsMatching i m → ((s p : ℕ) → Wants i m s p → IsTaken i m p s ⊎ IsBusy i m (lecturer_of i p) s) → IsStable i m
-stable_so i m matching why = record { matching = matching; unblocked = λ s p k b. never s p k b (why s p (wants s p k b)) }
-  where
-    wants : (s p : ℕ) (k : Letter) → Blocks i m s p k → Wants i m s p
-    wants s p A b = b.0
-    wants s p B b = b.0
-    wants s p C b = b.0
-
-    never : (s p : ℕ) (k : Letter) → Blocks i m s p k → IsTaken i m p s ⊎ IsBusy i m (lecturer_of i p) s → ⊥
-    never s p A b (inl taken) = omega (arith, taken.full, b.1)
-    never s p A b (inr busy) = omega (arith, busy.full, b.2)
-    never s p B b (inl taken) = omega (arith, taken.full, b.1)
-    never s p B b (inr busy) = elim b.3 [
-      | inl own ↦ let before = busy.above s own in omega (arith, before.0)
-      | inr worse ↦ let before = busy.above worse.0 worse.1 in omega (arith, before.0, worse.2.0)
-    ]
-    never s p C b (inl taken) = let before = taken.above b.2.0 b.2.1 in omega (arith, before.0, b.2.2.0)
-    never s p C b (inr busy) = let before = busy.above b.2.0 (p, b.2.1, refl) in omega (arith, before.0, b.2.2.0)
+stable_so i m matching why = record {
+  matching = matching;
+  unblocked = λ s p k b. spent_unblocked i m s p (elim (why s p (blocks_wants i m s p k b)) [
+    | inl taken ↦ inr (record { full = taken.full; before = λ t e. (taken.above t e).0 })
+    | inr busy ↦ inl (record { full = busy.full; before = λ t q e own. (busy.above t (q, e, own)).0 })
+  ]) k b;
+}

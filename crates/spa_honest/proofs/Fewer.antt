@@ -1,9 +1,9 @@
 -- Where some students hand in no list, nobody else gets anything worse: proposals go on without them.
-use Rattle.spa_honest.proofs.Base.{◌≡◌, ◌⊎◌, inl, inr, ℕ, suc, ◌<◌, List, length, replicate, Option, Some, None, refl, sym, ◌∙◌, arith, cases_lt, Letter, A, B, C, Spa, place, at_project, at_lecturer, project_of, choices_of, lecturer_of, ranking_of, capacity_of, limit_of, IsBefore, IsOn, IsAcceptable, IsAsGood, Improves, Wants, Blocks, IsMatching, IsStable, IsBest, IsRanked, IsSpent, rank_of, DifferInLists, sum_below, as_good_as_stable}
+use Rattle.spa_honest.proofs.Base.{◌≡◌, ◌⊎◌, inl, inr, ℕ, suc, ◌<◌, List, length, replicate, Option, Some, None, refl, sym, ◌∙◌, arith, cases_lt, Letter, A, B, C, Spa, place, at_project, at_lecturer, project_of, choices_of, lecturer_of, ranking_of, capacity_of, limit_of, IsBefore, IsOn, IsAcceptable, IsAsGood, Improves, Wants, Blocks, IsMatching, IsStable, IsBest, IsRanked, IsSpent, rank_of, DifferInLists, sum_below, as_good_as_stable, blocks_wants}
 use Rattle.spa_student.proofs.Start.{none_there}
-use Rattle.spa_honest.proofs.Exists.{Passed, turns, start}
+use Rattle.spa_honest.proofs.Exists.{Passed, turns, start, Rested, rest}
 use Rattle.spa_honest.proofs.Carry.{same_lecturer, same_capacity, same_limit, same_count}
-use Rattle.spa_honest.proofs.Last.{Rested, rest, as_good_trans}
+use Rattle.spa_honest.proofs.Last.{as_good_trans}
 
 -- what is as good on one list is so on the same list
 pub as_good_alike : (i j : Spa) (t : ℕ) → choices_of j t ≡ choices_of i t → (a b : Option ℕ) → IsAsGood j t a b → IsAsGood i t a b
@@ -69,12 +69,10 @@ module _ (i j : Spa) (Gone : ℕ → Type 0) (law : IsRanked i) (differ : Differ
     unblocked (inl lecturer) C b = not_after b.2.0 u b.2.1 (lecturer.before b.2.0 u b.2.1 refl) b.2.2
 
   pub stable_without : IsStable j end.after
-  stable_without = record { matching = fits; unblocked = λ t u k b. unblocked t u (wants t u k b) (spent t u (wants t u k b)).1 k b }
-    where
-      wants : (t u : ℕ) (k : Letter) → Blocks j end.after t u k → Wants j end.after t u
-      wants t u A b = b.0
-      wants t u B b = b.0
-      wants t u C b = b.0
+  stable_without = record {
+    matching = fits;
+    unblocked = λ t u k b. let wants = blocks_wants j end.after t u k b in unblocked t u wants (spent t u wants).1 k b;
+  }
 
 -- NOBODY ELSE GETS ANYTHING WORSE
 pub fewer_never_harm : (i j : Spa) (group : List ℕ) (m n : List (Option ℕ)) (t : ℕ) → IsRanked i → DifferInLists i j (IsOn group) → ((s p : ℕ) → IsOn group s → IsAcceptable j s p → ⊥) → IsStable i m → IsBest j n → (IsOn group t → ⊥) → IsAsGood i t (project_of n t) (project_of m t)

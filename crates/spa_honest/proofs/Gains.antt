@@ -1,5 +1,5 @@
 -- No group of students gains by other lists, and so no student.
-use Rattle.spa_honest.proofs.Base.{◌≡◌, Bool, refl, cond, ltb, ltb-true, ltb-false, IsAsGood, AddsTo, ◌⊎◌, inl, inr, ℕ, zero, suc, ◌<◌, ◌≤◌, true, false, List, [], ◌∷◌, length, get_or, Option, Some, None, sym, ◌∙◌, ap, subst, arith, cases_lt, cases_eq, Letter, Spa, place, choices_of, project_of, IsOn, IsAcceptable, IsMatching, Blocks, IsStable, IsBest, IsRanked, DifferInLists, DifferInOneList, get_or-place, place-get_or-le, IsNoWorse}
+use Rattle.spa_honest.proofs.Base.{◌≡◌, Bool, refl, cond, ltb, ltb-true, lt-ltb, false_from_ne_true, IsAsGood, AddsTo, ◌⊎◌, inl, inr, ℕ, zero, suc, ◌<◌, ◌≤◌, true, false, List, [], ◌∷◌, length, get_or, Option, Some, None, sym, ◌∙◌, ap, subst, arith, cases_lt, cases_eq, Letter, Spa, place, choices_of, project_of, IsOn, IsAcceptable, IsMatching, Blocks, IsStable, IsBest, IsRanked, DifferInLists, DifferInOneList, get_or-place, place-get_or-le, IsNoWorse}
 use Rattle.spa_honest.proofs.Lists.{one_on, on_one}
 use Rattle.spa_honest.proofs.Outside.{outside, not_grown}
 use Rattle.spa_honest.proofs.Last.{better, not_better, gains, turned_away}
@@ -43,13 +43,6 @@ module _ (i : Spa) (m n : List (Option ℕ)) (best : IsBest i m) where
 abbrev member : List ℕ → ℕ → Bool
 member group t = ltb (place group t) (length group)
 
-is_member : (group : List ℕ) (t : ℕ) → IsOn group t → member group t ≡ true
-is_member group t on = by_test (member group t) refl
-  where
-    by_test : (b : Bool) → member group t ≡ b → member group t ≡ true
-    by_test true e = e
-    by_test false e = absurd (omega (arith, ltb-false (place group t) (length group) e, on))
-
 module _ (i j : Spa) (group : List ℕ) (m n x : List (Option ℕ)) (law : IsRanked j) (differ : DifferInLists i j (IsOn group)) (stable : IsStable j n) (adds : AddsTo j n x) (all : (t : ℕ) → IsOn group t → Gains i m x t) where
   adds_here : AddsTo i n (joined (member group) x n)
   adds_here =
@@ -63,14 +56,11 @@ module _ (i j : Spa) (group : List ℕ) (m n x : List (Option ℕ)) (law : IsRan
       }
 
   of_group : (t : ℕ) → IsOn group t → project_of (joined (member group) x n) t ≡ project_of x t
-  of_group t on = joined_at (member group) x n t adds.students ∙ ap (λ b. cond b (project_of x t) (project_of n t)) (is_member group t on)
+  of_group t on = joined_at (member group) x n t adds.students ∙ ap (λ b. cond b (project_of x t) (project_of n t)) (lt-ltb (place group t) (length group) on)
 
   of_others : (t : ℕ) → (IsOn group t → ⊥) → project_of (joined (member group) x n) t ≡ project_of n t
-  of_others t off = joined_at (member group) x n t adds.students ∙ by_test (member group t) refl
-    where
-      by_test : (b : Bool) → member group t ≡ b → cond b (project_of x t) (project_of n t) ≡ project_of n t
-      by_test true e = absurd (off (ltb-true (place group t) (length group) e))
-      by_test false e = refl
+  of_others t off =
+      joined_at (member group) x n t adds.students ∙ ap (λ b. cond b (project_of x t) (project_of n t)) (false_from_ne_true (member group t) (λ e. off (ltb-true (place group t) (length group) e)))
 
   there : IsMatching i (joined (member group) x n)
   there = record {

@@ -1,6 +1,6 @@
 -- The method stops when the last who likes x better than the best matching loses what x gives.
 use Rattle.spa_honest.proofs.Base.{◌≡◌, ◌⊎◌, inl, inr, ℕ, zero, suc, ◌<◌, ◌≤◌, Bool, true, false, List, length, replicate, Option, Some, None, refl, sym, ◌∙◌, ap, subst, arith, cases_Bool, cases_lt, cases_eq, Spa, place, project_of, choices_of, IsAcceptable, IsMatching, IsAsGood, IsBest, place-injective, sum_below, IsRanked, best_at_end, student_in_range, rules, ltb, ltb-true, ltb-false, as_good_as_stable}
-use Rattle.spa_honest.proofs.Exists.{greatest, Passed, UnderWay, turns, Turned, turn_of, next_or_done, Never, never, start}
+use Rattle.spa_honest.proofs.Exists.{greatest, Passed, UnderWay, turns, Turned, turn_of, next_or_done, Never, never, start, Rested, rest}
 use Rattle.spa_honest.proofs.Outside.{TurnsAway}
 
 -- whether what s has is better than the other
@@ -31,32 +31,6 @@ as_good_trans i s (Some p) (Some q) (Some r) ab bc = search rules
 abbrev spot : Spa → ℕ → Option ℕ → ℕ
 spot i s None = 0
 spot i s (Some p) = place (choices_of i s) p
-
--- SOME KEEP STILL, and the others go on until none of them has a turn
-pub record Rested (i : Spa) (Still : ℕ → Type 0) (c : ℕ → ℕ) : Type 0 where
-  pub after : List (Option ℕ)
-  pub cursors : ℕ → ℕ
-  pub state : UnderWay i after cursors
-  pub onward : (x : ℕ) → c x ≤ cursors x
-  pub still : (x : ℕ) → Still x → project_of after x ≡ None
-  pub done : (x p : ℕ) → (Still x → ⊥) → project_of after x ≡ None → IsAcceptable i x p → Passed i cursors x p
-
-pub rest : (i : Spa) → IsRanked i → (Still : ℕ → Type 0) → ((x : ℕ) → Still x ⊎ (Still x → ⊥)) → (fuel : ℕ) (m : List (Option ℕ)) (c : ℕ → ℕ) → UnderWay i m c → ((x : ℕ) → Still x → project_of m x ≡ None) → sum_below (turns i m c) (length i.choices) < fuel → Rested i Still c
-rest i law Still test zero m c state free enough = absurd (omega arith)
-rest i law Still test (suc fuel) m c state free enough = elim (next_or_done i m c Still test) [
-  | inl next ↦
-      let one : Turned i m c next.0 = turn_of i law m c state next.0 next.1 next.2.1 next.2.2 in
-      let all = rest i law Still test fuel one.after one.cursors one.state (λ x keeps. one.still x (λ e. next.2.0 (subst Still e keeps)) (free x keeps)) (omega (arith, one.fewer)) in
-      record {
-        after = all.after;
-        cursors = all.cursors;
-        state = all.state;
-        onward = λ x. omega (arith, one.onward x, all.onward x);
-        still = all.still;
-        done = all.done;
-      }
-  | inr done ↦ record { after = m; cursors = c; state = state; onward = λ x. omega arith; still = free; done = done }
-]
 
 -- those who like x better than what the best matching gives, and who of them has not passed it
 abbrev pub gains : Spa → List (Option ℕ) → List (Option ℕ) → ℕ → Bool
@@ -130,13 +104,10 @@ module _ (i : Spa) (law : IsRanked i) (best : List (Option ℕ)) (is_best : IsBe
       passed : (z : ℕ) → gains i best x z ≡ true → (d : ℕ → ℕ) → ((z : ℕ) → z < length i.choices → Waits i best x d z → ⊥) → spot i z (project_of x z) < d z
       passed z meets d over = elim (cases_lt (spot i z (project_of x z)) (d z)) [ inl here ↦ here | inr ahead ↦ absurd (over z (in_range z meets) (meets, ahead)) ]
 
-  stopped : (s : ℕ) → gains i best x s ≡ true → Stopped i best x
-  stopped s meets = until (suc (sum_below (turns i (replicate (length i.choices) None) (λ z. 0)) (length i.choices))) (replicate (length i.choices) None) (λ z. 0) (start i) s (meets, omega arith) (omega arith)
-
   -- so there is a matching that turns all of them away and leaves one with nothing
   pub turned_away : (s : ℕ) → gains i best x s ≡ true → (y : List (Option ℕ)) × TurnsAway i (gains i best x) x y
   turned_away s meets =
-      let one : Stopped i best x = stopped s meets in
+      let one : Stopped i best x = until (suc (sum_below (turns i (replicate (length i.choices) None) (λ z. 0)) (length i.choices))) (replicate (length i.choices) None) (λ z. 0) (start i) s (meets, omega arith) (omega arith) in
       let z : ℕ = one.last.0 in
       let all : Rested i (λ t. t ≡ z) one.cursors = rest i law (λ t. t ≡ z) (λ t. cases_eq t z) (suc (sum_below (turns i one.after one.cursors) (length i.choices))) one.after one.cursors one.state (λ t same. rw same one.last.2) (omega arith) in (
         all.after,

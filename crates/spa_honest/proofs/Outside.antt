@@ -1,51 +1,41 @@
 -- If the students of r like a matching x better than what they can have, somebody else blocks x,
 -- also where the capacities that x keeps are lower, if lecturers lose no less than their projects.
 -- The matching y turns all of r away from their places in x, one has none, and others do no worse.
-use Rattle.spa_honest.proofs.Base.{◌⊎◌, cases_eq, share, at_lecturer-sum, places_among, places_with, ◌≡◌, inl, inr, ℕ, ◌+◌, ◌-◌, eqb, eq-eqb, get_or, sum_below-zero, with_room, ◌<◌, ◌≤◌, Bool, true, false, List, length, Option, Some, None, refl, sym, ◌∙◌, ap, subst, arith, count_by, cases_lt, Letter, A, B, C, Spa, is_lecturer, at_project, at_lecturer, project_of, lecturer_of, ranking_of, capacity_of, limit_of, IsOn, IsMatching, IsAsGood, Wants, Blocks, sum_below, IsRanked, rank_of, IsSpent, student_in_range, rules, zero, suc, cond, [], ◌∷◌, one_if, count_by-cons, is_project}
-use Rattle.spa_honest.proofs.Assigned.{has_one, count_by-lt, all_lecturers, greater_term, more_at, more_over, one_there, wants_best}
+use Rattle.spa_honest.proofs.Base.{count_by-lt, replicate, ◌⊎◌, cases_Bool, false_from_ne_true, sum_below-lt, share, at_lecturer-sum, places_among, places_with, ◌≡◌, inl, inr, ℕ, ◌+◌, ◌-◌, eqb, eq-eqb, get_or, sum_below-zero, with_room, ◌<◌, ◌≤◌, Bool, true, false, List, length, Option, Some, None, refl, sym, ◌∙◌, ap, subst, arith, count_by, cases_lt, Letter, A, B, C, Spa, is_lecturer, at_project, at_lecturer, project_of, lecturer_of, ranking_of, capacity_of, limit_of, IsOn, IsMatching, IsAsGood, Wants, Blocks, sum_below, IsRanked, rank_of, IsSpent, student_in_range, rules, zero, suc, cond, [], ◌∷◌, one_if, count_by-cons, is_project}
+use Rattle.std.proofs.lemmas.List.{length-replicate}
+use Rattle.spa_student.proofs.Start.{none_there}
+use Rattle.spa_honest.proofs.Added.{joined, joined_length, joined_at}
+use Rattle.spa_honest.proofs.Assigned.{has_one, all_lecturers, greater_term, more_at, more_over, one_there, wants_best}
 
 -- A matching with the projects of some students alone.
 
 -- the students of r keep their projects
 abbrev pub only : (ℕ → Bool) → List (Option ℕ) → List (Option ℕ)
-only r [] = []
-only r (o ∷ m) = cond (r 0) o None ∷ only (λ s. r (suc s)) m
+only r m = joined r m (replicate (length m) None)
 
 -- all but those of r
 abbrev pub others : (ℕ → Bool) → ℕ → Bool
 others r s = cond (r s) false true
 
 pub only_length : (r : ℕ → Bool) (m : List (Option ℕ)) → length (only r m) ≡ length m
-only_length r [] = refl
-only_length r (o ∷ m) = omega (arith, only_length (λ s. r (suc s)) m)
+only_length r m = joined_length r m (replicate (length m) None) (sym (length-replicate (length m) None)) ∙ length-replicate (length m) None
 
 only_at : (r : ℕ → Bool) (m : List (Option ℕ)) (s : ℕ) → project_of (only r m) s ≡ cond (r s) (project_of m s) None
-only_at r [] s = nothing (r s)
-  where
-    nothing : (b : Bool) → ◌≡◌ {A = Option ℕ} None (cond b None None)
-    nothing true = refl
-    nothing false = refl
-only_at r (o ∷ m) zero = refl
-only_at r (o ∷ m) (suc s) = only_at (λ k. r (suc k)) m s
+only_at r m s = joined_at r m (replicate (length m) None) s (sym (length-replicate (length m) None)) ∙ ap (cond (r s) (project_of m s)) (none_there (length m) s)
 
 -- who keeps a project is of r and has it
 pub only_has : (r : ℕ → Bool) (m : List (Option ℕ)) (s q : ℕ) → project_of (only r m) s ≡ Some q → (r s ≡ true) × (project_of m s ≡ Some q)
-only_has r m s q e = by_test (r s) refl (rw only_at at e)
-  where
-    by_test : (b : Bool) → r s ≡ b → cond b (project_of m s) None ≡ Some q → (r s ≡ true) × (project_of m s ≡ Some q)
-    by_test true is e = (is, e)
-    by_test false is e = absurd (cc)
+only_has r m s q e = elim (cases_Bool (r s)) [
+  | inl is ↦ (is, rw is at (rw only_at at e))
+  | inr is ↦ absurd (let wrong : ◌≡◌ {A = Option ℕ} None (Some q) = rw is at (rw only_at at e) in cc)
+]
 
 pub only_keeps : (r : ℕ → Bool) (m : List (Option ℕ)) (s : ℕ) → r s ≡ true → project_of (only r m) s ≡ project_of m s
 only_keeps r m s is = rw only_at (rw is refl)
 
 -- who is of the others is not of r
 pub others_not : (r : ℕ → Bool) (s : ℕ) → others r s ≡ true → r s ≡ false
-others_not r s is = by_test (r s) is
-  where
-    by_test : (b : Bool) → cond b false true ≡ true → b ≡ false
-    by_test true is = absurd (cc)
-    by_test false is = refl
+others_not r s is = false_from_ne_true (r s) (λ e. let wrong : false ≡ true = rw e at is in cc)
 
 -- a count over all is that over those of r and that over the others
 pub both_counted : (f : Option ℕ → Bool) → f None ≡ false → (r : ℕ → Bool) (m : List (Option ℕ)) → count_by f m ≡ count_by f (only r m) + count_by f (only (others r) m)
@@ -63,6 +53,17 @@ both_counted f off r (o ∷ m) =
     one : (b : Bool) → one_if (f o) ≡ one_if (f (cond b o None)) + one_if (f (cond (cond b false true) o None))
     one true = omega (arith, ap one_if off)
     one false = omega (arith, ap one_if off)
+
+-- the places of a lecturer's projects, as a sum, and that nobody has more students than places
+abbrev pub place_share : Spa → ℕ → ℕ → ℕ
+place_share i l p = cond (eqb (lecturer_of i p) l) (capacity_of i p) 0
+
+pub places_sum : (i : Spa) (l n : ℕ) → places_among i l n ≡ sum_below (place_share i l) n
+places_sum i l zero = refl
+places_sum i l (suc n) = omega (arith, places_sum i l n)
+
+pub share_most : (i : Spa) (m : List (Option ℕ)) → ((q : ℕ) → at_project m q ≤ capacity_of i q) → (l p : ℕ) → share i m l p ≤ place_share i l p
+share_most i m fits l p = elim (cases_Bool (eqb (lecturer_of i p) l)) [ inl own ↦ rw own (fits p) | inr other ↦ rw other (omega arith) ]
 
 -- what y is to x
 pub record TurnsAway (i : Spa) (r : ℕ → Bool) (x y : List (Option ℕ)) : Type 0 where
@@ -162,25 +163,17 @@ module _ (i : Spa) (law : IsRanked i) (cs ls : List ℕ) (grown : Grown i cs ls)
   all_full l p own low full enough = elim (cases_lt (at_project y p) (capacity_of i p)) [
     | inr least ↦ omega (arith, least, turns.here.projects p)
     | inl room ↦
-        let less : sum_below (share i y l) (length i.lecturers) + 1 ≤ places_with i l
-        = fewer_than (length i.lecturers) low (rw (eq-eqb (lecturer_of i p) l own) room) in
-        absurd (omega (arith, less, full, enough, at_lecturer-sum i l (length i.lecturers) y (λ s q e. law.known s q (turns.here.acceptable s q e))))
+        let one : share i y l p + 1 ≤ place_share i l p = rw (eq-eqb (lecturer_of i p) l own) (omega arith) in
+        let less = sum_below-lt (share i y l) (place_share i l) (length i.lecturers) p (share_most i y turns.here.projects l) low one in
+        absurd (omega (
+          arith,
+          less,
+          full,
+          enough,
+          places_sum i l (length i.lecturers),
+          at_lecturer-sum i l (length i.lecturers) y (λ s q e. law.known s q (turns.here.acceptable s q e)),
+        ))
   ]
-    where
-      at_most : (u : ℕ) (b : Bool) → cond b (at_project y u) 0 ≤ cond b (capacity_of i u) 0
-      at_most u true = turns.here.projects u
-      at_most u false = omega arith
-
-      no_more_than : (n : ℕ) → sum_below (share i y l) n ≤ places_among i l n
-      no_more_than zero = omega arith
-      no_more_than (suc n) = omega (arith, no_more_than n, at_most n (eqb (lecturer_of i n) l))
-
-      fewer_than : (n : ℕ) → p < n → cond (eqb (lecturer_of i p) l) (at_project y p) 0 < cond (eqb (lecturer_of i p) l) (capacity_of i p) 0 → sum_below (share i y l) n + 1 ≤ places_among i l n
-      fewer_than zero low h = absurd (omega arith)
-      fewer_than (suc n) low h = elim (cases_eq p n) [
-        | inl same ↦ omega (arith, no_more_than n, subst (λ k. cond (eqb (lecturer_of i k) l) (at_project y k) 0 < cond (eqb (lecturer_of i k) l) (capacity_of i k) 0) same h)
-        | inr other ↦ omega (arith, fewer_than n (omega arith) h, at_most n (eqb (lecturer_of i n) l))
-      ]
 
   -- where p is full in y with students who stand before s, who has p in x
   full_there : (s p : ℕ) → project_of x s ≡ Some p → at_project (only r y) p < at_project (only r x) p → at_project y p ≡ capacity_of i p → ((t : ℕ) → project_of y t ≡ Some p → rank_of i (lecturer_of i p) t < rank_of i (lecturer_of i p) s) → ⊥

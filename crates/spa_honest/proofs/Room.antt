@@ -1,6 +1,6 @@
 -- More room harms nobody, where the lecturers' limits grow with the places of their projects.
-use Rattle.spa_honest.proofs.Base.{◌≡◌, inl, inr, ℕ, zero, suc, ◌+◌, ◌≤◌, ◌-◌, Bool, true, false, cond, eqb, List, length, get_or, Option, refl, arith, cases_Bool, Spa, at_project, project_of, lecturer_of, capacity_of, IsMatching, IsAsGood, IsStable, IsBest, IsRanked, sum_below, share, at_lecturer-sum, with_room, GivesRoom, places_among}
-use Rattle.spa_honest.proofs.Outside.{outside, Grown, growth}
+use Rattle.spa_honest.proofs.Base.{◌≡◌, inl, inr, ℕ, zero, suc, ◌+◌, ◌-◌, Bool, true, false, cond, eqb, List, length, get_or, Option, refl, arith, cases_Bool, Spa, project_of, lecturer_of, capacity_of, IsMatching, IsAsGood, IsStable, IsBest, IsRanked, sum_below, sum_below-le, share, at_lecturer-sum, with_room, GivesRoom, places_among}
+use Rattle.spa_honest.proofs.Outside.{outside, Grown, growth, place_share, places_sum, share_most}
 use Rattle.spa_honest.proofs.Last.{not_better, gains, turned_away}
 
 module _ (i : Spa) (capacities limits : List ℕ) (gives : GivesRoom i (with_room i capacities limits)) where
@@ -22,15 +22,6 @@ module _ (i : Spa) (capacities limits : List ℕ) (gives : GivesRoom i (with_roo
     ];
   }
 
-  -- a lecturer has no more students than places
-  few_with : (m : List (Option ℕ)) → ((q : ℕ) → at_project m q ≤ capacity_of i q) → (l n : ℕ) → sum_below (share i m l) n ≤ places_among i l n
-  few_with m fits l zero = omega arith
-  few_with m fits l (suc n) = omega (arith, few_with m fits l n, one (eqb (lecturer_of i n) l))
-    where
-      one : (b : Bool) → cond b (at_project m n) 0 ≤ cond b (capacity_of i n) 0
-      one true = fits n
-      one false = omega arith
-
   there : (m : List (Option ℕ)) → IsRanked i → IsStable i m → IsMatching (with_room i capacities limits) m
   there m law stable = record {
     students = stable.matching.students;
@@ -42,7 +33,8 @@ module _ (i : Spa) (capacities limits : List ℕ) (gives : GivesRoom i (with_roo
         arith,
         enough,
         added l (length i.lecturers),
-        few_with m stable.matching.projects l (length i.lecturers),
+        places_sum i l (length i.lecturers),
+        sum_below-le (share i m l) (place_share i l) (length i.lecturers) (share_most i m stable.matching.projects l),
         at_lecturer-sum i l (length i.lecturers) m (λ s q e. law.known s q (stable.matching.acceptable s q e)),
       )
     ];

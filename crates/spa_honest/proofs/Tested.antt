@@ -1,8 +1,10 @@
 -- What is computed of a small instance: that it is lawful, and the matching that alone is stable.
-use Rattle.spa_honest.proofs.Base.{◌≡◌, ◌≢◌, inl, inr, ℕ, zero, suc, ◌<◌, ◌≤◌, Bool, true, false, eqb, List, [], ◌∷◌, length, get_or, refl, ap, arith, subst, AllPairs, Less, nat_cmp, slice_cmp, eqb-true, eq-eqb, cases_eq, cases_lt, Option, Some, None, Spa, project_of, place, choices_of, lecturer_of, ranking_of, capacity_of, limit_of, at_project, at_lecturer, IsOn, IsBefore, IsAcceptable, IsDistinct, IsLawful, Improves, Wants, IsStable, IsBest, IsRanked, A, rules, ltb, ◌&&◌, ◌||◌, not, Ordering, list_all, list_any, is_lt, and_parts, or_cases, ltb-true, get_or_past, Rise, get_or-place, blocked}
+use Rattle.spa_honest.proofs.Base.{◌≡◌, ◌≢◌, inl, inr, ℕ, zero, suc, ◌<◌, ◌≤◌, Bool, true, false, eqb, List, [], ◌∷◌, length, get_or, refl, ap, arith, subst, AllPairs, Less, nat_cmp, slice_cmp, eqb-true, eq-eqb, cases_lt, Option, Some, None, Spa, project_of, place, choices_of, lecturer_of, ranking_of, capacity_of, limit_of, at_project, at_lecturer, IsOn, IsBefore, IsAcceptable, IsDistinct, IsLawful, Improves, Wants, IsStable, IsBest, IsRanked, A, rules, ltb, ◌&&◌, ◌||◌, not, Ordering, list_all, list_any, is_lt, and_parts, or_cases, ltb-true, get_or_past, Rise, get_or-place, blocked}
 use Rattle.std.proofs.lemmas.List.Folds.{Any-from_list_any}
+use Rattle.std.proofs.lemmas.List.FromFn.{get_or-range_with_len, length-range_with_len}
 use Rattle.std.proofs.lemmas.List.Kept.{AllPairs-cons}
 use Rattle.std.proofs.lemmas.List.Sums.{AllPass-from_list_all}
+use Rattle.std.specs.List.{range_with_len}
 use Rattle.spa_model.proofs.Lawful.{at_on}
 use Rattle.spa_honest.proofs.Exists.{best_of}
 
@@ -10,23 +12,18 @@ use Rattle.spa_honest.proofs.Exists.{best_of}
 
 -- of each number below n, of some number below n
 abbrev each : (ℕ → Bool) → ℕ → Bool
-each test zero = true
-each test (suc n) = each test n && test n
+each test n = list_all test (range_with_len 0 n)
 
 abbrev some : (ℕ → Bool) → ℕ → Bool
-some test zero = false
-some test (suc n) = some test n || test n
+some test n = list_any test (range_with_len 0 n)
 
 each_at : (test : ℕ → Bool) (n k : ℕ) → each test n ≡ true → k < n → test k ≡ true
-each_at test zero k h low = absurd (omega arith)
-each_at test (suc n) k h low = elim (cases_eq k n) [
-  | inl same ↦ rw same (and_parts (each test n) (test n) h).1
-  | inr other ↦ each_at test n k (and_parts (each test n) (test n) h).0 (omega arith)
-]
+each_at test n k h low =
+    let at : get_or (range_with_len 0 n) k 0 ≡ k = omega (arith, get_or-range_with_len 0 n k 0 low) in
+    rw at at (AllPass-from_list_all test (range_with_len 0 n) h k 0 (omega (arith, low, length-range_with_len 0 n)))
 
 some_at : (test : ℕ → Bool) (n : ℕ) → some test n ≡ true → (k : ℕ) × (test k ≡ true)
-some_at test zero h = absurd (cc)
-some_at test (suc n) h = elim (or_cases (some test n) (test n) h) [ inl before ↦ some_at test n before | inr here ↦ (n, here) ]
+some_at test n h = let any = Any-from_list_any test (range_with_len 0 n) h in (any.1, any.4)
 
 -- of each element, and of what is past the end
 each_of : {X : Type 0} (test : X → Bool) (d : X) (xs : List X) → test d ≡ true → list_all test xs ≡ true → (k : ℕ) → test (get_or xs k d) ≡ true

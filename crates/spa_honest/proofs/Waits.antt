@@ -1,6 +1,6 @@
 -- Who is left finds no room on the own list; room after a stable matching gains nobody anything.
-use Rattle.spa_honest.proofs.Base.{◌≡◌, inl, inr, ℕ, ◌<◌, List, length, set, Option, Some, None, sym, ◌∙◌, arith, length-set, get_or-set_other, cases_eq, A, Spa, project_of, lecturer_of, IsAcceptable, IsAsGood, IsStable, IsBest, IsRanked, put_same, acceptable_in_range, AddsTo, HasRoom, DifferInOneList, put_at_project, put_at_lecturer, one_here}
-use Rattle.spa_student.proofs.Machine.{none_there}
+use Rattle.spa_honest.proofs.Base.{◌≡◌, ℕ, ◌<◌, List, length, set, Option, Some, None, ◌∙◌, arith, length-set, get_or-set_other, A, Spa, project_of, lecturer_of, IsAcceptable, IsAsGood, IsStable, IsBest, IsRanked, put_same, acceptable_in_range, AddsTo, HasRoom, DifferInOneList, put_at_project, put_at_lecturer, at_project, at_lecturer, capacity_of, limit_of}
+use Rattle.spa_student.proofs.Machine.{one_more}
 use Rattle.spa_honest.proofs.Gains.{no_one_gains_over_both}
 
 -- WHO IS LEFT FINDS NONE: the pair would block
@@ -20,12 +20,6 @@ waiting_never_pays i j s p m n lawful law differ best stable left on room =
     adds = record {
       students = length-set n s (Some p);
       keeps = λ t q e. get_or-set_other n s t (Some p) None (λ same. let none : project_of n t ≡ None = rw same left in cc) ∙ e;
-      projects = λ q. elim (cases_eq p q) [
-        | inl same ↦ rw (sym same) (omega (arith, put_at_project j n s p in_range left p, one_here p, room.0))
-        | inr apart ↦ omega (arith, put_at_project j n s p in_range left q, none_there p q apart, stable.matching.projects q)
-      ];
-      lecturers = λ l. elim (cases_eq (lecturer_of j p) l) [
-        | inl same ↦ rw (sym same) (omega (arith, put_at_lecturer j n s p in_range left (lecturer_of j p), one_here (lecturer_of j p), room.1))
-        | inr apart ↦ omega (arith, put_at_lecturer j n s p in_range left l, none_there (lecturer_of j p) l apart, stable.matching.lecturers l)
-      ];
+      projects = one_more (at_project n) (at_project (set n s (Some p))) (capacity_of j) p (λ q. omega (arith, put_at_project j n s p in_range left q)) room.0 stable.matching.projects;
+      lecturers = one_more (at_lecturer j n) (at_lecturer j (set n s (Some p))) (limit_of j) (lecturer_of j p) (λ l. omega (arith, put_at_lecturer j n s p in_range left l)) room.1 stable.matching.lecturers;
     }

@@ -1,5 +1,5 @@
 -- The examples: they are lawful with each list, and what is best.
-use Rattle.spa_honest.proofs.Base.{◌≤◌, ◌≡◌, inl, inr, ℕ, zero, suc, [], ◌∷◌, Some, None, refl, arith, choices_of, IsOn, IsAsGood, IsLawful, IsBest, ranked_of, HasRoom, ann, cem, bells, kites, tides, example, honest_list, safe_list, short_list, DifferInLists, NobodyGains, MorePlacesNeverHarm, with_room, capacity_of}
+use Rattle.spa_honest.proofs.Base.{◌≤◌, ◌≡◌, inl, inr, ℕ, zero, suc, List, [], ◌∷◌, Some, None, refl, arith, choices_of, IsOn, IsAsGood, IsLawful, IsBest, ranked_of, HasRoom, ann, cem, bells, kites, tides, example, honest_list, safe_list, short_list, DifferInLists, NobodyGains, MorePlacesNeverHarm, with_room, capacity_of}
 use Rattle.spa_honest.specs.examples.Waiting.{at_once, second_alone, waiting}
 use Rattle.spa_honest.proofs.Tested.{lawful_by, best_by}
 
@@ -23,9 +23,13 @@ safe_best = best_by (example safe_list) (ranked_of (example safe_list) safe_lawf
 pub short_best : IsBest (example short_list) (Some kites ∷ Some tides ∷ Some bells ∷ [])
 short_best = best_by (example short_list) (ranked_of (example short_list) short_lawful) (Some kites ∷ Some tides ∷ Some bells ∷ []) refl
 
+-- Bells is not as good for Cem as Kites
+no_better : (list_of_ann : List ℕ) → IsAsGood (example list_of_ann) cem (Some bells) (Some kites) → ⊥
+no_better list_of_ann good = elim good [ inl same ↦ omega (arith, same) | inr before ↦ omega (arith, before.0) ]
+
 -- with Bells first Ann lets Cem have Kites: one of the group gains
 pub one_may_gain : NobodyGains → ⊥
-one_may_gain nobody = no_better (nobody (example honest_list) (example safe_list) (ann ∷ cem ∷ []) _ _ honest_lawful safe_lawful differ honest_best safe_best cem (omega arith) kites refl (omega arith))
+one_may_gain nobody = no_better honest_list (nobody (example honest_list) (example safe_list) (ann ∷ cem ∷ []) _ _ honest_lawful safe_lawful differ honest_best safe_best cem (omega arith) kites refl (omega arith))
   where
     differ : DifferInLists (example honest_list) (example safe_list) (IsOn (ann ∷ cem ∷ []))
     differ = record { students = refl; lecturers = refl; capacities = refl; limits = refl; others = others; orders = λ l a b on_a on_b before. before }
@@ -33,9 +37,6 @@ one_may_gain nobody = no_better (nobody (example honest_list) (example safe_list
         others : (t : ℕ) → (IsOn (ann ∷ cem ∷ []) t → ⊥) → choices_of (example safe_list) t ≡ choices_of (example honest_list) t
         others zero other = absurd (other (omega arith))
         others (suc t) other = refl
-
-    no_better : IsAsGood (example honest_list) cem (Some bells) (Some kites) → ⊥
-    no_better good = elim good [ inl same ↦ omega (arith, same) | inr before ↦ omega (arith, before.0) ]
 
 -- ---- a place more
 
@@ -54,16 +55,13 @@ many_best = best_by (with_room (example (tides ∷ bells ∷ [])) (1 ∷ 1 ∷ 2
 
 -- so Cem loses Kites
 pub more_places_may_harm : MorePlacesNeverHarm → ⊥
-more_places_may_harm never = no_better (never (example (tides ∷ bells ∷ [])) (1 ∷ 1 ∷ 2 ∷ []) _ _ few_lawful many_lawful no_fewer few_best many_best cem)
+more_places_may_harm never = no_better (tides ∷ bells ∷ []) (never (example (tides ∷ bells ∷ [])) (1 ∷ 1 ∷ 2 ∷ []) _ _ few_lawful many_lawful no_fewer few_best many_best cem)
   where
     no_fewer : (q : ℕ) → capacity_of (example (tides ∷ bells ∷ [])) q ≤ capacity_of (with_room (example (tides ∷ bells ∷ [])) (1 ∷ 1 ∷ 2 ∷ []) (2 ∷ 1 ∷ [])) q
     no_fewer zero = omega arith
     no_fewer (suc zero) = omega arith
     no_fewer (suc (suc zero)) = omega arith
     no_fewer (suc (suc (suc q))) = omega arith
-
-    no_better : IsAsGood (example (tides ∷ bells ∷ [])) cem (Some bells) (Some kites) → ⊥
-    no_better good = elim good [ inl same ↦ omega (arith, same) | inr before ↦ omega (arith, before.0) ]
 
 -- ---- one who waits
 

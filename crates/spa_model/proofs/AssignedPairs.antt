@@ -64,20 +64,17 @@ within lines number limit q good zero h = omega arith
 within lines number limit q good (suc n) h =
     let x : Pair = get_or lines n (record { row = 0; student = []; project = [] }) in
     let here : get_or lines n x ≡ x = get_or_default lines n x (record { row = 0; student = []; project = [] }) (omega arith) in
+    let step : suc n ≡ n + 1 = omega arith in
     elim (cases_Bool (eqb (number x) q)) [
       | inl yes' ↦
           elim (cases_lt (limit q) (count_by (λ y. eqb (number y) q) (take (suc n) lines))) [
-            | inl over ↦ absurd (good n x (omega arith) here (rw ((eqb-true (number x) q yes'), one-add' n) over))
+            | inl over ↦ absurd (good n x (omega arith) here (rw ((eqb-true (number x) q yes'), ← step) over))
             | inr fits ↦ fits
           ]
       | inr no' ↦
           let same : count_by (λ y. eqb (number y) q) (take (n + 1) lines) ≡ count_by (λ y. eqb (number y) q) (take n lines) = count_by_more_no (λ y. eqb (number y) q) lines n x (omega arith) (ap (λ y. eqb (number y) q) here ∙ no') in
-          let step : suc n ≡ n + 1 = omega arith in
           rw step (omega (arith, within lines number limit q good n (omega arith)))
     ]
-  where
-    one-add' : (n : ℕ) → n + 1 ≡ suc n
-    one-add' n = omega arith
 
 module _ (i : Spa) (lines : List Pair) (students projects : List ℕ) (m : List (Option ℕ)) (lawful : IsLawful i) (sound : AreSound i lines)
     (students_are : students ≡ map (student_in i) lines) (projects_are : projects ≡ map (project_in i) lines) (put : AreAssigned (length i.choices) students projects m) where

@@ -1,5 +1,5 @@
 -- Names from below that the proofs use.
-pub use Rattle.std.proofs.Common.{All, Any, Bool, Contains, Equal, Greater, IsTrue, Less, List, None, Option, Ordering, Some, [], ap, arith, cond, eqb, false, get_or, inl, inr, length, map, refl, rules, set, subst, suc, sym, take, true, zero, ℕ, ◌++◌, ◌+◌, ◌<◌, ◌↔◌, ◌∙◌, ◌∷◌, ◌≡◌, ◌≢◌, ◌≤◌, ◌⊎◌, ◌-◌, ltb, IsSortedByKey, IfSome, OnOk, Vec, Global, Ok, Err}
+pub use Rattle.std.proofs.Common.{All, Any, Bool, Contains, Equal, Greater, IsTrue, Less, List, None, Option, Ordering, Some, [], ap, arith, cond, eqb, false, get_or, inl, inr, length, map, refl, rules, set, subst, suc, sym, take, true, zero, ℕ, ◌++◌, ◌+◌, ◌<◌, ◌↔◌, ◌∙◌, ◌∷◌, ◌≡◌, ◌≢◌, ◌≤◌, ◌⊎◌, ◌-◌, ltb, IsSortedByKey, IfSome, OnOk, Ok, Err}
 pub use Rattle.std.proofs.lemmas.Bool.{leb-true, le-leb, ltb-true, lt-ltb, cases_Bool, cases_eq, cases_lt, eq-eqb, eqb-true, false≢true, ne_eqb, true≢false, true_from_ne_false}
 pub use Rattle.std.proofs.lemmas.Bool.Decides.{Decides-eqb, nat_tests}
 pub use Rattle.std.proofs.lemmas.Cmp.{nat_list_cmp_total, tied_itself, nat_list_eq_equiv}

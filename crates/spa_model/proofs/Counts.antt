@@ -35,6 +35,15 @@ count_by-le p (x ∷ m) [] e h = absurd (omega arith)
 count_by-le p (x ∷ m) (y ∷ n) e h =
     omega (arith, count_by-cons p x m, count_by-cons p y n, one_le (p x) (p y) (h 0), count_by-le p m n (omega arith) (λ s. h (suc s)))
 
+-- where each that counts in m counts in n, and one more counts in n, m has fewer
+pub count_by-lt : (p : Option ℕ → Bool) (m n : List (Option ℕ)) (j : ℕ) → length m ≡ length n → ((s : ℕ) → p (get_or m s None) ≡ true → p (get_or n s None) ≡ true) → j < length n → p (get_or m j None) ≡ false → p (get_or n j None) ≡ true → count_by p m + 1 ≤ count_by p n
+count_by-lt p m [] j e h l off on = absurd (omega arith)
+count_by-lt p [] (y ∷ n) j e h l off on = absurd (omega arith)
+count_by-lt p (x ∷ m) (y ∷ n) zero e h l off on =
+    omega (arith, count_by-cons p x m, count_by-cons p y n, ap one_if off, ap one_if on, count_by-le p m n (omega arith) (λ s. h (suc s)))
+count_by-lt p (x ∷ m) (y ∷ n) (suc j) e h l off on =
+    omega (arith, count_by-cons p x m, count_by-cons p y n, one_le (p x) (p y) (h 0), count_by-lt p m n j (omega arith) (λ s. h (suc s)) (omega arith) off on)
+
 -- the sum of f at each number below n
 abbrev pub sum_below : (ℕ → ℕ) → ℕ → ℕ
 sum_below f zero = 0

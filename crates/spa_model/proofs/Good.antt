@@ -28,13 +28,7 @@ rise_from_sorted {X} key lines sorted apart i j d less h =
         cc
 
 in_range : (n : ℕ) → (IsBadCapacity n → ⊥) → (1 ≤ n) × (n ≤ 200)
-in_range n h = (low, high)
-  where
-    low : 1 ≤ n
-    low = elim (cases_lt n 1) [ inl less ↦ absurd (h (inl less)) | inr not ↦ not ]
-
-    high : n ≤ 200
-    high = elim (cases_lt 200 n) [ inl less ↦ absurd (h (inr less)) | inr not ↦ not ]
+in_range n h = (elim (cases_lt n 1) [ inl less ↦ absurd (h (inl less)) | inr not ↦ not ], elim (cases_lt 200 n) [ inl less ↦ absurd (h (inr less)) | inr not ↦ not ])
 
 pub record AreGood (rows : Rows) : Type 0 where
   pub rise_students : Rise (student_keys rows.students)
@@ -66,13 +60,10 @@ are_good rows lecturers projects students none = record {
   known_lecturers = λ k d h. known (λ y. y.key) rows.lecturers _ (none_bad rows.projects (λ x. x.row) _ (none NoSuchLecturer (omega arith)) k d h);
   apart_students = none_bad rows.students (λ x. x.row) _ (λ r bad. none RepeatInList (omega arith) r (inr bad));
   apart_lecturers = none_bad rows.lecturers (λ x. x.row) _ (λ r bad. none RepeatInList (omega arith) r (inl bad));
-  short = λ k d h. not_over _ (none_bad rows.students (λ x. x.row) _ (none ListTooLong (omega arith)) k d h);
+  short = λ k d h. elim (cases_lt 20 (length (get_or rows.students k d).list)) [ inl more ↦ absurd (none_bad rows.students (λ x. x.row) _ (none ListTooLong (omega arith)) k d h more) | inr few ↦ few ];
   capacities = λ k d h. in_range _ (none_bad rows.projects (λ x. x.row) _ (λ r bad. none BadCapacity (omega arith) r (inr bad)) k d h);
   limits = λ k d h. in_range _ (none_bad rows.lecturers (λ x. x.row) _ (λ r bad. none BadCapacity (omega arith) r (inl bad)) k d h);
   few_students = elim (cases_lt 2000 (length rows.students)) [ inl more ↦ absurd (none TooMany (omega arith) 0 (refl, inr (inr more))) | inr few ↦ few ];
   few_projects = elim (cases_lt 1000 (length rows.projects)) [ inl more ↦ absurd (none TooMany (omega arith) 0 (refl, inr (inl more))) | inr few ↦ few ];
   few_lecturers = elim (cases_lt 300 (length rows.lecturers)) [ inl more ↦ absurd (none TooMany (omega arith) 0 (refl, inl more)) | inr few ↦ few ];
 }
-  where
-    not_over : (n : ℕ) → (20 < n → ⊥) → n ≤ 20
-    not_over n h = elim (cases_lt 20 n) [ inl more ↦ absurd (h more) | inr few ↦ few ]

@@ -93,16 +93,13 @@ module _ (rows : Rows) (students : List Student) (projects : List Project) (lect
         let x = at_place rows.students s low in
         Numbered.choice_known rows students projects so s (place (choices_at students s) p) p x.0 low x.1 on (on_at (choices_at students s) p on)
 
-    offered : (p : ℕ) → p < length rows.projects → lecturer_at projects p < length rows.lecturers
-    offered p low = Numbered.lecturer_known rows students projects so p low
-
     ranks_there : (s p : ℕ) → IsOn (choices_at students s) p → IsOn (ranking_at (lecturer_at projects p)) s
     ranks_there s p on = elim (cases_lt (place (ranking_at (lecturer_at projects p)) s) (length (ranking_at (lecturer_at projects p)))) [
       | inl there ↦ there
       | inr past ↦
           let l : ℕ = lecturer_at projects p in
           let low : s < length rows.students = choices_there s p on in
-          let l_low : l < length rows.lecturers = offered p (known s p on) in
+          let l_low : l < length rows.lecturers = Numbered.lecturer_known rows students projects so p (known s p on) in
           let y = at_place rows.lecturers l l_low in
           let z = Missing.row_of rows students projects lecturers so lists l y.0 l_low y.1 in
           let here : ranking_at l ≡ z.0.ranking.items = map_at (λ w. w.ranking.items) lecturers l z.0 [] (omega (arith, n_lecturers)) z.1 in
@@ -192,7 +189,7 @@ module _ (rows : Rows) (students : List Student) (projects : List Project) (lect
       student_keys_rise = rw student_column good.rise_students;
       project_keys_rise = rw project_column good.rise_projects;
       lecturer_keys_rise = rw lecturer_column good.rise_lecturers;
-      offered = λ p low. omega (arith, offered p (omega (arith, length-map projects (λ x. x.lecturer), n_projects)), length-map lecturers (λ x. x.ranking.items), n_lecturers);
+      offered = λ p low. omega (arith, Numbered.lecturer_known rows students projects so p (omega (arith, length-map projects (λ x. x.lecturer), n_projects)), length-map lecturers (λ x. x.ranking.items), n_lecturers);
       known = λ s p on. omega (arith, known s p on, length-map projects (λ x. x.lecturer), n_projects);
       choices_distinct = distinct_choices;
       ranked = ranks_there;

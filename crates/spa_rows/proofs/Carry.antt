@@ -48,6 +48,11 @@ applicant_carry a b same lecturer text is = any_carry (λ s. (s.key ≡ text) ×
 pub misses_carry : (a b : Rows) → SameLines a b → (x : Lecturer) → MissesOne a x → MissesOne b x
 misses_carry a b same x missed = any_carry (λ s. FindsOne a s x.key × (Any (λ text. text ≡ s.key) x.list → ⊥)) (λ s. FindsOne b s x.key × (Any (λ text. text ≡ s.key) x.list → ⊥)) a.students b.students same.students (λ s h. (finds_carry a b same s x.key h.0, h.1)) missed
 
+-- either of two faults
+either_carry : {A B C D : Type 0} → (A → C) → (B → D) → A ⊎ B → C ⊎ D
+either_carry f g (inl h) = inl (f h)
+either_carry f g (inr h) = inr (g h)
+
 module _ (a b : Rows) (same : SameLines a b) where
   lecturer_carry : (P Q : Lecturer → Type 0) → ((x : Lecturer) → P x → Q x) → (r : ℕ) → BadAt a.lecturers (λ x. x.row) (λ _ x. P x) r → BadAt b.lecturers (λ x. x.row) (λ _ x. Q x) r
   lecturer_carry P Q step r bad = bad_carry (λ x. x.row) P Q a.lecturers b.lecturers same.lecturers step r bad
@@ -61,24 +66,14 @@ module _ (a b : Rows) (same : SameLines a b) where
   -- a fault other than a repeated key
   pub fault_carry : (f : InstanceFault) → f ≢ KeyTwice → (r : ℕ) → HasFault a f r → HasFault b f r
   fault_carry TooMany ne r has = (has.0, rw (length_permutation _ _ same.lecturers, length_permutation _ _ same.projects, length_permutation _ _ same.students) has.1)
-  fault_carry BadKey ne r has = elim has [
-    | inl h ↦ inl (lecturer_carry (λ x. is_key x.key ≡ false) (λ x. is_key x.key ≡ false) (λ x h. h) r h)
-    | inr later ↦ elim later [
-      | inl h ↦ inr (inl (project_carry (λ x. is_key x.key ≡ false) (λ x. is_key x.key ≡ false) (λ x h. h) r h))
-      | inr h ↦ inr (inr (student_carry (λ x. is_key x.key ≡ false) (λ x. is_key x.key ≡ false) (λ x h. h) r h))
-    ]
-  ]
+  fault_carry BadKey ne r has =
+      either_carry (lecturer_carry (λ x. is_key x.key ≡ false) (λ x. is_key x.key ≡ false) (λ x h. h) r)
+      (either_carry (project_carry (λ x. is_key x.key ≡ false) (λ x. is_key x.key ≡ false) (λ x h. h) r) (student_carry (λ x. is_key x.key ≡ false) (λ x. is_key x.key ≡ false) (λ x h. h) r)) has
   fault_carry KeyTwice ne r has = absurd (ne refl)
-  fault_carry BadCapacity ne r has = elim has [
-    | inl h ↦ inl (lecturer_carry (λ x. IsBadCapacity x.capacity) (λ x. IsBadCapacity x.capacity) (λ x h. h) r h)
-    | inr h ↦ inr (project_carry (λ x. IsBadCapacity x.capacity) (λ x. IsBadCapacity x.capacity) (λ x h. h) r h)
-  ]
+  fault_carry BadCapacity ne r has = either_carry (lecturer_carry (λ x. IsBadCapacity x.capacity) (λ x. IsBadCapacity x.capacity) (λ x h. h) r) (project_carry (λ x. IsBadCapacity x.capacity) (λ x. IsBadCapacity x.capacity) (λ x h. h) r) has
   fault_carry NoSuchLecturer ne r has = project_carry (λ x. IsKeyOf a.lecturers (λ y. y.key) x.lecturer → ⊥) (λ x. IsKeyOf b.lecturers (λ y. y.key) x.lecturer → ⊥) (λ x none known. none (key_carry (λ y. y.key) b.lecturers a.lecturers x.lecturer (IsPermutation-sym _ _ same.lecturers) known)) r has
   fault_carry NoSuchProject ne r has = student_carry (λ x. NamesNone a.projects (λ y. y.key) x.list) (λ x. NamesNone b.projects (λ y. y.key) x.list) (λ x named. any_step (λ text. IsKeyOf a.projects (λ y. y.key) text → ⊥) (λ text. IsKeyOf b.projects (λ y. y.key) text → ⊥) x.list (λ text none known. none (key_carry (λ y. y.key) b.projects a.projects text (IsPermutation-sym _ _ same.projects) known)) named) r has
-  fault_carry RepeatInList ne r has = elim has [
-    | inl h ↦ inl (lecturer_carry (λ x. Repeats x.list) (λ x. Repeats x.list) (λ x h. h) r h)
-    | inr h ↦ inr (student_carry (λ x. Repeats x.list) (λ x. Repeats x.list) (λ x h. h) r h)
-  ]
+  fault_carry RepeatInList ne r has = either_carry (lecturer_carry (λ x. Repeats x.list) (λ x. Repeats x.list) (λ x h. h) r) (student_carry (λ x. Repeats x.list) (λ x. Repeats x.list) (λ x h. h) r) has
   fault_carry ListTooLong ne r has = student_carry (λ x. 20 < length x.list) (λ x. 20 < length x.list) (λ x h. h) r has
   fault_carry NotApplicant ne r has = lecturer_carry (λ x. Any (λ text. IsApplicant a x.key text → ⊥) x.list) (λ x. Any (λ text. IsApplicant b x.key text → ⊥) x.list) (λ x named. any_step (λ text. IsApplicant a x.key text → ⊥) (λ text. IsApplicant b x.key text → ⊥) x.list (λ text none is. none (applicant_carry b a (same_lines_sym a b same) x.key text is)) named) r has
   fault_carry ApplicantMissing ne r has = lecturer_carry (λ x. MissesOne a x) (λ x. MissesOne b x) (λ x missed. misses_carry a b same x missed) r has

@@ -1,18 +1,18 @@
 //! Tests all rows for one fault, then all rows for the next fault. A refusal names the
 //! lowest-numbered row that has the fault.
 
-ghost use Rattle.std.specs.Prelude.{◌≡◌, Err, IfErr, IfOk, IsOk, MatchOption, OnOk};
-ghost use Rattle.spa_rows.specs.Faults.{HasFault, HasNoneBefore, IsRefusal};
+ghost use Rattle.std.specs.Prelude.{◌≡◌, ◌↔◌, Err, IfErr, IfOk, IsOk, IsTrue, MatchOption, OnOk};
+ghost use Rattle.spa_rows.specs.Faults.{HasFault, HasNoneBefore, IsRefusal, NamesNone, Repeats};
 ghost use Rattle.spa_rows.specs.inner.Least.{IsLeastOf, lesser_row};
 
 use crate::faults::{BadInstance, InstanceFault};
 use crate::index::Places;
 use crate::least::{
-    bad_capacity, bad_key, key_twice, least, list_too_long, no_such_lecturer, no_such_project,
-    repeat_in_list,
+    has_bad_key, is_bad_capacity, key_twice, least, least_where, names_none, repeats,
+    try_least_where,
 };
-use crate::limits::{MOST_LECTURERS, MOST_PROJECTS, MOST_STUDENTS};
-use crate::lines::InstanceRows;
+use crate::limits::{LONGEST_CHOICE, MOST_LECTURERS, MOST_PROJECTS, MOST_STUDENTS};
+use crate::lines::{InstanceRows, LecturerLine, StudentLine};
 use std::alloc::{AllocError, Global};
 
 /// Returns the smaller of the faulty rows of two kinds of lines, or the only one present.
@@ -42,9 +42,9 @@ fn too_many(rows: &InstanceRows) -> Option<u32>
 fn bad_keys(rows: &InstanceRows) -> Option<u32>
     ensures { IsLeastOf (HasFault rows.now InstanceFault.BadKey) result }
 {
-    let lecturer = bad_key(&rows.lecturers);
-    let project = bad_key(&rows.projects);
-    let student = bad_key(&rows.students);
+    let lecturer = least_where(&rows.lecturers, has_bad_key);
+    let project = least_where(&rows.projects, has_bad_key);
+    let student = least_where(&rows.students, has_bad_key);
     lesser(lecturer, lesser(project, student))
 }
 
@@ -62,8 +62,8 @@ fn keys_twice(alloc: Global, rows: &InstanceRows) -> Result<Option<u32>, AllocEr
 fn bad_capacities(rows: &InstanceRows) -> Option<u32>
     ensures { IsLeastOf (HasFault rows.now InstanceFault.BadCapacity) result }
 {
-    let lecturer = bad_capacity(&rows.lecturers);
-    let project = bad_capacity(&rows.projects);
+    let lecturer = least_where(&rows.lecturers, |line| is_bad_capacity(line.capacity));
+    let project = least_where(&rows.projects, |line| is_bad_capacity(line.capacity));
     lesser(lecturer, project)
 }
 
@@ -72,7 +72,7 @@ fn lecturers_missing(alloc: Global, rows: &InstanceRows) -> Result<Option<u32>, 
     ensures { IfOk result (IsLeastOf (HasFault rows.now InstanceFault.NoSuchLecturer)) }
 {
     let lecturers = Places::of(alloc, &rows.lecturers)?;
-    Ok(no_such_lecturer(&lecturers, &rows.projects))
+    Ok(least_where(&rows.projects, |line| !lecturers.has(&line.lecturer)))
 }
 
 /// Finds, in lines of every kind, the lowest-numbered row of a student who lists an unknown
@@ -81,15 +81,30 @@ fn projects_missing(alloc: Global, rows: &InstanceRows) -> Result<Option<u32>, A
     ensures { IfOk result (IsLeastOf (HasFault rows.now InstanceFault.NoSuchProject)) }
 {
     let projects = Places::of(alloc, &rows.projects)?;
-    Ok(no_such_project(&projects, &rows.students))
+    Ok(least_where(
+        &rows.students,
+        |line: &StudentLine| -> bool
+            ensures { IsTrue result ↔ NamesNone projects.entry (λ x. x.key) line.now.list }
+        { names_none(&projects, &line.list) },
+    ))
 }
 
 /// Finds, in lines of every kind, the lowest-numbered row whose list contains a text twice.
 fn repeats_in_lists(alloc: Global, rows: &InstanceRows) -> Result<Option<u32>, AllocError>
     ensures { IfOk result (IsLeastOf (HasFault rows.now InstanceFault.RepeatInList)) }
 {
-    let lecturer = repeat_in_list(alloc, &rows.lecturers)?;
-    let student = repeat_in_list(alloc, &rows.students)?;
+    let lecturer = try_least_where(
+        &rows.lecturers,
+        |line: &LecturerLine| -> Result<bool, AllocError>
+            ensures { IfOk result (λ yes. IsTrue yes ↔ Repeats line.now.list) }
+        { repeats(alloc, &line.list) },
+    )?;
+    let student = try_least_where(
+        &rows.students,
+        |line: &StudentLine| -> Result<bool, AllocError>
+            ensures { IfOk result (λ yes. IsTrue yes ↔ Repeats line.now.list) }
+        { repeats(alloc, &line.list) },
+    )?;
     Ok(lesser(lecturer, student))
 }
 
@@ -97,7 +112,7 @@ fn repeats_in_lists(alloc: Global, rows: &InstanceRows) -> Result<Option<u32>, A
 fn lists_too_long(rows: &InstanceRows) -> Option<u32>
     ensures { IsLeastOf (HasFault rows.now InstanceFault.ListTooLong) result }
 {
-    list_too_long(&rows.students)
+    least_where(&rows.students, |line| line.list.len() > LONGEST_CHOICE)
 }
 
 /// Refuses an instance's lines with this fault at `row`, or returns `Ok` if `row` is `None`.

@@ -1,6 +1,6 @@
 //! The lines of an instance, unchecked (keys are plain bytes), and traits for reading their parts.
 
-ghost use Rattle.std.specs.Prelude.{◌≡◌, ℕ, List, map};
+ghost use Rattle.std.specs.Prelude.{◌≡◌, ℕ, List};
 
 use std::marker::Model;
 
@@ -125,24 +125,6 @@ pub trait Line {
         ensures { result.now ≡ key_of self.now };
 }
 
-/// A line with a capacity.
-pub(crate) trait Limited: Line {
-    ghost capacity_of: { Self → ℕ };
-
-    /// Returns the capacity of a line of a kind with capacities.
-    fn capacity(&self) -> u32
-        ensures { result ≡ capacity_of self.now };
-}
-
-/// A line with a list.
-pub(crate) trait Listing: Line {
-    ghost list_of: { Self → List (List ℕ) };
-
-    /// Returns the list of a line of a kind with lists.
-    fn list(&self) -> &[Vec<u8>]
-        ensures { map (λ text. text.items) result.now ≡ list_of self.now };
-}
-
 impl Line for LecturerLine {
     ghost row_of = { λ x. x.row };
 
@@ -154,22 +136,6 @@ impl Line for LecturerLine {
 
     fn key(&self) -> &[u8] {
         &self.key
-    }
-}
-
-impl Limited for LecturerLine {
-    ghost capacity_of = { λ x. x.capacity };
-
-    fn capacity(&self) -> u32 {
-        self.capacity
-    }
-}
-
-impl Listing for LecturerLine {
-    ghost list_of = { λ x. x.list };
-
-    fn list(&self) -> &[Vec<u8>] {
-        &self.list
     }
 }
 
@@ -187,14 +153,6 @@ impl Line for ProjectLine {
     }
 }
 
-impl Limited for ProjectLine {
-    ghost capacity_of = { λ x. x.capacity };
-
-    fn capacity(&self) -> u32 {
-        self.capacity
-    }
-}
-
 impl Line for StudentLine {
     ghost row_of = { λ x. x.row };
 
@@ -206,13 +164,5 @@ impl Line for StudentLine {
 
     fn key(&self) -> &[u8] {
         &self.key
-    }
-}
-
-impl Listing for StudentLine {
-    ghost list_of = { λ x. x.list };
-
-    fn list(&self) -> &[Vec<u8>] {
-        &self.list
     }
 }

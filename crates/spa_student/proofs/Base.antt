@@ -5,9 +5,9 @@ pub use Rattle.std.proofs.lemmas.List.{get_or-replicate, get_or-set_other, get_o
 pub use Rattle.std.proofs.lemmas.List.Sums.{sum_by-set, sum_by-cons, count_by-le-length}
 pub use Rattle.std.specs.List.{count_by}
 pub use Rattle.std.specs.Prelude.{false, Bool}
-pub use Rattle.spa_model.proofs.Counts.{count_by-set, one_if, off_project, count_by-le, sum_below, sum_below-lt, share, at_lecturer-sum, count_by-cons}
+pub use Rattle.spa_model.proofs.Counts.{count_by-set, count_by-lt, one_if, off_project, count_by-le, sum_below, sum_below-lt, share, at_lecturer-sum, count_by-cons}
 pub use Rattle.spa_model.proofs.Places.{place-injective, get_or-place, place-get_or, place-get_or-le}
-pub use Rattle.spa_model.specs.Spa.{IsAcceptable, IsBefore, IsBest, IsLawful, IsMatching, IsWith, Spa, at_lecturer, at_project, capacity_of, choices_of, is_lecturer, is_project, lecturer_of, limit_of, place, project_of, ranking_of, IsOn, Improves, Wants, Blocks, IsStable, IsAsGood}
+pub use Rattle.spa_model.specs.Spa.{IsAcceptable, IsBefore, IsBest, IsDistinct, IsLawful, IsMatching, IsWith, Spa, at_lecturer, at_project, capacity_of, choices_of, is_lecturer, is_project, lecturer_of, limit_of, place, project_of, ranking_of, IsOn, Improves, Wants, Blocks, IsStable, IsAsGood}
 pub use Rattle.spa_student.specs.declared.cuts.Progress.{Progress}
 pub use Rattle.spa_student.specs.inner.Cuts.{IsPastCut, IsSettled, IsUnderWay, Puts, IsCut, IsUncut, AreCounts, AreMarks, IsNextEntry, KeepsCuts, Leaves, Exchanges}
 pub use Rattle.spa_student.specs.inner.Machine.{Holds, LecturerSpent, ProjectSpent, rank_of, IsRanked, IsSpent}

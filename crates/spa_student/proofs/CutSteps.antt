@@ -1,5 +1,5 @@
 -- The steps over cursors and cuts.
-use Rattle.spa_student.proofs.Base.{◌≡◌, ◌≢◌, ◌⊎◌, inl, inr, ℕ, suc, ◌+◌, ◌-◌, ◌<◌, ◌≤◌, eqb, List, [], length, get_or, set, replicate, sum, Option, Some, None, refl, sym, ◌∙◌, ap, subst, arith, length-set, get_or-set_same, get_or-set_other, get_or_past, get_or-replicate, length-replicate, cases_lt, cases_eq, Spa, place, is_project, is_lecturer, at_project, at_lecturer, project_of, choices_of, lecturer_of, ranking_of, capacity_of, limit_of, IsBefore, IsAcceptable, IsMatching, IsWith, IsLawful, IsBest, place-injective, one_if, count_by-set, Progress, rank_of, LecturerSpent, ProjectSpent, Holds, IsPastCut, IsUnderWay, Puts, IsSettled, IsWorstWith, rules, ◌∷◌, Vec, Global, sum_by-set, sum_by-cons, get_or-place, place-get_or, place-get_or-le, IsCut, IsUncut, AreCounts, AreMarks, IsNextEntry, KeepsCuts, Leaves, IsWorstAt}
+use Rattle.spa_student.proofs.Base.{◌≡◌, ◌≢◌, ◌⊎◌, inl, inr, ℕ, suc, ◌+◌, ◌-◌, ◌<◌, ◌≤◌, eqb, List, [], length, get_or, set, replicate, sum, Option, Some, None, refl, sym, ◌∙◌, ap, subst, arith, length-set, get_or-set_same, get_or-set_other, get_or_past, get_or-replicate, length-replicate, cases_lt, cases_eq, Spa, place, is_project, is_lecturer, at_project, at_lecturer, project_of, choices_of, lecturer_of, ranking_of, capacity_of, limit_of, IsBefore, IsAcceptable, IsMatching, IsWith, IsLawful, IsDistinct, IsBest, place-injective, one_if, count_by-set, Progress, rank_of, LecturerSpent, ProjectSpent, Holds, IsPastCut, IsUnderWay, Puts, IsSettled, IsWorstWith, rules, ◌∷◌, Vec, Global, sum_by-set, sum_by-cons, get_or-place, place-get_or, place-get_or-le, IsCut, IsUncut, AreCounts, AreMarks, IsNextEntry, KeepsCuts, Leaves, IsWorstAt, IsSpent}
 use Rattle.std.specs.List.{sum_by}
 use Rattle.spa_student.proofs.Machine.{ranked_of, student_in_range, delete_holds, place_holds, swap_at_project_holds, swap_at_lecturer_holds, best_at_end, put_cases, put_at_project, put_at_lecturer, one_here, none_there}
 use Rattle.spa_student.proofs.Start.{nobody_matches, none_counted, none_there as none_there_yet}
@@ -18,52 +18,47 @@ ranked_in_range i lawful l k h =
     let why = lawful.applicants l (get_or (ranking_of i l) k 0) (omega (arith, place-get_or-le (ranking_of i l) k 0 h)) in
     acceptable_in_range i (get_or (ranking_of i l) k 0) why.0 why.1
 
--- where nobody else is later among those who are not cut, the student found is the worst
-pub found_worst_at : (i : Spa) → IsLawful i → (q : Progress) → AreMarks i q → IsUncut i q → (p k : ℕ) → k < length (ranking_of i (lecturer_of i p)) → project_of q.projects.items (get_or (ranking_of i (lecturer_of i p)) k 0) ≡ Some p
-    → ((j : ℕ) → k < j → j < get_or q.project_cuts.items p 0 → project_of q.projects.items (get_or (ranking_of i (lecturer_of i p)) j 0) ≡ Some p → ⊥) → IsWorstAt i q.projects.items p (get_or (ranking_of i (lecturer_of i p)) k 0)
-found_worst_at i lawful q marks uncut p k h at later = record {
-  at = at;
-  worst = λ x e.
-      let r : List ℕ = ranking_of i (lecturer_of i p) in
-      let is_x : get_or r (place r x) 0 ≡ x = get_or-place r x 0 (lawful.ranked x p (marks.assigned.acceptable x p e)) in
-      grind (arith, place-get_or);
-}
+-- who is not cut at the own project stands before the cuts
+pub rank_at_below : (i : Spa) (q : Progress) → IsUncut i q → (w p : ℕ) → project_of q.projects.items w ≡ Some p → rank_of i (lecturer_of i p) w < get_or q.project_cuts.items p 0
+rank_at_below i q uncut w p e = elim (cases_lt (rank_of i (lecturer_of i p) w) (get_or q.project_cuts.items p 0)) [ inl h ↦ h | inr h ↦ absurd (uncut w p e (inl h)) ]
 
-pub found_worst_with : (i : Spa) → IsLawful i → (q : Progress) → AreMarks i q → IsUncut i q → (l k : ℕ) → k < length (ranking_of i l) → IsWith i q.projects.items l (get_or (ranking_of i l) k 0)
-    → ((j : ℕ) → k < j → j < get_or q.lecturer_cuts.items l 0 → IsWith i q.projects.items l (get_or (ranking_of i l) j 0) → ⊥) → IsWorstWith i q.projects.items l (get_or (ranking_of i l) k 0)
-found_worst_with i lawful q marks uncut l k h at later = record {
-  with_l = at;
-  worst = λ x u e own.
-      let r : List ℕ = ranking_of i l in
-      let is_x : get_or r (place r x) 0 ≡ x = get_or-place r x 0 (rw own at (lawful.ranked x u (marks.assigned.acceptable x u e))) in
-      elim (cases_lt (place r x) (get_or q.lecturer_cuts.items l 0)) [
-        | inl within ↦ elim (cases_lt k (place r x)) [
-          | inl after ↦ absurd (later (place r x) after within (u, ap (project_of q.projects.items) is_x ∙ e, own))
-          | inr before ↦ omega (arith, place-get_or r k 0 (lawful.distinct l) h)
-        ]
-        | inr past ↦ absurd (uncut x u e (inr (rw own past)))
-      ];
-}
+pub rank_with_below : (i : Spa) (q : Progress) → IsUncut i q → (w l : ℕ) → IsWith i q.projects.items l w → rank_of i l w < get_or q.lecturer_cuts.items l 0
+rank_with_below i q uncut w l with_l = elim (cases_lt (rank_of i l w) (get_or q.lecturer_cuts.items l 0)) [ inl h ↦ h | inr h ↦ absurd (uncut w with_l.0 with_l.1 (inr (rw with_l.2 h))) ]
 
--- somebody is found
-pub found_at : (i : Spa) → IsLawful i → (q : Progress) → AreMarks i q → IsUncut i q → (p s : ℕ) → project_of q.projects.items s ≡ Some p
-    → ((j : ℕ) → j < get_or q.project_cuts.items p 0 → project_of q.projects.items (get_or (ranking_of i (lecturer_of i p)) j 0) ≡ Some p → ⊥) → ⊥
-found_at i lawful q marks uncut p s e none =
-    let r : List ℕ = ranking_of i (lecturer_of i p) in
-    elim (cases_lt (place r s) (get_or q.project_cuts.items p 0)) [
-      | inl within ↦ none (place r s) within (ap (project_of q.projects.items) (get_or-place r s 0 (lawful.ranked s p (marks.assigned.acceptable s p e))) ∙ e)
-      | inr past ↦ uncut s p e (inl past)
-    ]
+-- those on a list who have P, each before the cut
+module _ (list : List ℕ) (cut : ℕ) (P : ℕ → Type 0) (on : (x : ℕ) → P x → place list x < length list) (before : (x : ℕ) → P x → place list x < cut) where
+  -- where nobody later before the cut has it, the student found is the last
+  last_found : IsDistinct list → (k : ℕ) → k < length list → ((j : ℕ) → k < j → j < cut → P (get_or list j 0) → ⊥) → (x : ℕ) → P x → place list x ≤ place list (get_or list k 0)
+  last_found apart k h later x has = elim (cases_lt k (place list x)) [
+    | inl after ↦ absurd (later (place list x) after (before x has) (rw (get_or-place list x 0 (on x has)) has))
+    | inr not ↦ omega (arith, place-get_or list k 0 apart h)
+  ]
 
-pub found_with : (i : Spa) → IsLawful i → (q : Progress) → AreMarks i q → IsUncut i q → (l s : ℕ) → IsWith i q.projects.items l s
-    → ((j : ℕ) → j < get_or q.lecturer_cuts.items l 0 → IsWith i q.projects.items l (get_or (ranking_of i l) j 0) → ⊥) → ⊥
-found_with i lawful q marks uncut l s with_l none =
-    let r : List ℕ = ranking_of i l in
-    let on : place r s < length r = rw with_l.2 at (lawful.ranked s with_l.0 (marks.assigned.acceptable s with_l.0 with_l.1)) in
-    elim (cases_lt (place r s) (get_or q.lecturer_cuts.items l 0)) [
-      | inl within ↦ none (place r s) within (with_l.0, ap (project_of q.projects.items) (get_or-place r s 0 on) ∙ with_l.1, with_l.2)
-      | inr past ↦ uncut s with_l.0 with_l.1 (inr (rw with_l.2 past))
-    ]
+  -- somebody is found
+  some_found : (s : ℕ) → P s → ((j : ℕ) → j < cut → P (get_or list j 0) → ⊥) → ⊥
+  some_found s has none = none (place list s) (before s has) (rw (get_or-place list s 0 (on s has)) has)
+
+module _ (i : Spa) (lawful : IsLawful i) (q : Progress) (marks : AreMarks i q) (uncut : IsUncut i q) where
+  at_on : (p x : ℕ) → project_of q.projects.items x ≡ Some p → place (ranking_of i (lecturer_of i p)) x < length (ranking_of i (lecturer_of i p))
+  at_on p x e = lawful.ranked x p (marks.assigned.acceptable x p e)
+
+  with_on : (l x : ℕ) → IsWith i q.projects.items l x → place (ranking_of i l) x < length (ranking_of i l)
+  with_on l x with_l = rw with_l.2 at (at_on with_l.0 x with_l.1)
+
+  pub found_worst_at : (p k : ℕ) → k < length (ranking_of i (lecturer_of i p)) → project_of q.projects.items (get_or (ranking_of i (lecturer_of i p)) k 0) ≡ Some p
+      → ((j : ℕ) → k < j → j < get_or q.project_cuts.items p 0 → project_of q.projects.items (get_or (ranking_of i (lecturer_of i p)) j 0) ≡ Some p → ⊥) → IsWorstAt i q.projects.items p (get_or (ranking_of i (lecturer_of i p)) k 0)
+  found_worst_at p k h at later = record { at = at; worst = last_found (ranking_of i (lecturer_of i p)) (get_or q.project_cuts.items p 0) (λ x. project_of q.projects.items x ≡ Some p) (at_on p) (λ x. rank_at_below i q uncut x p) (lawful.distinct (lecturer_of i p)) k h later }
+
+  pub found_worst_with : (l k : ℕ) → k < length (ranking_of i l) → IsWith i q.projects.items l (get_or (ranking_of i l) k 0)
+      → ((j : ℕ) → k < j → j < get_or q.lecturer_cuts.items l 0 → IsWith i q.projects.items l (get_or (ranking_of i l) j 0) → ⊥) → IsWorstWith i q.projects.items l (get_or (ranking_of i l) k 0)
+  found_worst_with l k h at later = record { with_l = at; worst = λ x u e own. last_found (ranking_of i l) (get_or q.lecturer_cuts.items l 0) (IsWith i q.projects.items l) (with_on l) (λ y. rank_with_below i q uncut y l) (lawful.distinct l) k h later x (u, e, own) }
+
+  pub found_at : (p s : ℕ) → project_of q.projects.items s ≡ Some p
+      → ((j : ℕ) → j < get_or q.project_cuts.items p 0 → project_of q.projects.items (get_or (ranking_of i (lecturer_of i p)) j 0) ≡ Some p → ⊥) → ⊥
+  found_at p = some_found (ranking_of i (lecturer_of i p)) (get_or q.project_cuts.items p 0) (λ x. project_of q.projects.items x ≡ Some p) (at_on p) (λ x. rank_at_below i q uncut x p)
+
+  pub found_with : (l s : ℕ) → IsWith i q.projects.items l s → ((j : ℕ) → j < get_or q.lecturer_cuts.items l 0 → IsWith i q.projects.items l (get_or (ranking_of i l) j 0) → ⊥) → ⊥
+  found_with l = some_found (ranking_of i l) (get_or q.lecturer_cuts.items l 0) (IsWith i q.projects.items l) (with_on l) (λ x. rank_with_below i q uncut x l)
 
 -- the cuts that stay cut the same
 pub same_cut : (i : Spa) (q after : Progress) → KeepsCuts q after → (s p : ℕ) → IsPastCut i q s p → IsPastCut i after s p
@@ -76,15 +71,9 @@ was_cut i q after cuts s p past = rw (cuts.project_cuts, cuts.lecturer_cuts) at 
 held_uncut : (i : Spa) (m : List (Option ℕ)) (q : Progress) → Holds i m (IsCut i q) → (s p : ℕ) → project_of m s ≡ Some p → IsPastCut i q s p → ⊥
 held_uncut i m q holds s p e past = search rules
 
--- the rank of who was found, and that it is below the cut
+-- the rank of who was found
 pub rank_found : (i : Spa) → IsLawful i → (l k : ℕ) → k < length (ranking_of i l) → rank_of i l (get_or (ranking_of i l) k 0) ≡ k
 rank_found i lawful l k h = place-get_or (ranking_of i l) k 0 (lawful.distinct l) h
-
-pub rank_at_below : (i : Spa) (q : Progress) → IsUncut i q → (w p : ℕ) → project_of q.projects.items w ≡ Some p → rank_of i (lecturer_of i p) w < get_or q.project_cuts.items p 0
-rank_at_below i q uncut w p e = elim (cases_lt (rank_of i (lecturer_of i p) w) (get_or q.project_cuts.items p 0)) [ inl h ↦ h | inr h ↦ absurd (uncut w p e (inl h)) ]
-
-pub rank_with_below : (i : Spa) (q : Progress) → IsUncut i q → (w l : ℕ) → IsWith i q.projects.items l w → rank_of i l w < get_or q.lecturer_cuts.items l 0
-rank_with_below i q uncut w l with_l = elim (cases_lt (rank_of i l w) (get_or q.lecturer_cuts.items l 0)) [ inl h ↦ h | inr h ↦ absurd (uncut w with_l.0 with_l.1 (inr (rw with_l.2 h))) ]
 
 -- A STUDENT IS PUT
 module _ (i : Spa) (q after : Progress) (marks : AreMarks i q) (s p : ℕ) (next : IsNextEntry i q s p) (puts : Puts s p q after) (cuts : KeepsCuts q after) where
@@ -119,6 +108,13 @@ module _ (i : Spa) (q : Progress) (marks : AreMarks i q) (w u : ℕ) (has : proj
 
   pub some_with : 1 ≤ at_lecturer i q.projects.items (lecturer_of i u)
   some_with = omega (arith, one_less_with (lecturer_of i u), one_here (lecturer_of i u))
+
+-- counts with one less at u
+counted_less : (counts : List ℕ) (u : ℕ) (before after : ℕ → ℕ) → u < length counts → ((v : ℕ) → get_or counts v 0 ≡ before v) → ((v : ℕ) → after v + one_if (eqb u v) ≡ before v) → (v : ℕ) → get_or (set counts u (get_or counts u 0 - 1)) v 0 ≡ after v
+counted_less counts u before after low same less v = elim (cases_eq u v) [
+  | inl here ↦ rw (sym here) (omega (arith, get_or-set_same counts u (get_or counts u 0 - 1) 0 low, same u, less u, one_here u))
+  | inr other ↦ omega (arith, get_or-set_other counts u v (get_or counts u 0 - 1) 0 (λ e. other (sym e)), same v, less v, none_there u v other)
+]
 
 -- A STUDENT LEAVES
 module _ (i : Spa) (q after : Progress) (marks : AreMarks i q) (w u : ℕ) (has : project_of q.projects.items w ≡ Some u) (leaves : Leaves w q after) where
@@ -156,16 +152,8 @@ module _ (i : Spa) (q after : Progress) (marks : AreMarks i q) (w u : ℕ) (has 
   left_counts counts u_in l_in less less_l = record {
     project_rows = ap length less ∙ length-set q.project_counts.items u (get_or q.project_counts.items u 0 - 1) ∙ counts.project_rows;
     lecturer_rows = ap length less_l ∙ length-set q.lecturer_counts.items (lecturer_of i u) (get_or q.lecturer_counts.items (lecturer_of i u) 0 - 1) ∙ counts.lecturer_rows;
-    at_projects = λ v. rw (less, leaves.projects) (elim (cases_eq u v) [
-      | inl same ↦ subst (λ k. get_or (set q.project_counts.items u (get_or q.project_counts.items u 0 - 1)) k 0 ≡ at_project (set q.projects.items w None) k) same
-          (omega (arith, get_or-set_same q.project_counts.items u (get_or q.project_counts.items u 0 - 1) 0 (omega (arith, counts.project_rows)), counts.at_projects u, one_less i q marks w u has u, one_here u))
-      | inr other ↦ omega (arith, get_or-set_other q.project_counts.items u v (get_or q.project_counts.items u 0 - 1) 0 (λ e. other (sym e)), counts.at_projects v, one_less i q marks w u has v, none_there u v other)
-    ]);
-    at_lecturers = λ l. rw (less_l, leaves.projects) (elim (cases_eq (lecturer_of i u) l) [
-      | inl same ↦ subst (λ k. get_or (set q.lecturer_counts.items (lecturer_of i u) (get_or q.lecturer_counts.items (lecturer_of i u) 0 - 1)) k 0 ≡ at_lecturer i (set q.projects.items w None) k) same
-          (omega (arith, get_or-set_same q.lecturer_counts.items (lecturer_of i u) (get_or q.lecturer_counts.items (lecturer_of i u) 0 - 1) 0 (omega (arith, counts.lecturer_rows)), counts.at_lecturers (lecturer_of i u), one_less_with i q marks w u has (lecturer_of i u), one_here (lecturer_of i u)))
-      | inr other ↦ omega (arith, get_or-set_other q.lecturer_counts.items (lecturer_of i u) l (get_or q.lecturer_counts.items (lecturer_of i u) 0 - 1) 0 (λ e. other (sym e)), counts.at_lecturers l, one_less_with i q marks w u has l, none_there (lecturer_of i u) l other)
-    ]);
+    at_projects = λ v. rw (less, leaves.projects) (counted_less q.project_counts.items u (at_project q.projects.items) (at_project (set q.projects.items w None)) (omega (arith, counts.project_rows)) counts.at_projects (one_less i q marks w u has) v);
+    at_lecturers = λ l. rw (less_l, leaves.projects) (counted_less q.lecturer_counts.items (lecturer_of i u) (at_lecturer i q.projects.items) (at_lecturer i (set q.projects.items w None)) (omega (arith, counts.lecturer_rows)) counts.at_lecturers (one_less_with i q marks w u has) l);
   }
 
 -- A CUT FALLS
@@ -231,22 +219,25 @@ module _ (i : Spa) (lawful : IsLawful i) (q placed : Progress) (state : IsUnderW
         (place_holds i q.projects.items (IsCut i q) state.holds s p in_range next.free next.acceptable (earlier_cut i q state.marks s p next) (omega (arith, now_at)) (omega (arith, now_with))));
   }
 
+  -- a student was let go, and a cut fell to where the student stands
+  gone_state : (w : ℕ) (after : Progress) → Leaves w placed after → AreMarks i after → AreCounts i after → Holds i (set (set q.projects.items s (Some p)) w None) (IsCut i q) → ((x u : ℕ) → IsPastCut i placed x u → IsPastCut i after x u)
+      → ((x u : ℕ) → IsPastCut i after x u → IsPastCut i placed x u ⊎ IsSpent i (set (set q.projects.items s (Some p)) w None) x u) → IsUnderWay i after
+  gone_state w after leaves marks after_counts held more new = record {
+    marks = marks;
+    counts = after_counts;
+    holds = subst (λ m. Holds i m (IsCut i after)) (sym (leaves.projects ∙ ap (λ k. set k w None) puts.projects)) (delete_holds i (set (set q.projects.items s (Some p)) w None) (IsCut i q) (IsCut i after) (ranked_of i lawful) held
+        (λ x u gone. (gone.0, more x u (same_cut i q placed cuts x u gone.1)))
+        (λ x u gone. elim (new x u gone.1) [ inl old ↦ inl (gone.0, was_cut i q placed cuts x u old) | inr now ↦ inr now ]));
+  }
+
   -- the worst student at the project was let go
   pub project_state : (w : ℕ) (after : Progress) → capacity_of i p < get_or placed.project_counts.items p 0 → IsWorstAt i placed.projects.items p w → Leaves w placed after
       → after.project_cuts.items ≡ set placed.project_cuts.items p (rank_of i (lecturer_of i p) w) → after.lecturer_cuts.items ≡ placed.lecturer_cuts.items → AreMarks i after → AreCounts i after → IsUnderWay i after
   project_state w after over worst leaves cut same marks after_counts =
       let worst_now : IsWorstAt i (set q.projects.items s (Some p)) p w = rw puts.projects at worst in
-      let done = swap_at_project_holds i q.projects.items (IsCut i q) (ranked_of i lawful) state.holds s p w in_range next.free next.acceptable (earlier_cut i q state.marks s p next) (omega (arith, now_at, state.holds.matching.projects p)) worst_now.at worst_now.worst in
-      record {
-        marks = marks;
-        counts = after_counts;
-        holds = subst (λ m. Holds i m (IsCut i after)) (sym (leaves.projects ∙ ap (λ k. set k w None) puts.projects)) (delete_holds i (set (set q.projects.items s (Some p)) w None) (IsCut i q) (IsCut i after) (ranked_of i lawful) done.0
-            (λ x u gone. (gone.0, project_cut_more i placed after p (rank_of i (lecturer_of i p) w) p_in less cut same x u (same_cut i q placed cuts x u gone.1)))
-            (λ x u gone. elim (project_cut_new i placed after p (rank_of i (lecturer_of i p) w) p_in less cut same x u gone.1) [
-              | inl old ↦ inl (gone.0, was_cut i q placed cuts x u old)
-              | inr new ↦ inr (inr (rw new.0 (spent_below_project i (set (set q.projects.items s (Some p)) w None) p w x done.1 new.1)))
-            ]));
-      }
+      let done = swap_at_project_holds i q.projects.items (IsCut i q) state.holds s p in_range next.free next.acceptable (earlier_cut i q state.marks s p next) (ranked_of i lawful) w (omega (arith, now_at, state.holds.matching.projects p)) worst_now.at worst_now.worst in
+      gone_state w after leaves marks after_counts done.0 (project_cut_more i placed after p (rank_of i (lecturer_of i p) w) p_in less cut same)
+      (λ x u past. elim (project_cut_new i placed after p (rank_of i (lecturer_of i p) w) p_in less cut same x u past) [ inl old ↦ inl old | inr new ↦ inr (inr (rw new.0 (spent_below_project i (set (set q.projects.items s (Some p)) w None) p w x done.1 new.1))) ])
     where
       p_in : p < length placed.project_cuts.items
       p_in = omega (arith, lawful.known s p next.acceptable, ap length cuts.project_cuts, state.marks.project_rows)
@@ -259,18 +250,10 @@ module _ (i : Spa) (lawful : IsLawful i) (q placed : Progress) (state : IsUnderW
       → after.project_cuts.items ≡ placed.project_cuts.items → after.lecturer_cuts.items ≡ set placed.lecturer_cuts.items (lecturer_of i p) (rank_of i (lecturer_of i p) w) → AreMarks i after → AreCounts i after → IsUnderWay i after
   lecturer_state w after room over worst leaves same cut marks after_counts =
       let worst_now : IsWorstWith i (set q.projects.items s (Some p)) (lecturer_of i p) w = rw puts.projects at worst in
-      let done = swap_at_lecturer_holds i q.projects.items (IsCut i q) (ranked_of i lawful) state.holds s p w worst_now.with_l.0 in_range next.free next.acceptable (earlier_cut i q state.marks s p next) (omega (arith, now_at)) (omega (arith, now_with, state.holds.matching.lecturers (lecturer_of i p))) worst_now.with_l.1 worst_now.with_l.2 worst_now.worst in
+      let done = swap_at_lecturer_holds i q.projects.items (IsCut i q) state.holds s p in_range next.free next.acceptable (earlier_cut i q state.marks s p next) (ranked_of i lawful) w worst_now.with_l.0 (omega (arith, now_at)) (omega (arith, now_with, state.holds.matching.lecturers (lecturer_of i p))) worst_now.with_l.1 worst_now.with_l.2 worst_now.worst in
       let spent : LecturerSpent i (set (set q.projects.items s (Some p)) w None) (lecturer_of i p) w = rw worst_now.with_l.2 at done.1 in
-      record {
-        marks = marks;
-        counts = after_counts;
-        holds = subst (λ m. Holds i m (IsCut i after)) (sym (leaves.projects ∙ ap (λ k. set k w None) puts.projects)) (delete_holds i (set (set q.projects.items s (Some p)) w None) (IsCut i q) (IsCut i after) (ranked_of i lawful) done.0
-            (λ x u gone. (gone.0, lecturer_cut_more i placed after (lecturer_of i p) (rank_of i (lecturer_of i p) w) l_in less cut same x u (same_cut i q placed cuts x u gone.1)))
-            (λ x u gone. elim (lecturer_cut_new i placed after (lecturer_of i p) (rank_of i (lecturer_of i p) w) l_in less cut same x u gone.1) [
-              | inl old ↦ inl (gone.0, was_cut i q placed cuts x u old)
-              | inr new ↦ inr (inl (rw new.0 (spent_below_lecturer i (set (set q.projects.items s (Some p)) w None) (lecturer_of i p) w x spent new.1)))
-            ]));
-      }
+      gone_state w after leaves marks after_counts done.0 (lecturer_cut_more i placed after (lecturer_of i p) (rank_of i (lecturer_of i p) w) l_in less cut same)
+      (λ x u past. elim (lecturer_cut_new i placed after (lecturer_of i p) (rank_of i (lecturer_of i p) w) l_in less cut same x u past) [ inl old ↦ inl old | inr new ↦ inr (inl (rw new.0 (spent_below_lecturer i (set (set q.projects.items s (Some p)) w None) (lecturer_of i p) w x spent new.1))) ])
     where
       l_in : lecturer_of i p < length placed.lecturer_cuts.items
       l_in = omega (arith, lawful.offered p (lawful.known s p next.acceptable), ap length cuts.lecturer_cuts, state.marks.lecturer_rows)

@@ -1,5 +1,6 @@
 -- What steps keep of the provisional matching and the deleted pairs, and what follows at the end.
-use Rattle.spa_student.proofs.Base.{◌≡◌, ◌≢◌, ◌⊎◌, inl, inr, ℕ, ◌+◌, ◌<◌, ◌≤◌, false, eqb, List, length, refl, sym, ◌∙◌, ap, subst, arith, get_or, set, Option, Some, None, length-set, get_or-set_same, get_or-set_other, get_or_past, cases_lt, cases_eq, Spa, place, is_project, is_lecturer, at_project, at_lecturer, project_of, choices_of, lecturer_of, ranking_of, capacity_of, limit_of, IsBefore, IsAcceptable, IsLawful, IsBest, rank_of, LecturerSpent, ProjectSpent, Holds, place-injective, one_if, count_by-set, rules, true, eqb-true, eq-eqb, ne_eqb, cases_Bool, cases_order, IsOn, Improves, Wants, Blocks, IsStable, IsAsGood, IsRanked, IsSpent, off_project, count_by-le, sum_below, sum_below-lt, share, at_lecturer-sum}
+use Rattle.spa_student.proofs.Base.{◌≡◌, ◌≢◌, ◌⊎◌, inl, inr, ℕ, ◌+◌, ◌<◌, ◌≤◌, eqb, List, length, refl, sym, ◌∙◌, ap, arith, set, Option, Some, None, length-set, get_or-set_same, get_or-set_other, get_or_past, cases_lt, cases_eq, Spa, place, is_project, is_lecturer, at_project, at_lecturer, project_of, choices_of, lecturer_of, ranking_of, capacity_of, limit_of, IsBefore, IsAcceptable, IsLawful, IsBest, rank_of, LecturerSpent, ProjectSpent, Holds, place-injective, one_if, count_by-set, rules, true, eqb-true, eq-eqb, ne_eqb, cases_Bool, cases_order, IsOn, Improves, Wants, Blocks, IsStable, IsAsGood, IsRanked, IsSpent, off_project, count_by-le, count_by-lt, sum_below, sum_below-lt, share, at_lecturer-sum}
+use Rattle.spa_model.proofs.OneOnly.{blocks_wants}
 use Rattle.spa_model.specs.declared.Letter.{Letter}
 use Rattle.spa_model.specs.declared.Letter.TheVariants.{A, B, C}
 
@@ -59,12 +60,7 @@ no_more m n u same keeps = count_by-le (is_project u) m n same (λ s h. is_proje
 -- and fewer, where n has one more there
 fewer : (m n : List (Option ℕ)) (u t : ℕ) → length m ≡ length n → ((s : ℕ) → project_of m s ≡ Some u → project_of n s ≡ Some u) → t < length n → project_of n t ≡ Some u → (project_of m t ≡ Some u → ⊥) → at_project m u + 1 ≤ at_project n u
 fewer m n u t same keeps t_in at not_at =
-    let more : at_project (set m t (Some u)) u ≤ at_project n u = no_more (set m t (Some u)) n u (length-set m t (Some u) ∙ same) (λ s h. each s (cases_eq s t) h) in
-    omega (arith, more, count_by-set (is_project u) m t (Some u) (omega arith), ap one_if (off_project u (project_of m t) not_at), ap one_if (eq-eqb u u refl))
-  where
-    each : (s : ℕ) → (s ≡ t) ⊎ (s ≡ t → ⊥) → get_or (set m t (Some u)) s None ≡ Some u → project_of n s ≡ Some u
-    each s (inl here) h = rw here at
-    each s (inr other) h = keeps s (rw (get_or-set_other m t s (Some u) None other) at h)
+    count_by-lt (is_project u) m n t same (λ s h. is_project-at u (project_of n s) (keeps s (project_from_test u (project_of m s) h))) t_in (off_project u (project_of m t) not_at) (is_project-at u (project_of n t) at)
 
 -- a pair that may be deleted is in no stable matching
 pub spent_is_hopeless : (i : Spa) (m n : List (Option ℕ)) (Deleted : ℕ → ℕ → Type 0) → Holds i m Deleted → IsRanked i → (t p : ℕ) → IsSpent i m t p → IsStable i n → project_of n t ≡ Some p → ⊥
@@ -90,13 +86,9 @@ spent_is_hopeless i m n Deleted holds lawful t p (inl lecturer) stable at =
     let here : at_project m p + 1 ≤ at_project n p =
     fewer m n p t same (keeps p refl (inl refl)) (student_in_range i n t p at) at (λ has. absurd (omega (arith, lecturer.before t p has refl))) in
     let less : sum_below (share i m l) count + 1 ≤ sum_below (share i n l) count =
-    sum_below-lt (share i m l) (share i n l) count p (λ u. share_le u (cases_Bool (eqb (lecturer_of i u) l)) (each u))
+    sum_below-lt (share i m l) (share i n l) count p (λ u. elim (cases_Bool (eqb (lecturer_of i u) l)) [ inl own ↦ rw own (each u (eqb-true _ _ own)) | inr other ↦ rw other (omega arith) ])
     (lawful.known t p (stable.matching.acceptable t p at)) (rw (eq-eqb l l refl) here) in
     omega (arith, sum_m, sum_n, less, lecturer.full, stable.matching.lecturers l)
-  where
-    share_le : (u : ℕ) → (eqb (lecturer_of i u) (lecturer_of i p) ≡ true) ⊎ (eqb (lecturer_of i u) (lecturer_of i p) ≡ false) → (lecturer_of i u ≡ lecturer_of i p → at_project m u ≤ at_project n u) → share i m (lecturer_of i p) u ≤ share i n (lecturer_of i p) u
-    share_le u (inl own) h = rw own (h (eqb-true _ _ own))
-    share_le u (inr other) h = rw other (omega arith)
 
 -- DELETE: pairs that may be deleted are deleted
 pub delete_holds : (i : Spa) (m : List (Option ℕ)) (Deleted More : ℕ → ℕ → Type 0) → IsRanked i → Holds i m Deleted → ((s p : ℕ) → Deleted s p → More s p) → ((s p : ℕ) → More s p → Deleted s p ⊎ IsSpent i m s p) → Holds i m More
@@ -107,11 +99,23 @@ delete_holds i m Deleted More lawful holds keeps new = record {
   hopeless = λ t p gone n stable at. elim (new t p gone) [ inl old ↦ holds.hopeless t p old n stable at | inr now ↦ spent_is_hopeless i m n Deleted holds lawful t p now stable at ];
 }
 
+-- a pair that may be deleted does not block
+pub spent_unblocked : (i : Spa) (m : List (Option ℕ)) (s p : ℕ) → IsSpent i m s p → (x : Letter) → Blocks i m s p x → ⊥
+spent_unblocked i m s p (inl lecturer) A b = omega (arith, lecturer.full, b.2)
+spent_unblocked i m s p (inl lecturer) B b = elim b.3 [
+  | inl own ↦ omega (arith, lecturer.before s own.0 own.1 own.2)
+  | inr worse ↦ omega (arith, lecturer.before worse.0 worse.1.0 worse.1.1 worse.1.2, worse.2.0)
+]
+spent_unblocked i m s p (inl lecturer) C b = omega (arith, lecturer.before b.2.0 p b.2.1 refl, b.2.2.0)
+spent_unblocked i m s p (inr project) A b = omega (arith, project.full, b.1)
+spent_unblocked i m s p (inr project) B b = omega (arith, project.full, b.1)
+spent_unblocked i m s p (inr project) C b = omega (arith, project.before b.2.0 b.2.1, b.2.2.0)
+
 -- at the end: each free student has no pair left
 pub stable_at_end : (i : Spa) (m : List (Option ℕ)) (Deleted : ℕ → ℕ → Type 0) → Holds i m Deleted → ((s p : ℕ) → project_of m s ≡ None → IsAcceptable i s p → Deleted s p) → IsStable i m
 stable_at_end i m Deleted holds free = record {
   matching = holds.matching;
-  unblocked = unblocked;
+  unblocked = λ s p x b. spent_unblocked i m s p (why s p (blocks_wants i m s p x b)) x b;
 } where
   gone : (s p : ℕ) (o : Option ℕ) → project_of m s ≡ o → IsAcceptable i s p → Improves i s p o → Deleted s p
   gone s p None e on better = free s p e on
@@ -119,20 +123,6 @@ stable_at_end i m Deleted holds free = record {
 
   why : (s p : ℕ) → Wants i m s p → IsSpent i m s p
   why s p wants = holds.spent s p (gone s p (project_of m s) refl wants.0 wants.1)
-
-  unblocked : (s p : ℕ) (x : Letter) → Blocks i m s p x → ⊥
-  unblocked s p A b = grind arith
-  unblocked s p B b = elim (why s p b.0) [
-    | inl lecturer ↦ elim b.3 [
-      | inl own ↦ absurd (omega (arith, lecturer.before s own.0 own.1 own.2))
-      | inr worse ↦ absurd (omega (arith, lecturer.before worse.0 worse.1.0 worse.1.1 worse.1.2, worse.2.0))
-    ]
-    | inr project ↦ absurd (omega (arith, project.full, b.1))
-  ]
-  unblocked s p C b = elim (why s p b.0) [
-    | inl lecturer ↦ absurd (omega (arith, lecturer.before b.2.0 p b.2.1 refl, b.2.2.0))
-    | inr project ↦ absurd (omega (arith, project.before b.2.0 b.2.1, b.2.2.0))
-  ]
 
 -- a student who, when free, has no pair left has no worse than in any stable matching
 pub as_good_as_stable : (i : Spa) (m : List (Option ℕ)) (Deleted : ℕ → ℕ → Type 0) → Holds i m Deleted → (n : List (Option ℕ)) → IsStable i n → (s : ℕ) → ((p : ℕ) → project_of m s ≡ None → IsAcceptable i s p → Deleted s p) → IsAsGood i s (project_of m s) (project_of n s)
@@ -174,199 +164,154 @@ one_here p = ap one_if (eq-eqb p p refl)
 pub none_there : (p q : ℕ) → (p ≡ q → ⊥) → one_if (eqb p q) ≡ 0
 none_there p q other = ap one_if (ne_eqb p q other)
 
--- PLACE: a free student gets the first project that is left, where it and its lecturer have room
-pub place_holds : (i : Spa) (m : List (Option ℕ)) (Deleted : ℕ → ℕ → Type 0) → Holds i m Deleted → (s p : ℕ) → s < length m → project_of m s ≡ None → IsAcceptable i s p → ((q : ℕ) → IsBefore (choices_of i s) q p → Deleted s q)
-    → at_project m p < capacity_of i p → at_lecturer i m (lecturer_of i p) < limit_of i (lecturer_of i p) → Holds i (set m s (Some p)) Deleted
-place_holds i m Deleted holds s p in_range free on first room room_l = record {
-  matching = record {
-    students = length-set m s (Some p) ∙ holds.matching.students;
-    acceptable = λ x q e. elim (cases x q e) [ inl new ↦ rw (new.0, new.1) on | inr old ↦ holds.matching.acceptable x q old ];
-    projects = λ q. elim (cases_eq p q) [
-      | inl same ↦ subst (λ k. at_project (set m s (Some p)) k ≤ capacity_of i k) same (omega (arith, count p, one_here p))
-      | inr other ↦ omega (arith, count q, none_there p q other, holds.matching.projects q)
-    ];
-    lecturers = λ l. elim (cases_eq (lecturer_of i p) l) [
-      | inl same ↦ subst (λ k. at_lecturer i (set m s (Some p)) k ≤ limit_of i k) same (omega (arith, count_l (lecturer_of i p), one_here (lecturer_of i p)))
-      | inr other ↦ omega (arith, count_l l, none_there (lecturer_of i p) l other, holds.matching.lecturers l)
-    ];
-  };
-  first = λ x better q e h. elim (cases x q e) [ inl new ↦ rw new.0 (first better (rw (new.0, new.1) at h)) | inr old ↦ holds.first x better q old h ];
-  spent = λ t u gone. elim (holds.spent t u gone) [
-    | inl lecturer ↦ elim (cases_eq (lecturer_of i p) (lecturer_of i u)) [
-      | inl same ↦ absurd (omega (arith, lecturer.full, rw same at room_l))
-      | inr other ↦ inl (record {
-        full = omega (arith, count_l (lecturer_of i u), none_there (lecturer_of i p) (lecturer_of i u) other, lecturer.full);
-        before = λ x q e own. elim (cases x q e) [ inl new ↦ absurd (other (rw new.1 at own)) | inr old ↦ lecturer.before x q old own ];
-      })
-    ]
-    | inr project ↦ elim (cases_eq p u) [
-      | inl same ↦ absurd (omega (arith, project.full, rw same at room))
-      | inr other ↦ inr (record {
-        full = omega (arith, count u, none_there p u other, project.full);
-        before = λ x e. elim (cases x u e) [ inl new ↦ absurd (other (sym new.1)) | inr old ↦ project.before x old ];
-      })
-    ]
-  ];
-  hopeless = holds.hopeless;
-} where
-  cases : (x q : ℕ) → project_of (set m s (Some p)) x ≡ Some q → ((x ≡ s) × (q ≡ p)) ⊎ (project_of m x ≡ Some q)
-  cases = put_cases i m s p in_range free
-
-  count : (q : ℕ) → at_project (set m s (Some p)) q ≡ at_project m q + one_if (eqb p q)
-  count = put_at_project i m s p in_range free
-
-  count_l : (l : ℕ) → at_lecturer i (set m s (Some p)) l ≡ at_lecturer i m l + one_if (eqb (lecturer_of i p) l)
-  count_l = put_at_lecturer i m s p in_range free
-
--- s is put at p, and then w, who has u by then, is let go
-module _ (i : Spa) (m : List (Option ℕ)) (s p w u : ℕ) (in_range : s < length m) (free : project_of m s ≡ None) (has : project_of (set m s (Some p)) w ≡ Some u) where
-  w_in_range : w < length (set m s (Some p))
-  w_in_range = student_in_range i (set m s (Some p)) w u has
-
-  swap_cases : (x q : ℕ) → project_of (set (set m s (Some p)) w None) x ≡ Some q → (x ≢ w) × (project_of (set m s (Some p)) x ≡ Some q) × (((x ≡ s) × (q ≡ p)) ⊎ (project_of m x ≡ Some q))
-  swap_cases x q e = search (rules, get_or-set_same, w_in_range, get_or-set_other, put_cases)
-
-  -- who is let go was there before, or is s
-  was : (w ≢ s) → project_of m w ≡ Some u
-  was other = rw (get_or-set_other m s w (Some p) None other) at has
-
-  swap_at_project : (q : ℕ) → at_project (set (set m s (Some p)) w None) q + one_if (eqb u q) ≡ at_project m q + one_if (eqb p q)
-  swap_at_project q = omega (arith, count_by-set (is_project q) (set m s (Some p)) w None w_in_range, ap (λ o. one_if (is_project q o)) has, put_at_project i m s p in_range free q)
-
-  swap_at_lecturer : (l : ℕ) → at_lecturer i (set (set m s (Some p)) w None) l + one_if (eqb (lecturer_of i u) l) ≡ at_lecturer i m l + one_if (eqb (lecturer_of i p) l)
-  swap_at_lecturer l = omega (arith, count_by-set (is_lecturer i l) (set m s (Some p)) w None w_in_range, ap (λ o. one_if (is_lecturer i l o)) has, put_at_lecturer i m s p in_range free l)
-
-  swap_length : length (set (set m s (Some p)) w None) ≡ length m
-  swap_length = length-set (set m s (Some p)) w None ∙ length-set m s (Some p)
+-- one more at p, which has room
+pub one_more : (before after limit : ℕ → ℕ) (p : ℕ) → ((q : ℕ) → after q ≤ before q + one_if (eqb p q)) → before p < limit p → ((q : ℕ) → before q ≤ limit q) → (q : ℕ) → after q ≤ limit q
+one_more before after limit p more room fits q = elim (cases_eq p q) [
+  | inl same ↦ rw (sym same) (omega (arith, more p, one_here p, room))
+  | inr other ↦ omega (arith, more q, none_there p q other, fits q)
+]
 
 -- another student, who is on the list and not after w, stands before w
 stands_before : (xs : List ℕ) (x w : ℕ) → IsOn xs x → x ≢ w → place xs x ≤ place xs w → place xs x < place xs w
 stands_before xs x w on other le = elim (cases_eq (place xs x) (place xs w)) [ inl level ↦ absurd (other (place-injective xs x w on level)) | inr apart ↦ omega arith ]
 
--- SWAP AT A PROJECT: the first project left was full; its worst goes, whose pair may be deleted
-pub swap_at_project_holds : (i : Spa) (m : List (Option ℕ)) (Deleted : ℕ → ℕ → Type 0) → IsRanked i → Holds i m Deleted → (s p w : ℕ) → s < length m → project_of m s ≡ None → IsAcceptable i s p → ((q : ℕ) → IsBefore (choices_of i s) q p → Deleted s q)
-    → at_project m p ≡ capacity_of i p → project_of (set m s (Some p)) w ≡ Some p
-    → ((x : ℕ) → project_of (set m s (Some p)) x ≡ Some p → rank_of i (lecturer_of i p) x ≤ rank_of i (lecturer_of i p) w)
-    → Holds i (set (set m s (Some p)) w None) Deleted × ProjectSpent i (set (set m s (Some p)) w None) p w
-swap_at_project_holds i m Deleted lawful holds s p w in_range free on first full has worst = (
-  record {
+-- a free student s is put at p, the first project that is left
+module _ (i : Spa) (m : List (Option ℕ)) (Deleted : ℕ → ℕ → Type 0) (holds : Holds i m Deleted) (s p : ℕ) (in_range : s < length m) (free : project_of m s ≡ None) (on : IsAcceptable i s p) (first : (q : ℕ) → IsBefore (choices_of i s) q p → Deleted s q) where
+  pub put_on : (x q : ℕ) → project_of (set m s (Some p)) x ≡ Some q → IsAcceptable i x q
+  put_on x q e = elim (put_cases i m s p in_range free x q e) [ inl new ↦ rw (new.0, new.1) on | inr old ↦ holds.matching.acceptable x q old ]
+
+  put_first : (x better q : ℕ) → project_of (set m s (Some p)) x ≡ Some q → IsBefore (choices_of i x) better q → Deleted x better
+  put_first x better q e h = elim (put_cases i m s p in_range free x q e) [ inl new ↦ rw new.0 (first better (rw (new.0, new.1) at h)) | inr old ↦ holds.first x better q old h ]
+
+  -- PLACE: the project and its lecturer have room
+  pub place_holds : at_project m p < capacity_of i p → at_lecturer i m (lecturer_of i p) < limit_of i (lecturer_of i p) → Holds i (set m s (Some p)) Deleted
+  place_holds room room_l = record {
     matching = record {
-      students = swap_length i m s p w p in_range free has ∙ holds.matching.students;
-      acceptable = λ x q e. acceptable x q (cases x q e).1;
-      projects = λ q. omega (arith, count q, holds.matching.projects q);
-      lecturers = λ l. omega (arith, count_l l, holds.matching.lecturers l);
+      students = length-set m s (Some p) ∙ holds.matching.students;
+      acceptable = put_on;
+      projects = one_more (at_project m) (at_project (set m s (Some p))) (capacity_of i) p (λ q. omega (arith, put_at_project i m s p in_range free q)) room holds.matching.projects;
+      lecturers = one_more (at_lecturer i m) (at_lecturer i (set m s (Some p))) (limit_of i) (lecturer_of i p) (λ l. omega (arith, put_at_lecturer i m s p in_range free l)) room_l holds.matching.lecturers;
     };
-    first = λ x better q e h. elim ((cases x q e).2) [ inl new ↦ rw new.0 (first better (rw (new.0, new.1) at h)) | inr old ↦ holds.first x better q old h ];
+    first = put_first;
     spent = λ t u gone. elim (holds.spent t u gone) [
-      | inl lecturer ↦ inl (record {
-        full = omega (arith, count_l (lecturer_of i u), lecturer.full);
-        before = λ x q e own. elim ((cases x q e).2) [
-          | inl new ↦ search (rules, w_was, cases, s_worst)
-          | inr old ↦ lecturer.before x q old own
-        ];
-      })
-      | inr project ↦ inr (record {
-        full = omega (arith, count u, project.full);
-        before = λ x e. elim ((cases x u e).2) [
-          | inl new ↦
-              rw new.0 (omega (arith, project.before w (w_was x p (cases x u e).0 new.0 ∙ ap Some (sym new.1)), rw (sym new.1) at s_worst))
-          | inr old ↦ project.before x old
-        ];
-      })
-    ];
-    hopeless = holds.hopeless;
-  },
-  record {
-    full = omega (arith, count p, full);
-    before = λ x e. let c = cases x p e in stands_before (ranking_of i (lecturer_of i p)) x w (lawful.ranked x p (acceptable x p c.1)) c.0 (worst x c.1);
-  },
-) where
-  after : List (Option ℕ)
-  after = set (set m s (Some p)) w None
-
-  cases : (x q : ℕ) → project_of (set (set m s (Some p)) w None) x ≡ Some q → (x ≢ w) × (project_of (set m s (Some p)) x ≡ Some q) × (((x ≡ s) × (q ≡ p)) ⊎ (project_of m x ≡ Some q))
-  cases = swap_cases i m s p w p in_range free has
-
-  count : (q : ℕ) → at_project (set (set m s (Some p)) w None) q ≡ at_project m q
-  count q = omega (arith, swap_at_project i m s p w p in_range free has q)
-
-  count_l : (l : ℕ) → at_lecturer i (set (set m s (Some p)) w None) l ≡ at_lecturer i m l
-  count_l l = omega (arith, swap_at_lecturer i m s p w p in_range free has l)
-
-  acceptable : (x q : ℕ) → project_of (set m s (Some p)) x ≡ Some q → IsAcceptable i x q
-  acceptable x q e = elim (put_cases i m s p in_range free x q e) [ inl new ↦ rw (new.0, new.1) on | inr old ↦ holds.matching.acceptable x q old ]
-
-  s_worst : rank_of i (lecturer_of i p) s ≤ rank_of i (lecturer_of i p) w
-  s_worst = worst s (put_same i m s p in_range free)
-
-  w_was : (x u : ℕ) → x ≢ w → x ≡ s → project_of m w ≡ Some p
-  w_was x u other same = was i m s p w p in_range free has (λ e. other (same ∙ sym e))
-
--- SWAP AT A LECTURER: the project has room, its lecturer was full; the lecturer's worst is let go
-pub swap_at_lecturer_holds : (i : Spa) (m : List (Option ℕ)) (Deleted : ℕ → ℕ → Type 0) → IsRanked i → Holds i m Deleted → (s p w u : ℕ) → s < length m → project_of m s ≡ None → IsAcceptable i s p → ((q : ℕ) → IsBefore (choices_of i s) q p → Deleted s q)
-    → at_project m p < capacity_of i p → at_lecturer i m (lecturer_of i p) ≡ limit_of i (lecturer_of i p)
-    → project_of (set m s (Some p)) w ≡ Some u → lecturer_of i u ≡ lecturer_of i p
-    → ((x q : ℕ) → project_of (set m s (Some p)) x ≡ Some q → lecturer_of i q ≡ lecturer_of i p → rank_of i (lecturer_of i p) x ≤ rank_of i (lecturer_of i p) w)
-    → Holds i (set (set m s (Some p)) w None) Deleted × LecturerSpent i (set (set m s (Some p)) w None) (lecturer_of i u) w
-swap_at_lecturer_holds i m Deleted lawful holds s p w u in_range free on first room full has own worst = (
-  record {
-    matching = record {
-      students = swap_length i m s p w u in_range free has ∙ holds.matching.students;
-      acceptable = λ x q e. acceptable x q (cases x q e).1;
-      projects = λ q. elim (cases_eq p q) [
-        | inl same ↦ subst (λ k. at_project (set (set m s (Some p)) w None) k ≤ capacity_of i k) same (omega (arith, swap_at_project i m s p w u in_range free has p, one_here p))
-        | inr other ↦ omega (arith, swap_at_project i m s p w u in_range free has q, none_there p q other, holds.matching.projects q)
-      ];
-      lecturers = λ l. omega (arith, count_l l, holds.matching.lecturers l);
-    };
-    first = λ x better q e h. elim ((cases x q e).2) [ inl new ↦ rw new.0 (first better (rw (new.0, new.1) at h)) | inr old ↦ holds.first x better q old h ];
-    spent = λ t v gone. elim (holds.spent t v gone) [
-      | inl lecturer ↦ inl (record {
-        full = omega (arith, count_l (lecturer_of i v), lecturer.full);
-        before = λ x q e there. elim ((cases x q e).2) [
-          | inl new ↦
-              let here : lecturer_of i p ≡ lecturer_of i v = rw new.1 at there in
-              rw new.0 (omega (arith, lecturer.before w u (w_was x (cases x q e).0 new.0) (own ∙ here), rw here at s_worst))
-          | inr old ↦ lecturer.before x q old there
-        ];
-      })
-      | inr project ↦ elim (cases_eq p v) [
+      | inl lecturer ↦ elim (cases_eq (lecturer_of i p) (lecturer_of i u)) [
+        | inl same ↦ absurd (omega (arith, lecturer.full, rw same at room_l))
+        | inr other ↦ inl (record {
+          full = omega (arith, put_at_lecturer i m s p in_range free (lecturer_of i u), none_there (lecturer_of i p) (lecturer_of i u) other, lecturer.full);
+          before = λ x q e own. elim (put_cases i m s p in_range free x q e) [ inl new ↦ absurd (other (rw new.1 at own)) | inr old ↦ lecturer.before x q old own ];
+        })
+      ]
+      | inr project ↦ elim (cases_eq p u) [
         | inl same ↦ absurd (omega (arith, project.full, rw same at room))
-        | inr other ↦ elim (cases_eq u v) [
-          | inl left ↦
-              let w_had : project_of m w ≡ Some v = was i m s p w u in_range free has (λ e. let now : Some p ≡ Some u = sym (put_same i m s p in_range free) ∙ (rw e at has) in other (let same : p ≡ u = cc in same ∙ left)) ∙ ap Some left in
-              let of_v : lecturer_of i v ≡ lecturer_of i p = ap (lecturer_of i) (sym left) ∙ own in
-              inl (record {
-                full = omega (arith, count_l (lecturer_of i v), rw (sym of_v) at full);
-                before = λ x q e there. search (rules, cases);
-              })
-          | inr apart ↦ inr (record {
-            full = omega (arith, swap_at_project i m s p w u in_range free has v, none_there p v other, none_there u v apart, project.full);
-            before = λ x e. elim ((cases x v e).2) [ inl new ↦ absurd (other (sym new.1)) | inr old ↦ project.before x old ];
-          })
-        ]
+        | inr other ↦ inr (record {
+          full = omega (arith, put_at_project i m s p in_range free u, none_there p u other, project.full);
+          before = λ x e. elim (put_cases i m s p in_range free x u e) [ inl new ↦ absurd (other (sym new.1)) | inr old ↦ project.before x old ];
+        })
       ]
     ];
     hopeless = holds.hopeless;
-  },
-  record {
-    full = omega (arith, count_l (lecturer_of i u), rw (sym own) at full);
-    before = λ x q e there. let c = cases x q e in
-        let mine : lecturer_of i q ≡ lecturer_of i p = there ∙ own in
-        rw own (stands_before (ranking_of i (lecturer_of i p)) x w (rw mine at (lawful.ranked x q (acceptable x q c.1))) c.0 (worst x q c.1 mine));
-  },
-) where
-  cases : (x q : ℕ) → project_of (set (set m s (Some p)) w None) x ≡ Some q → (x ≢ w) × (project_of (set m s (Some p)) x ≡ Some q) × (((x ≡ s) × (q ≡ p)) ⊎ (project_of m x ≡ Some q))
-  cases = swap_cases i m s p w u in_range free has
+  }
 
-  count_l : (l : ℕ) → at_lecturer i (set (set m s (Some p)) w None) l ≡ at_lecturer i m l
-  count_l l = omega (arith, swap_at_lecturer i m s p w u in_range free has l, ap (λ k. one_if (eqb k l)) own)
+  -- then w, who has u of the same lecturer by then, is let go
+  module _ (w u : ℕ) (has : project_of (set m s (Some p)) w ≡ Some u) (own : lecturer_of i u ≡ lecturer_of i p) where
+    w_in_range : w < length (set m s (Some p))
+    w_in_range = student_in_range i (set m s (Some p)) w u has
 
-  acceptable : (x q : ℕ) → project_of (set m s (Some p)) x ≡ Some q → IsAcceptable i x q
-  acceptable x q e = elim (put_cases i m s p in_range free x q e) [ inl new ↦ rw (new.0, new.1) on | inr old ↦ holds.matching.acceptable x q old ]
+    cases : (x q : ℕ) → project_of (set (set m s (Some p)) w None) x ≡ Some q → (x ≢ w) × (project_of (set m s (Some p)) x ≡ Some q) × (((x ≡ s) × (q ≡ p)) ⊎ (project_of m x ≡ Some q))
+    cases x q e = search (rules, get_or-set_same, w_in_range, get_or-set_other, put_cases)
 
-  s_worst : rank_of i (lecturer_of i p) s ≤ rank_of i (lecturer_of i p) w
-  s_worst = worst s p (put_same i m s p in_range free) refl
+    -- who is let go was there before, or is s
+    was : (w ≢ s) → project_of m w ≡ Some u
+    was other = rw (get_or-set_other m s w (Some p) None other) at has
 
-  w_was : (x : ℕ) → x ≢ w → x ≡ s → project_of m w ≡ Some u
-  w_was x other same = was i m s p w u in_range free has (λ e. other (same ∙ sym e))
+    count : (q : ℕ) → at_project (set (set m s (Some p)) w None) q + one_if (eqb u q) ≡ at_project m q + one_if (eqb p q)
+    count q = omega (arith, count_by-set (is_project q) (set m s (Some p)) w None w_in_range, ap (λ o. one_if (is_project q o)) has, put_at_project i m s p in_range free q)
+
+    count_l : (l : ℕ) → at_lecturer i (set (set m s (Some p)) w None) l ≡ at_lecturer i m l
+    count_l l =
+        omega (arith, count_by-set (is_lecturer i l) (set m s (Some p)) w None w_in_range, ap (λ o. one_if (is_lecturer i l o)) has, put_at_lecturer i m s p in_range free l, ap (λ k. one_if (eqb k l)) own)
+
+    let_go : ((q : ℕ) → at_project (set (set m s (Some p)) w None) q ≤ capacity_of i q) → ((t v : ℕ) → Deleted t v → IsSpent i (set (set m s (Some p)) w None) t v) → Holds i (set (set m s (Some p)) w None) Deleted
+    let_go fits spent = record {
+      matching = record {
+        students = length-set (set m s (Some p)) w None ∙ length-set m s (Some p) ∙ holds.matching.students;
+        acceptable = λ x q e. put_on x q (cases x q e).1;
+        projects = fits;
+        lecturers = λ l. omega (arith, count_l l, holds.matching.lecturers l);
+      };
+      first = λ x better q e. put_first x better q (cases x q e).1;
+      spent = spent;
+      hopeless = holds.hopeless;
+    }
+
+    -- a lecturer who was spent is spent still
+    still_spent : rank_of i (lecturer_of i p) s ≤ rank_of i (lecturer_of i p) w → (v t : ℕ) → LecturerSpent i m (lecturer_of i v) t → LecturerSpent i (set (set m s (Some p)) w None) (lecturer_of i v) t
+    still_spent no_lower v t lecturer = record {
+      full = omega (arith, count_l (lecturer_of i v), lecturer.full);
+      before = λ x q e there. let c = cases x q e in elim c.2 [
+        | inl new ↦
+            let here : lecturer_of i p ≡ lecturer_of i v = rw new.1 at there in
+            rw new.0 (omega (arith, lecturer.before w u (was (λ same. c.0 (new.0 ∙ sym same))) (own ∙ here), rw here at no_lower))
+        | inr old ↦ lecturer.before x q old there
+      ];
+    }
+
+  -- SWAP AT A PROJECT: it was full; its worst goes, whose pair may be deleted
+  pub swap_at_project_holds : IsRanked i → (w : ℕ) → at_project m p ≡ capacity_of i p → project_of (set m s (Some p)) w ≡ Some p → ((x : ℕ) → project_of (set m s (Some p)) x ≡ Some p → rank_of i (lecturer_of i p) x ≤ rank_of i (lecturer_of i p) w)
+      → Holds i (set (set m s (Some p)) w None) Deleted × ProjectSpent i (set (set m s (Some p)) w None) p w
+  swap_at_project_holds lawful w full has worst = (
+    let_go w p has refl (λ q. omega (arith, count w p has refl q, holds.matching.projects q)) (λ t u gone. elim (holds.spent t u gone) [
+      | inl lecturer ↦ inl (still_spent w p has refl s_worst u t lecturer)
+      | inr project ↦ inr (record {
+        full = omega (arith, count w p has refl u, project.full);
+        before = λ x e. let c = cases w p has refl x u e in elim c.2 [
+          | inl new ↦ rw new.0 (omega (arith, project.before w (was w p has refl (λ same. c.0 (new.0 ∙ sym same)) ∙ ap Some (sym new.1)), rw (sym new.1) at s_worst))
+          | inr old ↦ project.before x old
+        ];
+      })
+    ]),
+    record {
+      full = omega (arith, count w p has refl p, full);
+      before = λ x e. let c = cases w p has refl x p e in stands_before (ranking_of i (lecturer_of i p)) x w (lawful.ranked x p (put_on x p c.1)) c.0 (worst x c.1);
+    },
+  ) where
+    s_worst : rank_of i (lecturer_of i p) s ≤ rank_of i (lecturer_of i p) w
+    s_worst = worst s (put_same i m s p in_range free)
+
+  -- SWAP AT A LECTURER: the project has room, its lecturer was full; the lecturer's worst is let go
+  pub swap_at_lecturer_holds : IsRanked i → (w u : ℕ) → at_project m p < capacity_of i p → at_lecturer i m (lecturer_of i p) ≡ limit_of i (lecturer_of i p)
+      → project_of (set m s (Some p)) w ≡ Some u → lecturer_of i u ≡ lecturer_of i p
+      → ((x q : ℕ) → project_of (set m s (Some p)) x ≡ Some q → lecturer_of i q ≡ lecturer_of i p → rank_of i (lecturer_of i p) x ≤ rank_of i (lecturer_of i p) w)
+      → Holds i (set (set m s (Some p)) w None) Deleted × LecturerSpent i (set (set m s (Some p)) w None) (lecturer_of i u) w
+  swap_at_lecturer_holds lawful w u room full has own worst = (
+    let_go w u has own
+        (one_more (at_project m) (at_project (set (set m s (Some p)) w None)) (capacity_of i) p (λ q. omega (arith, count w u has own q)) room holds.matching.projects)
+        (λ t v gone. elim (holds.spent t v gone) [
+          | inl lecturer ↦ inl (still_spent w u has own (worst s p s_has refl) v t lecturer)
+          | inr project ↦ elim (cases_eq p v) [
+            | inl same ↦ absurd (omega (arith, project.full, rw same at room))
+            | inr other ↦ elim (cases_eq u v) [
+              | inl left ↦
+                  let w_had : project_of m w ≡ Some v = was w u has own (λ e. let now : Some p ≡ Some u = sym s_has ∙ (rw e at has) in other (let same : p ≡ u = cc in same ∙ left)) ∙ ap Some left in
+                  let of_v : lecturer_of i v ≡ lecturer_of i p = ap (lecturer_of i) (sym left) ∙ own in
+                  inl (record {
+                    full = omega (arith, count_l w u has own (lecturer_of i v), rw (sym of_v) at full);
+                    before = λ x q e there. search (rules, cases);
+                  })
+              | inr apart ↦ inr (record {
+                full = omega (arith, count w u has own v, none_there p v other, none_there u v apart, project.full);
+                before = λ x e. elim ((cases w u has own x v e).2) [ inl new ↦ absurd (other (sym new.1)) | inr old ↦ project.before x old ];
+              })
+            ]
+          ]
+        ]),
+    record {
+      full = omega (arith, count_l w u has own (lecturer_of i u), rw (sym own) at full);
+      before = λ x q e there.
+          let c = cases w u has own x q e in
+          let mine : lecturer_of i q ≡ lecturer_of i p = there ∙ own in
+          rw own (stands_before (ranking_of i (lecturer_of i p)) x w (rw mine at (lawful.ranked x q (put_on x q c.1))) c.0 (worst x q c.1 mine));
+    },
+  ) where
+    s_has : project_of (set m s (Some p)) s ≡ Some p
+    s_has = put_same i m s p in_range free

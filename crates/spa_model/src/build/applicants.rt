@@ -63,12 +63,7 @@ fn lists_other(
         (λ text. ¬ IsApplicantOf lines.now students.now projects.now lecturer text)
         (map (λ text. text.items) list.now) }
 {
-    for text in list {
-        if !is_applicant(lines, students, projects, lecturer, text) {
-            return true;
-        }
-    }
-    false
+    list.iter().any(|text| !is_applicant(lines, students, projects, lecturer, text))
 }
 
 /// Finds the lowest-numbered row of a lecturer whose ranking lists a non-applicant.

@@ -1,5 +1,6 @@
 use Rattle.spa_check.proofs.Base.{◌≡◌, inl, inr, get_or, sym, ◌∙◌, refl, arith, Contains, cases_lt, get_or_default, Wants, Contains-get_or}
-use Rattle.spa_check.proofs.Listing.{blocks_wants, none_blocks}
+use Rattle.spa_model.proofs.OneOnly.{blocks_wants}
+use Rattle.spa_check.proofs.Listing.{none_blocks}
 use Rattle.spa_check.proofs.stable.is_content.Goals as goal
 
 pub letter_of-requires-clause-project : goal.letter_of-requires-clause-project

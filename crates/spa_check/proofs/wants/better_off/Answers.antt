@@ -1,22 +1,16 @@
-use Rattle.spa_check.proofs.Base.{◌≡◌, inl, inr, arith, ◌≤◌, length, None, Some, cases_lt, project_of, IsTrue}
+use Rattle.spa_check.proofs.Base.{◌≡◌, inl, inr, arith, ℕ, ◌<◌, ◌≤◌, List, length, Option, None, Some, MatchOption, cases_lt, rules, Spa, project_of, IsBetterOff, IsFirstBetterOff}
 use Rattle.std.proofs.Math.ListN.{get_or-eq_default}
+use Rattle.std.proofs.lemmas.Iterator.{first_from_Range}
 use Rattle.spa_check.proofs.wants.better_off.Goals as goal
 
-pub loop-s-preserved : goal.loop-s-preserved
-loop-s-preserved c t below b = elim (cases_lt t c.loop-s.s) [
-  | inl before ↦ c.loop-s.invariant t before b
-  | inr after ↦
-      let here : t ≡ c.loop-s.s = omega arith in
-      let yes : IsTrue c.is_better_off.result = c.is_better_off.ensures.1 (rw here at b) in
-      absurd (cc)
+first : (i : Spa) (m other : List (Option ℕ)) (n : ℕ) → length other ≡ n → (found : Option ℕ) → MatchOption found ((k : ℕ) → 0 ≤ k → k < n → IsBetterOff i m other k → ⊥) (λ s. (0 ≤ s) × (s < n) × IsBetterOff i m other s × ((k : ℕ) → 0 ≤ k → k < s → IsBetterOff i m other k → ⊥))
+    → MatchOption found ((s : ℕ) → IsBetterOff i m other s → ⊥) (IsFirstBetterOff i m other)
+first i m other n long None none = λ s b. elim (cases_lt s n) [
+  | inl low ↦ none s (omega arith) low b
+  | inr past ↦ let gone : project_of other s ≡ None = get_or-eq_default other None (omega arith) in let there : project_of other s ≡ Some b.0 = b.1 in cc
 ]
+first i m other n long (Some s) one = record { better = one.2; first = λ t low. one.3 t (omega arith) low }
 
 pub returns : goal.returns
-returns c s b = elim (cases_lt s c.loop-s.s) [
-  | inl before ↦ c.loop-s.invariant s before b
-  | inr after ↦
-      let past : length c.args.other.now ≤ s = omega (arith, c.requires.other_fits.students) in
-      let none : project_of c.args.other.now s ≡ None = get_or-eq_default c.args.other.now None past in
-      let there : project_of c.args.other.now s ≡ Some b.0 = b.1 in
-      absurd (cc)
-]
+returns c = first c.args.instance.now c.args.matching.now c.args.other.now _ (omega (arith, c.requires.other_fits.students)) c.find.result
+    (first_from_Range _ _ _ c.find.result (IsBetterOff c.args.instance.now c.args.matching.now c.args.other.now) (λ s. IsBetterOff c.args.instance.now c.args.matching.now c.args.other.now s → ⊥) c.find.ensures.ran (λ x q k. search rules) (λ x q k. search rules))

@@ -1,4 +1,4 @@
-use Rattle.spa_model.proofs.Base.{List, refl, Rows, IsLeastOf, HasNoneBefore, HasFault, IsRefusal, NotApplicant, ApplicantMissing, Memory, handed_on, Student, Project, Lecturer, Ok, Err, refuse_ok, refuse_err, rows_of}
+use Rattle.spa_model.proofs.Base.{List, refl, Rows, IsLeastOf, HasNoneBefore, HasFault, IsRefusal, NotApplicant, ApplicantMissing, Memory, handed_on, Student, Project, Ok, Err, refuse_ok, refuse_err, rows_of}
 use Rattle.spa_model.proofs.Good.{AreGood, are_good}
 use Rattle.spa_model.proofs.Numbered.{AreNumbered}
 use Rattle.spa_model.proofs.Numbered
@@ -35,10 +35,7 @@ numbers c = (goal.at.number_lecturers-requires-clause-form c).After-deref-2
 none_other : (c : In_ok-refuse) → HasNoneBefore (rows (start (numbers c))) ApplicantMissing
 none_other c =
     let all : Rows = rows (start (numbers c)) in
-    let ss : List Student = students (numbers c) in
-    let ps : List Project = projects (numbers c) in
-    let told : AreNumbered all ss ps = so (numbers c) in
-    let least : IsLeastOf (HasFault all NotApplicant) c.in_ok-not_applicant.field-0 = Stages.other_least all ss ps told c.in_ok-not_applicant.field-0 (rw (← c.deref.ensures.value, ← c.deref-2.ensures.value) c.in_ok-not_applicant.ensures) in
+    let least : IsLeastOf (HasFault all NotApplicant) c.in_ok-not_applicant.field-0 = Stages.other_least all _ _ (so (numbers c)) c.in_ok-not_applicant.field-0 (rw (← c.deref.ensures.value, ← c.deref-2.ensures.value) c.in_ok-not_applicant.ensures) in
     refuse_ok all NotApplicant ApplicantMissing c.in_ok-not_applicant.field-0 (Ok c.in_ok-refuse.field-0) refl c.in_ok-refuse.ensures c.requires.faultless least
 
 pub number_students-requires-clause-form : goal.number_students-requires-clause-form
@@ -66,10 +63,7 @@ pub returns-in_err-refuse-clause-err : goal.returns-in_err-refuse-clause-err
 returns-in_err-refuse-clause-err c =
     let known : After-deref-2 = (goal.at.returns-in_err-refuse-clause-err c).After-deref-2 in
     let all : Rows = rows (start known) in
-    let ss : List Student = students known in
-    let ps : List Project = projects known in
-    let told : AreNumbered all ss ps = so known in
-    let least : IsLeastOf (HasFault all NotApplicant) c.in_ok-not_applicant.field-0 = Stages.other_least all ss ps told c.in_ok-not_applicant.field-0 (rw (← c.deref.ensures.value, ← c.deref-2.ensures.value) c.in_ok-not_applicant.ensures) in
+    let least : IsLeastOf (HasFault all NotApplicant) c.in_ok-not_applicant.field-0 = Stages.other_least all _ _ (so known) c.in_ok-not_applicant.field-0 (rw (← c.deref.ensures.value, ← c.deref-2.ensures.value) c.in_ok-not_applicant.ensures) in
     let refusal = refuse_err all NotApplicant c.in_ok-not_applicant.field-0 (Err c.in_err-refuse.field-0.0) c.in_err-refuse.ensures c.requires.faultless least in
     handed_on c.from_residual-in_err-refuse.result c.in_err-refuse.field-0.0 (λ e. IsRefusal all e.fault e.row) c.from_residual-in_err-refuse.ensures.1 refusal
 
@@ -98,12 +92,7 @@ pub returns-in_err-refuse-2-clause-err : goal.returns-in_err-refuse-2-clause-err
 returns-in_err-refuse-2-clause-err c =
     let before : In_ok-refuse = (goal.at.returns-in_err-refuse-2-clause-err c).In_ok-refuse in
     let all : Rows = rows (start (numbers before)) in
-    let ss : List Student = students (numbers before) in
-    let ps : List Project = projects (numbers before) in
-    let told : AreNumbered all ss ps = so (numbers before) in
-    let ls : List Lecturer = c.in_ok-lecturer_rows.lecturer_rows.items in
-    let lists = c.in_ok-lecturer_rows.ensures in
-    let missing : IsLeastOf (HasFault all ApplicantMissing) c.applicant_missing.result = Stages.missing_least all ss ps told ls lists c.applicant_missing.result (rw (← c.deref-3.ensures.value, ← c.deref-4.ensures.value, ← c.deref-5.ensures.value) c.applicant_missing.ensures) in
+    let missing : IsLeastOf (HasFault all ApplicantMissing) c.applicant_missing.result = Stages.missing_least all _ _ (so (numbers before)) _ c.in_ok-lecturer_rows.ensures c.applicant_missing.result (rw (← c.deref-3.ensures.value, ← c.deref-4.ensures.value, ← c.deref-5.ensures.value) c.applicant_missing.ensures) in
     let refusal = refuse_err all ApplicantMissing c.applicant_missing.result (Err c.in_err-refuse-2.field-0.0) c.in_err-refuse-2.ensures (none_other before) missing in
     handed_on c.from_residual-in_err-refuse-2.result c.in_err-refuse-2.field-0.0 (λ e. IsRefusal all e.fault e.row) c.from_residual-in_err-refuse-2.ensures.1 refusal
 
@@ -114,12 +103,7 @@ before c = (goal.at.returns-clause-ok c).In_ok-refuse
 faultless : (c : In_ok-refuse-2) → HasNoneBefore (rows (start (numbers (before c)))) Memory
 faultless c =
     let all : Rows = rows (start (numbers (before c))) in
-    let ss : List Student = students (numbers (before c)) in
-    let ps : List Project = projects (numbers (before c)) in
-    let told : AreNumbered all ss ps = so (numbers (before c)) in
-    let ls : List Lecturer = c.in_ok-lecturer_rows.lecturer_rows.items in
-    let lists = c.in_ok-lecturer_rows.ensures in
-    let missing : IsLeastOf (HasFault all ApplicantMissing) c.applicant_missing.result = Stages.missing_least all ss ps told ls lists c.applicant_missing.result (rw (← c.deref-3.ensures.value, ← c.deref-4.ensures.value, ← c.deref-5.ensures.value) c.applicant_missing.ensures) in
+    let missing : IsLeastOf (HasFault all ApplicantMissing) c.applicant_missing.result = Stages.missing_least all _ _ (so (numbers (before c))) _ c.in_ok-lecturer_rows.ensures c.applicant_missing.result (rw (← c.deref-3.ensures.value, ← c.deref-4.ensures.value, ← c.deref-5.ensures.value) c.applicant_missing.ensures) in
     refuse_ok all ApplicantMissing Memory c.applicant_missing.result (Ok c.in_ok-refuse-2.field-0) refl c.in_ok-refuse-2.ensures (none_other (before c)) missing
 
 pub invariant_of-result : goal.invariant_of-result

@@ -1,6 +1,7 @@
-use Rattle.spa_rows.proofs.Base.{sym, ◌∙◌, ap}
+use Rattle.spa_rows.proofs.Base.{◌<◌, length, ◌∙◌, ap, length-map, rules}
+use Rattle.spa_rows.proofs.Deciding.{over_iff}
+use Rattle.spa_rows.proofs.LeastRow.{told_least}
 use Rattle.spa_rows.proofs.checks.lists_too_long.Goals as goal
 
 pub returns : goal.returns
-returns c =
-    rw (sym (c.deref.ensures.value ∙ ap (λ x. x.students) c.rows.view_is)) c.list_too_long.ensures
+returns c = told_least _ _ _ _ (λ x. 20 < length x.list) _ c.least_where.ensures (c.deref.ensures.value ∙ ap (λ x. x.students) c.rows.view_is) (λ x b said. search (rules, over_iff, length-map))

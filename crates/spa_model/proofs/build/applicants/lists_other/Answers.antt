@@ -1,11 +1,9 @@
-use Rattle.spa_model.proofs.Base.{arith, false≢true, IsApplicantOf}
-use Rattle.spa_model.proofs.Zips.{any_unmap}
+use Rattle.std.proofs.lemmas.Iterator.{YieldsList-from_slice, cases_from_any}
+use Rattle.spa_rows.proofs.Deciding.{not_iff}
+use Rattle.spa_rows.proofs.Lists.{any_mapped}
+use Rattle.spa_model.proofs.Base.{rules, IsApplicantOf}
 use Rattle.spa_model.proofs.build.applicants.lists_other.Goals as goal
 
 pub returns : goal.returns
-returns c = (
-  λ e. absurd (false≢true e),
-  λ any.
-      let other = any_unmap (λ text. IsApplicantOf c.args.lines.now c.args.students.now c.args.projects.now c.args.lecturer text → ⊥) (λ text. text.items) c.args.list.now any in
-      absurd (c.loop-text.invariant other.0 other.1 (omega (arith, other.2, c.loop-text-test.false)) other.3 other.4),
-)
+returns c = any_mapped (λ text. text.items) (λ text. IsApplicantOf c.args.lines.now c.args.students.now c.args.projects.now c.args.lecturer text → ⊥) c.any.result c.args.list.now
+    (cases_from_any _ _ _ (λ x. IsApplicantOf c.args.lines.now c.args.students.now c.args.projects.now c.args.lecturer x.items → ⊥) (λ x. (IsApplicantOf c.args.lines.now c.args.students.now c.args.projects.now c.args.lecturer x.items → ⊥) → ⊥) c.any.ensures.ran (YieldsList-from_slice c.args.list.now cc) (λ x q k. search (rules, not_iff)) (λ x q k. search (rules, not_iff)))
