@@ -1,10 +1,10 @@
 -- A query tells whether a lecturer is on the roll; a ranking by one who is not changes nothing.
-use Rattle.portal_store.proofs.Base.{◌≡◌, ◌≢◌, ℕ, Bool, true, false, ◌||◌, cond, List, [], ◌∷◌, map, filter, length, refl, sym, ap, ◌∙◌, or-true, AllByRecursion, length_permutation, Row, bytes, Database, Round, Key, equals, has, put_all, Lecturer, lecturer_key, Ranks, with_ranking, is_own, lecturer_tree, has_text, row_key, ListsBy, columns, ranking_elsewhere, world_in, lecturer_stored, IsTransitionIn, TurnsThere, put_all_map, map_twice, IsLecturerRow, lecturer_rows_formed, all_map_on, length-map, text_there}
+use Rattle.portal_store.proofs.Base.{◌≡◌, ◌≢◌, ℕ, Bool, true, false, ◌||◌, cond, List, [], ◌∷◌, map, filter, length, refl, sym, ap, ◌∙◌, or-true, AllByRecursion, length_permutation, Row, bytes, Database, Round, Key, equals, has, put_all, Lecturer, lecturer_key, Ranks, with_ranking, is_own, lecturer_tree, has_text, row_key, ListsBy, columns, ranking_elsewhere, world_in, lecturer_stored, IsTransitionIn, TurnsThere, put_all_map, map_twice, IsLecturerRow, lecturer_rows_formed, all_map_on, length-map, text_there, all_two, is_empty, nil_from_length, none_passes}
 use Rattle.portal_store.proofs.RankTurns.{key_test, same_key}
 use Rattle.portal_store.proofs.Rounds.{key_in}
 
 -- a query shows as many rows as pass
-as_many : (keys : List ℕ) (p : Row → Bool) (show : Row → Row) (table shown : List Row) → ListsBy keys p show table shown
+pub as_many : (keys : List ℕ) (p : Row → Bool) (show : Row → Row) (table shown : List Row) → ListsBy keys p show table shown
     → length shown ≡ length (filter p table)
 as_many keys p show table shown h =
     let keyed : Row → Row × Row = λ r. (columns keys r, show r) in
@@ -26,18 +26,9 @@ there_if k (r ∷ table) some = go (has_text 1 k r) refl some (there_if k table)
 -- no row has the text, so no lecturer has the key
 nobody : (k : Key) (table : List Row) → AllByRecursion IsLecturerRow table → length (filter (has_text 1 k) table) ≡ 0
     → AllByRecursion (λ r. equals (row_key r) k ≡ false) table
-nobody k [] all none = tt
-nobody k (r ∷ table) all none = go (has_text 1 k r) refl none (nobody k table all.1)
-  where
-    passing : List Row
-    passing = filter (has_text 1 k) table
-
-    Apart : List Row → Type 0
-    Apart rows = AllByRecursion (λ r. equals (row_key r) k ≡ false) rows
-
-    go : (b : Bool) → has_text 1 k r ≡ b → length (cond b (r ∷ passing) passing) ≡ 0 → (length passing ≡ 0 → Apart table) → Apart (r ∷ table)
-    go true so none later = absurd (cc)
-    go false other none later = (sym (key_test k r all.0) ∙ other, later none)
+nobody k table all none =
+    all_two IsLecturerRow (λ r. has_text 1 k r ≡ false) (λ r. equals (row_key r) k ≡ false) (λ r f e. sym (key_test k r f) ∙ e) table all
+    (none_passes (λ r. r) (has_text 1 k) table (ap (λ (l : List Row). is_empty (map (λ r. r) l)) (nil_from_length (filter (has_text 1 k) table) none)))
 
 ranks_nobody : (round : Round) (k : Key) (list : List Key) (db : Database) → length (filter (has_text 1 k) (db.trees lecturer_tree)) ≡ 0 → IsTransitionIn round (Ranks k list) db db
 unfolding world_in

@@ -1,5 +1,5 @@
 -- New rows of a roll: what a loop of INSERTs leaves of the tables, and what that is to the world.
-use Rattle.portal_store.proofs.Base.{◌≡◌, ℕ, false, ◌||◌, List, [], ◌∷◌, ◌++◌, None, map, refl, sym, ap, ap₂, subst, subst₂, ◌∙◌, map-append, AllByRecursion, IsDistinct, IsPermutation, IsPermutation-refl, IsPermutation-trans, IsPermutation-sym, IsPermutation-middle, IsPermutation-map, Null, Int, Row, next_rowid, put_row, Database, IsDatabase, First, Second, LecturerRow, ProjectRow, StudentRow, Key, equals, has, Rise, put_all, lecturer_key, project_key, student_key, changed, Lecturers, Projects, Students, Good, lecturer_tree, project_tree, student_tree, choice_tree, ranking_tree, RowNumbersDiffer, row_key, Keeps, with_rows, put_splits, with_rows_added, NewRows, IsConsistentIn, HasChangedIn, IsTransitionIn, of_key, IsWhole, list_in_order, world_in, project_row, permutes, permutes_more, rise_distinct, all_permuted, distinct_permuted, map_twice, map_alike, all_map_on, all_unmap, all_map, all_append, all_weaker, drop, IsPermutation-append_right, new_lecturer, new_student, InsertsRows, AreNew, Adds, lecturer_new, project_new, student_new, puts_apart, more_put, OnRoll, none_of, place_parents}
+use Rattle.portal_store.proofs.Base.{◌≡◌, ℕ, false, ◌||◌, List, [], ◌∷◌, ◌++◌, None, map, refl, sym, ap, ap₂, subst, subst₂, ◌∙◌, map-append, AllByRecursion, IsDistinct, IsPermutation, IsPermutation-refl, IsPermutation-trans, IsPermutation-sym, IsPermutation-middle, IsPermutation-map, Null, Int, Row, next_rowid, put_row, Database, IsDatabase, First, Second, LecturerRow, ProjectRow, StudentRow, Key, equals, has, Rise, put_all, lecturer_key, project_key, student_key, changed, Lecturers, Projects, Students, Good, lecturer_tree, project_tree, student_tree, choice_tree, ranking_tree, RowNumbersDiffer, row_key, Keeps, with_rows, put_splits, with_rows_added, NewRows, IsConsistentIn, HasChangedIn, IsTransitionIn, of_key, IsWhole, list_in_order, world_in, project_row, permutes, permutes_more, rise_distinct, all_permuted, distinct_permuted, map_twice, map_alike, all_map_on, all_unmap, all_map, all_append, all_weaker, drop, IsPermutation-append_right, new_lecturer, new_student, InsertsRows, AreNew, Adds, lecturer_new, project_new, student_new, puts_apart, more_put, OnRoll, none_of, place_parents, map-id}
 use Rattle.portal_tables.specs.declared.list_table.Lists.TheVariants as which
 use Rattle.portal_tables.proofs.Writes.{unnumbered}
 use Rattle.portal_store.specs.declared.add_rows.NewRows.TheVariants as come
@@ -121,13 +121,10 @@ module _ (rows : List LecturerRow) (old new : Database) (was : IsConsistentIn Fi
   abbrev lists : List Row
   lists = old.trees ranking_tree
 
-  lecturers_up : Rise (map lecturer_key (put_all lecturer_key (map new_lecturer rows) (put_all lecturer_key (map (lecturer_of lists) (old.trees lecturer_tree)) [])))
-  unfolding world_in
-  lecturers_up = better.sound.lecturers_rise
-
   unranked_yet : AllByRecursion (λ r. of_key r.key lists ≡ []) rows
+  unfolding world_in
   unranked_yet = none_yet _ lecturer_key new_lecturer (lecturer_of lists) rows (old.trees lecturer_tree) lists (sym (map_twice lecturer_key (lecturer_of lists) (old.trees lecturer_tree)))
-      (place_parents old which.Rankings was.own was.sound was.apart.1.1.1.1.1.0) lecturers_up
+      (place_parents old which.Rankings was.own was.sound was.apart.1.1.1.1.1.0) better.sound.lecturers_rise
 
   lecturers_turned : HasChangedIn First (Lecturers rows) old new
   unfolding world_in
@@ -141,7 +138,7 @@ module _ (rows : List LecturerRow) (old new : Database) (was : IsConsistentIn Fi
           (all_map (λ c. has_ranking (unnumbered c) ≡ false → of_key (row_key (unnumbered c)) lists ≡ []) lecturer_new rows (all_weaker (λ (r : LecturerRow). of_key r.key lists ≡ []) (λ r. has_ranking (unnumbered (lecturer_new r)) ≡ false → of_key r.key lists ≡ []) (λ r none e. none) rows unranked_yet)) was.whole.ranked;
     });
     world = world_after First lecturer_tree old new a.others
-        ∙ ap (λ l. record (world_in First old.trees) { lecturers = l }) (roll_added lecturer_key lecturer_new (lecturer_of lists) rows (map new_lecturer rows) lecturer_tree old new (lecturer_bare lists) refl a lecturers_up);
+        ∙ ap (λ l. record (world_in First old.trees) { lecturers = l }) (roll_added lecturer_key lecturer_new (lecturer_of lists) rows (map new_lecturer rows) lecturer_tree old new (lecturer_bare lists) refl a better.sound.lecturers_rise);
   }
 
 pub lecturers_turn : (rows : List LecturerRow) (old new : Database) → Adds lecturer_tree (map lecturer_new rows) old new → IsTransitionIn First (Lecturers rows) old new
@@ -154,24 +151,17 @@ projects_turn rows old new adds was good better =
     record {
       holds = holds_after project_tree old new refl was a.others a.schema_is (a.sound was.sound) (a.apart was.apart.1.1.0) was.office (record { choices = was.whole.choices; rankings = was.whole.rankings; ranked = was.whole.ranked });
       world = world_after First project_tree old new a.others
-          ∙ ap (λ l. record (world_in First old.trees) { projects = l }) (roll_added project_key project_new project_row rows rows project_tree old new project_bare (itself rows) a better.sound.projects_rise);
+          ∙ ap (λ l. record (world_in First old.trees) { projects = l }) (roll_added project_key project_new project_row rows rows project_tree old new project_bare (map-id rows) a better.sound.projects_rise);
     }
-  where
-    itself : (rs : List ProjectRow) → map (λ r. project_row (unnumbered (project_new r))) rs ≡ rs
-    itself [] = refl
-    itself (r ∷ rs) = ap (λ l. r ∷ l) (itself rs)
 
 module _ (rows : List StudentRow) (old new : Database) (was : IsConsistentIn First old) (better : Good (changed (world_in First old.trees) (Students rows))) (a : Added student_tree (map student_new rows) old new) where
   abbrev chosen : List Row
   chosen = old.trees choice_tree
 
-  students_up : Rise (map student_key (put_all student_key (map new_student rows) (put_all student_key (map (student_of chosen) (old.trees student_tree)) [])))
-  unfolding world_in
-  students_up = better.sound.students_rise
-
   unlisted_yet : AllByRecursion (λ r. of_key r.key chosen ≡ []) rows
+  unfolding world_in
   unlisted_yet = none_yet _ student_key new_student (student_of chosen) rows (old.trees student_tree) chosen (sym (map_twice student_key (student_of chosen) (old.trees student_tree)))
-      (place_parents old which.Choices was.own was.sound was.apart.1.1.1.1.0) students_up
+      (place_parents old which.Choices was.own was.sound was.apart.1.1.1.1.0) better.sound.students_rise
 
   students_turned : HasChangedIn First (Students rows) old new
   unfolding world_in
@@ -187,7 +177,7 @@ module _ (rows : List StudentRow) (old new : Database) (was : IsConsistentIn Fir
           ranked = was.whole.ranked;
         });
         world = world_after First student_tree old new a.others
-            ∙ ap (λ l. record (world_in First old.trees) { students = l }) (roll_added student_key student_new (student_of chosen) rows (map new_student rows) student_tree old new (student_bare chosen) news a students_up);
+            ∙ ap (λ l. record (world_in First old.trees) { students = l }) (roll_added student_key student_new (student_of chosen) rows (map new_student rows) student_tree old new (student_bare chosen) news a better.sound.students_rise);
       }
 
 pub students_turn : (rows : List StudentRow) (old new : Database) → Adds student_tree (map student_new rows) old new → IsTransitionIn First (Students rows) old new

@@ -1,5 +1,5 @@
 -- Applicants and placed students, of what queries show.
-use Rattle.portal_store.proofs.Base.{◌≡◌, Bool, true, false, ◌&&◌, ◌||◌, List, [], ◌∷◌, ◌++◌, map, filter, Option, refl, sym, ap, subst, ◌∙◌, if◌then◌else◌, cond, is_none, IfSome, None, Some, AllByRecursion, IsPermutation, IsPermutation-cons, IsPermutation-middle, IsPermutation-refl, IsPermutation-sym, IsPermutation-trans, Row, column, bytes, Trees, filter-map, map-map, all_of, Phase, Setup, Choosing, Ranking, Published, Round, First, Second, Listing, ProjectRow, Key, Rise, equals, has, put_all, World, Student, first_placed, project_key, student_key, is_left, is_from_ranking, is_published, is_second, shown_placement, catalogue, Good, is_same, all_weaker, project_tree, student_tree, HasSecond, choice_shown, by_key, roll_columns, world_in, student_stored, project_row, first_cell, lecturer_shown, lecturer_from, distinct_permuted, map_alike, permutes_more, put_all_map, rise_distinct, and-false, projects_of, applicants_to, placed_at, is_at, persons, lecturer_sees, shown_line, applicant_lines, person_key, lines_shown, persons_at, persons_before, placed_among, placed_at_shown, applicants_told, placed_told, own_keys_shown, one_rise, rise_put_all}
+use Rattle.portal_store.proofs.Base.{◌≡◌, Bool, true, false, ◌&&◌, ◌||◌, List, [], ◌∷◌, ◌++◌, map, filter, Option, refl, sym, ap, subst, ◌∙◌, if◌then◌else◌, cond, is_none, IfSome, None, Some, AllByRecursion, IsPermutation, IsPermutation-cons, IsPermutation-middle, IsPermutation-refl, IsPermutation-sym, IsPermutation-trans, Row, column, bytes, Trees, filter-map, filter_none, map-map, all_of, Phase, Setup, Choosing, Ranking, Published, Round, First, Second, Listing, ProjectRow, Key, Rise, equals, has, put_all, World, Student, first_placed, project_key, student_key, is_left, is_from_ranking, is_published, is_second, shown_placement, catalogue, Good, is_same, all_weaker, project_tree, student_tree, HasSecond, choice_shown, by_key, roll_columns, world_in, student_stored, project_row, first_cell, lecturer_shown, lecturer_from, distinct_permuted, map_alike, permutes_more, put_all_map, rise_distinct, and-false, or-false, projects_of, applicants_to, placed_at, is_at, persons, lecturer_sees, shown_line, applicant_lines, person_key, lines_shown, persons_at, persons_before, placed_among, placed_at_shown, applicants_told, placed_told, own_keys_shown, one_rise, rise_put_all, arith}
 use Rattle.portal_core.specs.declared.rows.Person.{Person}
 use Rattle.portal_core.proofs.Fills.{rise_kept}
 use Rattle.portal_views.specs.declared.lines.ApplicantLine.{ApplicantLine}
@@ -46,14 +46,7 @@ persons_of p ss = ap (map (λ (l : ApplicantLine). l.person)) (filter-map p line
 -- who passes a test passes one before it, too
 filter_twice : (p q : Student → Bool) (ss : List Student) → AllByRecursion (λ s. p s ≡ true → q s ≡ true) ss → filter p (filter q ss) ≡ filter p ss
 filter_twice p q [] all = refl
-filter_twice p q (s ∷ ss) all =
-    (elim (p s) as (λ a. p s ≡ a → filter p (cond (q s) (s ∷ filter q ss) (filter q ss)) ≡ cond a (s ∷ filter p ss) (filter p ss)) [
-      | true ↦ λ e. ap (λ b. filter p (cond b (s ∷ filter q ss) (filter q ss))) (all.0 e) ∙ ap (λ b. cond b (s ∷ filter p (filter q ss)) (filter p (filter q ss))) e ∙ ap (λ l. s ∷ l) (filter_twice p q ss all.1)
-      | false ↦ λ e. elim (q s) as (λ b. filter p (cond b (s ∷ filter q ss) (filter q ss)) ≡ filter p ss) [
-        | true ↦ ap (λ b. cond b (s ∷ filter p (filter q ss)) (filter p (filter q ss))) e ∙ filter_twice p q ss all.1
-        | false ↦ filter_twice p q ss all.1
-      ]
-    ]) refl
+filter_twice p q (s ∷ ss) all = grind (arith, all.0, filter_twice p q ss all.1)
 
 -- who is at a project has it on the list
 at_listed : (k : Key) (choice : List Key) (o : Option Key) → IfSome o (λ p. has choice p ≡ true) → is_at k o ≡ true → has choice k ≡ true
@@ -74,17 +67,13 @@ persons_shown w k =
       | false ↦ refl
     ]
 
-none_pass : {X : Type 0} (p : X → Bool) (xs : List X) → AllByRecursion (λ x. p x ≡ false) xs → filter p xs ≡ []
-none_pass p [] all = refl
-none_pass p (x ∷ xs) all = (λ i. cond (all.0 i) (x ∷ filter p xs) (filter p xs)) ∙ none_pass p xs all.1
-
 -- whom the round's result places at the project, once it is published
 abbrev is_placed : World → Key → Student → Bool
 is_placed w k s = is_published w.phase && is_at k s.placed
 
 now_told : (w : World) → Good w → (k : Key) → placed_among w.phase k (if is_from_ranking w.phase then map line_of (applicants_to w k) else []) ≡ persons (filter (is_placed w k) w.students)
 now_told w good k =
-    let none : [] ≡ persons (filter (λ (s : Student). false) w.students) = ap persons (sym (none_pass (λ (s : Student). false) w.students (all_of _ (λ s. refl) w.students))) in
+    let none : [] ≡ persons (filter (λ (s : Student). false) w.students) = ap persons (sym (filter_none (λ (s : Student). false) w.students (all_of _ (λ s. refl) w.students))) in
     elim w.phase as (λ (f : Phase). placed_among f k (if is_from_ranking f then map line_of (applicants_to w k) else []) ≡ persons (filter (λ (s : Student). is_published f && is_at k s.placed) w.students)) [
       | Setup ↦ none
       | Choosing ↦ none
@@ -99,7 +88,7 @@ world_round round db = refl
 -- whom the round before placed there
 before_told : (round : Round) (db : Trees) → HasSecond round db → Good (world_in round db) → (k : Key) → persons_before round db k ≡ persons (filter (λ s. is_at k s.earlier_placement) (world_in round db).students)
 before_told First db second good k =
-    ap persons (sym (none_pass (λ (s : Student). is_at k s.earlier_placement) (world_in First db).students (all_weaker _ _ (λ s none. ap (is_at k) none) (world_in First db).students (none_earlier db))))
+    ap persons (sym (filter_none (λ (s : Student). is_at k s.earlier_placement) (world_in First db).students (all_weaker _ _ (λ s none. ap (is_at k) none) (world_in First db).students (none_earlier db))))
 before_told Second db second good k =
     let left = first_left db second.first in
     let was : Good (world_in First db) = subst Good left (good_before (world_in Second db) (ap is_second (world_round Second db)) good) in
@@ -142,10 +131,6 @@ module _ {X : Type 0} (key : X → Key) (f g h : X → Bool) where
       let risen : Rise (map key H) = rise_kept key h xs up in
       let apart = distinct_permuted key H (F ++ G) (IsPermutation-sym _ _ same) (rise_distinct (map key H) risen) in
       one_rise key (put_all key F G) H (IsPermutation-trans _ _ _ (IsPermutation-sym _ _ (permutes_more key F G)) same) (rise_put_all key F G apart (rise_kept key g xs up)) risen
-
-or-false : (b : Bool) → (b || false) ≡ b
-or-false true = refl
-or-false false = refl
 
 -- a place that is shown is that of the round before, or of the round once it is published
 shown_parts : (w : World) (k : Key) (s : Student) (o : Option Key) → s.earlier_placement ≡ o → (is_none o ≡ false → s.placed ≡ None)

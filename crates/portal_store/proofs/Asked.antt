@@ -1,11 +1,12 @@
 -- What `open` makes of what was read.
-use Rattle.portal_store.proofs.Base.{List, [], ◌∷◌, pos, ◌≡◌, ◌≢◌, ℕ, Bool, true, false, not, IsTrue, Ok, Err, Result, map, length, filter, slice_index_or, refl, sym, ap, subst, ◌∙◌, IsPermutation, length_permutation, Int, Row, column, Trees, Database, HasCleanDisk, IsUnchanged, State, Ghosts, Held, state, Round, First, Second, portal_tree, second_tree, choice2_tree, ranked2_tree, ranking2_tree, assigned2_tree, first_trees, own_trees, version, IsCurrentSchema, RowNumbersDiffer, portal_row, second_row, ListsBy, every, columns, HasOffice, number_of_phase, is_empty, AllNumbersDiffer, HasSecond, IsUnopened, IsConsistent, IsConsistentIn, later_trees, IsKept, early_trees, apart_one, current_own, Denies, AdmitsAs, Admits, TableFault, OpenFault, IfErr, IsLive, apart_none, HasVersion, RefusalSays, NumbersDiffer, SaysNothing, Reading, Anyhow, IsSettled, OnlyLooks, OnOk, HasFirstSchema, clean_before}
+use Rattle.portal_store.proofs.Base.{List, [], ◌∷◌, pos, ◌≡◌, ◌≢◌, ℕ, Bool, true, false, not, IsTrue, Ok, Err, Result, map, length, filter, slice_index_or, refl, sym, ap, subst, ◌∙◌, IsPermutation, Int, Row, column, Trees, Database, HasCleanDisk, IsUnchanged, State, Ghosts, Held, state, Round, First, Second, portal_tree, second_tree, choice2_tree, ranked2_tree, ranking2_tree, assigned2_tree, first_trees, own_trees, version, IsCurrentSchema, RowNumbersDiffer, portal_row, second_row, ListsBy, every, columns, HasOffice, number_of_phase, is_empty, AllNumbersDiffer, HasSecond, IsUnopened, IsConsistent, IsConsistentIn, later_trees, IsKept, early_trees, apart_one, current_own, Denies, AdmitsAs, Admits, TableFault, OpenFault, IfErr, IsLive, apart_none, HasVersion, RefusalSays, NumbersDiffer, SaysNothing, Reading, Anyhow, IsSettled, OnlyLooks, OnOk, HasFirstSchema, clean_before, HasRound, IsErrAnd, reads_as, all_append, filter_all, nil_from_length, parts_of, second_trees}
 use Rattle.sqlite.proofs.Callers.{one_permutation}
 unfoldable use Rattle.sqlite.specs.State.{Begins}
 use Rattle.sqlite.specs.Listing.{understood, reads_listing, IsSourceOf}
 use Rattle.portal_tables.specs.declared.select.Query.TheVariants.{Office}
 use Rattle.portal_store.specs.Crash.{ShowsVersion}
 use Rattle.portal_store.specs.inner.Keeping.{IsReady}
+use Rattle.portal_store.proofs.Absent.{as_many}
 use Rattle.portal_store.proofs.Keeps.{leaves_shown}
 use Rattle.portal_tables.specs.inner.Decoding.{FindsAny}
 use Rattle.portal_tables.specs.inner.Queries.{selection, Shows, query_text}
@@ -31,6 +32,12 @@ pub denied_of : (fault : OpenFault) (why : TableFault) (A : Type 0) → (why ≡
 denied_of fault told.Damaged A damaged nothing h = subst (λ f. Denies f A) (sym (damaged refl)) (h refl)
 denied_of fault told.Store A damaged nothing h = denies_any fault A (nothing (λ e. absurd (cc)))
 denied_of fault told.Memory A damaged nothing h = denies_any fault A (nothing (λ e. absurd (cc)))
+
+-- an error that is handed on as a refusal
+pub reads_said : {round : Round} {On : State → Type 0} {Right : Database → Type 0} {U D V : Type 0} {T : Database → Result U D → Type 0} {Told : Database → Result V OpenFault → Type 0} {e : D} {r : Result V OpenFault} {Said : OpenFault → Type 0} {a b : State} → IsErrAnd r Said
+    → Reading round On Right T (Err e) a b → (HasRound round a.now.schema → Right a.now → T a.now (Err e) → (f : OpenFault) → Said f → Told a.now (Err f)) → Reading round On Right Told r a b
+reads_said {r = Ok v} is h so = absurd is
+reads_said {r = Err f} is h so = reads_as h (λ no. no) (λ own right told. so own right told f is)
 
 pub blames_more : (fault : OpenFault) (of : ℕ) (A B : Type 0) (db : Trees) → (B → A) → RefusalSays fault of A db → RefusalSays fault of B db
 blames_more NotPortal of A B db back h = h
@@ -62,25 +69,11 @@ listed_one keys show table shown r h is =
     let f : Row → Row × Row = λ r. (columns keys r, show r) in
     h.is ∙ ap (map (λ (k : Row × Row). k.1)) (one_permutation (f r) h.keyed (subst (λ rows. IsPermutation (map f (filter every rows)) h.keyed) is h.same))
 
-none_keyed : (keyed : List (Row × Row)) → map (λ (k : Row × Row). k.1) keyed ≡ [] → length keyed ≡ 0
-none_keyed [] is = refl
-none_keyed (k ∷ ks) is = absurd (cc)
-
-none_there : (f : Row → Row × Row) (table : List Row) → length (map f (filter every table)) ≡ 0 → table ≡ []
-none_there f [] is = refl
-none_there f (r ∷ rs) is = absurd (cc)
-
 listed_none : (keys : List ℕ) (show : Row → Row) (table shown : List Row) → ListsBy keys every show table shown → shown ≡ [] → table ≡ []
-listed_none keys show table shown h none = none_there _ table (sym (length_permutation _ h.keyed h.same) ∙ none_keyed h.keyed (sym h.is ∙ none))
-
-keyed_none : (keyed : List (Row × Row)) → length keyed ≡ 0 → map (λ (k : Row × Row). k.1) keyed ≡ []
-keyed_none [] is = refl
-keyed_none (k ∷ ks) is = absurd (cc)
+listed_none keys show table shown h none = nil_from_length table (ap length (sym (filter_all table)) ∙ sym (as_many keys every show table shown h) ∙ ap length none)
 
 listed_nil : (keys : List ℕ) (show : Row → Row) (table shown : List Row) → ListsBy keys every show table shown → table ≡ [] → shown ≡ []
-listed_nil keys show table shown h none =
-    let f : Row → Row × Row = λ r. (columns keys r, show r) in
-    h.is ∙ keyed_none h.keyed (length_permutation _ h.keyed h.same ∙ ap (λ t. length (map f (filter every t))) none)
+listed_nil keys show table shown h none = nil_from_length shown (as_many keys every show table shown h ∙ ap (λ t. length (filter every t)) none)
 
 pub office_version : (of : ℕ) (db : Trees) (shown : List Row) (row : Row) (rest : List Row) → ListsBy (0 ∷ []) every (columns (0 ∷ 2 ∷ 3 ∷ 4 ∷ [])) (db portal_tree) shown → shown ≡ row ∷ rest
     → column row 1 ≡ Int (pos of) → HasVersion of db
@@ -126,32 +119,14 @@ pub first_apart : (of : ℕ) (db : Trees) → HasOffice of (db portal_tree) → 
 first_apart of db office many = (apart_one (db portal_tree) (portal_row (pos of) (pos (number_of_phase office.phase)) office.office) (pos 1) refl office.is, many)
 
 pub all_apart : (db : Trees) → AllNumbersDiffer early_trees db → AllNumbersDiffer later_trees db → NumbersDiffer db
-all_apart db early later = (early.0, (early.1.0, (early.1.1.0, (early.1.1.1.0, (early.1.1.1.1.0, later)))))
+all_apart db early later = all_append (λ t. RowNumbersDiffer (db t)) early_trees later_trees early later
 
 pub apart_all : (db : Trees) (of : ℕ) → AdmitsAs of db → IsUnopened db → AllNumbersDiffer own_trees db
 apart_all db of admits second =
-    let six = admits.apart in
-    let none = second.says in (
-      six.0,
-      (
-        six.1.0,
-        (
-          six.1.1.0,
-          (
-            six.1.1.1.0,
-            (
-              six.1.1.1.1.0,
-              (
-                six.1.1.1.1.1.0,
-                (
-                  apart_one (db second_tree) (second_row (pos 0)) (pos 1) refl second.is,
-                  (apart_none (db choice2_tree) none.0, (apart_none (db ranked2_tree) none.1.0, (apart_none (db ranking2_tree) none.1.1.0, (apart_none (db assigned2_tree) none.1.1.1.0, tt)))),
-                ),
-              ),
-            ),
-          ),
-        ),
-      ),
+    let none = second.says in
+    all_append (λ t. RowNumbersDiffer (db t)) first_trees second_trees admits.apart (
+      apart_one (db second_tree) (second_row (pos 0)) (pos 1) refl second.is,
+      (apart_none (db choice2_tree) none.0, (apart_none (db ranked2_tree) none.1.0, (apart_none (db ranking2_tree) none.1.1.0, (apart_none (db assigned2_tree) none.1.1.1.0, tt)))),
     )
 
 -- the same, where it is known of all tables of many rows
@@ -160,25 +135,9 @@ second_apart First db h = apart_one (db second_tree) (second_row (pos 0)) (pos 1
 second_apart Second db h = apart_one (db second_tree) (second_row (pos (number_of_phase h.phase))) (pos 1) refl h.is
 
 pub apart_both : (db : Trees) (round : Round) → HasOffice version (db portal_tree) → HasSecond round db → NumbersDiffer db → AllNumbersDiffer own_trees db
-apart_both db round office second many = (
-  apart_one (db portal_tree) (portal_row (pos version) (pos (number_of_phase office.phase)) office.office) (pos 1) refl office.is,
-  (
-    many.0,
-    (
-      many.1.0,
-      (
-        many.1.1.0,
-        (
-          many.1.1.1.0,
-          (
-            many.1.1.1.1.0,
-            (second_apart round db second, (many.1.1.1.1.1.0, (many.1.1.1.1.1.1.0, (many.1.1.1.1.1.1.1.0, (many.1.1.1.1.1.1.1.1.0, tt))))),
-          ),
-        ),
-      ),
-    ),
-  ),
-)
+apart_both db round office second many =
+    let parts = parts_of (λ t. RowNumbersDiffer (db t)) early_trees later_trees many in
+    all_append (λ t. RowNumbersDiffer (db t)) first_trees second_trees (first_apart version db office parts.0) (second_apart round db second, parts.1)
 
 -- a store over tables that were admitted
 module _

@@ -2,17 +2,17 @@
 unfoldable pub use Rattle.portal_store.specs.World.{world_in, world_of}
 unfoldable pub use Rattle.std.specs.List.{IsDistinct}
 pub use Rattle.std.proofs.Common.{Bool, Err, IfOk, IsTrue, List, None, Ok, OnErr, OnOk, Option, Result, Some, [], ap, ap₂, arith, cond, eqb, false, filter, get_or, inl, inr, length, map, not, option_map, pos, refl, rules, slice_index_or, subst, subst₂, sym, take, true, ℕ, ◌&&◌, ◌++◌, ◌+◌, ◌<◌, ◌||◌, ◌∙◌, ◌∷◌, ◌≡◌, ◌≢◌, ◌⊎◌, ◌+ℤ◌, append_assoc, append-nil, Less, suc, ◌≤◌, IfErr, drop, ℤ}
-pub use Rattle.std.proofs.Math.Bool.{or-true, and-false}
+pub use Rattle.std.proofs.Math.Bool.{or-true, and-false, or-false}
 pub use Rattle.std.proofs.lemmas.Bool.{cases_Bool, or_parts, eqb-false}
 pub use Rattle.std.proofs.lemmas.Bool.Decides.{nat_tests, eqb_tells}
-pub use Rattle.std.proofs.lemmas.List.{map-append, get_or-map, length-map, take_more, take_all}
-pub use Rattle.std.proofs.lemmas.List.Sorted.{IsPermutation-cons, IsPermutation-map, IsPermutation-middle, IsPermutation-refl, IsPermutation-sym, IsPermutation-trans, length_permutation, list_any-IsPermutation, IsPermutation-append_right}
+pub use Rattle.std.proofs.lemmas.List.{map-append, map-id, get_or-map, length-map, nil_from_length, take_more, take_all}
+pub use Rattle.std.proofs.lemmas.List.Sorted.{IsPermutation-cons, IsPermutation-filter_both, IsPermutation-map, IsPermutation-middle, IsPermutation-refl, IsPermutation-sym, IsPermutation-trans, length_permutation, list_any-IsPermutation, IsPermutation-append_right}
 pub use Rattle.std.proofs.lemmas.Result.{IfOk-weaker, MatchResult-weaker, on_err_weaker, on_ok_weaker, MatchResult-from_both}
 pub use Rattle.std.specs.List.{AllByRecursion, cons_option, filter_map, find, list_all, list_any, AllZip}
 pub use Rattle.std.specs.List.Sorted.{IsPermutation}
 pub use Rattle.std.specs.Prelude.{IfSome, if◌then◌else◌, is_none, ◌==◌, nat_lt, ◌-◌, ◌↔◌}
-pub use Rattle.std.specs.Result.{IsErr}
-pub use Rattle.portal_core.proofs.AllLaws.{all_append, all_map, all_weaker, is_sym, map_same, all_both, any_map}
+pub use Rattle.std.specs.Result.{IsErr, IsErrAnd}
+pub use Rattle.portal_core.proofs.AllLaws.{all_append, all_map, all_weaker, is_sym, map_same, none_passes, all_both, any_map}
 pub use Rattle.portal_core.proofs.Capacities.{first_plays, each_one}
 pub use Rattle.portal_core.proofs.Kept.{place_row}
 pub use Rattle.portal_core.proofs.Keys.{all_unmap, is_own, is_same, find_map}
@@ -45,7 +45,7 @@ pub use Rattle.portal_store.specs.inner.Adding.{with_rows_added}
 pub use Rattle.portal_store.specs.inner.Asked.{Admits, AdmitsAs, Denies, NumbersDiffer, SaysNothing, IsJudged}
 pub use Rattle.portal_store.specs.inner.Ending.{CommitsChange, LeavesMade}
 pub use Rattle.portal_store.specs.inner.Keeping.{AreEntries, HasChangedIn, IsKept, IsTransitionFrom, IsTransitionIn, early_trees, HasChangedFrom}
-pub use Rattle.portal_store.specs.inner.Loads.{LoadsIn, Loads, after_first}
+pub use Rattle.portal_store.specs.inner.Loads.{LoadsIn, Loads, after_first, joined, HasNothingBefore}
 pub use Rattle.portal_store.specs.inner.Opening.{OpensSecondRound, is_opening}
 pub use Rattle.portal_store.specs.inner.Placing.{ShowsRoll, TurnsLeft, TurnsShown, assigned_of, pair_left}
 pub use Rattle.portal_store.specs.inner.Putting.{TurnsAll, TurnsThere, with_rankings}
@@ -55,7 +55,7 @@ pub use Rattle.portal_tables.proofs.Asking.{commits_asked, commits_none}
 pub use Rattle.portal_tables.proofs.InTurn.{both, clean_before, if_answered, looks_by, looks_never, looks_then, settled_still, stays_left, stays_then, reads_as, reads_both, reads_handed, reads_more, reads_of, reads_open, reads_short, reads_then, reads_then_of, reads_wide}
 pub use Rattle.portal_tables.proofs.Keeping.{apart_one, others_are, apart_none, puts_apart, sets_apart}
 pub use Rattle.portal_tables.proofs.Listed.{all_map_on, permuted}
-pub use Rattle.portal_tables.proofs.Lists.{filter_all, put_splits}
+pub use Rattle.portal_tables.proofs.Lists.{filter-filter, filter_all, not_true, put_splits, sifted}
 pub use Rattle.portal_tables.proofs.Making.{parts_of}
 pub use Rattle.portal_tables.proofs.OneFound.{filter_alike, found}
 pub use Rattle.portal_tables.proofs.Owned.{current_own, has_round, own_made, own_again}
@@ -66,7 +66,7 @@ pub use Rattle.portal_tables.proofs.Sorted.{all_permuted, all_two, at, distinct_
 pub use Rattle.portal_tables.specs.Making.{IsFresh, Upgrades, has_names, Creates, Upgraded, has_name, is_named_table, is_named_view}
 pub use Rattle.portal_tables.specs.Rows.{IsWhole, chosen, list_in_order, of_key, HasOffice, number_of_phase, RowNumbersDiffer, has_text, portal_row, row_key, second_row, text_or_none, phase_numbered}
 pub use Rattle.portal_tables.specs.Steps.{Anyhow, Reading, Commits, IsAfter, IsSettled, IsUnchangedOrUndone, OnlyLooks, Stays, LeavesOnly, Reads}
-pub use Rattle.portal_tables.specs.Tables.{tree_of, assigned2_tree, choice2_tree, choice_tree, first_trees, first_version, lecturer_tree, own_trees, portal_tree, project_tree, ranked2_tree, ranking2_tree, ranking_tree, second_tree, student_tree, version, HasFirstSchema, IsCurrentSchema, IsFirstSchema, no_schema, first_schema, SameTable, second_trees, choice_table, ranking_table}
+pub use Rattle.portal_tables.specs.Tables.{tree_of, assigned2_tree, choice2_tree, choice_tree, first_trees, first_version, lecturer_tree, own_trees, portal_tree, project_tree, ranked2_tree, ranking2_tree, ranking_tree, second_tree, student_tree, version, HasFirstSchema, IsCurrentSchema, IsFirstSchema, no_schema, first_schema, SameTable, second_trees, choice_table, ranking_table, HasRound}
 pub use Rattle.portal_tables.specs.declared.fault.TableFault.{TableFault}
 pub use Rattle.portal_tables.specs.declared.names.Names.TheVariants.{OfSecond}
 pub use Rattle.portal_tables.specs.declared.office.Office.{Office}
@@ -95,6 +95,6 @@ pub use Rattle.sqlite.specs.Store.{Ghosts}
 pub use Rattle.sqlite.specs.Tree.{Trees, put_row, rowid}
 pub use Rattle.sqlite.specs.declared.types.Value.TheVariants.{Int, Null}
 pub use Rattle.sqlite_rules.specs.Lists.{Has}
-pub use Rattle.sqlite_trees.proofs.ListLemmas.{all_of, filter-map, map-map, all-filter}
+pub use Rattle.sqlite_trees.proofs.ListLemmas.{all_of, filter-map, filter_none, map-map, all-filter}
 pub use Rattle.sqlite_trees.specs.Objects.{number_in}
 pub use Rattle.sqlite_trees.specs.Tree.{with_tree}

@@ -3,7 +3,7 @@ use Rattle.portal_store.proofs.Base.{◌≡◌, Bool, true, false, cond, List, [
 use Rattle.portal_core.specs.inner.Room.{lecturer_left, project_left}
 use Rattle.portal_core.proofs.Rooms.{project_left_is, lecturer_left_is, each_left}
 use Rattle.portal_list.proofs.Listings.{row_of, offered_rows}
-use Rattle.portal_store.proofs.Loaded.{each_found, students_by_key, round_rows, world_first}
+use Rattle.portal_store.proofs.Loaded.{found_alike, students_by_key, round_rows, world_first}
 
 -- a lecturer who is not there has no name
 no_name : (ls : List Lecturer) (k : Key) → has (map lecturer_key ls) k ≡ false → name_in ls k ≡ None
@@ -57,7 +57,7 @@ module _ (ls : List Lecturer) (ps : List ProjectRow) (ss : List Student) where
 pairs_told : (db : Trees) → first_pairs db ≡ pairs_with (λ s. s.earlier_placement) (world_in Second db).students
 unfolding world_in
 pairs_told db =
-    each_found (λ (s : Student). option_map (λ p. (s.row.key, p)) s.earlier_placement) (student_stored Second db) pair_told (columns (1 ∷ 4 ∷ [])) (by_key (db student_tree)) _ (students_by_key Second db) (λ r. refl)
+    found_alike pair_told (λ (s : Student). option_map (λ p. (s.row.key, p)) s.earlier_placement) (columns (1 ∷ 4 ∷ [])) (student_stored Second db) (by_key (db student_tree)) _ _ refl (students_by_key Second db) (λ r. refl)
 
 left_told : (db : Trees) → catalogue_shown Second db ≡ catalogue (world_in Second db)
 unfolding world_in

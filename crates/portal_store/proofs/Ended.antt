@@ -104,8 +104,3 @@ pub told_if : {V E F : Type 0} (P : V → Type 0) (x : Result V E) (r : Result V
 told_if P (Ok v) r is h = subst (λ r. IfOk r P) (sym is) h
 told_if P (Err e) (Ok v) is h = absurd is
 told_if P (Err e) (Err f) is h = tt
-
-pub told_on : {V E F : Type 0} (A : Type 0) (x : Result V E) (r : Result V F) → IsToldAs x r → OnOk x A → OnOk r A
-told_on A (Ok v) r is h = subst (λ r. OnOk r A) (sym is) h
-told_on A (Err e) (Ok v) is h = absurd is
-told_on A (Err e) (Err f) is h = tt

@@ -1,5 +1,5 @@
 -- The world with rankings put in turn; those that a fill would put make the filled world.
-use Rattle.portal_store.proofs.Base.{◌≡◌, inl, inr, Bool, true, false, ◌||◌, cond, Some, List, [], ◌∷◌, ◌++◌, map, filter, refl, sym, ap, subst, ◌∙◌, or-true, AllByRecursion, IsDistinct, Has, Key, equals, has, Rise, World, Lecturer, lecturer_key, student_key, applicants_of, is_still_to_rank, changed, Ranks, Fill, with_ranking, is_own, is_sym, map_same, fill_missing, ranking_elsewhere, ranking_here, with_rankings, map_twice, map_alike_on, rise_distinct, with_fill}
+use Rattle.portal_store.proofs.Base.{◌≡◌, inl, inr, Bool, true, false, ◌||◌, cond, Some, List, [], ◌∷◌, ◌++◌, map, filter, refl, sym, ap, subst, ◌∙◌, AllByRecursion, IsDistinct, Has, Key, equals, has, Rise, World, Lecturer, lecturer_key, student_key, applicants_of, is_still_to_rank, changed, Ranks, Fill, with_ranking, is_own, is_sym, map_same, map-id, fill_missing, ranking_elsewhere, ranking_here, with_rankings, map_twice, map_alike_on, rise_distinct, with_fill, all-filter, all_has, all_map, all_unmap, at, has_of}
 use Rattle.portal_store.proofs.RankTurns.{same_key}
 
 -- one ranking more
@@ -16,37 +16,12 @@ with_all : List (Key × List Key) → Lecturer → Lecturer
 with_all [] l = l
 with_all (f ∷ fs) l = with_all fs (with_ranking f.0 f.1 l)
 
-map_itself : {X : Type 0} (xs : List X) → xs ≡ map (λ x. x) xs
-map_itself [] = refl
-map_itself (x ∷ xs) = ap (λ l. x ∷ l) (map_itself xs)
-
 ranked_is : (w : World) (fs : List (Key × List Key)) → with_rankings w fs ≡ record w { lecturers = map (with_all fs) w.lecturers }
 unfolding with_all
-ranked_is w [] = λ i. record w { lecturers = map_itself w.lecturers i }
+ranked_is w [] = λ i. record w { lecturers = sym (map-id w.lecturers) i }
 ranked_is w (f ∷ fs) =
     let both = map_twice (with_all fs) (with_ranking f.0 f.1) w.lecturers in
     ranked_is (changed w (Ranks f.0 f.1)) fs ∙ (λ i. record w { lecturers = sym both i })
-
--- what holds of each element, as it is shown, holds of those that pass
-all_shown : {X Y : Type 0} (P : Y → Type 0) (show : X → Y) (p : X → Bool) (xs : List X) → ((x : X) → Has xs x → P (show x))
-    → AllByRecursion P (map show (filter p xs))
-all_shown P show p [] h = tt
-all_shown P show p (x ∷ xs) h =
-    elim (p x) as (λ b. AllByRecursion P (map show (cond b (x ∷ filter p xs) (filter p xs)))) [
-      | true ↦ (h x (inl refl), all_shown P show p xs (λ y k. h y (inr k)))
-      | false ↦ all_shown P show p xs (λ y k. h y (inr k))
-    ]
-
-key_there : (ls : List Lecturer) (l : Lecturer) → Has ls l → has (map lecturer_key ls) l.row.key ≡ true
-key_there [] l h = absurd h
-key_there (x ∷ ls) l (inl same) =
-    ap (λ (y : Lecturer). equals l.row.key y.row.key || has (map lecturer_key ls) l.row.key) (sym same) ∙ ap (λ b. b || has (map lecturer_key ls) l.row.key) (is_own l.row.key)
-key_there (x ∷ ls) l (inr h) = ap (λ b. equals l.row.key x.row.key || b) (key_there ls l h) ∙ or-true (equals l.row.key x.row.key)
-
-key_apart : (k : Key) (ls : List Lecturer) (l : Lecturer) → AllByRecursion (λ j. equals k j ≡ false) (map lecturer_key ls) → Has ls l → equals l.row.key k ≡ false
-key_apart k [] l apart h = absurd h
-key_apart k (x ∷ ls) l apart (inl same) = is_sym l.row.key k ∙ ap (λ (y : Lecturer). equals k y.row.key) same ∙ apart.0
-key_apart k (x ∷ ls) l apart (inr h) = key_apart k ls l apart.1 h
 
 module _ (w : World) where
   abbrev keys_for : Lecturer → List Key
@@ -84,7 +59,7 @@ module _ (w : World) where
           ap (with_all (among ls)) (sym (ranking_here x.row.key (keys_for x) x (is_own x.row.key)))
           ∙ others_only ls (record x { ranking = Some (map student_key (applicants_of w x.row.key)) }) d.0
       go false = others_only ls x d.0
-  each_filled (x ∷ ls) l d (inr has) = one_other (is_still_to_rank w x) x ls l (with_fill w l) (key_apart x.row.key ls l d.0 has) (each_filled ls l d.1 has)
+  each_filled (x ∷ ls) l d (inr has) = one_other (is_still_to_rank w x) x ls l (with_fill w l) (is_sym l.row.key x.row.key ∙ at (λ m. equals x.row.key (lecturer_key m) ≡ false) ls l (all_unmap (λ k. equals x.row.key k ≡ false) lecturer_key ls d.0) has) (each_filled ls l d.1 has)
 
   pub all_filled : Rise (map lecturer_key w.lecturers) → with_rankings w (fill_missing w) ≡ changed w Fill
   all_filled up =
@@ -93,4 +68,7 @@ module _ (w : World) where
       ranked_is w (fill_missing w) ∙ (λ i. record w { lecturers = every i })
 
   pub fills_there : AllByRecursion (λ (f : Key × List Key). has (map lecturer_key w.lecturers) f.0 ≡ true) (fill_missing w)
-  fills_there = all_shown _ fill_for (is_still_to_rank w) w.lecturers (λ l h. key_there w.lecturers l h)
+  fills_there =
+      let keys = map lecturer_key w.lecturers in
+      all_map (λ (f : Key × List Key). has keys f.0 ≡ true) fill_for (filter (is_still_to_rank w) w.lecturers)
+      (all-filter (λ l. has keys (lecturer_key l) ≡ true) (is_still_to_rank w) w.lecturers (all_unmap (λ k. has keys k ≡ true) lecturer_key w.lecturers (all_has (λ k. has keys k ≡ true) keys (has_of keys))))

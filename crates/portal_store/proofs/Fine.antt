@@ -1,7 +1,6 @@
 -- Tables that stand for a good world are fine to read.
-use Rattle.portal_store.proofs.Base.{◌≡◌, inl, inr, ℕ, ◌<◌, ◌+◌, Bool, true, false, not, cond, ◌||◌, IfSome, Option, Some, None, option_map, List, [], ◌∷◌, map, filter, length, get_or, arith, refl, sym, ap, subst, ◌∙◌, ◌==◌, slice_index_or, AllByRecursion, or-true, cases_Bool, nat_tests, Row, column, bytes, Trees, is_code, Good, ProjectRow, Key, equals, has, Rise, World, Lecturer, Student, alone, alone_student, first_placed, is_left, is_second, students_in, lecturer_key, project_key, student_key, applicants_of, is_published, Published, all_weaker, all_map, is_same, is_own, all_unmap, first_plays, Round, First, Second, lecturer_tree, project_tree, student_tree, assigned2_tree, version, tree_of, row_key, by_key, RollsRise, lecturers_shown, projects_shown, students_shown, lecturer_columns, roll_columns, world_in, phase_in, choice_table, ranking_table, is_ranked, lecturer_stored, student_stored, lecturer_row, student_row, project_row, of_key, chosen, list_in_order, IsWhole, HasGoodFirst, HasGoodWorldIn, Whole, shown_lecturer, shown_project, shown_student, AreFine, all_permuted, all_two, permutes, map-map, suc, ◌≤◌, get_or-map, IsLecturer, IsProject, IsStudent, IsChoice, IsRanking, instance_of, places_of, project_keys, first, first_published, in_play, all_both, ranking_in, choice_in, placement_in_round, HasPlacement, IsFine, all-filter}
+use Rattle.portal_store.proofs.Base.{◌≡◌, inl, inr, ℕ, ◌<◌, ◌+◌, Bool, true, false, cond, ◌||◌, IfSome, Option, Some, None, option_map, List, [], ◌∷◌, map, filter, length, get_or, arith, refl, sym, ap, subst, ◌∙◌, ◌==◌, slice_index_or, AllByRecursion, or-true, cases_Bool, nat_tests, Row, column, bytes, Trees, is_code, Good, ProjectRow, Key, equals, has, Rise, World, Lecturer, Student, alone, alone_student, first_placed, is_left, is_second, students_in, lecturer_key, project_key, student_key, applicants_of, is_published, Published, all_weaker, all_map, is_same, is_own, all_unmap, first_plays, Round, First, Second, lecturer_tree, project_tree, student_tree, assigned2_tree, version, tree_of, row_key, by_key, RollsRise, lecturers_shown, projects_shown, students_shown, lecturer_columns, roll_columns, world_in, phase_in, choice_table, ranking_table, is_ranked, lecturer_stored, student_stored, lecturer_row, student_row, project_row, of_key, chosen, list_in_order, IsWhole, HasGoodFirst, HasGoodWorldIn, Whole, shown_lecturer, shown_project, shown_student, AreFine, all_permuted, all_two, permutes, map-map, suc, ◌≤◌, get_or-map, IsLecturer, IsProject, IsStudent, IsChoice, IsRanking, instance_of, places_of, project_keys, first, first_published, in_play, all_both, ranking_in, choice_in, placement_in_round, HasPlacement, IsFine, all-filter, HasOffice, portal_tree}
 use Rattle.std.proofs.lemmas.List.Elements.{recursion_from_All}
-use Rattle.std.specs.Str.{bytes_eq}
 use Rattle.spa_rows.specs.Lines.{is_key}
 use Rattle.spa_model.specs.Pairs.{number_in}
 use Rattle.spa_model.specs.Spa.{IsStable, IsOn, place}
@@ -13,7 +12,7 @@ use Rattle.portal_store.proofs.Loaded.{has_choice, has_ranked, lecturers_by_key,
 abbrev IsKey : Key → Type 0
 IsKey k = is_key k ≡ true
 
--- a key that is among keys, and one that has a number among them
+-- a key that is among keys
 among : (ks : List Key) → AllByRecursion IsKey ks → (k : Key) → has ks k ≡ true → IsKey k
 among [] all k h = absurd (cc)
 among (x ∷ xs) all k h = elim (cases_Bool (equals k x)) [
@@ -21,13 +20,10 @@ among (x ∷ xs) all k h = elim (cases_Bool (equals k x)) [
   | inr other ↦ among xs all.1 k (ap (λ b. b || has xs k) (sym other) ∙ h)
 ]
 
-numbered : (ks : List Key) → AllByRecursion IsKey ks → (k : Key) → number_in ks k < length ks → IsKey k
-numbered [] all k low = absurd (omega (arith, low))
-numbered (x ∷ xs) all k low =
-    (elim (bytes_eq x k) as (λ b. bytes_eq x k ≡ b → cond (not b) (1 + number_in xs k) 0 < suc (length xs) → IsKey k) [
-      | true ↦ λ e f. subst IsKey (is_same x k e) all.0
-      | false ↦ λ e f. numbered xs all.1 k (omega (arith, f))
-    ]) refl low
+-- who is placed at a project on a list of keys is placed at a key
+placed_key : (choice : List Key) → AllByRecursion IsKey choice → (o : Option Key) → IfSome o (λ p. has choice p ≡ true) → IfSome o IsKey
+placed_key choice all None on = tt
+placed_key choice all (Some p) on = among choice all p on
 
 -- in a good world of the first round whoever is placed is so at a project on the list
 module _ (w : World) (one : w.round ≡ First) (good : Good w) where
@@ -42,12 +38,6 @@ module _ (w : World) (one : w.round ≡ First) (good : Good w) where
 
   abbrev place_of : Student → Option ℕ
   place_of s = option_map (number_in (project_keys w)) s.placed
-
-  is_placed : IsStable (instance_of w) (places_of w) → (i : ℕ) (d : Student) → i < length w.students → (o : Option Key) → (get_or w.students i d).placed ≡ o → IfSome o IsKey
-  is_placed held i d low None e = tt
-  is_placed held i d low (Some p) e =
-      let here : get_or (places_of w) i None ≡ Some (number_in (project_keys w) p) = get_or-map place_of w.students i d None low ∙ ap (option_map (number_in (project_keys w))) e in
-      numbered (project_keys w) known_projects p (on_roll (project_keys w) w.students known_choices i (number_in (project_keys w) p) (held.matching.acceptable i (number_in (project_keys w) p) here))
 
   -- a number on a list of known keys is that of a key on it
   listed : (choice : List Key) (k : Key) → number_in (project_keys w) k < length (project_keys w) → IsOn (map (number_in (project_keys w)) choice) (number_in (project_keys w) k) → has choice k ≡ true
@@ -77,12 +67,6 @@ module _ (w : World) (one : w.round ≡ First) (good : Good w) where
     | inr other ↦ all_weaker (λ s. s.placed ≡ None) (λ s. IfSome s.placed (λ p. has s.choice p ≡ true)) (λ s e. subst (λ o. IfSome o (λ p. has s.choice p ≡ true)) (sym e) tt) w.students (good.sound.no_result_yet other)
   ]
 
-  placed_alone : AllByRecursion (λ s. IfSome s.placed IsKey) w.students
-  placed_alone = elim (cases_Bool (is_published w.phase)) [
-    | inl so ↦ recursion_from_All (λ s. IfSome s.placed IsKey) w.students (λ i d low. is_placed (stable so) i d low (get_or w.students i d).placed refl)
-    | inr other ↦ all_weaker (λ s. s.placed ≡ None) (λ s. IfSome s.placed IsKey) (λ s e. subst (λ o. IfSome o IsKey) (sym e) tt) w.students (good.sound.no_result_yet other)
-  ]
-
 -- who is left has what is so of those who are, and who is not has nothing
 filtered : (P : Student → Type 0) (ss : List Student) → AllByRecursion (λ s. is_left s ≡ false → P s) ss → AllByRecursion P (filter is_left ss) → AllByRecursion P ss
 filtered P [] others all = tt
@@ -101,12 +85,6 @@ module _ (w : World) (good : Good w) where
   abbrev as_one : Good (alone (in_play w))
   as_one = (played_alone w good).0
 
-  pub placed_keys : AllByRecursion (λ s. IfSome s.placed IsKey) w.students
-  placed_keys =
-      of_all w.round (λ s. IfSome s.placed IsKey) w.students
-      (all_weaker (λ s. is_left s ≡ false → (s.choice ≡ []) × (s.placed ≡ None)) (λ s. is_left s ≡ false → IfSome s.placed IsKey) (λ s h e. subst (λ o. IfSome o IsKey) (sym (h e).1) tt) w.students good.sound.only_left)
-      (all_unmap (λ s. IfSome s.placed IsKey) alone_student (students_in w.round w.students) (placed_alone (alone (in_play w)) refl as_one))
-
   -- who is placed has the project on the list
   pub placed_on_lists : AllByRecursion (λ s. IfSome s.placed (λ p. has s.choice p ≡ true)) w.students
   placed_on_lists =
@@ -118,6 +96,9 @@ module _ (w : World) (good : Good w) where
   pub choice_keys : AllByRecursion (λ s. AllByRecursion IsKey s.choice) w.students
   choice_keys = all_weaker (λ s. IsChoice (project_keys (in_play w)) s.choice) (λ s. AllByRecursion IsKey s.choice)
       (λ s x. all_weaker (λ p. has (project_keys (in_play w)) p ≡ true) IsKey (λ p known. among (project_keys (in_play w)) (known_projects (alone (in_play w)) refl as_one) p known) s.choice x.known) w.students good.sound.choices
+
+  pub placed_keys : AllByRecursion (λ s. IfSome s.placed IsKey) w.students
+  placed_keys = all_two (λ s. IfSome s.placed (λ p. has s.choice p ≡ true)) (λ s. AllByRecursion IsKey s.choice) (λ s. IfSome s.placed IsKey) (λ s on keys. placed_key s.choice keys s.placed on) w.students placed_on_lists choice_keys
 
   known_students : AllByRecursion (λ s. IsKey (student_key s)) w.students
   known_students = all_weaker (λ s. IsStudent s.row) (λ s. IsKey (student_key s)) (λ s x. x.key) w.students good.sound.student_forms
@@ -214,14 +195,9 @@ module _ (round : Round) (db : Trees) (whole : Whole round db) (good : Good (wor
             (all_both (λ r. IsWhole (of_key (row_key r) (db (tree_of R)))) (λ r. is_ranked round db r ≡ false → of_key (row_key r) (db (tree_of R)) ≡ []) L whole_rankings ranked));
       }
 
-pub office_code : (of : ℕ) (db : Trees) (stands : HasGoodFirst of db) → is_code stands.office.office ≡ true
+pub office_code : (round : Round) (of : ℕ) (db : Trees) (office : HasOffice of (db portal_tree)) → Good (world_in round db) → is_code office.office ≡ true
 unfolding world_in
-office_code of db stands = subst (λ rows. is_code (bytes (column (slice_index_or rows 0 []) 4)) ≡ true) stands.office.is stands.good.sound.office_form
-
--- of either round
-pub office_coded : (round : Round) (db : Trees) (stands : HasGoodWorldIn round db) → is_code stands.office.office ≡ true
-unfolding world_in
-office_coded round db stands = subst (λ rows. is_code (bytes (column (slice_index_or rows 0 []) 4)) ≡ true) stands.office.is stands.good.sound.office_form
+office_code round of db office good = subst (λ rows. is_code (bytes (column (slice_index_or rows 0 []) 4)) ≡ true) office.is good.sound.office_form
 
 -- the first round's tables stand for what the second round's world says of the first
 

@@ -20,15 +20,6 @@ module _ (office : Key) (db : Database) (f : IsFresh office db) where
   firsts : AllByRecursion (λ t. db.trees t ≡ []) early_trees
   firsts = empty early_trees refl refl parts.0
 
-  lecturers : db.trees 1 ≡ []
-  lecturers = firsts.0
-
-  projects : db.trees 4 ≡ []
-  projects = firsts.1.0
-
-  students : db.trees 6 ≡ []
-  students = firsts.1.1.0
-
   held_first : IsConsistentIn First db
   held_first = record {
     current = own_made db.schema f.schema_is;
@@ -37,7 +28,7 @@ module _ (office : Key) (db : Database) (f : IsFresh office db) where
     apart = fresh_apart office db f;
     office = record { phase = Setup; office = office; is = f.row };
     second = record { is = f.second; says = empty later_trees refl refl parts.1.1 };
-    whole = record { choices = none _ (db.trees 6) students; rankings = none _ (db.trees 1) lecturers; ranked = none _ (db.trees 1) lecturers };
+    whole = record { choices = none _ (db.trees 6) firsts.1.1.0; rankings = none _ (db.trees 1) firsts.0; ranked = none _ (db.trees 1) firsts.0 };
   }
 
   pub first_holds : IsConsistent db
@@ -49,9 +40,9 @@ module _ (office : Key) (db : Database) (f : IsFresh office db) where
     round = First;
     phase = phase_numbered (number_in (column (slice_index_or (f.row i) 0 []) 3));
     office = bytes (column (slice_index_or (f.row i) 0 []) 4);
-    lecturers = put_all lecturer_key (map (lecturer_of (db.trees 12)) (lecturers i)) [];
-    projects = put_all project_key (map project_row (projects i)) [];
-    students = put_all student_key (map (student_of (db.trees 9)) (students i)) [];
+    lecturers = put_all lecturer_key (map (lecturer_of (db.trees 12)) (firsts.0 i)) [];
+    projects = put_all project_key (map project_row (firsts.1.0 i)) [];
+    students = put_all student_key (map (student_of (db.trees 9)) (firsts.1.1.0 i)) [];
   }
 
   pub first_is : world_of db.trees ≡ first_world office

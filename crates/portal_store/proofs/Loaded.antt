@@ -1,25 +1,7 @@
 -- From what was read to the world.
-use Rattle.portal_store.proofs.Base.{◌∙◌, ◌∷◌, ◌≡◌, AllByRecursion, AllRows, AreRead, Bool, First, HasRead, IsPermutation-sym, IsWhole, Key, Lecturer, List, LoadsIn, None, Option, Phase, Round, Row, RowsOfWorld, Second, Some, Student, Trees, Whole, World, [], all_map, all_of, all_permuted, all_unmap, all_weaker, alone, alone_student, ap, by_key, bytes, choice_table, chosen, column, cond, cons_option, false, filter_map, has_list, is_ranked, is_second, lecturer_columns, lecturer_key, lecturer_stored, lecturer_tree, lecturers_shown, map, map-map, map_alike, number_in, number_of_phase, of_key, option_map, pair_shown, pairs_with, permutes, phase_numbered, portal_row, portal_tree, pos, project_key, project_row, project_tree, projects_shown, put_all, put_all_map, ranking_table, refl, roll_columns, row_key, rows_from, second_row, second_tree, shown_lecturer, shown_project, shown_student, slice_index_or, student_key, student_stored, student_tree, students_shown, subst, sym, tree_of, true, version, world_in, world_rows, ℕ, alone_lecturer, choices_in, rankings_with, second_phase, Loads, after_first, entry, IsRead}
+use Rattle.portal_store.proofs.Base.{◌∙◌, ◌∷◌, ◌≡◌, AllByRecursion, AllRows, AreRead, Bool, First, HasRead, IsPermutation-sym, IsWhole, Key, Lecturer, List, LoadsIn, None, Option, Phase, Round, Row, RowsOfWorld, Second, Some, Student, Trees, Whole, World, [], all_map, all_of, all_permuted, all_unmap, all_weaker, alone, alone_student, ap, by_key, bytes, choice_table, chosen, column, cond, cons_option, false, filter_map, has_list, is_ranked, is_second, lecturer_columns, lecturer_key, lecturer_stored, lecturer_tree, lecturers_shown, map, map-map, map_alike, number_in, number_of_phase, of_key, option_map, pair_shown, pairs_with, permutes, phase_numbered, portal_row, portal_tree, pos, project_key, project_row, project_tree, projects_shown, put_all, put_all_map, ranking_table, refl, roll_columns, row_key, rows_from, second_row, second_tree, shown_lecturer, shown_project, shown_student, slice_index_or, student_key, student_stored, student_tree, students_shown, subst, sym, tree_of, true, version, world_in, world_rows, ℕ, alone_lecturer, choices_in, rankings_with, second_phase, Loads, after_first, joined, entry, IsRead, HasNothingBefore}
 use Rattle.portal_store.proofs.Rounds.{phase_back}
-use Rattle.portal_store.proofs.RowsOnce.{HasNothingBefore, nothing_before}
-
--- the rows of a world: that of the office, and the others
-abbrev pub with_office : Phase → Key → AllRows → RowsOfWorld
-with_office phase code rows =
-    record {
-      round = First;
-      phase = phase;
-      office = code;
-      lecturers = rows.lecturers;
-      projects = rows.projects;
-      students = rows.students;
-      choices = rows.choices;
-      rankings = rows.rankings;
-      pairs = rows.pairs;
-      earlier_choices = [];
-      earlier_rankings = [];
-      earlier_pairs = [];
-    }
+use Rattle.portal_store.proofs.RowsOnce.{nothing_before}
 
 pub some_mapped : {X Y Z : Type 0} (f : Y → Option Z) (g : X → Y) (xs : List X) → filter_map f (map g xs) ≡ filter_map (λ x. f (g x)) xs
 some_mapped f g [] = refl
@@ -41,20 +23,13 @@ ranked_pair : (b : Bool) (key : Key) (list : List Key) → cond {A = Option (Key
 ranked_pair true key list = refl
 ranked_pair false key list = refl
 
--- what is shown of rows, and what is made of the entries that the rows stand for
+-- what two ways to make entries of rows make of them
 
-each_map : {X Y : Type 0} (f : Y → X) (made : Row → Y) (shown : Row → X) (cells : Row → Row) (rows : List Row) (all : List Y) → all ≡ map made rows → ((r : Row) → shown (cells r) ≡ f (made r)) → map shown (map cells rows) ≡ map f all
-each_map f made shown cells rows all is same = map-map shown cells rows ∙ map_alike (λ r. shown (cells r)) (λ r. f (made r)) rows same ∙ sym (ap (map f) is ∙ map-map f made rows)
-
-pub each_found : {X Y : Type 0} (f : Y → Option X) (made : Row → Y) (shown : Row → Option X) (cells : Row → Row) (rows : List Row) (all : List Y) → all ≡ map made rows → ((r : Row) → shown (cells r) ≡ f (made r))
-    → filter_map shown (map cells rows) ≡ filter_map f all
-each_found f made shown cells rows all is same = some_mapped shown cells rows ∙ some_alike (λ r. shown (cells r)) (λ r. f (made r)) rows same ∙ sym (ap (filter_map f) is ∙ some_mapped f made rows)
-
--- the same of two ways to make entries
-each_alike : {X Y : Type 0} (f g : Y → X) (one other : Row → Y) (rows : List Row) (all more : List Y) → all ≡ map one rows → more ≡ map other rows → ((r : Row) → f (one r) ≡ g (other r)) → map f all ≡ map g more
+each_alike : {X Y Z : Type 0} (f : Y → X) (g : Z → X) (one : Row → Y) (other : Row → Z) (rows : List Row) (all : List Y) (more : List Z) → all ≡ map one rows → more ≡ map other rows → ((r : Row) → f (one r) ≡ g (other r)) → map f all ≡ map g more
 each_alike f g one other rows all more is also same = ap (map f) is ∙ map-map f one rows ∙ map_alike (λ r. f (one r)) (λ r. g (other r)) rows same ∙ sym (ap (map g) also ∙ map-map g other rows)
 
-found_alike : {X Y : Type 0} (f g : Y → Option X) (one other : Row → Y) (rows : List Row) (all more : List Y) → all ≡ map one rows → more ≡ map other rows → ((r : Row) → f (one r) ≡ g (other r)) → filter_map f all ≡ filter_map g more
+pub found_alike : {X Y Z : Type 0} (f : Y → Option X) (g : Z → Option X) (one : Row → Y) (other : Row → Z) (rows : List Row) (all : List Y) (more : List Z) → all ≡ map one rows → more ≡ map other rows → ((r : Row) → f (one r) ≡ g (other r))
+    → filter_map f all ≡ filter_map g more
 found_alike f g one other rows all more is also same = ap (filter_map f) is ∙ some_mapped f one rows ∙ some_alike (λ r. f (one r)) (λ r. g (other r)) rows same ∙ sym (ap (filter_map g) also ∙ some_mapped g other rows)
 
 -- what is made of an entry
@@ -127,14 +102,14 @@ module _ (round : Round) (db : Trees) where
   round_rows =
       let L = by_key (db lecturer_tree) in
       let S = by_key (db student_tree) in
-      let lecturers = each_map (λ (l : Lecturer). l.row) (lecturer_stored round db) shown_lecturer lecturer_columns L _ lecturers_by_key (λ r. refl) in
+      let lecturers = each_alike shown_lecturer (λ (l : Lecturer). l.row) lecturer_columns (lecturer_stored round db) L _ _ refl lecturers_by_key (λ r. refl) in
       let projects = map-map shown_project roll_columns (by_key (db project_tree)) ∙ sym projects_by_key in
-      let students = each_map (λ (s : Student). s.row) (student_stored round db) shown_student roll_columns S _ students_by_key (λ r. refl) in
+      let students = each_alike shown_student (λ (s : Student). s.row) roll_columns (student_stored round db) S _ _ refl students_by_key (λ r. refl) in
       let choices = some_mapped (entry (choice_table round) db) roll_columns S
       ∙ some_alike (λ r. entry (choice_table round) db (roll_columns r)) (λ r. Some (chosen_pair (student_stored round db r))) S (choice_shown round db) ∙ each_some (λ r. chosen_pair (student_stored round db r)) S
       ∙ sym (ap (map chosen_pair) students_by_key ∙ map-map chosen_pair (student_stored round db) S) in
-      let rankings = each_found ranking_entry (lecturer_stored round db) (entry (ranking_table round) db) lecturer_columns L _ lecturers_by_key (ranking_shown round db) in
-      let pairs = each_found placed_pair (student_stored round db) (pair_shown round None db) roll_columns S _ students_by_key (place_told round db) in
+      let rankings = found_alike (entry (ranking_table round) db) ranking_entry lecturer_columns (lecturer_stored round db) L _ _ refl lecturers_by_key (ranking_shown round db) in
+      let pairs = found_alike (pair_shown round None db) placed_pair roll_columns (student_stored round db) S _ _ refl students_by_key (place_told round db) in
       λ i. record { lecturers = lecturers i; projects = projects i; students = students i; choices = choices i; rankings = rankings i; pairs = pairs i }
 
   -- what was found of the rows in their order holds of the table
@@ -181,7 +156,7 @@ module _ (db : Trees) where
       (all_map (λ (s : Student). s.earlier_placement ≡ None) alone_student (world_in First db).students (all_of _ (λ s. refl) (world_in First db).students))
 
   pub rows_are : (of : ℕ) (phase : Phase) (code : Key) → db portal_tree ≡ portal_row (pos of) (pos (number_of_phase phase)) code ∷ []
-      → with_office phase code (rows_from First db (lecturers_shown db) (projects_shown db) (students_shown db)) ≡ world_rows (world_in First db)
+      → joined First phase code (rows_from First db (lecturers_shown db) (projects_shown db) (students_shown db)) [] [] [] ≡ world_rows (world_in First db)
   unfolding world_in
   rows_are of phase code office =
       let phase_is : phase ≡ phase_numbered (number_in (column (slice_index_or (db portal_tree) 0 []) 3)) = sym (ap (λ rows. phase_numbered (number_in (column (slice_index_or rows 0 []) 3))) office ∙ phase_back phase) in
@@ -190,27 +165,13 @@ module _ (db : Trees) where
       ap (filter_map earlier_entry) (lecturers_by_key First db) ∙ some_mapped earlier_entry (lecturer_stored First db) by_lecturer ∙ none_some (λ r. earlier_entry (lecturer_stored First db r)) by_lecturer (λ r. refl) in
       let earlier_pairs : filter_map earlier_pair (put_all student_key (map (student_stored First db) (db student_tree)) []) ≡ [] =
       ap (filter_map earlier_pair) (students_by_key First db) ∙ some_mapped earlier_pair (student_stored First db) by_student ∙ none_some (λ r. earlier_pair (student_stored First db r)) by_student (λ r. refl) in
-      let same = round_rows First db in
-      λ i. record {
-        round = First;
-        phase = phase_is i;
-        office = code_is i;
-        lecturers = (same i).lecturers;
-        projects = (same i).projects;
-        students = (same i).students;
-        choices = (same i).choices;
-        rankings = (same i).rankings;
-        pairs = (same i).pairs;
-        earlier_choices = [];
-        earlier_rankings = sym earlier_rankings i;
-        earlier_pairs = sym earlier_pairs i;
-      }
+      λ i. joined First (phase_is i) (code_is i) (round_rows First db i) [] (sym earlier_rankings i) (sym earlier_pairs i)
 
-  pub loads : (of : ℕ) (phase : Phase) (code : Key) → db portal_tree ≡ portal_row (pos of) (pos (number_of_phase phase)) code ∷ [] → (rows : AllRows) → HasRead First rows db → Loads of First db (with_office phase code rows)
+  pub loads : (of : ℕ) (phase : Phase) (code : Key) → db portal_tree ≡ portal_row (pos of) (pos (number_of_phase phase)) code ∷ [] → (rows : AllRows) → HasRead First rows db → Loads of First db (joined First phase code rows [] [] [])
   loads of phase code office rows read = record {
     office = record { phase = phase; office = code; is = office };
     whole = whole_is First db read.1;
-    rows_are = ap (with_office phase code) read.0 ∙ rows_are of phase code office;
+    rows_are = ap (λ (all : AllRows). joined First phase code all [] [] []) read.0 ∙ rows_are of phase code office;
   }
 
   -- after the rows of the first round, those of the second
@@ -222,21 +183,7 @@ module _ (db : Trees) where
       let choices = ap (λ (r : RowsOfWorld). r.choices) is ∙ each_alike chosen_pair earlier_choice_pair (student_stored First db) (student_stored Second db) by_student _ _ (students_by_key First db) (students_by_key Second db) (λ r. refl) in
       let rankings = ap (λ (r : RowsOfWorld). r.rankings) is ∙ found_alike ranking_entry earlier_entry (lecturer_stored First db) (lecturer_stored Second db) by_lecturer _ _ (lecturers_by_key First db) (lecturers_by_key Second db) (λ r. refl) in
       let pairs = ap (λ (r : RowsOfWorld). r.pairs) is ∙ found_alike placed_pair earlier_pair (student_stored First db) (student_stored Second db) by_student _ _ (students_by_key First db) (students_by_key Second db) (λ r. refl) in
-      let same = round_rows Second db in
-      λ i. record {
-        round = Second;
-        phase = phase_is i;
-        office = (is i).office;
-        lecturers = (same i).lecturers;
-        projects = (same i).projects;
-        students = (same i).students;
-        choices = (same i).choices;
-        rankings = (same i).rankings;
-        pairs = (same i).pairs;
-        earlier_choices = choices i;
-        earlier_rankings = rankings i;
-        earlier_pairs = pairs i;
-      }
+      λ i. joined Second (phase_is i) (is i).office (round_rows Second db i) (choices i) (rankings i) (pairs i)
 
   pub loads_after : (first : RowsOfWorld) (phase : Phase) → Loads version First db first → db second_tree ≡ second_row (pos (number_of_phase phase)) ∷ [] → (rows : AllRows) → HasRead Second rows db → LoadsIn Second db (after_first first phase rows)
   loads_after first phase loads row rows read = record {

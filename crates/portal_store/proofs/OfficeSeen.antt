@@ -1,8 +1,8 @@
 -- What the office sees, of what queries show.
-use Rattle.portal_store.proofs.Base.{◌≡◌, Bool, true, false, ◌&&◌, cond, Option, Some, None, option_map, List, [], ◌∷◌, map, filter, refl, sym, ap, ◌∙◌, if◌then◌else◌, is_none, list_any, filter_map, cons_option, Row, Trees, Database, filter-map, map-map, Phase, Listing, ProjectRow, Key, equals, has, is_empty, Lecturer, Student, students_in, is_left, is_still_to_rank, is_from_ranking, shown_placement, catalogue, all_weaker, Round, First, Second, ranking_table, tree_of, has_list, choice_shown, lecturer_tree, student_tree, row_key, by_key, lecturers_shown, projects_shown, students_shown, lecturer_columns, roll_columns, chosen, first_cell, shown_project, pair_shown, office_shown, IsConsistentIn, Whole, world_in, is_ranked, lecturer_stored, student_stored, student_from, pairs_of, office_sees, any_map, is_wanted, is_waiting, filter_alike, HasWholeLists, is_chosen_shown, is_wanted_shown, waiting_key, waiting_keys, unlisted, AreWhole}
+use Rattle.portal_store.proofs.Base.{◌≡◌, Bool, true, false, ◌&&◌, cond, Option, Some, None, option_map, List, [], ◌∷◌, map, filter, refl, sym, ap, ◌∙◌, if◌then◌else◌, is_none, list_any, filter_map, cons_option, Row, Trees, Database, filter-map, map-map, Phase, Listing, ProjectRow, Key, equals, has, is_empty, Lecturer, Student, students_in, is_left, is_still_to_rank, is_from_ranking, shown_placement, catalogue, all_weaker, Round, First, Second, ranking_table, tree_of, has_list, choice_shown, lecturer_tree, student_tree, row_key, by_key, lecturers_shown, projects_shown, students_shown, lecturer_columns, roll_columns, chosen, first_cell, shown_project, pair_shown, office_shown, IsConsistentIn, Whole, world_in, is_ranked, lecturer_stored, student_stored, student_from, pairs_of, office_sees, any_map, is_wanted, is_waiting, filter_alike, HasWholeLists, is_chosen_shown, is_wanted_shown, waiting_key, waiting_keys, unlisted, AreWhole, filter-filter}
 use Rattle.portal_list.proofs.Waiting.{waiting_lecturers}
 use Rattle.portal_store.proofs.Holding.{has_tables}
-use Rattle.portal_store.proofs.Loaded.{none_earlier, lecturers_by_key, students_by_key, round_rows, has_ranked, each_found, some_mapped}
+use Rattle.portal_store.proofs.Loaded.{none_earlier, lecturers_by_key, students_by_key, round_rows, has_ranked, found_alike, some_mapped}
 use Rattle.portal_store.proofs.Queried.{student_is}
 
 -- consistent tables have whole lists
@@ -54,19 +54,12 @@ waiting_told round db =
     ∙ waiting_lecturers w
 
 -- those who take part are those who are left
-filter_both : {X : Type 0} (p q : X → Bool) (xs : List X) → filter p (filter q xs) ≡ filter (λ x. q x && p x) xs
-filter_both p q [] = refl
-filter_both p q (x ∷ xs) = elim (q x) as (λ b. filter p (cond b (x ∷ filter q xs) (filter q xs)) ≡ cond (b && p x) (x ∷ filter (λ x. q x && p x) xs) (filter (λ x. q x && p x) xs)) [
-  | true ↦ ap (λ l. cond (p x) (x ∷ l) l) (filter_both p q xs)
-  | false ↦ filter_both p q xs
-]
-
 abbrev is_idle : Student → Bool
 is_idle s = is_left s && is_empty s.choice
 
 idle_in : (round : Round) (db : Trees) → filter (λ (s : Student). is_empty s.choice) (students_in round (world_in round db).students) ≡ filter is_idle (world_in round db).students
 idle_in First db = filter_alike (λ (s : Student). is_empty s.choice) is_idle (world_in First db).students (all_weaker _ _ (λ s none. ap (λ (o : Option Key). is_none o && is_empty s.choice) (sym none)) (world_in First db).students (none_earlier db))
-idle_in Second db = filter_both (λ (s : Student). is_empty s.choice) is_left (world_in Second db).students
+idle_in Second db = filter-filter (λ (s : Student). is_empty s.choice) is_left (world_in Second db).students
 
 unlisted_told : (round : Round) (db : Trees) → unlisted round db (students_shown db) ≡ map (λ (s : Student). s.row.key) (filter (λ s. is_empty s.choice) (students_in round (world_in round db).students))
 unfolding world_in
@@ -84,7 +77,7 @@ pairs_told : (round : Round) (db : Trees) (phase : Phase) → filter_map (pair_s
 unfolding world_in
 pairs_told round db phase =
     let pair : Student → Option (Key × Key) = λ s. option_map (λ p. (s.row.key, p)) (shown_placement phase s) in
-    each_found pair (student_stored round db) (pair_shown round (Some phase) db) roll_columns (by_key (db student_tree)) _ (students_by_key round db) (λ r. ap pair (student_is round db r))
+    found_alike (pair_shown round (Some phase) db) pair roll_columns (student_stored round db) (by_key (db student_tree)) _ _ refl (students_by_key round db) (λ r. ap pair (student_is round db r))
 
 pub office_told : (round : Round) (db : Trees) (phase : Phase) (code : Key) (offers : List Listing) → phase ≡ (world_in round db).phase → code ≡ (world_in round db).office → offers ≡ catalogue (world_in round db)
     → office_shown round db phase code offers ≡ office_sees (world_in round db)

@@ -1,5 +1,5 @@
 -- The second round opens by one UPDATE of one row.
-use Rattle.portal_store.proofs.Base.{◌≡◌, Result, ℕ, pos, true, false, not, ◌&&◌, eqb, List, [], ◌∷◌, map, slice_index_or, refl, sym, ap, subst, ◌∙◌, AllByRecursion, list_any, Row, column, bytes, Database, State, number_in, Phase, Setup, Choosing, Ranking, Published, Round, First, Second, put_all, World, is_published, is_second, lecturer_key, project_key, student_key, Change, Choices, Ranks, Lecturers, Projects, Students, To, Placements, Fill, SecondRound, HasFirstSchema, IsCurrentSchema, of_key, IsWhole, HasOffice, row_key, second_row, MovesSecond, portal_tree, lecturer_tree, project_tree, student_tree, choice_tree, ranking_tree, second_tree, choice2_tree, ranked2_tree, ranking2_tree, assigned2_tree, own_trees, version, apart_one, put_all_map, map_alike, map_twice, phase_numbered, phase_in, lecturer_stored, project_row, student_stored, world_in, IsConsistentIn, Whole, IsTransitionFrom, IsTransitionIn, OpensSecondRound, CommitsChange, opened, ranked_before, placed_before, Becomes, HasChangedFrom, is_opening}
+use Rattle.portal_store.proofs.Base.{◌≡◌, Result, ℕ, pos, true, false, not, ◌&&◌, eqb, List, [], ◌∷◌, map, slice_index_or, refl, sym, ap, subst, ◌∙◌, AllByRecursion, list_any, Row, column, bytes, Database, State, number_in, Phase, Setup, Choosing, Ranking, Published, Round, First, Second, put_all, World, is_published, is_second, lecturer_key, project_key, student_key, Change, Choices, Ranks, Lecturers, Projects, Students, To, Placements, Fill, SecondRound, HasFirstSchema, IsCurrentSchema, of_key, IsWhole, HasOffice, row_key, second_row, MovesSecond, portal_tree, lecturer_tree, project_tree, student_tree, choice_tree, ranking_tree, second_tree, choice2_tree, ranked2_tree, ranking2_tree, assigned2_tree, own_trees, version, apart_one, put_all_map, map_alike, map_twice, phase_numbered, phase_in, lecturer_stored, project_row, student_stored, world_in, IsConsistentIn, Whole, IsTransitionFrom, IsTransitionIn, OpensSecondRound, CommitsChange, opened, ranked_before, placed_before, Becomes, HasChangedFrom, is_opening, all_of}
 use Rattle.portal_store.proofs.Ended.{ends_more}
 use Rattle.portal_store.proofs.Rounds.{from_in, world_told}
 use Rattle.portal_store.proofs.SecondRows.{lecturer_after, student_after}
@@ -15,20 +15,14 @@ module _ (old new : Database) (holds : IsConsistentIn First old) (published : ph
   choices2 : new.trees choice2_tree ≡ []
   choices2 = kept choice2_tree refl refl ∙ holds.second.says.0
 
-  ranked2 : new.trees ranked2_tree ≡ []
-  ranked2 = kept ranked2_tree refl refl ∙ holds.second.says.1.0
-
   rankings2 : new.trees ranking2_tree ≡ []
   rankings2 = kept ranking2_tree refl refl ∙ holds.second.says.1.1.0
 
-  assigned2 : new.trees assigned2_tree ≡ []
-  assigned2 = kept assigned2_tree refl refl ∙ holds.second.says.1.1.1.0
-
   student_before : (r : Row) → student_stored Second new.trees r ≡ placed_before (student_stored First old.trees r)
-  student_before r = λ i. student_after (choices2 i) (assigned2 i) (kept choice_tree refl refl i) r
+  student_before r = λ i. student_after (choices2 i) ((kept assigned2_tree refl refl ∙ holds.second.says.1.1.1.0) i) (kept choice_tree refl refl i) r
 
   lecturer_before : (r : Row) → lecturer_stored Second new.trees r ≡ ranked_before (lecturer_stored First old.trees r)
-  lecturer_before r = λ i. lecturer_after (ranked2 i) (rankings2 i) (kept ranking_tree refl refl i) r
+  lecturer_before r = λ i. lecturer_after ((kept ranked2_tree refl refl ∙ holds.second.says.1.0) i) (rankings2 i) (kept ranking_tree refl refl i) r
 
   abbrev was : World
   was = world_in First old.trees
@@ -68,21 +62,13 @@ module _ (old new : Database) (holds : IsConsistentIn First old) (published : ph
     };
     whole = (
       whole_first old.trees new.trees (first_kept second_tree old new refl done.others) holds.whole,
-      lists_none,
+      record {
+        choices = all_of _ (λ r. subst (λ rows. IsWhole (of_key (row_key r) rows)) (sym choices2) tt) (new.trees student_tree);
+        rankings = all_of _ (λ r. subst (λ rows. IsWhole (of_key (row_key r) rows)) (sym rankings2) tt) (new.trees lecturer_tree);
+        ranked = all_of _ (λ r e. ap (of_key (row_key r)) rankings2) (new.trees lecturer_tree);
+      },
     );
   }
-    where
-      each : {X : Type 0} (P : X → Type 0) → ((x : X) → P x) → (xs : List X) → AllByRecursion P xs
-      each P h [] = tt
-      each P h (x ∷ xs) = (h x, each P h xs)
-
-      -- no list has a gap where there is none
-      lists_none : Whole Second new.trees
-      lists_none = record {
-        choices = each _ (λ r. subst (λ rows. IsWhole (of_key (row_key r) rows)) (sym choices2) tt) (new.trees student_tree);
-        rankings = each _ (λ r. subst (λ rows. IsWhole (of_key (row_key r) rows)) (sym rankings2) tt) (new.trees lecturer_tree);
-        ranked = each _ (λ r e. ap (of_key (row_key r)) rankings2) (new.trees lecturer_tree);
-      }
 
   -- from the first round's published world
   turned : HasChangedFrom First SecondRound old new

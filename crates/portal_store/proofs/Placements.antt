@@ -36,9 +36,6 @@ module _ (pairs : List (Key × Key)) (r : Row) (f : IsStudentRow r) where
     | inr other ↦ assigned_is shown (sym (ap (λ b. b || has (map first_cell shown) (row_key r)) (sym (student_test (first_cell x) r f) ∙ other)) ∙ h) (put x v)
   ]
 
-each_there : (ks : List Key) → AllByRecursion (λ k. has ks k ≡ true) ks
-each_there ks = all_has (λ k. has ks k ≡ true) ks (has_of ks)
-
 -- what a query shows of the roll are its keys, each once
 shown_keys : (shown : List Row) (db : Database) → ShowsRoll shown db → IsPermutation (map row_key (db.trees student_tree)) (map first_cell shown)
 shown_keys shown db h =
@@ -54,7 +51,7 @@ pub shown_known : (shown : List Row) (db : Database) → ShowsRoll shown db → 
 shown_known shown db h =
     let keys = map first_cell shown in
     let roll = db.trees student_tree in
-    all_unmap (λ k. has keys k ≡ true) row_key roll (all_permuted (λ k. has keys k ≡ true) keys (map row_key roll) (IsPermutation-sym _ _ (shown_keys shown db h)) (each_there keys))
+    all_unmap (λ k. has keys k ≡ true) row_key roll (all_permuted (λ k. has keys k ≡ true) keys (map row_key roll) (IsPermutation-sym _ _ (shown_keys shown db h)) (all_has (λ k. has keys k ≡ true) keys (has_of keys)))
 
 -- each student has the place that the pairs give, and nothing else has changed
 record IsPlaced (pairs : List (Key × Key)) (old new : Database) : Type 0 where

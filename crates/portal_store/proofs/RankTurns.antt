@@ -1,21 +1,9 @@
 -- Putting a lecturer's ranking turns the tables to the world with that ranking.
-use Rattle.portal_store.proofs.Base.{◌≡◌, inl, inr, ℕ, pos, Bool, true, false, not, ◌||◌, cond, Some, None, List, [], ◌∷◌, ◌++◌, map, filter, refl, sym, ap, subst, ◌∙◌, cases_Bool, AllByRecursion, IsDistinct, IsPermutation, IsPermutation-refl, IsPermutation-trans, IsPermutation-sym, IsPermutation-cons, IsPermutation-middle, IsPermutation-map, Int, Row, column, Trees, Database, State, First, Key, equals, has, put_all, Rise, Lecturer, lecturer_key, changed, Ranks, with_ranking, is_same, is_own, all_weaker, is_sym, map_same, ranking_here, ranking_elsewhere, HasFirstSchema, IsCurrentSchema, lecturer_tree, ranking_tree, own_trees, version, RowNumbersDiffer, has_text, row_key, Made, GoesOn, put_splits, goes_then, of_key, chosen, IsWhole, world_in, lecturer_row, HasOffice, Whole, IsConsistentIn, HasPut, PutsList, TurnsThere, all_map_on, put_all_map, put_same, distinct_if_rise, map_twice, all_permuted, all_two, IsLecturerRow, lecturer_rows_formed, has_text_of, ℤ, Sets, lecturer_cells, sets_apart}
+use Rattle.portal_store.proofs.Base.{◌≡◌, inl, inr, ℕ, pos, Bool, true, false, not, ◌||◌, cond, Some, None, List, [], ◌∷◌, ◌++◌, map, filter, refl, sym, ap, subst, ◌∙◌, cases_Bool, AllByRecursion, IsDistinct, IsPermutation, IsPermutation-filter_both, IsPermutation-sym, IsPermutation-middle, IsPermutation-map, Int, Row, column, Trees, Database, State, First, Key, equals, has, put_all, Rise, Lecturer, lecturer_key, changed, Ranks, with_ranking, is_same, is_own, all_weaker, is_sym, map_same, ranking_here, ranking_elsewhere, HasFirstSchema, IsCurrentSchema, lecturer_tree, ranking_tree, own_trees, version, RowNumbersDiffer, has_text, row_key, Made, GoesOn, put_splits, goes_then, of_key, chosen, IsWhole, world_in, lecturer_row, HasOffice, Whole, IsConsistentIn, HasPut, PutsList, TurnsThere, all_map_on, put_all_map, put_same, distinct_if_rise, map_twice, all_permuted, all_two, IsLecturerRow, lecturer_rows_formed, has_text_of, ℤ, Sets, lecturer_cells, sets_apart, all_unmap, filter_none, not_true, sifted}
 use Rattle.portal_tables.specs.inner.RowChanges as rows
 use Rattle.portal_store.proofs.Still.{but_two, two_changed, world_same, whole_same, kept_at, apart_kept, second_kept}
 use Rattle.portal_store.proofs.FirstRows.{lecturer_of, has_ranking}
 use Rattle.portal_store.proofs.ChoiceTurns.{chosen_is, whole_at}
-
--- a row among others
-pub split_filter : {X : Type 0} (p : X → Bool) (xs : List X) → IsPermutation xs (filter p xs ++ filter (λ x. not (p x)) xs)
-split_filter p [] = IsPermutation-refl []
-split_filter p (x ∷ xs) =
-    let ins = filter p xs in
-    let outs = filter (λ x. not (p x)) xs in
-    let more = IsPermutation-cons x xs (ins ++ outs) (split_filter p xs) in
-    elim (p x) as (λ b. IsPermutation (x ∷ xs) (cond b (x ∷ ins) ins ++ cond (not b) (x ∷ outs) outs)) [
-      | true ↦ more
-      | false ↦ IsPermutation-trans _ _ _ more (IsPermutation-sym _ _ (IsPermutation-middle ins x outs))
-    ]
 
 -- whether the row of a lecturer has the key
 pub key_test : (k : Key) (r : Row) → IsLecturerRow r → has_text 1 k r ≡ equals (row_key r) k
@@ -30,8 +18,8 @@ record OneRow (k : Key) (table : List Row) : Type 0 where
 
 none_with : (k : Key) (table : List Row) → AllByRecursion IsLecturerRow table → AllByRecursion (λ l. equals k l ≡ false) (map row_key table)
     → filter (has_text 1 k) table ≡ []
-none_with k [] all d = refl
-none_with k (r ∷ table) all d = rw (key_test k r all.0 ∙ is_sym (row_key r) k ∙ d.0) (none_with k table all.1 d.1)
+none_with k table all d =
+    filter_none (has_text 1 k) table (all_two IsLecturerRow (λ r. equals k (row_key r) ≡ false) (λ r. has_text 1 k r ≡ false) (λ r f e. key_test k r f ∙ is_sym (row_key r) k ∙ e) table all (all_unmap (λ l. equals k l ≡ false) row_key table d))
 
 one_row : (k : Key) (table : List Row) → AllByRecursion IsLecturerRow table → IsDistinct equals (map row_key table) → has (map row_key table) k ≡ true
     → OneRow k table
@@ -54,16 +42,8 @@ one_row k (r ∷ table) all d h = elim (cases_Bool (equals (row_key r) k)) [
 -- the rows without the key
 others_apart : (k : Key) (table : List Row) → AllByRecursion IsLecturerRow table
     → AllByRecursion (λ r. equals (row_key r) k ≡ false) (filter (λ r. not (has_text 1 k r)) table)
-others_apart k [] all = tt
-others_apart k (r ∷ table) all = go (has_text 1 k r) refl (others_apart k table all.1)
-  where
-    rest : List Row
-    rest = filter (λ r. not (has_text 1 k r)) table
-
-    go : (b : Bool) → has_text 1 k r ≡ b → AllByRecursion (λ r. equals (row_key r) k ≡ false) rest
-        → AllByRecursion (λ r. equals (row_key r) k ≡ false) (cond (not b) (r ∷ rest) rest)
-    go true e h = h
-    go false e h = (sym (key_test k r all.0) ∙ e, h)
+others_apart k table all =
+    all_weaker (λ r. IsLecturerRow r × (not (has_text 1 k r) ≡ true)) (λ r. equals (row_key r) k ≡ false) (λ r h. sym (key_test k r h.0) ∙ not_true (has_text 1 k r) h.1) _ (sifted IsLecturerRow (λ r. not (has_text 1 k r)) table all)
 
 pub same_key : (k : Key) (list : List Key) (l : Lecturer) → lecturer_key (with_ranking k list l) ≡ lecturer_key l
 same_key k list l = elim (equals l.row.key k) as (λ b. lecturer_key (cond b (record l { ranking = Some list }) l) ≡ lecturer_key l) [ true ↦ refl | false ↦ refl ]
@@ -92,7 +72,7 @@ module _ (k : Key) (list : List Key) (first mid now : Database) (put : HasPut ra
   lecturers = kept_at ranking_tree first mid put.tables lecturer_tree refl refl
 
   old_rows : IsPermutation (first.trees 1) (before ∷ rest)
-  old_rows = subst (λ l. IsPermutation (first.trees 1) (l ++ rest)) one (split_filter (has_text 1 k) (first.trees 1))
+  old_rows = subst (λ l. IsPermutation (first.trees 1) (l ++ rest)) one (IsPermutation-filter_both (has_text 1 k) (λ r. not (has_text 1 k r)) (λ r. refl) (first.trees 1))
 
   new_rows : IsPermutation (after ∷ rest) (now.trees 1)
   new_rows =

@@ -1,13 +1,10 @@
 -- A sound world's rows are no other world's; in the first round, none's that has nothing earlier.
-use Rattle.portal_store.proofs.Base.{◌≡◌, false, map, refl, sym, ◌∙◌, ap, subst, Some, None, [], AllByRecursion, LecturerRow, StudentRow, Rise, World, Lecturer, Student, alone, alone_student, is_second, Sound, all_map, RowsOfWorld, world_rows, map-map, each_one}
+use Rattle.portal_store.proofs.Base.{◌≡◌, false, map, refl, sym, ◌∙◌, ap, subst, Some, None, [], LecturerRow, StudentRow, Rise, World, Lecturer, Student, alone, alone_student, is_second, Sound, all_map, RowsOfWorld, world_rows, map-map, each_one, HasNothingBefore}
 use Rattle.portal_list.specs.inner.Fit.{lecturers_fitting, students_fitting}
 use Rattle.portal_list.proofs.Fitting.{lecturers_back, students_back}
 
 same_some : {X : Type 0} (x y : X) → Some x ≡ Some y → x ≡ y
 same_some x y e = cc
-
-abbrev pub HasNothingBefore : World → Type 0
-HasNothingBefore w = AllByRecursion (λ (s : Student). (s.earlier_choice ≡ []) × (s.earlier_placement ≡ None)) w.students
 
 pub nothing_before : (w : World) → alone w ≡ w → HasNothingBefore w
 nothing_before w same =

@@ -1,5 +1,5 @@
 -- What the rows of the second round's result are to the world.
-use Rattle.portal_store.proofs.Base.{◌≡◌, inl, inr, ℕ, pos, ◌+◌, ◌<◌, Bool, true, false, ◌||◌, cond, if◌then◌else◌, Option, Some, None, option_map, List, [], ◌∷◌, ◌++◌, map, refl, sym, ap, subst, ◌∙◌, arith, is_none, cases_Bool, nat_tests, map-append, AllByRecursion, IsDistinct, find, filter_map, cons_option, IsPermutation, IsPermutation-sym, Null, Int, Row, column, bytes, next_rowid, Trees, put_row, Database, State, Has, Published, Second, Key, equals, has, put_all, Student, is_left, student_key, placement_in, with_place, Good, is_same, is_own, all_unmap, all_map, all_append, all_weaker, is_sym, place_row, columns, every, with_rows, row_key, text_or_none, MovesSecond, Made, GoesOn, first_cell, student_tree, assigned2_tree, filter_all, goes_then, all_permuted, at, distinct_if_rise, map_alike_on, map_twice, permutes, put_all_map, world_in, student_stored, IsConsistentIn, pair_left, ShowsRoll, TurnsLeft, ◌+ℤ◌, append_assoc, append-nil, Less, value_cmp, rowid, find_map, HasPlacements, PutsPlacements, pair_new, permuted}
+use Rattle.portal_store.proofs.Base.{◌≡◌, inl, inr, ℕ, pos, ◌+◌, ◌<◌, Bool, true, false, ◌||◌, cond, if◌then◌else◌, Option, Some, None, option_map, List, [], ◌∷◌, ◌++◌, map, refl, sym, ap, subst, ◌∙◌, arith, is_none, cases_Bool, nat_tests, map-append, AllByRecursion, IsDistinct, find, filter_map, cons_option, IsPermutation, IsPermutation-sym, Null, Int, Row, column, bytes, next_rowid, Trees, put_row, Database, State, Has, Published, Second, Key, equals, has, put_all, Student, is_left, student_key, placement_in, with_place, Good, is_same, is_own, all_unmap, all_map, all_append, all_weaker, is_sym, place_row, columns, every, with_rows, row_key, text_or_none, MovesSecond, Made, GoesOn, first_cell, student_tree, assigned2_tree, filter_all, goes_then, all_permuted, at, distinct_if_rise, map_alike_on, map_twice, permutes, put_all_map, world_in, student_stored, IsConsistentIn, pair_left, ShowsRoll, TurnsLeft, ◌+ℤ◌, append_assoc, append-nil, Less, value_cmp, rowid, find_map, HasPlacements, PutsPlacements, pair_new, permuted, map-id}
 use Rattle.std.proofs.lemmas.Int.{ints}
 use Rattle.sqlite_rules.proofs.TableLemmas.{next_after}
 use Rattle.sqlite_value.proofs.OrderLemmas.{value_cmp-Int}
@@ -37,11 +37,7 @@ rows_told n rows (c ∷ cells) next below =
     rows_told (n + 1) (put_row row rows) cells above lower ∙ ap (λ l. map told l ++ rest) last ∙ ap (λ l. l ++ rest) (map-append told rows (row ∷ [])) ∙ append_assoc (map told rows) (told row ∷ []) rest
 
 all_told : (rows : List Row) (pairs : List (Key × Key)) → rows ≡ with_rows [] (map pair_new pairs) → map told rows ≡ pairs
-all_told rows pairs of = ap (map told) of ∙ rows_told 1 [] (map pair_new pairs) refl tt ∙ itself pairs
-  where
-    itself : (ps : List (Key × Key)) → map (λ c. told (Null ∷ c)) (map pair_new ps) ≡ ps
-    itself [] = refl
-    itself (p ∷ ps) = ap (λ l. p ∷ l) (itself ps)
+all_told rows pairs of = ap (map told) of ∙ rows_told 1 [] (map pair_new pairs) refl tt ∙ sym (map_twice (λ c. told (Null ∷ c)) pair_new pairs) ∙ map-id pairs
 
 -- the project that the rows give to a student is that of the pairs
 place_told : (rows : List Row) (pairs : List (Key × Key)) (k : Key) → rows ≡ with_rows [] (map pair_new pairs) → option_map (λ a. bytes (column a 2)) (find (λ a. equals (row_key a) k) rows) ≡ placement_in pairs k

@@ -112,9 +112,6 @@ all_taken (t ∷ ts) (u ∷ us) h = (h.0, all_taken ts us h.1)
 pub first_own : (s : Schema) → IsFirstSchema s → HasFirstSchema s
 first_own s h = record { tables = all_taken s.tables first_schema.tables h.tables; no_views = h.no_views }
 
-pub not_taken : (b : Bool) → b ≡ false → IsTrue b → ⊥
-not_taken b e taken = cc
-
 -- a store over them
 module _
     {S : Type 0}

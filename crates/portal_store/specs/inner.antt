@@ -1,7 +1,6 @@
 pub mod Adding
 pub mod Asked
 pub mod Ending
-pub mod Found
 pub mod Keeping
 pub mod Loads
 pub mod Opening

@@ -1,49 +1,38 @@
 //! Checks the first round's tables, their version and rowids, and that loaded worlds are good.
 
-ghost use Rattle.std.specs.Prelude.{◌≡◌, ◌≢◌, ◌↔◌, ◌⊎◌, [], ◌∷◌, pos, Err, List, IfErr};
-ghost use Rattle.std.specs.Prelude.{OnOk, IsTrue};
+ghost use Rattle.std.specs.Prelude.{◌≡◌, ◌≢◌, ◌↔◌, [], ◌∷◌, pos, false, Err, List, IfErr};
+ghost use Rattle.std.specs.Prelude.{MatchResult, OnOk, IsTrue};
 ghost use Rattle.sqlite.specs.declared.types.Value.TheVariants.{Int};
 ghost use Rattle.sqlite.specs.Order.{Row as Cells, column};
 ghost use Rattle.sqlite.specs.Effect.{IsDatabase};
 ghost use Rattle.sqlite.specs.Held.{state};
 ghost use Rattle.sqlite.specs.State.{HasCleanDisk};
-ghost use Rattle.portal_core.specs.Good.{Good, Sound};
+ghost use Rattle.portal_core.specs.Good.{Good};
+ghost use Rattle.portal_core.specs.World.{World, is_second};
 ghost use Rattle.portal_core.specs.declared.phase.Round.TheVariants.{First};
-ghost use Rattle.portal_tables.specs.Tables.{lecturer_tree, project_tree, student_tree};
-ghost use Rattle.portal_tables.specs.Tables.{choice_tree, ranking_tree, HasFirstSchema};
+ghost use Rattle.portal_tables.specs.Tables.{HasFirstSchema};
 ghost use Rattle.portal_tables.specs.Rows.{RowNumbersDiffer};
 ghost use Rattle.portal_tables.specs.inner.Queries.{table_tree, table_round};
 ghost use Rattle.portal_tables.specs.Steps.{Reads, Gives, IsSettled, OnlyLooks};
 ghost use Rattle.portal_tables.specs.inner.Reads.{Always, Answers};
-ghost use Rattle.portal_list.specs.Rows.{HasEntries};
+ghost use Rattle.portal_list.specs.Rows.{HasEntries, world_rows};
 ghost use Rattle.portal_store.specs.Kept.{AllNumbersDiffer, HasGoodFirst};
 ghost use Rattle.portal_store.specs.inner.Keeping.{early_trees};
+ghost use Rattle.portal_store.specs.inner.Loads.{HasNothingBefore};
 ghost use Rattle.portal_store.specs.World.{world_in};
 ghost use Rattle.portal_store.specs.Crash.{HasVersion, RefusalSays, ShowsVersion};
 ghost use Rattle.portal_store.specs.inner.Asked.{Denies, SaysNothing, AdmitsAs};
 ghost use Rattle.portal_store.specs.inner.Reading.{IsSoundIfOpen};
 
-use crate::fault::{load_open_fault_of, open_fault_of, table_fault_of};
-use crate::load::first_keeper;
+use crate::fault::table_fault_of;
+use crate::load::load_first;
 use crate::store::OpenFault;
-use portal_list::{Entries, ListKeeper};
+use portal_list::{Entries, ListKeeper, RowsFault, WorldRows};
 use portal_tables::list_table::Lists;
 use portal_tables::select::{Query, RollTable, Table, read};
 use portal_tables::{is_number, row_numbers_differ};
 use sqlite::{Alter, Connection, Row};
 use std::alloc::Global;
-
-/// Checks that a single table can be queried.
-fn see_table<S: Alter>(conn: &mut Connection<S>, query: Query<'_>) -> Result<(), OpenFault>
-    ensures looks { OnlyLooks (state S.Store conn.old) (state S.Store conn.new) }
-    ensures damaged { result ≢ Err OpenFault.Damaged }
-    ensures version { result ≢ Err OpenFault.OtherVersion }
-{
-    match read(conn, query) {
-        Ok(_) => Ok(()),
-        Err(error) => Err(table_fault_of(error)),
-    }
-}
 
 /// Checks that tables can be queried, by these queries, unless they are the portal's own.
 pub(crate) fn see_tables<S: Alter>(
@@ -61,7 +50,9 @@ pub(crate) fn see_tables<S: Alter>(
         return Ok(());
     }
     for query in queries {
-        see_table(conn, *query)?;
+        if let Err(error) = read(conn, *query) {
+            return Err(table_fault_of(error));
+        }
     }
     Ok(())
 }
@@ -97,10 +88,8 @@ fn see_office<S: Alter>(conn: &mut Connection<S>, version: u32) -> Result<(), Op
     ensures shows { HasCleanDisk (state S.Store conn.new)
         → OnOk result (ShowsVersion version (state S.Store conn.new)) }
 {
-    match read(conn, Query::Office) {
-        Ok(rows) => judge_office(&rows, version),
-        Err(error) => Err(open_fault_of(error)),
-    }
+    let rows = read(conn, Query::Office)?;
+    judge_office(&rows, version)
 }
 
 /// Checks that the first round's tables can be queried and have this version. `own` says that they
@@ -143,47 +132,25 @@ pub(crate) fn see_row_numbers<S: Alter>(
     ensures reads { Reads (table_round table) S.Store Always
         (Gives (λ db _. RowNumbersDiffer (db.trees (table_tree table)))) result conn.old conn.new }
 {
-    match row_numbers_differ(conn, table) {
-        Ok(true) => Ok(()),
-        Ok(false) => Err(OpenFault::Store),
-        Err(error) => Err(open_fault_of(error)),
+    if row_numbers_differ(conn, table)? {
+        Ok(())
+    } else {
+        Err(OpenFault::Store)
     }
 }
 
-/// Checks that the rowids of each roll are distinct.
-fn see_rolls_numbers<S: Alter>(conn: &mut Connection<S>) -> Result<(), OpenFault>
-    ensures refused { IfErr result SaysNothing }
-    ensures reads { Reads First S.Store Always
-        (Gives (λ db _.
-        AllNumbersDiffer (lecturer_tree ∷ project_tree ∷ student_tree ∷ []) db.trees))
-        result conn.old conn.new }
+/// Checks that rows are those of a good world, and returns its entries.
+pub(crate) fn judge_rows(alloc: Global, rows: WorldRows) -> Result<Entries, OpenFault>
+    ensures { (w : World) → rows ≡ world_rows w → (is_second w.round ≡ false → HasNothingBefore w)
+        → MatchResult result (λ e. Good w × HasEntries e w) (λ fault. Denies fault (Good w)) }
 {
-    see_row_numbers(conn, Table::OfRoll(RollTable::Lecturers))?;
-    see_row_numbers(conn, Table::OfRoll(RollTable::Projects))?;
-    see_row_numbers(conn, Table::OfRoll(RollTable::Students))
-}
-
-/// Checks that the rowids of the first round's lists and rankings are distinct.
-fn see_lists_numbers<S: Alter>(conn: &mut Connection<S>) -> Result<(), OpenFault>
-    ensures refused { IfErr result SaysNothing }
-    ensures reads { Reads First S.Store Always
-        (Gives (λ db _. AllNumbersDiffer (choice_tree ∷ ranking_tree ∷ []) db.trees))
-        result conn.old conn.new }
-{
-    see_row_numbers(conn, Table::OfLists(Lists::Choices))?;
-    see_row_numbers(conn, Table::OfLists(Lists::Rankings))
-}
-
-/// Checks that a loaded world, in a keeper, is good.
-pub(crate) fn judge_world(alloc: Global, keeper: &ListKeeper) -> Result<(), OpenFault>
-    requires { Sound keeper.now }
-    ensures good { OnOk result (Good keeper.now) }
-    ensures damaged { result ≡ Err OpenFault.Damaged → Good keeper.now → ⊥ }
-    ensures judged { IfErr result (λ fault. (fault ≡ OpenFault.Damaged)
-        ⊎ (fault ≡ OpenFault.Memory)) }
-{
+    let keeper = match ListKeeper::from_rows(alloc, rows) {
+        Ok(keeper) => keeper,
+        Err(RowsFault::NotGood) => return Err(OpenFault::Damaged),
+        Err(RowsFault::Memory) => return Err(OpenFault::Memory),
+    };
     match keeper.is_good(alloc) {
-        Ok(true) => Ok(()),
+        Ok(true) => Ok(keeper.into_entries()),
         Ok(false) => Err(OpenFault::Damaged),
         Err(_) => Err(OpenFault::Memory),
     }
@@ -200,13 +167,8 @@ fn see_first_world<S: Alter>(
         (λ db fault. Denies fault (HasGoodFirst version db.trees)))
         result conn.old conn.new }
 {
-    match first_keeper(alloc, conn, version) {
-        Ok(keeper) => {
-            judge_world(alloc, &keeper)?;
-            Ok(keeper.into_entries())
-        }
-        Err(fault) => Err(load_open_fault_of(fault)),
-    }
+    let rows = load_first(alloc, conn, version)?;
+    judge_rows(alloc, rows)
 }
 
 /// Checks that rowids are distinct in the first round's tables of many rows.
@@ -215,8 +177,11 @@ pub(crate) fn see_first_numbers<S: Alter>(conn: &mut Connection<S>) -> Result<()
     ensures reads { Reads First S.Store Always
         (Gives (λ db _. AllNumbersDiffer early_trees db.trees)) result conn.old conn.new }
 {
-    see_rolls_numbers(conn)?;
-    see_lists_numbers(conn)
+    see_row_numbers(conn, Table::OfRoll(RollTable::Lecturers))?;
+    see_row_numbers(conn, Table::OfRoll(RollTable::Projects))?;
+    see_row_numbers(conn, Table::OfRoll(RollTable::Students))?;
+    see_row_numbers(conn, Table::OfLists(Lists::Choices))?;
+    see_row_numbers(conn, Table::OfLists(Lists::Rankings))
 }
 
 /// Checks the first round's tables of this version: the rowids, then the world, whose entries it

@@ -27,10 +27,7 @@ pub(crate) fn instance_of(alloc: Global, entries: &Entries) -> Result<Instance, 
     ensures { IfOk result (λ i. (w : World) → HasEntries entries.now w → Sound w
         → i ≡ meant_by.instance w) }
 {
-    match entries.instance(alloc) {
-        Ok(instance) => Ok(instance),
-        Err(fault) => Err(rows_fault_of(fault)),
-    }
+    entries.instance(alloc).map_err(rows_fault_of)
 }
 
 /// Builds the instance of the current round from the tables, without checking the lists.

@@ -5,9 +5,12 @@ ghost use Rattle.sqlite.specs.Tree.{Trees};
 ghost use Rattle.sqlite.specs.State.{store_error};
 ghost use Rattle.sqlite_trees.specs.declared.error.StoreError.{StoreError};
 ghost use Rattle.sqlite_resolve.specs.declared.error.CompileError.{CompileError};
+ghost use Rattle.portal_tables.specs.inner.Base.{SqliteFailure, OutOfMemory};
+ghost use Rattle.portal_tables.specs.declared.fault.TableFault.TheVariants as tables;
 ghost use Rattle.portal_tables.specs.Tables.{first_version};
 ghost use Rattle.portal_store.specs.Kept.{HasGoodFirst};
 ghost use Rattle.portal_store.specs.Crash.{RefusalSays, Bars};
+ghost use Rattle.portal_store.specs.declared.store.OpenFault.TheVariants as opening;
 ghost use Rattle.portal_core.specs.Meaning.{CountsFaults};
 ghost use Rattle.portal_store.specs.inner.Asked.{SaysNothing};
 ghost use Rattle.portal_store.specs.inner.Reading.{IsToldAs};
@@ -40,15 +43,17 @@ pub(crate) fn rows_fault_of(fault: RowsFault) -> TableFault
     }
 }
 
-/// Converts an error into `Memory` or `Store`, which say nothing about the tables.
-pub(crate) fn open_fault_of(error: Error) -> OpenFault
-    ensures nothing { SaysNothing result }
-    ensures memory { (result ≡ OpenFault.Memory)
-        ↔ (error ≡ Error.SqliteFailure ErrorCode.OutOfMemory) }
-{
-    match error {
-        Error::SqliteFailure(ErrorCode::OutOfMemory) => OpenFault::Memory,
-        _ => OpenFault::Store,
+/// An out-of-memory error becomes `Memory`, and every other error `Store`: they say nothing about
+/// the tables.
+impl From<Error> for OpenFault {
+    ghost from_gives = { λ error told. SaysNothing told
+        × ((told ≡ opening.Memory) ↔ (error ≡ SqliteFailure OutOfMemory)) };
+
+    fn from(error: Error) -> OpenFault {
+        match error {
+            Error::SqliteFailure(ErrorCode::OutOfMemory) => OpenFault::Memory,
+            _ => OpenFault::Store,
+        }
     }
 }
 
@@ -74,21 +79,23 @@ pub(crate) fn table_fault_of(error: Error) -> OpenFault
             | ErrorCode::TooBig
             | ErrorCode::OperationInterrupted
             | ErrorCode::Closed,
-        ) => open_fault_of(error),
+        ) => OpenFault::from(error),
         _ => OpenFault::NotPortal,
     }
 }
 
-/// Converts a fault of loading the world into the same fault of opening.
-pub(crate) fn load_open_fault_of(fault: TableFault) -> OpenFault
-    ensures nothing { (fault ≡ TableFault.Damaged → ⊥) → SaysNothing result }
-    ensures damaged { (result ≡ OpenFault.Damaged) ↔ (fault ≡ TableFault.Damaged) }
-    ensures memory { (result ≡ OpenFault.Memory) ↔ (fault ≡ TableFault.Memory) }
-{
-    match fault {
-        TableFault::Damaged => OpenFault::Damaged,
-        TableFault::Store => OpenFault::Store,
-        TableFault::Memory => OpenFault::Memory,
+/// A fault of loading the world is the same fault of opening.
+impl From<TableFault> for OpenFault {
+    ghost from_gives = { λ fault told. ((fault ≡ tables.Damaged → ⊥) → SaysNothing told)
+        × ((told ≡ opening.Damaged) ↔ (fault ≡ tables.Damaged))
+        × ((told ≡ opening.Memory) ↔ (fault ≡ tables.Memory)) };
+
+    fn from(fault: TableFault) -> OpenFault {
+        match fault {
+            TableFault::Damaged => OpenFault::Damaged,
+            TableFault::Store => OpenFault::Store,
+            TableFault::Memory => OpenFault::Memory,
+        }
     }
 }
 
@@ -106,18 +113,6 @@ pub(crate) fn upgrade_fault_of(fault: OpenFault) -> UpgradeFault
         OpenFault::Damaged => UpgradeFault::Damaged,
         OpenFault::Store => UpgradeFault::Store,
         OpenFault::Memory => UpgradeFault::Memory,
-    }
-}
-
-/// Converts a fault of changing the tables in an upgrade into `Memory` or `Store`.
-pub(crate) fn upgrading_fault_of(fault: TableFault) -> UpgradeFault
-    ensures bars { (db : Trees) → Bars result db }
-    ensures exists { result ≢ UpgradeFault.Exists }
-    ensures memory { (result ≡ UpgradeFault.Memory) ↔ (fault ≡ TableFault.Memory) }
-{
-    match fault {
-        TableFault::Memory => UpgradeFault::Memory,
-        TableFault::Damaged | TableFault::Store => UpgradeFault::Store,
     }
 }
 

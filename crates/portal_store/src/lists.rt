@@ -18,6 +18,7 @@ use std::alloc::Global;
 
 /// The step that replaces the student's list by these projects, best first. It refuses more than
 /// 2,000 projects with `TooBig`.
+#[derive(Drop)]
 pub(crate) struct PutChoices<'a> {
     pub round: Round,
     pub student: &'a Key,
@@ -28,18 +29,20 @@ impl Step for PutChoices<'_> {
     ghost makes = { λ s. IsTransitionIn s.round (Choices s.student.now s.projects.now) };
 
     fn take<S: Alter>(self, alloc: Global, tx: &mut Transaction<'_, S>) -> Result<(), Error> {
-        let PutChoices {
-            round,
-            student,
-            projects,
-        } = self;
-        put_list(alloc, tx, Lists::choices_of(round), student, projects)
+        put_list(
+            alloc,
+            tx,
+            Lists::choices_of(self.round),
+            self.student,
+            self.projects,
+        )
     }
 }
 
 /// The step that replaces the ranking of a lecturer on the roll by these students, best first. It
 /// also marks that the ranking exists: in the lecturer's row in the first round, in a row of
 /// `ranked2` in the second. Like `PutChoices`, it refuses more than 2,000 entries.
+#[derive(Drop)]
 pub(crate) struct PutRanking<'a> {
     pub round: Round,
     pub lecturer: &'a Key,
@@ -50,15 +53,16 @@ impl Step for PutRanking<'_> {
     ghost makes = { λ s. TurnsThere s.round s.lecturer.now s.students.now };
 
     fn take<S: Alter>(self, alloc: Global, tx: &mut Transaction<'_, S>) -> Result<(), Error> {
-        let PutRanking {
-            round,
-            lecturer,
-            students,
-        } = self;
-        put_list(alloc, tx, Lists::rankings_of(round), lecturer, students)?;
-        match round {
-            Round::First => set_ranked(tx, lecturer.as_bytes()),
-            Round::Second => rank_second(tx, lecturer.as_bytes()),
+        put_list(
+            alloc,
+            tx,
+            Lists::rankings_of(self.round),
+            self.lecturer,
+            self.students,
+        )?;
+        match self.round {
+            Round::First => set_ranked(tx, self.lecturer.as_bytes()),
+            Round::Second => rank_second(tx, self.lecturer.as_bytes()),
         }
     }
 }

@@ -1,6 +1,6 @@
-//! Loads the world from the tables: as rows, as entries, or into a `ListKeeper`.
+//! Loads the world from the tables, as rows or as entries.
 
-ghost use Rattle.std.specs.Prelude.{◌≡◌, IfOk};
+ghost use Rattle.std.specs.Prelude.{◌≡◌};
 ghost use Rattle.sqlite.specs.Effect.{IsDatabase};
 ghost use Rattle.portal_core.specs.Good.{Sound};
 ghost use Rattle.portal_core.specs.declared.phase.Round.TheVariants.{Second, First};
@@ -10,7 +10,6 @@ ghost use Rattle.portal_tables.specs.Steps.{Reads, Gives};
 ghost use Rattle.portal_tables.specs.inner.Reads.{Answers, Blames};
 ghost use Rattle.portal_store.specs.inner.Asked.{NumbersDiffer};
 ghost use Rattle.portal_store.specs.Kept.{HasGoodWorld, HasGoodFirst, HasGoodWorldIn};
-ghost use Rattle.portal_store.specs.inner.Found.{FindsWorld, FindsIn};
 ghost use Rattle.portal_store.specs.inner.Loads as meant_by;
 ghost use Rattle.portal_store.specs.inner.Loads.{Loads, LoadsIn};
 ghost use Rattle.portal_store.specs.World.{round_in, world_of};
@@ -18,7 +17,7 @@ ghost use Rattle.portal_store.specs.World.{round_in, world_of};
 use crate::fault::rows_fault_of;
 use crate::round::round_in;
 use portal_core::{Phase, Round};
-use portal_list::{Entries, ListKeeper, WorldRows};
+use portal_list::{Entries, WorldRows};
 use portal_tables::{TableFault, VERSION, office_in, second_in};
 use portal_views::{Contents, contents_in};
 use sqlite::{Alter, Connection};
@@ -115,45 +114,6 @@ pub(crate) fn load_entries<S: Alter>(
     let rows = load(alloc, conn)?;
     match Entries::from_rows(alloc, rows) {
         Ok(entries) => Ok(entries),
-        Err(fault) => Err(rows_fault_of(fault)),
-    }
-}
-
-/// Loads the first round's world from tables of this schema version into a keeper in lists. The
-/// world is sound, but its result need not be stable.
-pub(crate) fn first_keeper<S: Alter>(
-    alloc: Global,
-    conn: &mut Connection<S>,
-    version: u32,
-) -> Result<ListKeeper, TableFault>
-    ensures sound { IfOk result (λ keeper. Sound keeper) }
-    ensures reads { Reads First S.Store IsDatabase
-        (Answers (λ db keeper. FindsWorld version First db.trees keeper)
-        (λ db fault. Blames fault (HasGoodFirst version db.trees)))
-        result conn.old conn.new }
-{
-    let rows = load_first(alloc, conn, version)?;
-    match ListKeeper::from_rows(alloc, rows) {
-        Ok(keeper) => Ok(keeper),
-        Err(fault) => Err(rows_fault_of(fault)),
-    }
-}
-
-/// Loads the world from the tables into a keeper in lists. The world is sound, but its results need
-/// not be stable.
-pub(crate) fn load_keeper<S: Alter>(
-    alloc: Global,
-    conn: &mut Connection<S>,
-) -> Result<ListKeeper, TableFault>
-    ensures sound { IfOk result (λ keeper. Sound keeper) }
-    ensures reads { Reads Second S.Store IsDatabase
-        (Answers (λ db keeper. FindsIn (round_in db.trees) db.trees keeper)
-        (λ db fault. NumbersDiffer db.trees → Blames fault (HasGoodWorld db.trees)))
-        result conn.old conn.new }
-{
-    let rows = load(alloc, conn)?;
-    match ListKeeper::from_rows(alloc, rows) {
-        Ok(keeper) => Ok(keeper),
         Err(fault) => Err(rows_fault_of(fault)),
     }
 }

@@ -14,18 +14,16 @@ ghost use Rattle.portal_tables.specs.inner.Queries.{round_asked};
 ghost use Rattle.portal_tables.specs.Steps.{Reads, Gives, IsSettled, OnlyLooks, Stays};
 ghost use Rattle.portal_tables.specs.inner.Reads.{Always, Answers};
 ghost use Rattle.portal_list.specs.Rows.{HasEntries};
-ghost use Rattle.portal_store.specs.Kept.{AllNumbersDiffer, AreEmpty, HasSecond, HasGoodWorld};
-ghost use Rattle.portal_store.specs.Kept.{HasGoodWorldIn, IsCleanStore, LeavesWorld};
-ghost use Rattle.portal_store.specs.Kept.{kept_world, later_trees};
+ghost use Rattle.portal_store.specs.Kept.{AreEmpty, HasSecond, HasGoodWorld, HasGoodWorldIn};
+ghost use Rattle.portal_store.specs.Kept.{IsCleanStore, LeavesWorld, kept_world};
 ghost use Rattle.portal_store.specs.World.{phase_in, round_in, world_of};
 ghost use Rattle.portal_store.specs.Crash.{HasVersion, Refutes, ShowsVersion};
 ghost use Rattle.portal_store.specs.inner.Asked.{NumbersDiffer, Denies, IsJudged, SaysNothing};
 ghost use Rattle.portal_store.specs.inner.Asked.{Admits};
 ghost use Rattle.portal_store.specs.inner.Reading.{ReadsAll, IsSoundIfOpen, queried_rows};
 
-use crate::checks::{judge_world, see_first, see_first_numbers, see_row_numbers, see_tables};
-use crate::fault::{load_open_fault_of, open_fault_of};
-use crate::load::load_keeper;
+use crate::checks::{judge_rows, see_first, see_first_numbers, see_row_numbers, see_tables};
+use crate::load::load;
 use crate::round::first_phase;
 use crate::store::{NotOpened, OpenFault, Store};
 use portal_core::{Phase, ViewCache};
@@ -43,10 +41,11 @@ fn see_none<S: Alter>(conn: &mut Connection<S>, query: Query<'_>) -> Result<(), 
         (λ db fault. Denies fault (queried_rows query.entry db.trees ≡ [])))
         result conn.old conn.new }
 {
-    match finds_any(conn, query) {
-        Ok(false) => Ok(()),
-        Ok(true) => Err(OpenFault::Damaged),
-        Err(error) => Err(open_fault_of(error)),
+    let found = finds_any(conn, query)?;
+    if found {
+        Err(OpenFault::Damaged)
+    } else {
+        Ok(())
     }
 }
 
@@ -69,10 +68,9 @@ fn see_published<S: Alter>(alloc: Global, conn: &mut Connection<S>) -> Result<()
         (λ db fault. Denies fault (HasGoodWorldIn Second db.trees)))
         result conn.old conn.new }
 {
-    match first_phase(alloc, conn) {
-        Ok(Phase::Published) => Ok(()),
-        Ok(Phase::Setup | Phase::Choosing | Phase::Ranking) => Err(OpenFault::Damaged),
-        Err(fault) => Err(load_open_fault_of(fault)),
+    match first_phase(alloc, conn)? {
+        Phase::Published => Ok(()),
+        Phase::Setup | Phase::Choosing | Phase::Ranking => Err(OpenFault::Damaged),
     }
 }
 
@@ -84,27 +82,11 @@ fn see_second<S: Alter>(alloc: Global, conn: &mut Connection<S>) -> Result<(), O
         (λ db fault. Denies fault (HasGoodWorld db.trees)))
         result conn.old conn.new }
 {
-    let phase = match second_in(alloc, conn) {
-        Ok(phase) => phase,
-        Err(fault) => return Err(load_open_fault_of(fault)),
-    };
-    if phase.is_setup() {
+    if second_in(alloc, conn)?.is_setup() {
         see_nothing(conn)
     } else {
         see_published(alloc, conn)
     }
-}
-
-/// Checks that rowids are distinct in the second round's tables of many rows.
-fn see_second_numbers<S: Alter>(conn: &mut Connection<S>) -> Result<(), OpenFault>
-    ensures refused { IfErr result SaysNothing }
-    ensures reads { Reads Second S.Store Always
-        (Gives (λ db _. AllNumbersDiffer later_trees db.trees)) result conn.old conn.new }
-{
-    see_row_numbers(conn, Table::OfLists(Lists::SecondChoices))?;
-    see_row_numbers(conn, Table::OfRanked)?;
-    see_row_numbers(conn, Table::OfLists(Lists::SecondRankings))?;
-    see_row_numbers(conn, Table::OfPlaces)
 }
 
 /// Checks that rowids are distinct in the tables of many rows of both rounds.
@@ -114,7 +96,10 @@ fn see_numbers<S: Alter>(conn: &mut Connection<S>) -> Result<(), OpenFault>
         result conn.old conn.new }
 {
     see_first_numbers(conn)?;
-    see_second_numbers(conn)
+    see_row_numbers(conn, Table::OfLists(Lists::SecondChoices))?;
+    see_row_numbers(conn, Table::OfRanked)?;
+    see_row_numbers(conn, Table::OfLists(Lists::SecondRankings))?;
+    see_row_numbers(conn, Table::OfPlaces)
 }
 
 /// Loads the world of both rounds, checks that it is good, and returns its entries.
@@ -124,13 +109,8 @@ fn see_world<S: Alter>(alloc: Global, conn: &mut Connection<S>) -> Result<Entrie
         (λ db fault. NumbersDiffer db.trees → Denies fault (HasGoodWorld db.trees)))
         result conn.old conn.new }
 {
-    match load_keeper(alloc, conn) {
-        Ok(keeper) => {
-            judge_world(alloc, &keeper)?;
-            Ok(keeper.into_entries())
-        }
-        Err(fault) => Err(load_open_fault_of(fault)),
-    }
+    let rows = load(alloc, conn)?;
+    judge_rows(alloc, rows)
 }
 
 /// Checks the rowids of both rounds, then the row of `second`, then the world, and returns its
@@ -231,7 +211,7 @@ impl<S: Alter> Store<S> {
             Ok(pattern) => pattern,
             Err(error) => {
                 return Err(NotOpened {
-                    fault: open_fault_of(error),
+                    fault: OpenFault::from(error),
                     connection: conn,
                 });
             }

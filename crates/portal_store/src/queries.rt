@@ -1,18 +1,18 @@
 //! Identifies the caller, and makes the view from cache and queries.
 
-ghost use Rattle.std.specs.Prelude.{◌≡◌, false, None, option_map};
+ghost use Rattle.std.specs.Prelude.{◌≡◌, false, None};
 ghost use Rattle.portal_core.specs.Good.{Good};
 ghost use Rattle.portal_core.specs.View as seen;
 ghost use Rattle.portal_core.specs.Words.{equals};
 ghost use Rattle.portal_core.specs.declared.phase.Round.TheVariants.{Second};
 ghost use Rattle.portal_core.specs.View.{sight_of, caller_among, OfficeCaller};
 ghost use Rattle.portal_core.specs.View.{lecturer_with, student_with};
-ghost use Rattle.portal_core.specs.declared.phase.Round.{Round as ThatRound};
 ghost use Rattle.portal_tables.specs.Steps.{Reads, Gives};
-ghost use Rattle.portal_tables.specs.inner.Reads.{MayRead};
+ghost use Rattle.portal_tables.specs.inner.Queries as asked;
+ghost use Rattle.portal_tables.specs.inner.Reads.{Always, MayRead};
+ghost use Rattle.portal_tables.specs.inner.Shown.{as_list};
 ghost use Rattle.portal_store.specs.World.{world_in, world_of};
-ghost use Rattle.portal_store.specs.Kept.{IsConsistent, IsConsistentIn};
-ghost use Rattle.portal_store.specs.inner.Queried.{lecturer_from, student_from};
+ghost use Rattle.portal_store.specs.Kept.{IsConsistent};
 ghost use Rattle.portal_store.specs.inner.Reading.{IsNow, Remembers, RemembersIn, Shows, ShowsIn};
 
 use crate::round::current_round;
@@ -25,33 +25,17 @@ use sqlite::{Alter, Connection, Row};
 use std::alloc::Global;
 use std::rc::Rc;
 
-/// Finds by a query the row of the lecturer with the code.
-fn lecturer_by_code<S: Alter>(
+/// Finds the only row that the query shows, if there is one.
+fn only_row<S: Alter>(
     alloc: Global,
     conn: &mut Connection<S>,
-    code: &[u8],
+    query: Query<'_>,
 ) -> Result<Option<Row>, TableFault>
-    ensures { (round : ThatRound) → Reads round S.Store (IsConsistentIn round)
-        (Gives (λ db row. option_map (lecturer_from round db.trees) row
-        ≡ lecturer_with (world_in round db.trees) code.now))
+    ensures { Reads (asked.round_asked query.entry) S.Store Always
+        (Gives (λ db row. asked.Shows query.entry db.trees (as_list row)))
         result conn.old conn.new }
 {
-    let rows = read_rows(alloc, conn, Query::LecturerByCode(code))?;
-    at_most_one(rows)
-}
-
-/// Finds by a query the row of the student with the code.
-fn student_by_code<S: Alter>(
-    alloc: Global,
-    conn: &mut Connection<S>,
-    code: &[u8],
-) -> Result<Option<Row>, TableFault>
-    ensures { (round : ThatRound) → Reads round S.Store (IsConsistentIn round)
-        (Gives (λ db row. option_map (student_from round db.trees) row
-        ≡ student_with (world_in round db.trees) code.now))
-        result conn.old conn.new }
-{
-    let rows = read_rows(alloc, conn, Query::StudentByCode(code))?;
+    let rows = read_rows(alloc, conn, query)?;
     at_most_one(rows)
 }
 
@@ -74,22 +58,6 @@ fn shared_catalogue<S: Alter>(
     Ok(shared)
 }
 
-/// Makes the office's view by queries; the catalogue comes from the cache if it is there.
-fn read_office<S: Alter>(
-    alloc: Global,
-    conn: &mut Connection<S>,
-    round: Round,
-    cache: &mut ViewCache,
-    office: Office,
-) -> Result<OfficeView, TableFault>
-    ensures { MayRead round S.Store (RemembersIn round cache.old)
-        (ShowsIn round cache.new (λ w view. IsNow w round office → view ≡ seen.office_sees w))
-        result conn.old conn.new }
-{
-    let catalogue = shared_catalogue(alloc, conn, round, cache)?;
-    office_view(alloc, conn, round, office, catalogue)
-}
-
 /// Returns the office's view from the cache, or makes it by queries and caches it.
 fn show_office<S: Alter>(
     alloc: Global,
@@ -106,7 +74,8 @@ fn show_office<S: Alter>(
     if let Some(view) = &cache.office {
         return Ok(View::Office(view.copy(alloc)?));
     }
-    let view = read_office(alloc, conn, round, cache, office)?;
+    let catalogue = shared_catalogue(alloc, conn, round, cache)?;
+    let view = office_view(alloc, conn, round, office, catalogue)?;
     cache.office = Some(view.copy(alloc)?);
     Ok(View::Office(view))
 }
@@ -125,7 +94,7 @@ fn show_student<S: Alter>(
         → view ≡ sight_of w (caller_among None (student_with w code.now))))
         result conn.old conn.new }
 {
-    let Some(row) = student_by_code(alloc, conn, code)? else {
+    let Some(row) = only_row(alloc, conn, Query::StudentByCode(code))? else {
         return Ok(View::Nobody);
     };
     let catalogue = shared_catalogue(alloc, conn, round, cache)?;
@@ -146,7 +115,7 @@ fn show_person<S: Alter>(
         → Good w → view ≡ seen.view w code.now))
         result conn.old conn.new }
 {
-    let Some(row) = lecturer_by_code(alloc, conn, code)? else {
+    let Some(row) = only_row(alloc, conn, Query::LecturerByCode(code))? else {
         return show_student(alloc, conn, round, cache, phase, code);
     };
     let catalogue = shared_catalogue(alloc, conn, round, cache)?;

@@ -103,14 +103,7 @@ impl<S: Alter> Store<S> {
         ensures kept { IsCleanStore S.Store self → IsConsistent (state S.Store result).now }
         ensures left { LeavesConsistent S.Store self }
     {
-        let Store {
-            conn,
-            own: _,
-            pattern: _,
-            cache: _,
-            entries: _,
-            faults: _,
-        } = self;
+        let Store { conn, .. } = self;
         conn
     }
 

@@ -21,7 +21,7 @@ ghost use Rattle.portal_store.specs.inner.Asked.{AdmitsAs};
 ghost use Rattle.portal_store.specs.inner.Reading.{IsSoundIfOpen, OverLive};
 
 use crate::checks::{judge_first, see_first};
-use crate::fault::{open_fault_of, upgrade_fault_of, upgrading_fault_of};
+use crate::fault::upgrade_fault_of;
 use crate::store::{NotOpened, OpenFault, Store, UpgradeFault};
 use portal_core::ViewCache;
 use portal_list::Entries;
@@ -101,7 +101,7 @@ fn upgraded<S: Alter>(
     }
     match upgrade_tables(alloc, conn) {
         Ok(()) => Ok(entries),
-        Err(fault) => Err(upgrading_fault_of(fault)),
+        Err(fault) => Err(upgrade_fault_of(OpenFault::from(fault))),
     }
 }
 
@@ -170,7 +170,7 @@ impl<S: Alter> Store<S> {
             Ok(pattern) => pattern,
             Err(error) => {
                 return Err(NotOpened {
-                    fault: upgrade_fault_of(open_fault_of(error)),
+                    fault: upgrade_fault_of(OpenFault::from(error)),
                     connection: conn,
                 });
             }

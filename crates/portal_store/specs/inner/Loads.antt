@@ -1,7 +1,10 @@
 -- What is read of the tables.
-use Rattle.std.specs.Prelude.{◌≡◌, ℕ}
+use Rattle.std.specs.Prelude.{◌≡◌, ℕ, List, [], None}
+use Rattle.std.specs.List.{AllByRecursion}
 use Rattle.sqlite.specs.Tree.{Trees}
 use Rattle.portal_core.specs.declared.phase.Phase.{Phase}
+use Rattle.portal_core.specs.Words.{Key}
+use Rattle.portal_core.specs.World.{Student, World}
 use Rattle.portal_list.specs.Rows.{RowsOfWorld, world_rows}
 use Rattle.portal_views.specs.inner.Contents.{AllRows}
 use Rattle.portal_tables.specs.Tables.{portal_tree, version}
@@ -20,20 +23,28 @@ pub record Loads (of : ℕ) (round : Round) (db : Trees) (rows : RowsOfWorld) : 
 abbrev pub LoadsIn : Round → Trees → RowsOfWorld → Type 0
 LoadsIn = Loads version
 
--- the rows of a second round after the first: its own, and what was of the first is the earlier
-abbrev pub after_first : RowsOfWorld → Phase → AllRows → RowsOfWorld
-after_first first phase rows =
+-- the rows of a round's tables, with its phase, the code of the office, and the rows of what was before
+abbrev pub joined : Round → Phase → Key → AllRows → List (Key × List Key) → List (Key × List Key) → List (Key × Key) → RowsOfWorld
+joined round phase code rows choices rankings pairs =
     record {
-      round = Second;
+      round = round;
       phase = phase;
-      office = first.office;
+      office = code;
       lecturers = rows.lecturers;
       projects = rows.projects;
       students = rows.students;
       choices = rows.choices;
       rankings = rows.rankings;
       pairs = rows.pairs;
-      earlier_choices = first.choices;
-      earlier_rankings = first.rankings;
-      earlier_pairs = first.pairs;
+      earlier_choices = choices;
+      earlier_rankings = rankings;
+      earlier_pairs = pairs;
     }
+
+-- the rows of a second round after the first: its own, and what was of the first is the earlier
+abbrev pub after_first : RowsOfWorld → Phase → AllRows → RowsOfWorld
+after_first first phase rows = joined Second phase first.office rows first.choices first.rankings first.pairs
+
+-- nothing is kept of a round before
+abbrev pub HasNothingBefore : World → Type 0
+HasNothingBefore w = AllByRecursion (λ (s : Student). (s.earlier_choice ≡ []) × (s.earlier_placement ≡ None)) w.students

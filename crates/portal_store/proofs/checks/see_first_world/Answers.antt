@@ -1,7 +1,15 @@
-use Rattle.portal_store.proofs.Base.{Good, HasEntries, reads_more, subst}
+use Rattle.portal_store.proofs.Base.{First, MatchResult-weaker, reads_more, state, world_in}
+use Rattle.portal_store.proofs.Asked.{denied_of, denies_more, reads_said}
+use Rattle.portal_store.proofs.Loaded.{nothing_earlier}
 use Rattle.portal_store.proofs.checks.see_first_world.Goals as goal
 
-pub returns-in_ok-judge_world-in-Ok : goal.returns-in_ok-judge_world-in-Ok
-returns-in_ok-judge_world-in-Ok g c =
-    reads_more c.in-Ok.ensures.reads
-    (λ own sound found. (record { office = found.office; whole = found.whole; good = subst Good found.world c.in_ok-judge_world-in-Ok.ensures.good }, subst (HasEntries c.into_entries.result) found.world c.into_entries.ensures))
+pub returns-in_err-rows : goal.returns-in_err-rows
+returns-in_err-rows g c =
+    reads_said c.from_residual.ensures.1 c.in_err-rows.ensures (λ own sound told f so. denied_of f _ _ so.1.1 so.0 told)
+
+pub returns : goal.returns
+returns g c =
+    let db = (state g.S.Store c.args.conn.now).now.trees in
+    reads_more c.in_ok-rows.ensures
+    (λ own sound loads. MatchResult-weaker c.judge_rows.result (c.judge_rows.ensures (world_in First db) loads.rows_are (nothing_earlier First db))
+    (λ e it. (record { office = loads.office; whole = loads.whole; good = it.0 }, it.1)) (λ f. denies_more f _ _ (λ stands. stands.good)))

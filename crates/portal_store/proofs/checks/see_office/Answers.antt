@@ -1,25 +1,25 @@
-use Rattle.portal_store.proofs.Base.{◌∷◌, ListsBy, [], columns, every, on_ok_weaker, portal_tree, reads_as, reads_more, state, subst, sym, MatchResult-from_both}
+use Rattle.portal_store.proofs.Base.{◌∷◌, ListsBy, [], columns, every, on_ok_weaker, portal_tree, reads_more, state, subst, sym, MatchResult-from_both}
 use Rattle.sqlite.specs.State.{Begins}
 use Rattle.portal_tables.specs.inner.Queries.{query_text}
 use Rattle.portal_tables.specs.declared.select.Query.TheVariants.{Office}
-use Rattle.portal_store.proofs.Asked.{blames_none, office_refuted, office_version}
+use Rattle.portal_store.proofs.Asked.{blames_none, office_refuted, office_version, reads_said}
 use Rattle.portal_store.proofs.checks.see_office.Goals as goal
 
-pub returns-in-Ok-clause-reads : goal.returns-in-Ok-clause-reads
-returns-in-Ok-clause-reads g c =
+pub returns-clause-reads : goal.returns-clause-reads
+returns-clause-reads g c =
     let db = (state g.S.Store c.args.conn.now).now.trees in
     let judged = c.judge_office.ensures in
-    reads_more c.in-Ok.ensures.reads
+    reads_more c.in_ok-rows.ensures.reads
     (λ own any shown.
     let lists = subst (λ rows. ListsBy (0 ∷ []) every (columns (0 ∷ 2 ∷ 3 ∷ 4 ∷ [])) (db portal_tree) rows) (sym c.deref.ensures.value) shown in
     MatchResult-from_both c.judge_office.result _ _ (on_ok_weaker c.judge_office.result (λ is. office_version c.args.version db c.deref.result.now is.0 is.1 lists is.2 is.3) judged.version)
     (office_refuted c.args.version (Unit {0}) db c.deref.result.now c.judge_office.result lists judged.none.0 judged.there judged.other judged.judged))
 
-pub returns-in-Err-clause-reads : goal.returns-in-Err-clause-reads
-returns-in-Err-clause-reads g c = reads_as c.in-Err.ensures.reads (λ no. no) (λ own any told. blames_none c.open_fault_of.result _ _ _ c.open_fault_of.ensures.nothing)
+pub returns-in_err-rows-clause-reads : goal.returns-in_err-rows-clause-reads
+returns-in_err-rows-clause-reads g c = reads_said c.from_residual.ensures.1 c.in_err-rows.ensures.reads (λ own any told f so. blames_none f _ _ _ so.0)
 
-pub returns-in-Ok-clause-shows : goal.returns-in-Ok-clause-shows
-returns-in-Ok-clause-shows g c clean =
-    let begins = subst (λ rows. Begins (query_text Office) [] (state g.S.Store c.read.new.conn) rows) (sym c.deref.ensures.value) (c.in-Ok.ensures.begins clean) in
+pub returns-clause-shows : goal.returns-clause-shows
+returns-clause-shows g c clean =
+    let begins = subst (λ rows. Begins (query_text Office) [] (state g.S.Store c.read.new.conn) rows) (sym c.deref.ensures.value) (c.in_ok-rows.ensures.begins clean) in
     on_ok_weaker c.judge_office.result
     (λ is. record { row = is.0; rest = is.1; shown = subst (λ rows. Begins (query_text Office) [] (state g.S.Store c.read.new.conn) rows) is.2 begins; version_is = is.3 }) c.judge_office.ensures.version

@@ -5,7 +5,7 @@ use Rattle.portal_store.proofs.load.load_first.Goals as goal
 
 pub returns-in_err-office : goal.returns-in_err-office
 returns-in_err-office g c =
-    reads_handed c.from_residual.ensures.1 (reads_any c.in_err-office.ensures) (λ own sound told damaged stands. told stands.office damaged (office_code c.args.version _ stands))
+    reads_handed c.from_residual.ensures.1 (reads_any c.in_err-office.ensures) (λ own sound told damaged stands. told stands.office damaged (office_code First c.args.version _ stands.office stands.good))
 
 pub returns-in_err-contents : goal.returns-in_err-contents
 returns-in_err-contents g c =

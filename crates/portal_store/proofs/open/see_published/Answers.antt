@@ -1,8 +1,7 @@
-use Rattle.portal_store.proofs.Base.{Second, reads_as}
-use Rattle.portal_store.proofs.Asked.{denied_of}
+use Rattle.portal_store.proofs.Base.{Second}
+use Rattle.portal_store.proofs.Asked.{denied_of, reads_said}
 use Rattle.portal_store.proofs.open.see_published.Goals as goal
 
-pub returns-in-Err : goal.returns-in-Err
-returns-in-Err g c =
-    let turned = c.load_open_fault_of in
-    reads_as c.in-Err.ensures (λ no. no) (λ own sound told. denied_of turned.result c.in-Err.fault _ turned.ensures.damaged.1 turned.ensures.nothing (told Second))
+pub returns-in_err-first_phase : goal.returns-in_err-first_phase
+returns-in_err-first_phase g c =
+    reads_said c.from_residual.ensures.1 c.in_err-first_phase.ensures (λ own sound told f so. denied_of f _ _ so.1.1 so.0 (told Second))

@@ -1,24 +1,25 @@
-use Rattle.portal_store.proofs.Base.{◌∙◌, if◌then◌else◌, First, IfOk-weaker, Lecturer, OfficeCaller, Option, Round, ap, caller_among, catalogue, lecturer_from, lecturer_with, option_map, reads_as, reads_handed, reads_more, reads_of, reads_open, reads_then, reads_then_of, sight_of, state, student_with, sym, world_in, LecturerSight, IsCatalogue}
+use Rattle.portal_store.proofs.Base.{◌∙◌, if◌then◌else◌, First, IfOk-weaker, Lecturer, OfficeCaller, Option, Round, ap, caller_among, catalogue, lecturer_from, lecturer_with, option_map, reads_as, reads_handed, reads_more, reads_open, reads_then, reads_then_of, sight_of, state, student_with, sym, world_in, LecturerSight, IsCatalogue}
 use Rattle.portal_store.proofs.Applying.{lecturer_told}
 use Rattle.portal_store.proofs.Holding.{has_tables}
+use Rattle.portal_store.proofs.Queried.{lecturer_found}
 use Rattle.portal_store.proofs.CatalogueLeft.{catalogue_told}
 use Rattle.portal_store.proofs.queries.show_person.Goals as goal
 
 pub returns-in_err-row : goal.returns-in_err-row
 returns-in_err-row g c =
-    reads_handed c.from_residual.ensures.1 (reads_of (λ own. own) (λ own right. right.0) (c.in_err-row.ensures c.args.round)) (λ own right told. (right.1, tt))
+    reads_handed c.from_residual.ensures.1 (lecturer_found c.args.code.now (λ o shown. shown) c.in_err-row.ensures) (λ own right told. (right.1, tt))
 
 pub returns-in_err-catalogue : goal.returns-in_err-catalogue
 returns-in_err-catalogue g c =
     let f = c.in_err-catalogue in
     reads_handed c.from_residual-in_err-catalogue.ensures.1
-    (reads_then (reads_of (λ own. own) (λ own right. right.0) (c.in_ok-row.ensures c.args.round)) f.ensures) (λ own right told. (told.1.0, tt))
+    (reads_then (lecturer_found c.args.code.now (λ o shown. shown) c.in_ok-row.ensures) f.ensures) (λ own right told. (told.1.0, tt))
 
 pub returns-in_err-lecturer_view : goal.returns-in_err-lecturer_view
 returns-in_err-lecturer_view g c =
     let f = c.in_err-lecturer_view in
     reads_handed c.from_residual-in_err-lecturer_view.ensures.1
-    (reads_then (reads_of (λ own. own) (λ own right. right.0) (c.in_ok-row.ensures c.args.round)) (reads_then_of (λ own on right told. has_tables _ right.0) c.in_ok-catalogue.ensures f.ensures))
+    (reads_then (lecturer_found c.args.code.now (λ o shown. shown) c.in_ok-row.ensures) (reads_then_of (λ own on right told. has_tables _ right.0) c.in_ok-catalogue.ensures f.ensures))
     (λ own right told. (told.1.0.0, tt))
 
 pub returns-in_default : goal.returns-in_default
@@ -26,7 +27,7 @@ returns-in_default g c =
     let r = c.show_student.result in
     let w = world_in c.args.round (state g.S.Store c.args.conn.now).now.trees in
     let code = c.args.code.now in
-    reads_as (reads_then (reads_of (λ own. own) (λ own right. right.0) (c.in_ok-row.ensures c.args.round)) (reads_open c.show_student.ensures)) (λ no. no)
+    reads_as (reads_then (lecturer_found c.args.code.now (λ o shown. shown) c.in_ok-row.ensures) (reads_open c.show_student.ensures)) (λ no. no)
     (λ own right told. (
       told.1.0,
       IfOk-weaker r _ _ (λ v is phase other good. is phase
@@ -43,7 +44,7 @@ returns g c =
     let offers = c.in_ok-catalogue.catalogue.value.items in
     let row = c.in-Some.row in
     reads_more
-    (reads_then (reads_of (λ own. own) (λ own right. right.0) (c.in_ok-row.ensures round)) (reads_then_of (λ own on right told. has_tables _ right.0) c.in_ok-catalogue.ensures c.in_ok-lecturer_view.ensures))
+    (reads_then (lecturer_found c.args.code.now (λ o shown. shown) c.in_ok-row.ensures) (reads_then_of (λ own on right told. has_tables _ right.0) c.in_ok-catalogue.ensures c.in_ok-lecturer_view.ensures))
     (λ own right told.
     let listed = told.1.0.1 in
     let offered : IsCatalogue round a.now.trees offers = λ first. listed ∙ ap (λ (r : Round). catalogue (world_in r a.now.trees)) first ∙ sym (catalogue_told First a.now.trees) in (

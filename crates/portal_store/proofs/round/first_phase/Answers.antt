@@ -1,11 +1,11 @@
-use Rattle.portal_store.proofs.Base.{reads_any, reads_handed, reads_more, state}
-use Rattle.portal_store.proofs.Fine.{office_coded}
+use Rattle.portal_store.proofs.Base.{reads_any, reads_handed, reads_more, state, version}
+use Rattle.portal_store.proofs.Fine.{office_code}
 use Rattle.portal_store.proofs.Rounds.{first_phase}
 use Rattle.portal_store.proofs.round.first_phase.Goals as goal
 
 pub returns-in_err-office : goal.returns-in_err-office
 returns-in_err-office g c =
-    reads_handed c.from_residual.ensures.1 (reads_any c.in_err-office.ensures) (λ own sound told round damaged stands. told stands.office damaged (office_coded round _ stands))
+    reads_handed c.from_residual.ensures.1 (reads_any c.in_err-office.ensures) (λ own sound told round damaged stands. told stands.office damaged (office_code round version _ stands.office stands.good))
 
 pub returns : goal.returns
 returns g c =

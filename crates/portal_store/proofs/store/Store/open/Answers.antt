@@ -1,12 +1,8 @@
-use Rattle.portal_store.proofs.Base.{IsTrue, sym, subst, Database, HasCleanDisk, Held, state, Good, HasEntries, HasGoodWorld, clean_before, clean_if_open, world_of}
+use Rattle.portal_store.proofs.Base.{sym, subst, Database, Good, HasEntries, HasGoodWorld, clean_before, clean_if_open, world_of}
 use Rattle.portal_store.proofs.Keeps.{rests_by}
 use Rattle.portal_store.proofs.Asked.{opened_kept}
 use Rattle.portal_store.proofs.Rounds.{world_told}
-use Rattle.portal_store.proofs.store.Store.open.Given.{Over}
 use Rattle.portal_store.proofs.store.Store.open.Goals as goal
-
-law : (g : Over) (h : Held g.row.S.Denot) → IsTrue (state g.S.Store h).is_open → HasCleanDisk (state g.S.Store h)
-law g h = clean_if_open (state g.S.Store h).is_clean (state g.S.Store h).is_open (g.met.S.Store.shut_if_dirty h.store)
 
 pub invariant_of-result : goal.invariant_of-result
 invariant_of-result g c =
@@ -14,12 +10,12 @@ invariant_of-result g c =
     record {
       kept = opened_kept g.S.Store c.fits-own.result c.args.conn new c.fits-own.ensures.current.0 c.settled.ensures.settled c.settled.ensures.live
           (λ mine clean. ((c.in-Ok-examine.ensures.reads mine).same clean tt, ((c.in-Ok-examine.ensures.reads mine).told (c.fits-own.ensures.current.0 mine) (λ on. (c.settled.ensures.live on).0) clean).0))
-          (c.examine.ensures.looks.mode c.requires.idle) (law g new) (g.met.S.Store.settled new.store);
+          (c.examine.ensures.looks.mode c.requires.idle) (clean_if_open _ _ (g.met.S.Store.shut_if_dirty new.store)) (g.met.S.Store.settled new.store);
       shown = λ on. c.nothing.ensures _;
       entered = λ on.
           let own = c.fits-own.ensures.current.0 on.0 in
-          let same = (c.in-Ok-examine.ensures.reads on.0).same (law g new on.1) tt in
-          subst (λ (d : Database). HasEntries c.in-Ok-examine.entries (world_of d.trees)) (sym same.0.now_is) ((c.in-Ok-examine.ensures.reads on.0).told own (λ on. (c.settled.ensures.live on).0) (law g new on.1)).1;
+          let same = (c.in-Ok-examine.ensures.reads on.0).same (clean_if_open _ _ (g.met.S.Store.shut_if_dirty new.store) on.1) tt in
+          subst (λ (d : Database). HasEntries c.in-Ok-examine.entries (world_of d.trees)) (sym same.0.now_is) ((c.in-Ok-examine.ensures.reads on.0).told own (λ on. (c.settled.ensures.live on).0) (clean_if_open _ _ (g.met.S.Store.shut_if_dirty new.store) on.1)).1;
     }
 
 pub returns-clause-settled : goal.returns-clause-settled
@@ -28,14 +24,14 @@ returns-clause-settled g c =
     rests_by g.S.Store new c.fits-own.result 0 (g.met.S.Store.settled new.store)
     (opened_kept g.S.Store c.fits-own.result c.args.conn new c.fits-own.ensures.current.0 c.settled.ensures.settled c.settled.ensures.live
     (λ mine clean. ((c.in-Ok-examine.ensures.reads mine).same clean tt, ((c.in-Ok-examine.ensures.reads mine).told (c.fits-own.ensures.current.0 mine) (λ on. (c.settled.ensures.live on).0) clean).0))
-    (c.examine.ensures.looks.mode c.requires.idle) (law g new) (g.met.S.Store.settled new.store))
+    (c.examine.ensures.looks.mode c.requires.idle) (clean_if_open _ _ (g.met.S.Store.shut_if_dirty new.store)) (g.met.S.Store.settled new.store))
 
 pub returns-clause-good : goal.returns-clause-good
 returns-clause-good g c on =
     let new = c.examine.new.conn in
     let own = c.fits-own.ensures.current.0 on.0 in
-    let same = (c.in-Ok-examine.ensures.reads on.0).same (law g new on.1) tt in
-    let stands = ((c.in-Ok-examine.ensures.reads on.0).told own (λ on. (c.settled.ensures.live on).0) (law g new on.1)).0.stands in
+    let same = (c.in-Ok-examine.ensures.reads on.0).same (clean_if_open _ _ (g.met.S.Store.shut_if_dirty new.store) on.1) tt in
+    let stands = ((c.in-Ok-examine.ensures.reads on.0).told own (λ on. (c.settled.ensures.live on).0) (clean_if_open _ _ (g.met.S.Store.shut_if_dirty new.store) on.1)).0.stands in
     subst (λ (d : Database). Good (world_of d.trees)) (sym same.0.now_is) (subst Good (sym (world_told stands.0 _ stands.1.second)) stands.1.good)
 
 pub returns-clause-same : goal.returns-clause-same

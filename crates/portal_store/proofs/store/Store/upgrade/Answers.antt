@@ -1,11 +1,7 @@
-use Rattle.portal_store.proofs.Base.{inl, inr, Err, IsTrue, sym, ap, subst, ◌∙◌, HasCleanDisk, Held, state, HasEntries, has_names, OfSecond, clean_before, clean_if_open}
-use Rattle.portal_store.proofs.Keeps.{rests_by}
-use Rattle.portal_store.proofs.Upgraded.{first_untaken, not_taken, upgraded_kept, same_world, still_good}
-use Rattle.portal_store.proofs.store.Store.upgrade.Given.{Over}
+use Rattle.portal_store.proofs.Base.{inl, inr, Err, sym, ap, subst, ◌∙◌, HasEntries, has_names, OfSecond, clean_before, clean_if_open}
+use Rattle.portal_store.proofs.Keeps.{not_both, rests_by}
+use Rattle.portal_store.proofs.Upgraded.{first_untaken, upgraded_kept, same_world, still_good}
 use Rattle.portal_store.proofs.store.Store.upgrade.Goals as goal
-
-law : (g : Over) (h : Held g.row.S.Denot) → IsTrue (state g.S.Store h).is_open → HasCleanDisk (state g.S.Store h)
-law g h = clean_if_open (state g.S.Store h).is_clean (state g.S.Store h).is_open (g.met.S.Store.shut_if_dirty h.store)
 
 pub invariant_of-result : goal.invariant_of-result
 invariant_of-result g c =
@@ -14,13 +10,13 @@ invariant_of-result g c =
     let up = c.in-Ok-upgraded.ensures in
     record {
       kept = upgraded_kept g.S.Store own.result c.args.conn new own.ensures.first.0
-          (λ mine clean. (up.made mine (own.ensures.own mine) clean, (up.stands mine (own.ensures.own mine) c.settled.ensures.live clean).0)) c.upgraded.ensures.idle (law g new) up.durable;
+          (λ mine clean. (up.made mine (own.ensures.own mine) clean, (up.stands mine (own.ensures.own mine) c.settled.ensures.live clean).0)) c.upgraded.ensures.idle (clean_if_open _ _ (g.met.S.Store.shut_if_dirty new.store)) up.durable;
       shown = λ on. c.nothing.ensures _;
       entered = λ on.
           subst (HasEntries c.in-Ok-upgraded.entries)
           (sym (same_world g.S.Store own.result c.args.conn new own.ensures.first.0
-          (λ mine clean. (up.made mine (own.ensures.own mine) clean, (up.stands mine (own.ensures.own mine) c.settled.ensures.live clean).0)) on.0 (law g new on.1)))
-          (up.stands on.0 (own.ensures.own on.0) c.settled.ensures.live (law g new on.1)).1;
+          (λ mine clean. (up.made mine (own.ensures.own mine) clean, (up.stands mine (own.ensures.own mine) c.settled.ensures.live clean).0)) on.0 (clean_if_open _ _ (g.met.S.Store.shut_if_dirty new.store) on.1)))
+          (up.stands on.0 (own.ensures.own on.0) c.settled.ensures.live (clean_if_open _ _ (g.met.S.Store.shut_if_dirty new.store) on.1)).1;
     }
 
 pub returns-clause-world : goal.returns-clause-world
@@ -29,7 +25,7 @@ returns-clause-world g c on =
     let own = c.fits_first-own in
     let up = c.in-Ok-upgraded.ensures in
     same_world g.S.Store own.result c.args.conn new own.ensures.first.0
-    (λ mine clean. (up.made mine (own.ensures.own mine) clean, (up.stands mine (own.ensures.own mine) c.settled.ensures.live clean).0)) on.0 (law g new on.1)
+    (λ mine clean. (up.made mine (own.ensures.own mine) clean, (up.stands mine (own.ensures.own mine) c.settled.ensures.live clean).0)) on.0 (clean_if_open _ _ (g.met.S.Store.shut_if_dirty new.store) on.1)
 
 pub returns-clause-good : goal.returns-clause-good
 returns-clause-good g c on =
@@ -37,14 +33,14 @@ returns-clause-good g c on =
     let own = c.fits_first-own in
     let up = c.in-Ok-upgraded.ensures in
     still_good g.S.Store own.result c.args.conn new own.ensures.first.0
-    (λ mine clean. (up.made mine (own.ensures.own mine) clean, (up.stands mine (own.ensures.own mine) c.settled.ensures.live clean).0)) on.0 (law g new on.1)
+    (λ mine clean. (up.made mine (own.ensures.own mine) clean, (up.stands mine (own.ensures.own mine) c.settled.ensures.live clean).0)) on.0 (clean_if_open _ _ (g.met.S.Store.shut_if_dirty new.store) on.1)
 
 -- that a name is taken is not told of tables of version 1 alone
 pub returns-in-Err-upgraded-clause-refused : goal.returns-in-Err-upgraded-clause-refused
 returns-in-Err-upgraded-clause-refused g c first clean =
     let mine = c.fits_first-own.ensures.first.1 first in
     elim (c.in-Err-upgraded.ensures.refused mine (c.fits_first-own.ensures.own mine) c.settled.ensures.live clean) [
-      | inl is ↦ absurd (not_taken _ (first_untaken c.args.conn.schema first) (c.in-Err-upgraded.ensures.exists (ap Err is)))
+      | inl is ↦ absurd (not_both _ (c.in-Err-upgraded.ensures.exists (ap Err is)) (first_untaken c.args.conn.schema first))
       | inr bars ↦ bars
     ]
 
@@ -64,7 +60,7 @@ returns-clause-settled g c =
     let own = c.fits_first-own in
     let up = c.in-Ok-upgraded.ensures in
     rests_by g.S.Store new own.result 0 (g.met.S.Store.settled new.store) (upgraded_kept g.S.Store own.result c.args.conn new own.ensures.first.0
-    (λ mine clean. (up.made mine (own.ensures.own mine) clean, (up.stands mine (own.ensures.own mine) c.settled.ensures.live clean).0)) c.upgraded.ensures.idle (law g new) up.durable)
+    (λ mine clean. (up.made mine (own.ensures.own mine) clean, (up.stands mine (own.ensures.own mine) c.settled.ensures.live clean).0)) c.upgraded.ensures.idle (clean_if_open _ _ (g.met.S.Store.shut_if_dirty new.store)) up.durable)
 
 pub returns-clause-crash_ok : goal.returns-clause-crash_ok
 returns-clause-crash_ok g c = c.upgraded.ensures.crash
