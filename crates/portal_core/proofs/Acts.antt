@@ -48,20 +48,14 @@ catalogue_joined w rs = elim w.round as (λ r. catalogue (in_first r (with_stude
 
 -- the caller's own list
 
-chosen_own : (list : List Key) (s : rows.Student) → with_choice s.row.key list s ≡ record s { choice = list }
-chosen_own list s = ap (λ b. cond b (record s { choice = list }) s) (is_own s.row.key)
-
-ranked_own : (list : List Key) (l : rows.Lecturer) → with_ranking l.row.key list l ≡ record l { ranking = Some list }
-ranked_own list l = ap (λ b. cond b (record l { ranking = Some list }) l) (is_own l.row.key)
-
 pub view_chosen : (w : World) (c : Key) (s : rows.Student) (list : List Key) → caller w c ≡ StudentCaller s → view (changed w (Choices s.row.key list)) c ≡ Student (record (student_sees w s) { choices = list })
 view_chosen w c s list e =
-    ap (sight_of (changed w (Choices s.row.key list))) (caller_chosen w s.row.key list c ∙ ap (re_chosen s.row.key list) e ∙ ap StudentCaller (chosen_own list s))
+    ap (sight_of (changed w (Choices s.row.key list))) (caller_chosen w s.row.key list c ∙ ap (re_chosen s.row.key list) e ∙ ap (λ b. StudentCaller (cond b (record s { choice = list }) s)) (is_own s.row.key))
     ∙ λ i. Student (record (student_sees w s) { catalogue = catalogue_chosen w s.row.key list i; choices = list })
 
 pub view_ranked : (w : World) (c : Key) (l : rows.Lecturer) (list : List Key) → caller w c ≡ LecturerCaller l → view (changed w (Ranks l.row.key list)) c ≡ Lecturer (record (lecturer_sees w l) { ranking = Some list })
 view_ranked w c l list e =
-    ap (sight_of (changed w (Ranks l.row.key list))) (caller_ranked w l.row.key list c ∙ ap (re_called (with_ranking l.row.key list)) e ∙ ap LecturerCaller (ranked_own list l))
+    ap (sight_of (changed w (Ranks l.row.key list))) (caller_ranked w l.row.key list c ∙ ap (re_called (with_ranking l.row.key list)) e ∙ ap (λ b. LecturerCaller (cond b (record l { ranking = Some list }) l)) (is_own l.row.key))
     ∙ λ i. Lecturer (record (lecturer_sees w l) { catalogue = catalogue_ranked w l.row.key list i; ranking = Some list })
 
 -- after a call that is no Move and no Add, the caller sees what `own` says

@@ -1,5 +1,5 @@
 -- Laws of what holds of each element, and of tests.
-use Rattle.portal_core.proofs.Base.{◌≡◌, ℕ, zero, suc, ◌<◌, Bool, true, false, List, [], ◌∷◌, ◌++◌, length, get_or, refl, ◌∙◌, ap, arith, map, filter, Option, Some, ◌&&◌, ◌||◌, list_any, filter_map, AllByRecursion, Key, equals, has, is_empty, AreDistinct}
+use Rattle.portal_core.proofs.Base.{◌≡◌, ℕ, ◌<◌, Bool, true, false, List, [], ◌∷◌, ◌++◌, length, get_or, refl, ◌∙◌, ap, arith, map, filter, Option, Some, ◌&&◌, ◌||◌, list_any, filter_map, AllByRecursion, Key, equals, has, is_empty, AreDistinct, All-from_recursion}
 pub use Rattle.std.proofs.lemmas.List.Folds.{list_any-append as any_append}
 use Rattle.portal_core.proofs.Keys.{is_same, is_own}
 
@@ -25,9 +25,7 @@ each_one P k (x ∷ xs) = (k x, each_one P k xs)
 
 -- what holds of each holds at a place
 pub all_at : {X : Type 0} (P : X → Type 0) (xs : List X) (k : ℕ) (d : X) → AllByRecursion P xs → k < length xs → P (get_or xs k d)
-all_at P [] k d all h = absurd (omega arith)
-all_at P (x ∷ xs) zero d all h = all.0
-all_at P (x ∷ xs) (suc k) d all h = all_at P xs k d all.1 (omega arith)
+all_at P xs k d all h = All-from_recursion P xs all k d h
 
 -- a change that keeps the keys
 pub map_same : {X Y : Type 0} (key : X → Y) (f : X → X) → ((x : X) → key (f x) ≡ key x) → (xs : List X) → map key (map f xs) ≡ map key xs

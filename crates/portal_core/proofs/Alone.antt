@@ -1,8 +1,8 @@
 -- What a round is played in is a good world of one round.
-use Rattle.portal_core.proofs.Base.{◌≡◌, ℕ, ◌≤◌, Bool, true, false, cond, List, [], ◌∷◌, ◌++◌, length, refl, sym, ◌∙◌, ap, subst, arith, map, filter, nat_lt, unwrap_or, option_map, not, ◌&&◌, ◌||◌, Option, None, IfSome, is_none, list_any, AllByRecursion, nat_tests, length-map, Key, equals, is_before, has, is_empty, Rise, AreDistinct, World, in_play, alone, alone_lecturer, alone_student, lecturer_key, project_key, student_key, applicants_of, projects_of, is_still_to_rank, is_left, lowered_lecturer, lowered_project, lecturers_left, students_left, instance, instance_of, places_of, lecturer_keys, project_keys, student_keys, ProjectRow, Round, First, Second, IsStable, number_in, Good, Sound, IsChoice, IsRanking, IsLecturer, IsProject, IsStudent}
+use Rattle.portal_core.proofs.Base.{◌≡◌, ℕ, ◌≤◌, Bool, true, false, cond, List, [], ◌∷◌, ◌++◌, length, refl, sym, ◌∙◌, ap, subst, arith, map, filter, nat_lt, unwrap_or, option_map, not, ◌&&◌, ◌||◌, Option, None, IfSome, is_none, list_any, AllByRecursion, nat_tests, length-map, Key, equals, is_before, has, is_empty, Rise, AreDistinct, World, in_play, alone, alone_lecturer, alone_student, lecturer_key, project_key, student_key, applicants_of, projects_of, is_still_to_rank, is_left, lowered_lecturer, lowered_project, lecturers_left, students_left, instance, instance_of, places_of, lecturer_keys, project_keys, student_keys, ProjectRow, Round, First, Second, IsStable, number_in, Good, Sound, IsChoice, IsRanking, IsLecturer, IsProject, IsStudent, All-from_recursion, and_parts, count_by-le-length, length-filter, map_fixed}
 use Rattle.portal_core.specs.World as rows
 use Rattle.portal_core.proofs.Keys.{is_same, all_unmap}
-use Rattle.portal_core.proofs.AllLaws.{all_map, all_weaker, all_both, map_same, any_map, is_sym, kept_filtered}
+use Rattle.portal_core.proofs.AllLaws.{all_map, all_weaker, all_both, map_same, any_map, any_nowhere, is_sym, kept_filtered}
 use Rattle.portal_core.proofs.Kept.{empty_map}
 use Rattle.portal_core.proofs.InPlay.{filter_kept}
 use Rattle.portal_core.proofs.InRound.{all_filter, known_left}
@@ -16,8 +16,7 @@ passes P R q k [] all = tt
 passes P R q k (x ∷ xs) all = grind (arith, k x all.0, passes P R q k xs all.1)
 
 fewer : {X : Type 0} (q : X → Bool) (xs : List X) → length (filter q xs) ≤ length xs
-fewer q [] = omega arith
-fewer q (x ∷ xs) = grind (arith, fewer q xs)
+fewer q xs = omega (arith, length-filter q xs, count_by-le-length q xs)
 
 none_kept : {X : Type 0} (code : X → Key) (q : X → Bool) (xs : List X) (rest : List Key) (k : Key) → has (map code xs ++ rest) k ≡ false → has (map code (filter q xs) ++ rest) k ≡ false
 none_kept code q [] rest k h = h
@@ -36,9 +35,6 @@ apart_back : {X : Type 0} (code : X → Key) (q : X → Bool) (ks : List Key) (x
 apart_back code q [] [] d = d
 apart_back code q [] (x ∷ xs) d = grind (arith, none_back code q [] xs (code x) d.0, apart_back code q [] xs d.1)
 apart_back code q (k ∷ ks) xs d = (none_back code q ks xs k d.0, apart_back code q ks xs d.1)
-
-and_first : (a b : Bool) → (a && b) ≡ true → a ≡ true
-and_first a b h = grind arith
 
 some_room : (n : ℕ) → nat_lt 0 n ≡ true → 1 ≤ n
 some_room n h = grind (arith, nat_tests)
@@ -92,10 +88,6 @@ module _ (w : World) (g : Sound w) (two : w.round ≡ Second) where
       ∙ ap (list_any (λ p. has s.choice p.key)) (filter_kept (lowered_project w.students) (λ p. equals p.lecturer l) (λ p. refl) w.projects)
       ∙ any_map (λ p. has s.choice p.key) (lowered_project w.students) (projects_of w l)
 
-  none_wanted : (ps : List ProjectRow) → list_any (λ p. has [] p.key) ps ≡ false
-  none_wanted [] = refl
-  none_wanted (p ∷ ps) = none_wanted ps
-
   -- the choices, as the round's
   choices_are : AllByRecursion (λ s. IsChoice (project_keys (left_of w)) s.choice) w.students
   choices_are = subst (λ u. AllByRecursion (λ s. IsChoice (project_keys u) s.choice) w.students) (second_plays w two) g.choices
@@ -105,7 +97,7 @@ module _ (w : World) (g : Sound w) (two : w.round ≡ Second) where
       kept_filtered student_key alone_student (wants (left_of w) l) (λ s. refl) (λ s. refl) (students_left w.students)
       ∙ ap (map student_key) (filter_of_left (wants (left_of w) l) (wants w l) is_left w.students
       (all_weaker (λ s. IsChoice (project_keys (left_of w)) s.choice × (is_left s ≡ false → (s.choice ≡ []) × (s.placed ≡ None))) _
-      (λ s h. ((λ e. wants_same l s h.0), (λ e. ap (λ c. list_any (λ p. has c p.key) (projects_of w l)) (h.1 e).0 ∙ none_wanted (projects_of w l)))) w.students
+      (λ s h. ((λ e. wants_same l s h.0), (λ e. ap (λ c. list_any (λ p. has c p.key) (projects_of w l)) (h.1 e).0 ∙ any_nowhere (projects_of w l)))) w.students
       (all_both (λ s. IsChoice (project_keys (left_of w)) s.choice) (λ s. is_left s ≡ false → (s.choice ≡ []) × (s.placed ≡ None)) w.students choices_are g.only_left)))
 
   pub still_alone : (l : rows.Lecturer) → is_still_to_rank (alone (left_of w)) l ≡ is_still_to_rank w l
@@ -156,7 +148,7 @@ module _ (w : World) (g : Sound w) (two : w.round ≡ Second) where
             (all_map (λ (l : rows.Lecturer). (1 ≤ l.row.capacity → IsLecturer l.row)) (lowered_lecturer w.projects w.students) w.lecturers
             (all_weaker _ _ (λ l h low. record { key = h.key; name = h.name; code = h.code; low = low; high = let top = h.high in omega (arith, top) }) w.lecturers g.lecturer_forms)));
         project_forms = passes (λ (p : ProjectRow). (1 ≤ p.capacity → IsProject p)) IsProject taken
-            (λ p h e. h (some_room p.capacity (and_first (nat_lt 0 p.capacity) (has (map lecturer_key (lecturers_left w.lecturers w.projects w.students)) p.lecturer) e))) lowered
+            (λ p h e. h (some_room p.capacity (and_parts (nat_lt 0 p.capacity) (has (map lecturer_key (lecturers_left w.lecturers w.projects w.students)) p.lecturer) e).0)) lowered
             (all_map (λ (p : ProjectRow). (1 ≤ p.capacity → IsProject p)) (lowered_project w.students) w.projects
             (all_weaker _ _ (λ p h low. record { key = h.key; lecturer = h.lecturer; title = h.title; low = low; high = let top = h.high in omega (arith, top) }) w.projects g.project_forms));
         student_forms = group (λ s. IsStudent s.row) (λ s h. h) g.student_forms;
@@ -200,20 +192,11 @@ rows_alone u =
 pub places_alone : (u : World) → places_of (alone u) ≡ places_of u
 places_alone u = map_same (λ (s : rows.Student). option_map (number_in (project_keys u)) s.placed) alone_student (λ s. refl) u.students
 
--- in the first round the world itself is so
-itself_lecturers : (ls : List rows.Lecturer) → AllByRecursion (λ l. l.earlier_ranking ≡ None) ls → map alone_lecturer ls ≡ ls
-itself_lecturers [] all = refl
-itself_lecturers (l ∷ ls) all = λ i. record l { earlier_ranking = sym all.0 i } ∷ itself_lecturers ls all.1 i
-
-itself_students : (ss : List rows.Student) → AllByRecursion (λ s. (s.earlier_choice ≡ []) × (s.earlier_placement ≡ None)) ss → map alone_student ss ≡ ss
-itself_students [] all = refl
-itself_students (s ∷ ss) all = λ i. record s { earlier_choice = sym all.0.0 i; earlier_placement = sym all.0.1 i } ∷ itself_students ss all.1 i
-
 pub itself : (w : World) → Sound w → w.round ≡ First → alone w ≡ w
 itself w g one = λ i. record w {
   round = sym one i;
-  lecturers = itself_lecturers w.lecturers (g.no_earlier_rankings (ap rows.is_second one)) i;
-  students = itself_students w.students (g.no_earlier_lists (ap rows.is_second one)) i;
+  lecturers = map_fixed alone_lecturer w.lecturers (All-from_recursion (λ l. alone_lecturer l ≡ l) w.lecturers (all_weaker (λ (l : rows.Lecturer). l.earlier_ranking ≡ None) (λ l. alone_lecturer l ≡ l) (λ l e j. record l { earlier_ranking = sym e j }) w.lecturers (g.no_earlier_rankings (ap rows.is_second one)))) i;
+  students = map_fixed alone_student w.students (All-from_recursion (λ s. alone_student s ≡ s) w.students (all_weaker (λ (s : rows.Student). (s.earlier_choice ≡ []) × (s.earlier_placement ≡ None)) (λ s. alone_student s ≡ s) (λ s e j. record s { earlier_choice = sym e.0 j; earlier_placement = sym e.1 j }) w.students (g.no_earlier_lists (ap rows.is_second one)))) i;
 }
 
 sound_alone : (w : World) → Sound w → (r : Round) → w.round ≡ r → Sound (alone (in_play w))

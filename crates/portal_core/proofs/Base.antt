@@ -2,15 +2,15 @@
 pub use lib.Pointwise.{bytes_decides}
 pub use Rattle.std.proofs.Common.{Bool, Contains, Global, List, Vec, [], add-one, ap, append-nil, append_assoc, arith, cond, drop, false, get_or, inl, inr, length, map, refl, reverse, rules, subst, suc, sym, take, true, zero, ℕ, ◌++◌, ◌+◌, ◌-◌, ◌<◌, ◌∙◌, ◌∷◌, ◌≡◌, ◌≢◌, ◌≤◌, IfOk, Ok, Err, string_bytes, IsTrue, ◌↔◌, Bor, drop-cons}
 pub use Rattle.std.proofs.Math.Bool.{and-false, or-true, or_comm, or_assoc}
-pub use Rattle.std.proofs.lemmas.Bool.{ne_eqb, eq-eqb, eqb-true, or_parts, or_from, cases_lt, false≢true, not-false, and_parts}
+pub use Rattle.std.proofs.lemmas.Bool.{ne_eqb, eq-eqb, eqb-true, or_parts, or_from, cases_lt, false≢true, not-false, and_parts, and_from}
 pub use Rattle.std.proofs.lemmas.Bool.Decides.{nat_tests}
 pub use Rattle.std.proofs.lemmas.Cmp.{nat_list_cmp_total, tied_itself}
 pub use Rattle.std.proofs.lemmas.Iterator.Adapters.{YieldsList-from_rev_slice}
 pub use Rattle.std.proofs.lemmas.Iterator.Consumers.{YieldsList-at, YieldsList-end}
 pub use Rattle.std.proofs.lemmas.List.{get_or-map, length-map, map-id, reverse-append, reverse-reverse, flat_map_more, take_more, get_or_past, length-append, get_or_default, map-append}
-pub use Rattle.std.proofs.lemmas.List.Elements.{AllZip-get_or, All-contains, All-from_recursion}
-pub use Rattle.std.proofs.lemmas.List.Folds.{list_any_at, list_any_more}
-pub use Rattle.std.proofs.lemmas.List.Sums.{length-filter, count_by_more_yes, count_by_more_no}
+pub use Rattle.std.proofs.lemmas.List.Elements.{AllZip-get_or, All-contains, All-from_recursion, All-from_get_or, All-contains_itself, recursion_from_All}
+pub use Rattle.std.proofs.lemmas.List.Folds.{list_any_at, list_any_more, Any-from_list_any, map_fixed}
+pub use Rattle.std.proofs.lemmas.List.Sums.{length-filter, count_by-le-length, count_by_more_yes, count_by_more_no}
 pub use Rattle.std.proofs.lemmas.Slice.Zip.{AllZip-long}
 pub use Rattle.std.specs.Cmp.Lexicographic.{slice_cmp, texts_ties}
 pub use Rattle.std.specs.List.{AllByRecursion, AllZip, cons_option, filter_map, find, list_any, flat_map, IsAllAdjacentAnswer, list_all}
@@ -47,8 +47,8 @@ pub use Rattle.serde_json.specs.Data.{Data, string}
 pub use Rattle.serde_json.specs.View.{items_of, view as data_of}
 pub use Rattle.spa_honest.proofs.Explained.{why_not as reason_by_number}
 pub use Rattle.spa_honest.proofs.Fewer.{as_good_alike as alike_by_number, fewer_never_harm as fewer_by_number}
-pub use Rattle.spa_honest.proofs.Gains.{honest_is_best as honest_by_number, no_group_gains as no_group_by_number, no_group_gains_over_both as no_group_over_by_number}
-pub use Rattle.spa_honest.proofs.Waits.{waiting_never_pays as waiting_by_number, left_finds_none as left_by_number}
+pub use Rattle.spa_honest.proofs.Gains.{no_group_gains as no_group_by_number, no_group_gains_over_both as no_group_over_by_number}
+pub use Rattle.spa_honest.proofs.Waits.{left_finds_none as left_by_number}
 pub use Rattle.spa_model.proofs.Numbers.{number_is, number_known}
 pub use Rattle.spa_model.proofs.PairFaults.{count_by-map}
 pub use Rattle.spa_model.specs.Pairs.{number_in}

@@ -1,13 +1,9 @@
 -- What is published is the best for the students.
-use Rattle.portal_core.proofs.Base.{◌≡◌, ◌⊎◌, inl, inr, Bool, true, false, List, refl, sym, ◌∙◌, ap, subst, AllByRecursion, IsBest, Key, World, is_published, is_second, first, changed, in_first, Round, instance, matching_of, Caller, caller, sight_of, AbstractCall, Answer, Decision, decision, is_open_to_rolls, Good, StepLeaves, Step, Request, Calls, Run, OpensSecond, HasBest, arith, Placements, ShowsBest}
-use Rattle.portal_core.proofs.Enrol.{open_phase}
+use Rattle.portal_core.proofs.Base.{◌≡◌, ◌⊎◌, inl, inr, Bool, true, false, List, refl, sym, ◌∙◌, ap, subst, AllByRecursion, IsBest, Key, World, is_published, is_second, first, changed, instance, matching_of, Caller, caller, sight_of, AbstractCall, Answer, Decision, decision, Good, StepLeaves, Step, Request, Calls, Run, OpensSecond, HasBest, arith, Placements, ShowsBest}
 use Rattle.portal_core.proofs.Kept.{instance_placed}
-use Rattle.portal_core.proofs.Steps.{run_keeps, step_good, rolls_early}
+use Rattle.portal_core.proofs.Steps.{run_keeps, step_good}
 use Rattle.portal_core.proofs.Opened.{first_back, opens_to, first_stays}
 use Rattle.portal_core.proofs.Opening.{step_turns}
-
-rolls_phase : (w u : World) → u.phase ≡ w.phase → (r : Round) → (in_first r u w).phase ≡ w.phase
-rolls_phase w u same r = grind arith
 
 module _ (w v : World) where
   -- nothing changed, or nothing is published, or what is published is the best
@@ -16,12 +12,6 @@ module _ (w v : World) where
 
   abbrev Leads : AbstractCall → Decision → Type 0
   Leads ask d = StepLeaves w d.act v → Outcome
-
-  closed : (u : World) → is_published u.phase ≡ false → v ≡ u → Outcome
-  closed u out e = inr (inl (ap (λ x. is_published x.phase) e ∙ out))
-
-  enrolled : (u : World) → is_open_to_rolls w.round w.phase ≡ true → u.phase ≡ w.phase → v ≡ in_first w.round u w → Outcome
-  enrolled u now same = closed _ (ap is_published (rolls_phase w u same w.round) ∙ open_phase w.phase (rolls_early w.round w.phase now))
 
   outcome : (x : Caller) (ask : AbstractCall) → Leads ask (decision (sight_of w x) ask)
   outcome x ask =

@@ -1,5 +1,5 @@
 -- The results of both rounds together keep the capacities of the rolls.
-use Rattle.portal_core.proofs.Base.{◌≡◌, ℕ, suc, ◌+◌, ◌-◌, ◌<◌, ◌≤◌, Bool, true, false, cond, List, [], ◌∷◌, map, length, get_or, refl, sym, ◌∙◌, ap, subst, arith, filter, count_by, nat_lt, ◌==◌, ◌&&◌, ◌||◌, Option, Some, None, option_map, list_any, AllByRecursion, nat_tests, length-filter, IsMatching, is_project, is_lecturer, at_project, at_lecturer, number_in, count_by-map, Key, equals, is_before, has, Rise, World, in_play, first, first_placed, first_published, lecturer_key, project_key, is_at, is_left, is_second, is_published, given_to, given_with, lowered_lecturer, lowered_project, lecturers_left, projects_left, students_left, instance, instance_of, matching_of, places_of, lecturer_keys, project_keys, ProjectRow, Round, First, Second, Good, IsRound, Sound, placed_to, placed_with, slice_index_or, KeepsCapacities}
+use Rattle.portal_core.proofs.Base.{◌≡◌, ℕ, suc, ◌-◌, ◌<◌, ◌≤◌, Bool, true, false, cond, List, [], ◌∷◌, map, length, get_or, refl, sym, ◌∙◌, ap, subst, arith, filter, count_by, nat_lt, ◌==◌, ◌&&◌, ◌||◌, Option, Some, None, option_map, list_any, AllByRecursion, length-filter, IsMatching, is_project, is_lecturer, at_project, at_lecturer, number_in, count_by-map, Key, equals, is_before, has, Rise, World, in_play, first, first_placed, first_published, lecturer_key, project_key, is_at, is_left, is_second, is_published, given_to, given_with, lowered_lecturer, lowered_project, lecturers_left, projects_left, students_left, instance, instance_of, matching_of, places_of, lecturer_keys, project_keys, ProjectRow, Round, First, Second, Good, IsRound, Sound, placed_to, placed_with, slice_index_or, KeepsCapacities, eq-eqb}
 use Rattle.portal_core.specs.World as rows
 use Rattle.portal_core.proofs.Keys.{is_same, is_own, all_unmap}
 pub use Rattle.portal_core.proofs.AllLaws.{each_one}
@@ -79,9 +79,6 @@ module _ {X : Type 0} (key : X → Key) (f : X → ℕ) where
 
 -- one matching and the rows that it is of
 
-at_itself : (n : ℕ) → (n == n) ≡ true
-at_itself n = grind (arith, nat_tests)
-
 placed_at_most : (u : World) (k : Key) → IsMatching (instance_of u) (places_of u) → placed_to u.students k ≤ look project_key (λ p. p.capacity) u.projects k
 placed_at_most u k m =
     let n : ℕ = number_in (project_keys u) k in
@@ -95,7 +92,7 @@ placed_at_most u k m =
   where
     one : (o : Option Key) → is_at k o ≡ true → is_project (number_in (project_keys u) k) (option_map (number_in (project_keys u)) o) ≡ true
     one None h = cc
-    one (Some q) h = subst (λ x. (number_in (project_keys u) q == number_in (project_keys u) x) ≡ true) (is_same q k h) (at_itself (number_in (project_keys u) q))
+    one (Some q) h = subst (λ x. (number_in (project_keys u) q == number_in (project_keys u) x) ≡ true) (is_same q k h) (eq-eqb (number_in (project_keys u) q) (number_in (project_keys u) q) refl)
 
 -- who is placed has a project that takes part
 
@@ -153,7 +150,7 @@ module _ (u : World) (m : IsMatching (instance_of u) (places_of u)) (known : All
           let there : has (map project_key (filter t ps)) q ≡ true = subst (λ xs. has (map project_key xs) q ≡ true) (sym these) (number_has (project_keys u) q (low q refl)) in
           let at : look project_key (λ (p : ProjectRow). number_in (lecturer_keys u) p.lecturer) u.projects q ≡ number_in (lecturer_keys u) l
           = subst (λ xs. look project_key (λ (p : ProjectRow). number_in (lecturer_keys u) p.lecturer) xs q ≡ number_in (lecturer_keys u) l) these (offered (number_in (lecturer_keys u)) t ps l q rise h there) in
-          subst (λ n. (n == number_in (lecturer_keys u) l) ≡ true) (sym (look_is project_key (λ (p : ProjectRow). number_in (lecturer_keys u) p.lecturer) u.projects q ∙ at)) (at_itself (number_in (lecturer_keys u) l))
+          subst (λ n. (n == number_in (lecturer_keys u) l) ≡ true) (sym (look_is project_key (λ (p : ProjectRow). number_in (lecturer_keys u) p.lecturer) u.projects q ∙ at)) (eq-eqb (number_in (lecturer_keys u) l) (number_in (lecturer_keys u) l) refl)
 
 -- one round that is published, by what takes part
 module _ (w : World) (sound : Sound w) (m : IsMatching (instance w) (matching_of w)) where
@@ -190,15 +187,12 @@ first_fits w g one m =
 
 -- no place, no count
 
-not_at : (k : Key) (o : Option Key) → o ≡ None → is_at k o ≡ false
-not_at k o e = ap (is_at k) e
-
 not_with : (l : Key) (ps : List ProjectRow) (o : Option Key) → o ≡ None → list_any (λ p. equals p.lecturer l && is_at p.key o) ps ≡ false
 not_with l ps o e = ap (λ x. list_any (λ p. equals p.lecturer l && is_at p.key x) ps) e ∙ given_none ps l
 
 none_counted : (place : rows.Student → Option Key) (ps : List ProjectRow) (ss : List rows.Student) → AllByRecursion (λ s. place s ≡ None) ss → ((k : Key) → rows.count_at place ss k ≡ 0) × ((l : Key) → rows.count_with place ps ss l ≡ 0)
 none_counted place ps ss all = (
-  λ k. count_none (λ s. is_at k (place s)) ss (all_weaker (λ s. place s ≡ None) _ (λ s e. not_at k (place s) e) ss all),
+  λ k. count_none (λ s. is_at k (place s)) ss (all_weaker (λ s. place s ≡ None) _ (λ s e. ap (is_at k) e) ss all),
   λ l. count_none (λ s. list_any (λ p. equals p.lecturer l && is_at p.key (place s)) ps) ss (all_weaker (λ s. place s ≡ None) _ (λ s e. not_with l ps (place s) e) ss all),
 )
 
@@ -209,10 +203,6 @@ none_fits place room staff w all =
       projects = each_one _ (λ p. let zero' : rows.count_at place w.students p.key ≡ 0 = none.0 p.key in omega (arith, zero')) w.projects;
       lecturers = each_one _ (λ l. let zero' : rows.count_with place w.projects w.students l.row.key ≡ 0 = none.1 l.row.key in omega (arith, zero')) w.lecturers;
     }
-
--- what a first number and the room that it leaves add up to
-both_fit : (a b c : ℕ) → a ≤ c → b ≤ c - a → a + b ≤ c
-both_fit a b c h k = omega (arith, h, k)
 
 abbrev pub left_of : World → World
 left_of w = record w { lecturers = lecturers_left w.lecturers w.projects w.students; projects = projects_left w.lecturers w.projects w.students; students = students_left w.students }
@@ -233,7 +223,7 @@ second_fits w g two m =
       projects = all_weaker (λ p. look project_key (λ (x : ProjectRow). x.capacity) (left_of w).projects p.key ≤ p.capacity - given_to w.students p.key) _
           (λ p h.
           let few = placed_at_most (left_of w) p.key m' in
-          let same : placed_to (students_left w.students) p.key ≡ placed_to w.students p.key = count_filter (λ s. is_at p.key s.placed) is_left w.students (all_weaker _ _ (λ s out e. not_at p.key s.placed (out e).1) w.students g.only_left) in
+          let same : placed_to (students_left w.students) p.key ≡ placed_to w.students p.key = count_filter (λ s. is_at p.key s.placed) is_left w.students (all_weaker _ _ (λ s out e. ap (is_at p.key) (out e).1) w.students g.only_left) in
           omega (arith, few, same, h)) w.projects
           (all_unmap (λ x. look project_key (λ (x : ProjectRow). x.capacity) (left_of w).projects x.key ≤ x.capacity) (lowered_project w.students) w.projects
           (look_filter project_key (λ (x : ProjectRow). x.capacity) (λ p. nat_lt 0 p.capacity && has (map lecturer_key (lecturers_left w.lecturers w.projects w.students)) p.lecturer) (map (lowered_project w.students) w.projects) rise));
@@ -265,29 +255,25 @@ before_fits w b =
 together : (w : World) → FitsRolls (λ s. s.earlier_placement) w → FitsLeft w → KeepsCapacities w
 together w f l =
     record {
-      projects = all_weaker (λ p. (given_to w.students p.key ≤ p.capacity) × (placed_to w.students p.key ≤ p.capacity - given_to w.students p.key)) _ (λ p h. both_fit _ _ _ h.0 h.1) w.projects (all_both _ _ w.projects f.projects l.projects);
+      projects = all_weaker (λ p. (given_to w.students p.key ≤ p.capacity) × (placed_to w.students p.key ≤ p.capacity - given_to w.students p.key)) _ (λ p h. omega (arith, h.0, h.1)) w.projects (all_both _ _ w.projects f.projects l.projects);
       lecturers = all_weaker (λ l. (given_with w.projects w.students l.row.key ≤ l.row.capacity) × (placed_with w.projects w.students l.row.key ≤ l.row.capacity - given_with w.projects w.students l.row.key)) _
-          (λ l h. both_fit _ _ _ h.0 h.1) w.lecturers (all_both _ _ w.lecturers f.lecturers l.lecturers);
-    }
-
--- where the first round gave nothing all the room is left
-all_left : (w : World) → AllByRecursion (λ s. s.earlier_placement ≡ None) w.students → FitsRolls (λ s. s.placed) w → FitsLeft w
-all_left w all f =
-    let none : ((k : Key) → given_to w.students k ≡ 0) × ((l : Key) → given_with w.projects w.students l ≡ 0) = none_counted (λ s. s.earlier_placement) w.projects w.students all in
-    record {
-      projects = all_weaker (λ p. placed_to w.students p.key ≤ p.capacity) _ (λ p h. let zero' : given_to w.students p.key ≡ 0 = none.0 p.key in omega (arith, zero', h)) w.projects f.projects;
-      lecturers = all_weaker (λ l. placed_with w.projects w.students l.row.key ≤ l.row.capacity) _ (λ l h. let zero' : given_with w.projects w.students l.row.key ≡ 0 = none.1 l.row.key in omega (arith, zero', h)) w.lecturers f.lecturers;
+          (λ l h. omega (arith, h.0, h.1)) w.lecturers (all_both _ _ w.lecturers f.lecturers l.lecturers);
     }
 
 pub keeps : (w : World) → Good w → KeepsCapacities w
 keeps w g = by_round w.round refl
   where
-    left : (out : Bool) → is_published w.phase ≡ out → (IsMatching (instance w) (matching_of w) → FitsLeft w) → FitsLeft w
-    left true e fits = fits (g.stable e).matching
-    left false e fits = none_fits (λ s. s.placed) _ _ w (g.sound.no_result_yet e)
+    left : (room : ProjectRow → ℕ) (staff : rows.Lecturer → ℕ) (out : Bool) → is_published w.phase ≡ out → (IsMatching (instance w) (matching_of w) → Fits (λ s. s.placed) room staff w) → Fits (λ s. s.placed) room staff w
+    left room staff true e fits = fits (g.stable e).matching
+    left room staff false e fits = none_fits (λ s. s.placed) room staff w (g.sound.no_result_yet e)
 
     by_round : (r : Round) → w.round ≡ r → KeepsCapacities w
     by_round First one =
-        let none : AllByRecursion (λ s. s.earlier_placement ≡ None) w.students = all_weaker _ _ (λ s h. h.1) w.students (g.sound.no_earlier_lists (ap is_second one)) in
-        together w (none_fits (λ s. s.earlier_placement) _ _ w none) (left (is_published w.phase) refl (λ m. all_left w none (first_fits w g.sound one m)))
-    by_round Second two = together w (before_fits w (g.before (ap is_second two))) (left (is_published w.phase) refl (second_fits w g.sound two))
+        let none : ((k : Key) → given_to w.students k ≡ 0) × ((l : Key) → given_with w.projects w.students l ≡ 0)
+        = none_counted (λ s. s.earlier_placement) w.projects w.students (all_weaker _ _ (λ s h. h.1) w.students (g.sound.no_earlier_lists (ap is_second one))) in
+        let f : FitsRolls (λ s. s.placed) w = left _ _ (is_published w.phase) refl (first_fits w g.sound one) in
+        record {
+          projects = all_weaker _ _ (λ p h. let zero' : given_to w.students p.key ≡ 0 = none.0 p.key in omega (arith, zero', h)) w.projects f.projects;
+          lecturers = all_weaker _ _ (λ l h. let zero' : given_with w.projects w.students l.row.key ≡ 0 = none.1 l.row.key in omega (arith, zero', h)) w.lecturers f.lecturers;
+        }
+    by_round Second two = together w (before_fits w (g.before (ap is_second two))) (left _ _ (is_published w.phase) refl (second_fits w g.sound two))

@@ -20,9 +20,6 @@ data SameAct : Act → Act → Type 0 where
 abbrev Decides : Sight → Sight → AbstractCall → Type 0
 Decides x y ask = Unless (has_places (Calls ask)) (answer x ask ≡ answer y ask) × SameAct (decision x ask).act (decision y ask).act
 
-by_path : (x y : Sight) → x ≡ y → (ask : AbstractCall) → Decides x y ask
-by_path x y e ask = subst (λ u. Decides x u ask) e (unless_any _ _ refl, same_act _)
-
 of_student : (v : StudentSees) (list : List Key) (ask : AbstractCall) → Decides (Student v) (Student (record v { choices = list })) ask
 of_student v list AbstractCall.ShowChoices = (tt, same_act Nothing)
 of_student v list (AbstractCall.SetChoices ks) = (tt, same_act _)
@@ -30,7 +27,7 @@ of_student v list _ = (refl, same_act _)
 
 same_ask : (x y : Sight) → SameSight x y → (ask : AbstractCall) → Decides x y ask
 same_ask (Student v) (Student u) s ask = subst (λ z. Decides (Student v) (Student z) ask) s (of_student v u.choices ask)
-same_ask x y s ask = by_path x y s ask
+same_ask x y s ask = subst (λ u. Decides x u ask) s (unless_any _ _ refl, same_act _)
 
 -- lists in another order are both taken or both refused
 

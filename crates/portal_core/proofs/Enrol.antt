@@ -1,5 +1,5 @@
 -- One new row keeps the rows sound, and so does a whole roll.
-use Rattle.portal_core.proofs.Base.{◌≡◌, ℕ, suc, ◌+◌, ◌≤◌, true, false, List, [], ◌∷◌, ◌++◌, length, refl, sym, ◌∙◌, ap, subst, arith, append-nil, map, ◌||◌, None, AllByRecursion, or_parts, map-id, Key, equals, has, AreDistinct, put, World, lecturer_key, project_key, student_key, applicants_of, is_from_ranking, is_published, is_left, in_play, projects_in, First, with_lecturers, with_projects, with_students, new_lecturer, new_student, lecturer_keys, project_keys, Phase, LecturerRow, ProjectRow, StudentRow, office_sees, Took, take_rows, lecturer_roll, project_roll, student_roll, Sound, IsLecturer, IsProject, IsStudent, IsChoice, IsRanking, codes_of, is_second, is_setup, is_still_to_rank, or_comm, not-false}
+use Rattle.portal_core.proofs.Base.{◌≡◌, ℕ, ◌+◌, ◌≤◌, true, false, List, [], ◌∷◌, ◌++◌, length, refl, sym, ◌∙◌, ap, subst, arith, append-nil, map, ◌||◌, None, AllByRecursion, or_parts, map-id, Key, equals, has, AreDistinct, put, World, lecturer_key, project_key, student_key, applicants_of, is_from_ranking, is_published, is_left, in_play, projects_in, First, with_lecturers, with_projects, with_students, new_lecturer, new_student, lecturer_keys, project_keys, Phase, LecturerRow, ProjectRow, StudentRow, office_sees, Took, take_rows, lecturer_roll, project_roll, student_roll, Sound, IsLecturer, IsProject, IsStudent, IsChoice, IsRanking, codes_of, is_second, is_setup, is_still_to_rank, or_comm, not-false}
 use Rattle.std.proofs.lemmas.Simd.{map-map}
 use Rattle.portal_core.specs.World as rows
 use Rattle.portal_core.proofs.Kept.{none_ranked}
@@ -41,13 +41,12 @@ module _ (w : World) (early : is_from_ranking w.phase ≡ false) (one : w.round 
   put_student : (ss : List rows.Student) (r : StudentRow) → Sound (record w { students = ss }) → IsStudent r → has (map student_key ss) r.key ≡ false
       → (student_roll (office_sees w)).is_bad (map (λ (s : rows.Student). s.row) ss) r ≡ false → length ss + 1 ≤ 2000 → Sound (record w { students = put student_key (new_student r) ss })
   put_student ss r g form key free room =
-      let long : length (put student_key (new_student r) ss) ≡ suc (length ss) = length_put student_key (new_student r) ss in
       let code : has (codes_of (record w { students = ss })) r.code ≡ false
       = subst (λ ls. has (w.office ∷ ls ++ map (λ (s : rows.Student). s.row.code) ss) r.code ≡ false) (map-map (λ (r : LecturerRow). r.code) (λ (l : rows.Lecturer). l.row) w.lecturers)
       (subst (λ cs. has (w.office ∷ map (λ (l : LecturerRow). l.code) (map (λ (l : rows.Lecturer). l.row) w.lecturers) ++ cs) r.code ≡ false) (map-map (λ (r : StudentRow). r.code) (λ (s : rows.Student). s.row) ss) free) in
       let students_rise = rise_put student_key (new_student r) ss g.students_rise key in
       let student_forms = all_put student_key (new_student r) (λ s. IsStudent s.row) ss form g.student_forms in
-      let few_students : length (put student_key (new_student r) ss) ≤ 2000 = omega arith in
+      let few_students : length (put student_key (new_student r) ss) ≤ 2000 = omega (arith, length_put student_key (new_student r) ss) in
       let apart = distinct_put student_key (new_student r) (λ s. s.row.code) (w.office ∷ map (λ (l : rows.Lecturer). l.row.code) w.lecturers) ss g.codes code in
       let choices = subst (λ ks. AllByRecursion (λ (s : rows.Student). IsChoice ks s.choice) (put student_key (new_student r) ss)) (sym (all_take_part w.lecturers w.projects (put student_key (new_student r) ss)))
       (all_put student_key (new_student r) (λ s. IsChoice (project_keys w) s.choice) ss (record { few = omega arith; known = tt; once = tt })
@@ -65,7 +64,6 @@ module _ (w : World) (early : is_from_ranking w.phase ≡ false) (one : w.round 
   put_lecturer : (ls : List rows.Lecturer) (r : LecturerRow) → Sound (record w { lecturers = ls }) → IsLecturer r → has (map lecturer_key ls) r.key ≡ false
       → (lecturer_roll (office_sees w)).is_bad (map (λ (l : rows.Lecturer). l.row) ls) r ≡ false → length ls + 1 ≤ 300 → Sound (record w { lecturers = put lecturer_key (new_lecturer r) ls })
   put_lecturer ls r g form key free room =
-      let long : length (put lecturer_key (new_lecturer r) ls) ≡ suc (length ls) = length_put lecturer_key (new_lecturer r) ls in
       let ss : List Key = map (λ (s : rows.Student). s.row.code) w.students in
       let code : has (w.office ∷ ss ++ map (λ (l : rows.Lecturer). l.row.code) ls) r.code ≡ false
       = subst (λ cs. has (w.office ∷ cs ++ map (λ (l : rows.Lecturer). l.row.code) ls) r.code ≡ false) (map-map (λ (r : StudentRow). r.code) (λ (s : rows.Student). s.row) w.students)
@@ -76,7 +74,7 @@ module _ (w : World) (early : is_from_ranking w.phase ≡ false) (one : w.round 
       = distinct_put lecturer_key (new_lecturer r) (λ l. l.row.code) (w.office ∷ ss) ls turned code in
       let lecturers_rise = rise_put lecturer_key (new_lecturer r) ls g.lecturers_rise key in
       let lecturer_forms = all_put lecturer_key (new_lecturer r) (λ l. IsLecturer l.row) ls form g.lecturer_forms in
-      let few_lecturers : length (put lecturer_key (new_lecturer r) ls) ≤ 300 = omega arith in
+      let few_lecturers : length (put lecturer_key (new_lecturer r) ls) ≤ 300 = omega (arith, length_put lecturer_key (new_lecturer r) ls) in
       let apart : AreDistinct (codes_of (record w { lecturers = put lecturer_key (new_lecturer r) ls }))
       = (has_swap (map (λ (l : rows.Lecturer). l.row.code) (put lecturer_key (new_lecturer r) ls)) ss w.office ∙ more.0, distinct_swap ss (map (λ (l : rows.Lecturer). l.row.code) (put lecturer_key (new_lecturer r) ls)) more.1) in
       let lecturers_known : AllByRecursion (λ (p : ProjectRow). has (map lecturer_key (put lecturer_key (new_lecturer r) ls)) p.lecturer ≡ true) w.projects
@@ -92,12 +90,11 @@ module _ (w : World) (early : is_from_ranking w.phase ≡ false) (one : w.round 
   put_project : (ps : List ProjectRow) (r : ProjectRow) → Sound (record w { projects = ps }) → IsProject r → has (map project_key ps) r.key ≡ false
       → (project_roll (office_sees w)).is_bad (map (λ (p : ProjectRow). p) ps) r ≡ false → length ps + 1 ≤ 1000 → Sound (record w { projects = put project_key r ps })
   put_project ps r g form key free room =
-      let long : length (put project_key r ps) ≡ suc (length ps) = length_put project_key r ps in
       let known : has (lecturer_keys w) r.lecturer ≡ true
       = subst (λ ks. has ks r.lecturer ≡ true) (map-map (λ (r : LecturerRow). r.key) (λ (l : rows.Lecturer). l.row) w.lecturers) (not-false _ free) in
       let projects_rise = rise_put project_key r ps g.projects_rise key in
       let project_forms = all_put project_key r IsProject ps form g.project_forms in
-      let few_projects : length (put project_key r ps) ≤ 1000 = omega arith in
+      let few_projects : length (put project_key r ps) ≤ 1000 = omega (arith, length_put project_key r ps) in
       let lecturers_known = all_put project_key r (λ p. has (lecturer_keys w) p.lecturer ≡ true) ps known g.lecturers_known in
       let choices = subst (λ ks. AllByRecursion (λ (s : rows.Student). IsChoice ks s.choice) w.students) (sym (all_take_part w.lecturers (put project_key r ps) w.students))
       (all_weaker _ _ (λ s c. record { few = c.few; known = all_weaker _ _ (λ p h. still_has project_key r ps p h) s.choice c.known; once = c.once }) w.students

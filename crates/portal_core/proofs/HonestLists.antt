@@ -1,5 +1,5 @@
--- No other list gains anything: of worlds.
-use Rattle.portal_core.proofs.Base.{◌≡◌, ℕ, zero, suc, ◌-◌, ◌<◌, ◌≤◌, Bool, true, false, not, cond, inl, inr, List, [], ◌∷◌, map, length, get_or, refl, sym, ◌∙◌, ap, subst, arith, Option, Some, None, IfSome, option_map, unwrap_or, is_none, nat_lt, ◌&&◌, filter, AllByRecursion, AllZip, list_any, find, eqb-true, get_or-map, length-map, AllZip-get_or, AllZip-long, list_any_at, IsBest, IsStable, place, project_of, lecturer_of, IsOn, IsAcceptable, number_in, number_is, number_known, ProjectRow, Key, equals, has, is_empty, AreDistinct, World, lecturer_key, project_key, student_key, projects_of, applicants_of, is_published, is_left, given_with, lowered_lecturer, lowered_project, lecturers_left, students_left, lecturers_in, projects_in, students_in, in_play, alone, alone_lecturer, alone_student, Round, First, Second, instance, instance_of, places_of, lecturer_keys, project_keys, student_keys, student_with, view, student_sees, Good, Sound, IsChoice, IsRanking, StudentSees, HasBest, ListAlike, DifferInLists, DifferInOneList, IsNoWorse, cases_lt, get_or_past, choices_of, ranking_of, IsAsGood, IsDistinct, honest_by_number, OrderAlike, RankAlike}
+-- Instances and worlds that differ in lists: from numbers to keys, and from a round to its world.
+use Rattle.portal_core.proofs.Base.{◌≡◌, ℕ, zero, suc, ◌-◌, ◌<◌, ◌≤◌, Bool, true, false, not, inl, inr, List, [], ◌∷◌, map, length, get_or, refl, sym, ◌∙◌, ap, subst, arith, Option, Some, None, IfSome, option_map, unwrap_or, is_none, nat_lt, ◌&&◌, filter, AllByRecursion, AllZip, list_any, find, eqb-true, get_or-map, length-map, AllZip-get_or, AllZip-long, list_any_at, IsBest, IsStable, place, project_of, lecturer_of, IsOn, IsAcceptable, number_in, number_is, number_known, ProjectRow, Key, equals, has, is_empty, AreDistinct, World, lecturer_key, project_key, student_key, projects_of, applicants_of, is_published, is_left, given_with, lowered_lecturer, lowered_project, lecturers_left, students_left, lecturers_in, projects_in, students_in, in_play, alone, alone_lecturer, alone_student, Round, First, Second, instance, instance_of, places_of, lecturer_keys, project_keys, student_keys, student_with, view, student_sees, Good, Sound, IsChoice, IsRanking, StudentSees, HasBest, ListAlike, DifferInLists, cases_lt, get_or_past, choices_of, ranking_of, IsAsGood, IsDistinct, OrderAlike, RankAlike, and_from}
 use Rattle.spa_student.specs.inner.Machine.{IsRanked}
 use Rattle.spa_student.proofs.CutSteps.{acceptable_in_range}
 use Rattle.spa_honest.specs.Honest as instances
@@ -67,15 +67,9 @@ on_ranking apps k (Some r) ranks ranked there =
     let at = has_contains (map student_key apps) k there in
     subst (λ x. has r x ≡ true) at.2 (all_at (λ x. has r x ≡ true) (map student_key apps) at.0 k ranks.all at.1)
 
-pub both_hold : (a b : Bool) → a ≡ true → b ≡ true → (a && b) ≡ true
-both_hold a b e f = grind arith
-
 module _ (w : World) (sound : Sound w) (one : w.round ≡ First) (published : is_published w.phase ≡ true) where
   chosen : AllByRecursion (λ (x : Student). IsChoice (project_keys w) x.choice) w.students
   chosen = subst (λ u. AllByRecursion (λ (x : Student). IsChoice (project_keys u) x.choice) w.students) (first_plays w one) sound.choices
-
-  student : ℕ → Student
-  student s = get_or w.students s no_student
 
   pub choices : (s : ℕ) (d : Student) → s < length w.students → choices_of (instance_of w) s ≡ map (number_in (project_keys w)) (get_or w.students s d).choice
   choices s d h = get_or-map (λ (x : Student). map (number_in (project_keys w)) x.choice) w.students s d [] h
@@ -106,11 +100,11 @@ module _ (w : World) (sound : Sound w) (one : w.round ≡ First) (published : is
       let wants : list_any (λ (q : ProjectRow). has x.choice q.key) (projects_of w l) ≡ true =
       filtered_any (λ (q : ProjectRow). has x.choice q.key) (λ (q : ProjectRow). equals q.lecturer l) w.projects
       ∙ list_any_at (λ (q : ProjectRow). equals q.lecturer l && has x.choice q.key) w.projects p no_project p_in
-      (both_hold (equals (get_or w.projects p no_project).lecturer l) (has x.choice (get_or w.projects p no_project).key) (rw own (is_own l)) there) in
+      (and_from (equals (get_or w.projects p no_project).lecturer l) (has x.choice (get_or w.projects p no_project).key) (rw own (is_own l)) there) in
       any_map (equals x.row.key) student_key (applicants_of w l)
       ∙ filtered_any (λ (y : Student). equals x.row.key y.row.key) (λ (y : Student). list_any (λ (q : ProjectRow). has y.choice q.key) (projects_of w l)) w.students
       ∙ list_any_at (λ (y : Student). list_any (λ (q : ProjectRow). has y.choice q.key) (projects_of w l) && equals x.row.key y.row.key) w.students s no_student s_in
-      (both_hold (list_any (λ (q : ProjectRow). has x.choice q.key) (projects_of w l)) (equals x.row.key x.row.key) wants (is_own x.row.key))
+      (and_from (list_any (λ (q : ProjectRow). has x.choice q.key) (projects_of w l)) (equals x.row.key x.row.key) wants (is_own x.row.key))
 
   ranked : (s p : ℕ) → IsAcceptable (instance_of w) s p → IsOn (ranking_of (instance_of w) (lecturer_of (instance_of w) p)) s
   ranked s p on =
@@ -174,10 +168,6 @@ module _ (w : World) (sound : Sound w) (one : w.round ≡ First) (published : is
   pub x_given : project_of (places_of w) s ≡ option_map (number_in (project_keys w)) x.placed
   x_given = subst (λ (y : Student). project_of (places_of w) s ≡ option_map (number_in (project_keys w)) y.placed) is_x.is (given w sound one published s x is_x.in_range)
 
-  -- a project on the list is acceptable by its number
-  x_acceptable : (p : Key) → number_in (project_keys w) p < length (project_keys w) → has x.choice p ≡ true → IsAcceptable (instance_of w) s (number_in (project_keys w) p)
-  x_acceptable p low there = rw x_choices (on_number (project_keys w) x.choice p low there)
-
   x_no_worse : (p : Key) → number_in (project_keys w) p < length (project_keys w) → has x.choice p ≡ true → (o : Option Key) → ((q : Key) → o ≡ Some q → IsAcceptable (instance_of w) s (number_in (project_keys w) q))
       → IsAsGood (instance_of w) s (option_map (number_in (project_keys w)) o) (Some (number_in (project_keys w) p))
       → (q : Key) × (o ≡ Some q) × (has x.choice q ≡ true) × (number_in x.choice q ≤ number_in x.choice p)
@@ -236,15 +226,6 @@ order_numbers keys xs ys low alike a b on_a on_b before =
 
 -- where those whose lists may differ by key may do so by number
 module _ (w v : World) (good : Sound v) (May : Key → Type 0) (ByNumber : ℕ → Type 0) (differ : DifferInLists w v May) (may : (t : ℕ) → t < length w.students → May (get_or (student_keys w) t []) → ByNumber t) where
-  students_same : student_keys v ≡ student_keys w
-  students_same = zip_same (ListAlike May) student_key (λ x y r. ap (λ row. row.key) r.0) w.students v.students differ.students
-
-  lecturers_same : lecturer_keys v ≡ lecturer_keys w
-  lecturers_same = zip_same RankAlike lecturer_key (λ x y r. ap (λ row. row.key) r.0) w.lecturers v.lecturers differ.lecturers
-
-  projects_same : project_keys v ≡ project_keys w
-  projects_same = ap (map project_key) differ.projects
-
   count_students : length v.students ≡ length w.students
   count_students = AllZip-long (ListAlike May) w.students v.students differ.students
 
@@ -260,7 +241,7 @@ module _ (w v : World) (good : Sound v) (May : Key → Type 0) (ByNumber : ℕ �
   pub differ_by_number : instances.DifferInLists (instance_of w) (instance_of v) ByNumber
   differ_by_number = record {
     students = length-map v.students _ ∙ count_students ∙ sym (length-map w.students _);
-    lecturers = λ i. map (λ (p : ProjectRow). number_in (lecturers_same i) p.lecturer) (differ.projects i);
+    lecturers = λ i. map (λ (p : ProjectRow). number_in (zip_same RankAlike lecturer_key (λ x y r. ap (λ row. row.key) r.0) w.lecturers v.lecturers differ.lecturers i) p.lecturer) (differ.projects i);
     capacities = ap (map (λ (p : ProjectRow). p.capacity)) differ.projects;
     limits = zip_same RankAlike (λ (l : Lecturer). l.row.capacity) (λ x y r. ap (λ row. row.capacity) r.0) w.lecturers v.lecturers differ.lecturers;
     others = others;
@@ -272,7 +253,7 @@ module _ (w v : World) (good : Sound v) (May : Key → Type 0) (ByNumber : ℕ �
           let alike = AllZip-get_or (ListAlike May) w.students v.students t no_student no_student differ.students t_in in
           let t_key : get_or (student_keys w) t [] ≡ (get_or w.students t no_student).row.key = get_or-map student_key w.students t no_student [] t_in in
           choices_in v t (omega (arith, count_students))
-          ∙ (λ i. map (number_in (projects_same i)) (alike.1 (λ m. other (may t t_in (subst May (sym t_key) m))) i))
+          ∙ (λ i. map (number_in (map project_key (differ.projects i))) (alike.1 (λ m. other (may t t_in (subst May (sym t_key) m))) i))
           ∙ sym (choices_in w t t_in)
       | inr past ↦ get_or_past (instance_of v).choices t [] (omega (arith, count_students, length-map v.students (λ (y : Student). map (number_in (project_keys v)) y.choice)))
           ∙ sym (get_or_past (instance_of w).choices t [] (omega (arith, length-map w.students (λ (y : Student). map (number_in (project_keys w)) y.choice))))
@@ -285,7 +266,7 @@ module _ (w v : World) (good : Sound v) (May : Key → Type 0) (ByNumber : ℕ �
           let v_in : l < length v.lecturers = omega (arith, count_lecturers) in
           let by_keys = order_numbers (student_keys v) (unwrap_or (get_or w.lecturers l no_lecturer).ranking []) (unwrap_or (get_or v.lecturers l no_lecturer).ranking []) (rank_known v good l no_lecturer v_in) alike.1 in
           let first : map (number_in (student_keys v)) (unwrap_or (get_or w.lecturers l no_lecturer).ranking []) ≡ ranking_of (instance_of w) l =
-          ap (λ keys. map (number_in keys) (unwrap_or (get_or w.lecturers l no_lecturer).ranking [])) students_same ∙ sym (ranking_in w l l_in) in
+          ap (λ keys. map (number_in keys) (unwrap_or (get_or w.lecturers l no_lecturer).ranking [])) (zip_same (ListAlike May) student_key (λ x y r. ap (λ row. row.key) r.0) w.students v.students differ.students) ∙ sym (ranking_in w l l_in) in
           subst (λ xs. instances.OrderAlike xs (ranking_of (instance_of v) l)) first
           (subst (instances.OrderAlike (map (number_in (student_keys v)) (unwrap_or (get_or w.lecturers l no_lecturer).ranking []))) (sym (ranking_in v l v_in)) by_keys)
       | inr past ↦
@@ -293,35 +274,10 @@ module _ (w v : World) (good : Sound v) (May : Key → Type 0) (ByNumber : ℕ �
           λ a b on_a on_b before. absurd (let off : IsOn [] a = rw none at on_a in omega (arith, off))
     ]
 
--- of one student
-pub differ_in_one : (w v : World) → Sound w → Sound v → (s : ℕ) (key : Key) → DifferInOneList w v key → s < length w.students → get_or (student_keys w) s [] ≡ key → instances.DifferInOneList (instance_of w) (instance_of v) s
-differ_in_one w v sound good s key differ s_in s_key = differ_by_number w v good (λ k. k ≡ key) (λ t. t ≡ s) differ same
-  where
-    same : (t : ℕ) → t < length w.students → get_or (student_keys w) t [] ≡ key → t ≡ s
-    same t t_in t_key =
-        let low : t < length (student_keys w) = omega (arith, length-map w.students student_key) in
-        let low_s : s < length (student_keys w) = omega (arith, length-map w.students student_key) in
-        sym (number_back (student_keys w) t sound.students_rise low) ∙ ap (number_in (student_keys w)) (t_key ∙ sym s_key) ∙ number_back (student_keys w) s sound.students_rise low_s
-
 -- who is shown what
 
 pub shown_student : (w : World) (code : Key) (a : StudentSees) → view w code ≡ sees.Student a → (x : Student) × (student_with w code ≡ Some x) × (student_sees w x ≡ a)
 shown_student w code a e = grind arith
-
--- one code finds the students of one number
-pub same_place : (May : Key → Type 0) (code : Key) (x y : Student) (ss ts : List Student) → AllZip (ListAlike May) ss ts → find (λ s. equals s.row.code code) ss ≡ Some x → find (λ s. equals s.row.code code) ts ≡ Some y
-    → (n : ℕ) × (n < length ss) × (get_or ss n x ≡ x) × (n < length ts) × (get_or ts n y ≡ y)
-same_place May code x y [] ts z e f = absurd (cc)
-same_place May code x y (s ∷ ss) [] z e f = absurd z
-same_place May code x y (s ∷ ss) (t ∷ ts) z e f = by_test (equals s.row.code code) (equals t.row.code code) (ap (λ row. equals row.code code) z.0.0) (same_place May code x y ss ts z.1) e f
-  where
-    by_test : (a b : Bool) → b ≡ a
-        → (find (λ s. equals s.row.code code) ss ≡ Some x → find (λ s. equals s.row.code code) ts ≡ Some y → (n : ℕ) × (n < length ss) × (get_or ss n x ≡ x) × (n < length ts) × (get_or ts n y ≡ y))
-        → cond a (Some s) (find (λ s. equals s.row.code code) ss) ≡ Some x → cond b (Some t) (find (λ s. equals s.row.code code) ts) ≡ Some y
-        → (n : ℕ) × (n < suc (length ss)) × (get_or (s ∷ ss) n x ≡ x) × (n < suc (length ts)) × (get_or (t ∷ ts) n y ≡ y)
-    by_test true true same r e f = (0, omega arith, (cc), omega arith, (cc))
-    by_test false false same r e f = let rest = r e f in (suc rest.0, omega (arith, rest.1), rest.2, omega (arith, rest.3), rest.4)
-    by_test a b same r e f = absurd (cc)
 
 -- a world of one round in published, whose result is the best for the students
 pub record IsBestRound (w : World) : Type 0 where
@@ -344,25 +300,13 @@ pub no_worse_by_number : (w : World) (s : ℕ) (x : Student) → IsBestRound w �
 no_worse_by_number w s x one is_x p there good =
     x_no_worse w one.sound one.one one.published s x is_x p low there x.placed
     (λ q e. one.best.stable.matching.acceptable s (number_in (project_keys w) q) (x_given w one.sound one.one one.published s x is_x ∙ ap (option_map (number_in (project_keys w))) e))
-    (subst (λ o. IsAsGood (instance_of w) s o (Some (number_in (project_keys w) p))) (x_given w one.sound one.one one.published s x is_x) (good (x_acceptable w one.sound one.one one.published s x is_x p low there)))
+    (subst (λ o. IsAsGood (instance_of w) s o (Some (number_in (project_keys w) p))) (x_given w one.sound one.one one.published s x is_x) (good (rw (x_choices w one.sound one.one one.published s x is_x) (on_number (project_keys w) x.choice p low there))))
   where
     low : number_in (project_keys w) p < length (project_keys w)
     low =
         let at = has_contains x.choice p there in
         let x_choice : IsChoice (project_keys w) x.choice = subst (λ (z : Student). IsChoice (project_keys w) z.choice) is_x.is (choice w one.sound one.one one.published s x is_x.in_range) in
         has_number (project_keys w) p (subst (λ k. has (project_keys w) k ≡ true) at.2 (all_at (λ k. has (project_keys w) k ≡ true) x.choice at.0 p x_choice.known at.1))
-
--- what is no worse by number is so by key
-pub rows_no_worse : (w v : World) (s : ℕ) (x y : Student) → IsBestRound w → IsStableRound v → project_keys v ≡ project_keys w → IsStudent w s x → IsStudent v s y
-    → instances.IsNoWorse (instance_of w) s (project_of (places_of w) s) (project_of (places_of v) s) → IsNoWorse x.choice x.placed y.placed
-rows_no_worse w v s x y one other same_projects is_x is_y no_worse p shows there =
-    no_worse_by_number w s x one is_x p there
-    (no_worse (number_in (project_keys w) p) (x_given v other.sound other.one other.published s y is_y ∙ ap (option_map (number_in (project_keys v))) shows ∙ ap (λ keys. Some (number_in keys p)) same_projects))
-
-pub by_rows : (w v : World) (s : ℕ) (x y : Student) → IsBestRound w → IsStableRound v → project_keys v ≡ project_keys w → instances.DifferInOneList (instance_of w) (instance_of v) s → IsStudent w s x → IsStudent v s y → IsNoWorse x.choice x.placed y.placed
-by_rows w v s x y one other same_projects differ is_x is_y =
-    rows_no_worse w v s x y one other same_projects is_x is_y
-    (honest_by_number (instance_of w) (instance_of v) s (places_of w) (places_of v) (world_ranked w one.sound one.one one.published) (world_ranked v other.sound other.one other.published) differ one.best other.stable)
 
 -- from a round to the world that it is played in
 
@@ -385,18 +329,12 @@ module _ (w v : World) (May : Key → Type 0) (differ : DifferInLists w v May) w
   placed_alike : (x y : Student) → ListAlike May x y → y.earlier_placement ≡ x.earlier_placement
   placed_alike x y r = r.2
 
-  staff_given : (ls : List Lecturer) → lecturers_in v.round ls v.projects v.students ≡ lecturers_in w.round ls w.projects w.students
-  staff_given ls = (λ i. lecturers_in (differ.round i) ls (differ.projects i) v.students) ∙ zip_lecturers (ListAlike May) placed_alike w.students v.students differ.students w.round ls w.projects
-
-  offers_given : (ls : List Lecturer) → projects_in v.round ls v.projects v.students ≡ projects_in w.round ls w.projects w.students
-  offers_given ls = (λ i. projects_in (differ.round i) ls (differ.projects i) v.students) ∙ zip_projects (ListAlike May) placed_alike w.students v.students differ.students w.round ls w.projects
-
   pub differ_alone : DifferInLists (alone (in_play w)) (alone (in_play v)) May
   differ_alone = record {
     round = refl;
     lecturers = zip_mapped RankAlike alone_lecturer alone_lecturer (λ l k r. r) (in_play w).lecturers (in_play v).lecturers
-        (subst (AllZip RankAlike (in_play w).lecturers) (sym (staff_given v.lecturers)) (staff_zip w.projects w.students w.round w.lecturers v.lecturers differ.lecturers));
-    projects = offers_given v.lecturers ∙ offers_same w.projects w.students w.round w.lecturers v.lecturers differ.lecturers;
+        (subst (AllZip RankAlike (in_play w).lecturers) (sym ((λ i. lecturers_in (differ.round i) v.lecturers (differ.projects i) v.students) ∙ zip_lecturers (ListAlike May) placed_alike w.students v.students differ.students w.round v.lecturers w.projects)) (staff_zip w.projects w.students w.round w.lecturers v.lecturers differ.lecturers));
+    projects = (λ i. projects_in (differ.round i) v.lecturers (differ.projects i) v.students) ∙ zip_projects (ListAlike May) placed_alike w.students v.students differ.students w.round v.lecturers w.projects ∙ offers_same w.projects w.students w.round w.lecturers v.lecturers differ.lecturers;
     students = zip_mapped (ListAlike May) alone_student alone_student (λ x y r. (r.0, r.1, refl)) (in_play w).students (in_play v).students
         (subst (λ r. AllZip (ListAlike May) (students_in w.round w.students) (students_in r v.students)) (sym differ.round) (zip_in (ListAlike May) placed_alike w.round w.students v.students differ.students));
   }
@@ -414,7 +352,7 @@ stable_alone v good published = record {
   sound = (played_alone v good).0.sound;
   one = refl;
   published = published;
-  stable = subst (λ i. IsStable i (places_of (alone (in_play v)))) (sym (rows_alone (in_play v))) (subst (IsStable (instance v)) (sym (places_alone (in_play v))) (good.stable published));
+  stable = (played_alone v good).0.stable published;
 }
 
 -- who is left by the first round is found among those who are
@@ -422,60 +360,6 @@ pub find_left : (q : Student → Bool) (ss : List Student) (x : Student) → fin
 find_left q [] x e left = absurd (cc)
 find_left q (s ∷ ss) x e left = grind (arith, find_left q ss x)
 
-find_alone : (code : Key) (ss : List Student) (x : Student) → find (λ s. equals s.row.code code) ss ≡ Some x → find (λ s. equals s.row.code code) (map alone_student ss) ≡ Some (alone_student x)
-find_alone code [] x e = absurd (cc)
-find_alone code (s ∷ ss) x e = grind (arith, find_alone code ss x)
-
-pub found_alone : (w : World) (code : Key) (x : Student) → student_with w code ≡ Some x → is_left x ≡ true → find (λ s. equals s.row.code code) (alone (in_play w)).students ≡ Some (alone_student x)
-found_alone w code x e left = find_alone code (students_in w.round w.students) x (by_round w.round)
-  where
-    by_round : (r : Round) → find (λ s. equals s.row.code code) (students_in r w.students) ≡ Some x
-    by_round First = e
-    by_round Second = find_left (λ s. equals s.row.code code) w.students x e left
-
 -- who is left is shown the place of the round
 pub shown : (w : World) (x : Student) → is_published w.phase ≡ true → x.earlier_placement ≡ None → (student_sees w x).result ≡ x.placed
 shown w x published left = rw (left, published) refl
-
--- NO OTHER LIST GAINS
-of_round : (w v : World) (code key : Key) (x y : Student) → HasBest w → Good v → is_published v.phase ≡ true → DifferInOneList w v key → student_with w code ≡ Some x → student_with v code ≡ Some y → x.row.key ≡ key → x.earlier_placement ≡ None → y.earlier_placement ≡ None
-    → IsNoWorse x.choice x.placed y.placed
-of_round w v code key x y one other published differ found_x found_y is_key left_x left_y =
-    let best : IsBestRound (alone (in_play w)) = best_alone w one in
-    let rival : IsStableRound (alone (in_play v)) = stable_alone v other published in
-    let apart : DifferInOneList (alone (in_play w)) (alone (in_play v)) key = differ_alone w v (λ k. k ≡ key) differ in
-    let at = same_place (λ k. k ≡ key) code (alone_student x) (alone_student y) (alone (in_play w)).students (alone (in_play v)).students apart.students (found_alone w code x found_x (ap is_none left_x)) (found_alone v code y found_y (ap is_none left_y)) in
-    let s_key : get_or (student_keys (alone (in_play w))) at.0 [] ≡ key = get_or-map student_key (alone (in_play w)).students at.0 (alone_student x) [] at.1 ∙ ap student_key at.2 ∙ is_key in
-    by_rows (alone (in_play w)) (alone (in_play v)) at.0 (alone_student x) (alone_student y) best rival (ap (map project_key) apart.projects)
-    (differ_in_one (alone (in_play w)) (alone (in_play v)) best.sound rival.sound at.0 key apart at.1 s_key)
-    (record { in_range = at.1; is = at.2 }) (record { in_range = at.3; is = at.4 })
-
-pub honest_is_best : (w v : World) (code : Key) (a b : StudentSees) → HasBest w → Good v → view w code ≡ sees.Student a → view v code ≡ sees.Student b → DifferInOneList w v a.me.key → IsNoWorse a.choices a.result b.result
-honest_is_best w v code a b one other sees_a sees_b differ =
-    let x = shown_student w code a sees_a in
-    let y = shown_student v code b sees_b in
-    let at = same_place (λ k. k ≡ a.me.key) code x.0 y.0 w.students v.students differ.students x.1 y.1 in
-    let is_key : x.0.row.key ≡ a.me.key = ap (λ (z : StudentSees). z.me.key) x.2 in
-    let alike = AllZip-get_or (ListAlike (λ k. k ≡ a.me.key)) w.students v.students at.0 x.0 y.0 differ.students at.1 in
-    let given : y.0.earlier_placement ≡ x.0.earlier_placement = ap (λ (s : Student). s.earlier_placement) (sym at.4) ∙ alike.2 ∙ ap (λ (s : Student). s.earlier_placement) at.2 in
-    let out : is_left x.0 ≡ false → (x.0.choice ≡ []) × (x.0.placed ≡ None)
-    = subst (λ (s : Student). is_left s ≡ false → (s.choice ≡ []) × (s.placed ≡ None)) at.2
-    (all_at (λ (s : Student). is_left s ≡ false → (s.choice ≡ []) × (s.placed ≡ None)) w.students at.0 x.0 one.good.sound.only_left at.1) in
-    let no_worse : IsNoWorse x.0.choice (student_sees w x.0).result (student_sees v y.0).result
-    = by_place x.0 y.0 x.1 y.1 is_key given out x.0.earlier_placement refl in
-    subst (λ (z : StudentSees). IsNoWorse a.choices a.result z.result) y.2
-    (subst (λ (z : StudentSees). IsNoWorse z.choices z.result (student_sees v y.0).result) x.2 no_worse)
-  where
-    by_place : (x y : Student) → student_with w code ≡ Some x → student_with v code ≡ Some y → x.row.key ≡ a.me.key → y.earlier_placement ≡ x.earlier_placement → (is_left x ≡ false → (x.choice ≡ []) × (x.placed ≡ None)) → (o : Option Key) → x.earlier_placement ≡ o
-        → IsNoWorse x.choice (student_sees w x).result (student_sees v y).result
-    by_place x y found_x found_y is_key given out None left =
-        by_phase (is_published v.phase) refl
-      where
-        by_phase : (out : Bool) → is_published v.phase ≡ out → IsNoWorse x.choice (student_sees w x).result (student_sees v y).result
-        by_phase false e = λ q shows there. let none : (student_sees v y).result ≡ None = rw (given ∙ left, e) refl in absurd (cc)
-        by_phase true e =
-            subst (λ o. IsNoWorse x.choice o (student_sees v y).result) (sym (shown w x one.published left))
-            (subst (IsNoWorse x.choice x.placed) (sym (shown v y e (given ∙ left)))
-            (of_round w v code a.me.key x y one other e differ found_x found_y is_key left (given ∙ left)))
-    by_place x y found_x found_y is_key given out (Some p) placed =
-        subst (λ list. IsNoWorse list (student_sees w x).result (student_sees v y).result) (sym (out (ap is_none placed)).0) (λ q shows there. absurd (cc))

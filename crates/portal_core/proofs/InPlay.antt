@@ -1,5 +1,5 @@
 -- What a change leaves of those who take part in a round.
-use Rattle.portal_core.proofs.Base.{◌≡◌, ◌-◌, Bool, true, false, cond, List, [], ◌∷◌, length, refl, sym, ◌∙◌, ap, map, filter, count_by, nat_lt, ◌&&◌, Some, None, is_none, length-filter, list_any, count_by-map, Key, equals, has, put, put_all, World, in_play, applicants_of, is_still_to_rank, lecturer_key, student_key, is_at, is_left, given_to, given_with, lowered_lecturer, lowered_project, lecturers_left, projects_left, lecturers_in, projects_in, students_in, Choices, Ranks, Placements, Fill, changed, with_choice, with_ranking, with_place, with_fill, placement_in, new_student, with_students, Round, First, Second, ProjectRow, StudentRow, arith}
+use Rattle.portal_core.proofs.Base.{◌≡◌, ◌-◌, Bool, true, false, cond, List, [], ◌∷◌, length, refl, sym, ◌∙◌, ap, map, filter, count_by, nat_lt, ◌&&◌, Some, None, is_none, length-filter, list_any, count_by-map, Key, equals, has, put, put_all, World, in_play, applicants_of, is_still_to_rank, lecturer_key, student_key, is_at, is_left, given_to, given_with, lowered_lecturer, lowered_project, lecturers_left, lecturers_in, projects_in, students_in, Choices, Ranks, Placements, Fill, changed, with_choice, with_ranking, with_place, with_fill, placement_in, new_student, with_students, Round, First, Second, ProjectRow, StudentRow, arith}
 use Rattle.portal_core.specs.World as rows
 use Rattle.portal_core.proofs.AllLaws.{map_same}
 
@@ -14,17 +14,14 @@ map_swap f g alike (x ∷ xs) = λ i. alike x i ∷ map_swap f g alike xs i
 
 -- what takes part goes by what the first round gave
 module _ (new old : List rows.Student) (to : (p : Key) → given_to new p ≡ given_to old p) (with' : (ps : List ProjectRow) (l : Key) → given_with ps new l ≡ given_with ps old l) where
-  lecturers_left_given : (ls : List rows.Lecturer) (ps : List ProjectRow) → lecturers_left ls ps new ≡ lecturers_left ls ps old
-  lecturers_left_given ls ps = λ i. filter (λ l. nat_lt 0 l.row.capacity) (map {A = rows.Lecturer} {B = rows.Lecturer} (λ l. record l { row = record l.row { capacity = l.row.capacity - with' ps l.row.key i } }) ls)
-
   pub lecturers_given : (r : Round) (ls : List rows.Lecturer) (ps : List ProjectRow) → lecturers_in r ls ps new ≡ lecturers_in r ls ps old
   lecturers_given First ls ps = refl
-  lecturers_given Second ls ps = lecturers_left_given ls ps
+  lecturers_given Second ls ps = λ i. filter (λ l. nat_lt 0 l.row.capacity) (map {A = rows.Lecturer} {B = rows.Lecturer} (λ l. record l { row = record l.row { capacity = l.row.capacity - with' ps l.row.key i } }) ls)
 
   pub projects_given : (r : Round) (ls : List rows.Lecturer) (ps : List ProjectRow) → projects_in r ls ps new ≡ projects_in r ls ps old
   projects_given First ls ps = refl
   projects_given Second ls ps = λ i.
-      filter (λ p. nat_lt 0 p.capacity && has (map lecturer_key (lecturers_left_given ls ps i)) p.lecturer)
+      filter (λ p. nat_lt 0 p.capacity && has (map lecturer_key (lecturers_given Second ls ps i)) p.lecturer)
       (map {A = ProjectRow} {B = ProjectRow} (λ p. record p { capacity = p.capacity - to p.key i }) ps)
 
 -- a change of students that keeps the place of the earlier round
@@ -49,24 +46,18 @@ module _ (f : rows.Student → rows.Student) (keeps : (s : rows.Student) → (f 
 
 -- a change of lecturers that keeps the row, and goes by it
 module _ (f : rows.Lecturer → rows.Lecturer) (keeps : (l : rows.Lecturer) → (f l).row ≡ l.row) (goes : (ps : List ProjectRow) (ss : List rows.Student) (l : rows.Lecturer) → lowered_lecturer ps ss (f l) ≡ f (lowered_lecturer ps ss l)) where
-  lecturers_left_of : (ls : List rows.Lecturer) (ps : List ProjectRow) (ss : List rows.Student) → lecturers_left (map f ls) ps ss ≡ map f (lecturers_left ls ps ss)
-  lecturers_left_of ls ps ss =
+  pub lecturers_of : (r : Round) (ls : List rows.Lecturer) (ps : List ProjectRow) (ss : List rows.Student) → lecturers_in r (map f ls) ps ss ≡ map f (lecturers_in r ls ps ss)
+  lecturers_of First ls ps ss = refl
+  lecturers_of Second ls ps ss =
       ap (filter (λ l. nat_lt 0 l.row.capacity)) (map_swap f (lowered_lecturer ps ss) (goes ps ss) ls)
       ∙ filter_kept f (λ l. nat_lt 0 l.row.capacity) (λ l. ap (λ r. nat_lt 0 r.capacity) (keeps l)) (map (lowered_lecturer ps ss) ls)
 
-  projects_left_of : (ls : List rows.Lecturer) (ps : List ProjectRow) (ss : List rows.Student) → projects_left (map f ls) ps ss ≡ projects_left ls ps ss
-  projects_left_of ls ps ss =
-      let keys : map lecturer_key (lecturers_left (map f ls) ps ss) ≡ map lecturer_key (lecturers_left ls ps ss)
-      = ap (map lecturer_key) (lecturers_left_of ls ps ss) ∙ map_same lecturer_key f (λ l. ap (λ r. r.key) (keeps l)) (lecturers_left ls ps ss) in
-      λ i. filter (λ p. nat_lt 0 p.capacity && has (keys i) p.lecturer) (map (lowered_project ss) ps)
-
-  pub lecturers_of : (r : Round) (ls : List rows.Lecturer) (ps : List ProjectRow) (ss : List rows.Student) → lecturers_in r (map f ls) ps ss ≡ map f (lecturers_in r ls ps ss)
-  lecturers_of First ls ps ss = refl
-  lecturers_of Second ls ps ss = lecturers_left_of ls ps ss
-
   pub projects_of : (r : Round) (ls : List rows.Lecturer) (ps : List ProjectRow) (ss : List rows.Student) → projects_in r (map f ls) ps ss ≡ projects_in r ls ps ss
   projects_of First ls ps ss = refl
-  projects_of Second ls ps ss = projects_left_of ls ps ss
+  projects_of Second ls ps ss =
+      let keys : map lecturer_key (lecturers_left (map f ls) ps ss) ≡ map lecturer_key (lecturers_left ls ps ss)
+      = ap (map lecturer_key) (lecturers_of Second ls ps ss) ∙ map_same lecturer_key f (λ l. ap (λ r. r.key) (keeps l)) (lecturers_left ls ps ss) in
+      λ i. filter (λ p. nat_lt 0 p.capacity && has (keys i) p.lecturer) (map (lowered_project ss) ps)
 
 -- the changes
 

@@ -1,5 +1,5 @@
 -- A change that is decided keeps the rows sound.
-use Rattle.portal_core.proofs.Base.{◌≡◌, [], ◌≤◌, Bool, true, false, cond, List, ◌∷◌, ◌++◌, length, refl, sym, ◌∙◌, ap, subst, arith, map, filter, Some, None, option_map, IfSome, not, ◌||◌, ◌&&◌, if◌then◌else◌, is_none, unwrap_or, list_any, AllByRecursion, length-map, IsBest, IsStable, number_in, Key, equals, has, is_empty, Rise, AreDistinct, World, project_key, student_key, applicants_to, projects_of, applicants_of, is_still_to_rank, is_setup, is_choosing, is_ranking, is_published, is_from_ranking, is_second, is_left, in_play, first, first_placed, first_published, Choices, Ranks, To, Placements, changed, with_choice, with_ranking, with_place, placement_in, instance, instance_of, matching_of, project_keys, student_keys, Phase, Setup, Choosing, Ranking, Listing, Person, ProjectRow, catalogue, listings, office_sees, persons, name_in, listing_with, choice_fault, ranking_fault, in_catalogue, Good, IsRound, Sound, IsChoice, IsRanking, IsStudent, Published}
+use Rattle.portal_core.proofs.Base.{◌≡◌, [], ◌≤◌, Bool, true, false, cond, List, ◌∷◌, ◌++◌, length, refl, sym, ◌∙◌, ap, subst, arith, map, filter, Some, None, IfSome, not, ◌||◌, ◌&&◌, is_none, unwrap_or, list_any, AllByRecursion, length-map, IsBest, IsStable, number_in, Key, equals, has, is_empty, Rise, AreDistinct, World, project_key, student_key, applicants_to, projects_of, applicants_of, is_still_to_rank, is_setup, is_choosing, is_ranking, is_published, is_from_ranking, is_second, is_left, in_play, first, first_placed, first_published, Choices, Ranks, To, Placements, changed, with_choice, with_ranking, with_place, placement_in, instance, instance_of, matching_of, project_keys, student_keys, Phase, Listing, Person, ProjectRow, catalogue, listings, office_sees, persons, choice_fault, ranking_fault, in_catalogue, Good, IsRound, Sound, IsChoice, IsRanking, IsStudent, Published, if◌then◌else◌}
 use Rattle.portal_core.specs.World as rows
 use Rattle.portal_core.proofs.Keys.{is_same}
 use Rattle.portal_core.proofs.ListFaults.{chosen, ranked}
@@ -15,7 +15,7 @@ not_published w g shut before = record { sound = g; stable = λ h. cc; before = 
 -- phases
 
 -- to a phase after setup in which, as before, nothing is published
-to_phase : (w : World) (phase : Phase) → Sound w → is_setup phase ≡ false → is_published phase ≡ false → is_published w.phase ≡ false → (is_from_ranking phase ≡ false → is_from_ranking w.phase ≡ false)
+pub to_phase : (w : World) (phase : Phase) → Sound w → is_setup phase ≡ false → is_published phase ≡ false → is_published w.phase ≡ false → (is_from_ranking phase ≡ false → is_from_ranking w.phase ≡ false)
     → Sound (changed w (To phase))
 to_phase w phase g begun shut before early =
     let no_choices_yet : is_setup phase ≡ true → AllByRecursion (λ (s : rows.Student). s.choice ≡ []) w.students = λ h. cc in
@@ -23,12 +23,6 @@ to_phase w phase g begun shut before early =
     let no_result_yet = g.no_result_yet before in
     let all_ranked : is_published phase ≡ true → AllByRecursion (λ l. is_still_to_rank w l ≡ false) w.lecturers = λ h. cc in
     assumption
-
-pub to_choosing : (w : World) → Sound w → w.phase ≡ Setup → Sound (changed w (To Choosing))
-to_choosing w g e = to_phase w Choosing g refl refl (ap is_published e) (λ h. ap is_from_ranking e)
-
-pub to_ranking : (w : World) → Sound w → w.phase ≡ Choosing → Sound (changed w (To Ranking))
-to_ranking w g e = to_phase w Ranking g refl refl (ap is_published e) (λ h. ap is_from_ranking e)
 
 -- the result
 
@@ -48,9 +42,6 @@ place_first pairs s = elim (is_left s) as (λ b. first_placed (cond b (record s 
 -- who is out of the round has no place of it
 abbrev StaysOut : rows.Student → Type 0
 StaysOut s = is_left s ≡ false → (s.choice ≡ []) × (s.placed ≡ None)
-
-place_out : (pairs : List (Key × Key)) (s : rows.Student) → StaysOut s → StaysOut (with_place pairs s)
-place_out pairs s h = grind arith
 
 module _ (w : World) (pairs : List (Key × Key)) where
   applicants_placed : (l : Key) → map student_key (applicants_of (changed w (Placements pairs)) l) ≡ map student_key (applicants_of w l)
@@ -73,9 +64,6 @@ module _ (w : World) (pairs : List (Key × Key)) where
     rankings = map (λ (l : rows.Lecturer). map (number_in (keys_placed i)) (unwrap_or l.ranking [])) w.lecturers;
   }
 
-  catalogue_placed : project_keys (in_play (changed w (Placements pairs))) ≡ project_keys (in_play w)
-  catalogue_placed = λ i. map project_key (play_placed w pairs i).projects
-
   pub first_kept : first (changed w (Placements pairs)) ≡ first w
   first_kept = λ i. record (first w) { students = map_same first_placed (with_place pairs) (place_first pairs) w.students i }
 
@@ -86,7 +74,7 @@ module _ (w : World) (pairs : List (Key × Key)) where
       let student_forms = all_map (λ (s : rows.Student). IsStudent s.row) (with_place pairs) w.students (all_weaker _ _ (λ s h. subst IsStudent (sym (place_row pairs s)) h) w.students g.student_forms) in
       let few_students : length (map (with_place pairs) w.students) ≤ 2000 = omega (arith, g.few_students, length-map w.students (with_place pairs)) in
       let apart = subst (λ cs. AreDistinct (w.office ∷ map (λ (l : rows.Lecturer). l.row.code) w.lecturers ++ cs)) (sym codes) g.codes in
-      let choices = subst (λ ks. AllByRecursion (λ (s : rows.Student). IsChoice ks s.choice) (map (with_place pairs) w.students)) (sym catalogue_placed)
+      let choices = subst (λ ks. AllByRecursion (λ (s : rows.Student). IsChoice ks s.choice) (map (with_place pairs) w.students)) (λ i. map project_key (sym (play_placed w pairs) i).projects)
       (all_map (λ (s : rows.Student). IsChoice (project_keys (in_play w)) s.choice) (with_place pairs) w.students (all_weaker _ _ (λ s h. subst (IsChoice (project_keys (in_play w))) (sym (place_choice pairs s)) h) w.students g.choices)) in
       let no_choices_yet : is_setup Published ≡ true → AllByRecursion (λ (s : rows.Student). s.choice ≡ []) (map (with_place pairs) w.students) = λ h. cc in
       let no_rankings_yet : is_from_ranking Published ≡ false → AllByRecursion (λ (l : rows.Lecturer). l.ranking ≡ None) w.lecturers = λ h. cc in
@@ -96,7 +84,7 @@ module _ (w : World) (pairs : List (Key × Key)) where
       let all_ranked : AllByRecursion (λ l. is_still_to_rank (changed w (Placements pairs)) l ≡ false) w.lecturers = all_weaker _ _ (λ l e. ranked_placed l ∙ e) w.lecturers ranked in
       let no_earlier_lists : is_second w.round ≡ false → AllByRecursion (λ (s : rows.Student). (s.earlier_choice ≡ []) × (s.earlier_placement ≡ None)) (map (with_place pairs) w.students)
       = λ h. all_map _ (with_place pairs) w.students (all_weaker _ _ (λ s e. (ap (λ x. x.choice) (place_first pairs s) ∙ e.0, ap (λ x. x.placed) (place_first pairs s) ∙ e.1)) w.students (g.no_earlier_lists h)) in
-      let only_left = all_map StaysOut (with_place pairs) w.students (all_weaker _ _ (λ s h. place_out pairs s h) w.students g.only_left) in
+      let only_left = all_map StaysOut (with_place pairs) w.students (all_weaker _ _ (λ s h. grind arith) w.students g.only_left) in
       assumption
 
 -- the instance of the round is the same
@@ -121,10 +109,7 @@ all_ranked w closed none =
 
 -- the catalogue has the projects' keys
 listed_is_there : (w : World) (k : Key) → in_catalogue (listings w.lecturers w.projects) k ≡ true → has (map project_key w.projects) k ≡ true
-listed_is_there w k h = any_map (equals k) project_key w.projects ∙ any_shown (λ (l : Listing). equals l.key k) (λ p. equals k p.key) _ here w.projects h
-  where
-    here : (p : ProjectRow) (l : Listing) → option_map (listing_with p) (name_in w.lecturers p.lecturer) ≡ Some l → equals l.key k ≡ true → equals k p.key ≡ true
-    here p l e t = grind (arith, is_sym k p.key)
+listed_is_there w k h = any_map (equals k) project_key w.projects ∙ any_shown (λ (l : Listing). equals l.key k) (λ p. equals k p.key) _ (λ p l e t. grind (arith, is_sym k p.key)) w.projects h
 
 chosen_good : (w : World) (list : List Key) → choice_fault (catalogue w) list ≡ None → IsChoice (project_keys (in_play w)) list
 chosen_good w list e =
@@ -140,15 +125,8 @@ pub none_ranked : (P : rows.Lecturer → List Key → Type 0) (ls : List rows.Le
 none_ranked P [] all = tt
 none_ranked P (l ∷ ls) all = (rw all.0 tt, none_ranked P ls all.1)
 
--- a new list keeps the place
-choice_placed : (k : Key) (list : List Key) (s : rows.Student) → (with_choice k list s).placed ≡ s.placed
-choice_placed k list s = elim (equals s.row.key k) as (λ b. (cond b (record s { choice = list }) s).placed ≡ s.placed) [ true ↦ refl | false ↦ refl ]
-
 pub choice_first : (k : Key) (list : List Key) (s : rows.Student) → first_placed (with_choice k list s) ≡ first_placed s
 choice_first k list s = elim (equals s.row.key k) as (λ b. first_placed (cond b (record s { choice = list }) s) ≡ first_placed s) [ true ↦ refl | false ↦ refl ]
-
-choice_out : (k : Key) (list : List Key) (s : rows.Student) → (equals s.row.key k ≡ true → is_left s ≡ true) → StaysOut s → StaysOut (with_choice k list s)
-choice_out k list s mine h = grind arith
 
 -- who makes a list has no project of the earlier round
 pub choosing : (w : World) (k : Key) (list : List Key) → Sound w → is_choosing w.phase ≡ true → AllByRecursion (λ s. equals s.row.key k ≡ true → is_left s ≡ true) w.students → choice_fault (catalogue w) list ≡ None
@@ -156,7 +134,7 @@ pub choosing : (w : World) (k : Key) (list : List Key) → Sound w → is_choosi
 choosing w k list g e mine none =
     let keys : map student_key (map (with_choice k list) w.students) ≡ map student_key w.students = map_same student_key (with_choice k list) (λ s. ap (λ r. r.key) (choice_row k list s)) w.students in
     let codes : map (λ (s : rows.Student). s.row.code) (map (with_choice k list) w.students) ≡ map (λ s. s.row.code) w.students = map_same _ (with_choice k list) (λ s. ap (λ r. r.code) (choice_row k list s)) w.students in
-    let shut : (is_setup w.phase ≡ false) × (is_from_ranking w.phase ≡ false) × (is_published w.phase ≡ false) = only_choosing w.phase e in
+    let shut : (is_setup w.phase ≡ false) × (is_from_ranking w.phase ≡ false) × (is_published w.phase ≡ false) = grind arith in
     let students_rise = subst Rise (sym keys) g.students_rise in
     let student_forms = all_map (λ (s : rows.Student). IsStudent s.row) (with_choice k list) w.students (all_weaker _ _ (λ s h. subst IsStudent (sym (choice_row k list s)) h) w.students g.student_forms) in
     let few_students : length (map (with_choice k list) w.students) ≤ 2000 = omega (arith, g.few_students, length-map w.students (with_choice k list)) in
@@ -166,15 +144,12 @@ choosing w k list g e mine none =
     let no_choices_yet : is_setup w.phase ≡ true → AllByRecursion (λ (s : rows.Student). s.choice ≡ []) (map (with_choice k list) w.students) = λ h. cc in
     let rankings = none_ranked (λ l. IsRanking (map student_key (applicants_of (changed w (Choices k list)) l.row.key))) w.lecturers (g.no_rankings_yet shut.1) in
     let no_result_yet : is_published w.phase ≡ false → AllByRecursion (λ (s : rows.Student). s.placed ≡ None) (map (with_choice k list) w.students)
-    = λ h. all_map _ (with_choice k list) w.students (all_weaker _ _ (λ s e. choice_placed k list s ∙ e) w.students (g.no_result_yet h)) in
+    = λ h. all_map _ (with_choice k list) w.students (all_weaker _ _ (λ s e. grind arith) w.students (g.no_result_yet h)) in
     let all_ranked : is_published w.phase ≡ true → AllByRecursion (λ l. is_still_to_rank (changed w (Choices k list)) l ≡ false) w.lecturers = λ h. cc in
     let no_earlier_lists : is_second w.round ≡ false → AllByRecursion (λ (s : rows.Student). (s.earlier_choice ≡ []) × (s.earlier_placement ≡ None)) (map (with_choice k list) w.students)
     = λ h. all_map _ (with_choice k list) w.students (all_weaker _ _ (λ s e. (ap (λ x. x.choice) (choice_first k list s) ∙ e.0, ap (λ x. x.placed) (choice_first k list s) ∙ e.1)) w.students (g.no_earlier_lists h)) in
-    let only_left = all_map StaysOut (with_choice k list) w.students (all_weaker _ _ (λ s h. choice_out k list s h.0 h.1) w.students (all_both _ _ w.students mine g.only_left)) in
+    let only_left = all_map StaysOut (with_choice k list) w.students (all_weaker _ _ (λ s h. grind arith) w.students (all_both _ _ w.students mine g.only_left)) in
     assumption
-  where
-    only_choosing : (phase : Phase) → is_choosing phase ≡ true → (is_setup phase ≡ false) × (is_from_ranking phase ≡ false) × (is_published phase ≡ false)
-    only_choosing phase e = grind arith
 
 -- a lecturer's ranking
 

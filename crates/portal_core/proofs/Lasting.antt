@@ -1,5 +1,5 @@
 -- What is shown of a result is shown in each world that comes after.
-use Rattle.portal_core.proofs.Base.{◌≡◌, suc, Bool, true, false, cond, List, [], ◌∷◌, Contains, refl, sym, ◌∙◌, ap, subst, arith, map, filter, Option, Some, None, option_map, is_none, filter_map, cons_option, AllByRecursion, Key, equals, is_before, put, put_all, World, first, first_placed, first_published, is_at, is_choosing, is_published, is_second, shown_placement, pairs_of, placed_at, projects_of, lecturer_key, project_key, student_key, Phase, Setup, Choosing, Ranking, Published, Round, First, Second, Person, LecturerRow, ProjectRow, StudentRow, Nobody, Office, Lecturer, Student, Choices, To, Placements, SecondRound, changed, ranked_before, placed_before, with_choice, with_ranking, with_place, with_fill, new_lecturer, new_student, with_lecturers, with_students, in_first, Caller, NoCaller, OfficeCaller, LecturerCaller, StudentCaller, caller, sight_of, view, office_sees, lecturer_sees, student_sees, persons, lecturer_with, student_with, AbstractCall, Answer, Decision, decision, Good, StepLeaves, Step, Request, Run, All-contains, All-from_recursion, Sight, IsShownAt, ShowsStill}
+use Rattle.portal_core.proofs.Base.{◌≡◌, suc, Bool, true, false, cond, List, [], ◌∷◌, Contains, refl, sym, ◌∙◌, ap, subst, arith, map, filter, Option, Some, None, option_map, is_none, filter_map, cons_option, AllByRecursion, Key, equals, is_before, put, put_all, World, first, first_placed, first_published, is_at, is_choosing, is_published, is_second, shown_placement, pairs_of, placed_at, projects_of, lecturer_key, project_key, student_key, Phase, Setup, Choosing, Ranking, Published, Round, First, Second, Person, ProjectRow, Nobody, Office, Lecturer, Student, Choices, To, Placements, SecondRound, changed, ranked_before, placed_before, with_choice, with_ranking, with_place, with_fill, new_lecturer, new_student, in_first, Caller, NoCaller, OfficeCaller, LecturerCaller, StudentCaller, caller, sight_of, view, office_sees, lecturer_sees, student_sees, persons, lecturer_with, student_with, AbstractCall, Answer, Decision, decision, Good, StepLeaves, Step, Request, Run, All-contains, All-from_recursion, Sight, IsShownAt, ShowsStill, All-contains_itself, recursion_from_All}
 use Rattle.portal_core.specs.World as rows
 use Rattle.portal_core.proofs.Keys.{is_same, found_passes, found_all, all_unmap}
 use Rattle.portal_core.proofs.AllLaws.{all_map, all_weaker, all_both}
@@ -25,8 +25,7 @@ module _ {X : Type 0} where
   here x xs = (0, omega arith, refl)
 
   contained : (xs : List X) → AllByRecursion (Contains xs) xs
-  contained [] = tt
-  contained (x ∷ xs) = (here x xs, all_weaker _ _ (later x xs) xs (contained xs))
+  contained xs = recursion_from_All (Contains xs) xs (All-contains_itself xs)
 
   filtered : (p : X → Bool) (xs : List X) → AllByRecursion (λ x. p x ≡ true → Contains (filter p xs) x) xs
   filtered p [] = tt
@@ -172,9 +171,6 @@ module _ (w : World) where
   other_lecturers : (ls : List rows.Lecturer) → AllByRecursion (Mate SameLecturer ls) w.lecturers → Grows w (record w { lecturers = ls })
   other_lecturers ls all = record { office = refl; lecturers = all; projects = whole.projects; students = whole.students }
 
-  other_projects : (ps : List ProjectRow) → AllByRecursion (Contains ps) w.projects → Grows w (record w { projects = ps })
-  other_projects ps all = record { office = refl; lecturers = whole.lecturers; projects = all; students = whole.students }
-
   to_phase : (before after : Phase) → w.phase ≡ before → is_published before ≡ false → Grows w (changed w (To after))
   to_phase before after at shut = other_students after w.students (kept _ (λ s. (refl, lasts w.phase after (ap is_published at ∙ shut) s s refl)) w.students)
 
@@ -211,13 +207,6 @@ module _ (w : World) where
           let at : s.placed ≡ Some p = sym (λ i. cond (is_none (none i)) (cond (is_published (out i)) s.placed None) (none i)) ∙ e in
           ap (λ o. cond (is_none o) None o) at
 
-  -- new rows
-  more_lecturers : (rs : List LecturerRow) → Grows w (with_lecturers w rs)
-  more_lecturers rs = other_lecturers _ (all_weaker _ _ (λ l there. (l, there, refl)) w.lecturers (all_beside lecturer_key (map new_lecturer rs) w.lecturers))
-
-  more_students : (rs : List StudentRow) → Grows w (with_students w rs)
-  more_students rs = other_students w.phase _ (all_weaker _ _ (λ s there. (s, there, (refl, λ p e. e))) w.students (all_beside student_key (map new_student rs) w.students))
-
 module _ (w v : World) (good : Good w) where
   becomes : (u : World) → Grows w u → v ≡ u → Grows w v
   becomes u g e = subst (Grows w) (sym e) g
@@ -234,9 +223,9 @@ module _ (w v : World) (good : Good w) where
   grows OfficeCaller ask =
       by_office Leads (λ ask reply. becomes w (whole w)) (office_sees w)
       (record {
-        lecturers = λ rs new n now took. becomes _ (in_either w _ (more_lecturers w new) w.round);
-        projects = λ rs new n now took. becomes _ (in_either w _ (other_projects w _ (all_beside project_key new w.projects)) w.round);
-        students = λ rs new n now took. becomes _ (in_either w _ (more_students w new) w.round);
+        lecturers = λ rs new n now took. becomes _ (in_either w _ (other_lecturers w _ (all_weaker _ _ (λ l there. (l, there, refl)) w.lecturers (all_beside lecturer_key (map new_lecturer new) w.lecturers))) w.round);
+        projects = λ rs new n now took. becomes _ (in_either w _ (record { office = refl; lecturers = (whole w).lecturers; projects = all_beside project_key new w.projects; students = (whole w).students }) w.round);
+        students = λ rs new n now took. becomes _ (in_either w _ (other_students w w.phase _ (all_weaker _ _ (λ s there. (s, there, (refl, λ p e. e))) w.students (all_beside student_key (map new_student new) w.students))) w.round);
         choosing = λ named at. becomes _ (to_phase w Setup Choosing at refl);
         ranking = λ named at. becomes _ (to_phase w Choosing Ranking at refl);
         published = λ named at none left. becomes _ (published w left.0 at) left.1;

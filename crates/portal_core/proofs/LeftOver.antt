@@ -1,48 +1,35 @@
 -- What has room after the first round, and that nobody whom it left had listed it.
-use Rattle.portal_core.proofs.Base.{◌≡◌, ℕ, suc, ◌-◌, ◌<◌, ◌≤◌, Bool, true, false, List, [], ◌∷◌, map, length, get_or, refl, sym, ◌∙◌, ap, subst, arith, Option, Some, None, option_map, is_none, nat_lt, count_by, ◌&&◌, ◌||◌, AllByRecursion, list_any, eqb-true, nat_tests, get_or-map, length-map, list_any_at, IsStable, IsAcceptable, is_project, is_lecturer, at_project, at_lecturer, lecturer_of, project_of, number_in, number_is, count_by-map, Key, equals, has, World, lecturer_key, project_key, is_at, is_left, is_published, is_second, given_to, given_with, lowered_lecturer, lowered_project, lecturers_left, in_play, first, first_placed, first_published, First, Second, Listing, ProjectRow, instance, instance_of, matching_of, places_of, lecturer_keys, project_keys, in_catalogue, catalogue, Good, IsRound, Sound, IsChoice, placed_to, placed_with, count_at, count_with, ne_eqb, capacity_of, limit_of, left_by_number}
+use Rattle.portal_core.proofs.Base.{◌≡◌, ℕ, ◌-◌, ◌<◌, ◌≤◌, Bool, true, false, List, [], map, length, get_or, refl, sym, ◌∙◌, ap, subst, arith, Option, Some, None, option_map, is_none, nat_lt, count_by, ◌&&◌, AllByRecursion, list_any, eqb-true, nat_tests, get_or-map, length-map, list_any_at, IsStable, IsAcceptable, is_project, is_lecturer, at_project, at_lecturer, lecturer_of, project_of, number_in, number_is, count_by-map, Key, equals, has, World, lecturer_key, project_key, is_at, is_left, is_published, is_second, given_to, given_with, lowered_lecturer, lowered_project, lecturers_left, in_play, first, first_placed, first_published, First, Second, Listing, ProjectRow, instance, instance_of, matching_of, places_of, lecturer_keys, project_keys, in_catalogue, catalogue, Good, IsRound, Sound, IsChoice, placed_to, placed_with, count_at, count_with, ne_eqb, capacity_of, limit_of, left_by_number, All-from_get_or, Any-from_list_any, and_from, and_parts, filter, get_or_default, recursion_from_All}
 use Rattle.spa_honest.specs.Honest.{HasRoom}
 use Rattle.portal_core.specs.World.{Lecturer, Student}
 use Rattle.portal_core.proofs.Keys.{is_same, is_own}
 use Rattle.portal_core.proofs.AllLaws.{all_at, all_weaker, any_map, any_alike, filtered_any, is_sym}
 use Rattle.portal_core.proofs.Published.{number_back}
-use Rattle.portal_core.proofs.Capacities.{count_mono, count_none, known_in, first_plays, left_of, second_plays}
+use Rattle.portal_core.proofs.Capacities.{count_mono, count_none, known_in, first_plays, second_plays}
 use Rattle.portal_core.proofs.Opened.{the_second}
 use Rattle.portal_core.proofs.InRound.{catalogue_whole}
-use Rattle.portal_core.proofs.HonestLists.{no_student, no_project, no_lecturer, has_number, on_number, both_hold, lecturer_at, lecturer_known, choice, choices, given}
+use Rattle.portal_core.proofs.HonestLists.{no_student, no_project, no_lecturer, has_number, on_number, lecturer_at, lecturer_known, choice, choices, given}
 
 -- lists and tests
 
 -- where a test holds of some element, it holds at a place
 pub any_place : {X : Type 0} (q : X → Bool) (xs : List X) (d : X) → list_any q xs ≡ true → (k : ℕ) × (k < length xs) × (q (get_or xs k d) ≡ true)
-any_place q [] d h = absurd (cc)
-any_place {X} q (x ∷ xs) d h = by_test (q x) refl (any_place q xs d) h
-  where
-    by_test : (b : Bool) → q x ≡ b → (list_any q xs ≡ true → (k : ℕ) × (k < length xs) × (q (get_or xs k d) ≡ true)) → (b || list_any q xs) ≡ true → (k : ℕ) × (k < suc (length xs)) × (q (get_or (x ∷ xs) k d) ≡ true)
-    by_test true e r t = (0, omega arith, e)
-    by_test false e r t = let rest = r t in (suc rest.0, omega (arith, rest.1), rest.2)
+any_place q xs d h =
+    let at = Any-from_list_any q xs h in
+    (at.0, at.2, ap q (get_or_default xs at.0 d at.1 at.2 ∙ at.3) ∙ at.4)
 
 -- what holds at each place holds of each
 pub all_from : {X : Type 0} (P : X → Type 0) (xs : List X) (d : X) → ((k : ℕ) → k < length xs → P (get_or xs k d)) → AllByRecursion P xs
-all_from P [] d each = tt
-all_from P (x ∷ xs) d each = (each 0 (omega arith), all_from P xs d (λ k h. each (suc k) (omega arith)))
+all_from P xs d each = recursion_from_All P xs (All-from_get_or P xs d each)
 
-pub and_parts : (a b : Bool) → (a && b) ≡ true → (a ≡ true) × (b ≡ true)
-and_parts a b h = grind arith
-
-is_below : (n : ℕ) → nat_lt 0 n ≡ true → 0 < n
-is_below n h = grind (arith, nat_tests)
-
-is_none_of : {X : Type 0} (o : Option X) → is_none o ≡ true → o ≡ None
+pub is_none_of : {X : Type 0} (o : Option X) → is_none o ≡ true → o ≡ None
 is_none_of o h = grind arith
 
 -- one published round, by its rows
 module _ (v : World) (sound : Sound v) (one : v.round ≡ First) (published : is_published v.phase ≡ true) where
-  key_at : (k : ℕ) → k < length v.projects → get_or (project_keys v) k [] ≡ (get_or v.projects k no_project).key
-  key_at k h = get_or-map project_key v.projects k no_project [] h
-
   -- the project of a number that a student has is the one of this key
   at_key : (k : ℕ) → k < length v.projects → (q : Key) → number_in (project_keys v) q < length (project_keys v) → number_in (project_keys v) q ≡ k → q ≡ (get_or v.projects k no_project).key
-  at_key k h q low same = sym (number_is (project_keys v) q low) ∙ ap (λ n. get_or (project_keys v) n []) same ∙ key_at k h
+  at_key k h q low same = sym (number_is (project_keys v) q low) ∙ ap (λ n. get_or (project_keys v) n []) same ∙ get_or-map project_key v.projects k no_project [] h
 
   -- students at known projects, by number and by key
   module _ (place : Student → Option Key) (ss : List Student) (known : AllByRecursion (λ s. (q : Key) → place s ≡ Some q → number_in (project_keys v) q < length (project_keys v)) ss) where
@@ -81,7 +68,7 @@ module _ (v : World) (sound : Sound v) (one : v.round ≡ First) (published : is
             ∙ ap (λ n. get_or (lecturer_keys v) n []) l_is ∙ get_or-map lecturer_key v.lecturers h no_lecturer [] h_in in
             let q_is : q ≡ (get_or v.projects (number_in (project_keys v) q) no_project).key = at_key (number_in (project_keys v) q) k_in q k_low refl in
             list_any_at (λ (p : ProjectRow). equals p.lecturer (get_or v.lecturers h no_lecturer).row.key && equals q p.key) v.projects (number_in (project_keys v) q) no_project k_in
-            (both_hold _ _
+            (and_from _ _
             (subst (λ x. equals (get_or v.projects (number_in (project_keys v) q) no_project).lecturer x ≡ true) of_l (is_own (get_or v.projects (number_in (project_keys v) q) no_project).lecturer))
             (subst (λ x. equals q x ≡ true) q_is (is_own q)))
 
@@ -142,55 +129,35 @@ record HasRows (w : World) (p : Key) : Type 0 where
 abbrev is_open : World → ProjectRow → Bool
 is_open w x = nat_lt 0 x.capacity && has (map lecturer_key (lecturers_left w.lecturers w.projects w.students)) x.lecturer
 
--- the lecturer's row
-lecturer_row : (w : World) (l : Key) → has (map lecturer_key (lecturers_left w.lecturers w.projects w.students)) l ≡ true
-    → (h : ℕ) × (h < length w.lecturers) × ((nat_lt 0 (lowered_lecturer w.projects w.students (get_or w.lecturers h no_lecturer)).row.capacity && equals l (get_or w.lecturers h no_lecturer).row.key) ≡ true)
-lecturer_row w l there =
-    any_place (λ (x : Lecturer). nat_lt 0 (lowered_lecturer w.projects w.students x).row.capacity && equals l x.row.key) w.lecturers no_lecturer
-    (sym (any_map (λ (x : Lecturer). nat_lt 0 x.row.capacity && equals l x.row.key) (lowered_lecturer w.projects w.students) w.lecturers)
-    ∙ sym (filtered_any (λ (x : Lecturer). equals l x.row.key) (λ (x : Lecturer). nat_lt 0 x.row.capacity) (map (lowered_lecturer w.projects w.students) w.lecturers))
-    ∙ sym (any_map (equals l) lecturer_key (lecturers_left w.lecturers w.projects w.students))
-    ∙ there)
-
--- the project's row
-project_row : (w : World) (p : Key) → w.round ≡ Second → has (project_keys (in_play w)) p ≡ true
-    → (k : ℕ) × (k < length w.projects) × ((is_open w (lowered_project w.students (get_or w.projects k no_project)) && equals p (get_or w.projects k no_project).key) ≡ true)
-project_row w p two there =
-    any_place (λ (x : ProjectRow). is_open w (lowered_project w.students x) && equals p x.key) w.projects no_project
-    (sym (any_map (λ (x : ProjectRow). is_open w x && equals p x.key) (lowered_project w.students) w.projects)
-    ∙ sym (filtered_any (λ (x : ProjectRow). equals p x.key) (is_open w) (map (lowered_project w.students) w.projects))
-    ∙ sym (any_map (equals p) project_key (left_of w).projects)
-    ∙ subst (λ u. has (project_keys u) p ≡ true) (second_plays w two) there)
+-- a row that is changed and passes a test, by its key
+kept_row : {X : Type 0} (key : X → Key) (f : X → X) (t : X → Bool) (xs : List X) (d : X) (k : Key) → has (map key (filter t (map f xs))) k ≡ true
+    → (n : ℕ) × (n < length xs) × (t (f (get_or xs n d)) ≡ true) × (k ≡ key (f (get_or xs n d)))
+kept_row key f t xs d k there =
+    let at = any_place (λ x. t (f x) && equals k (key (f x))) xs d
+    (sym (any_map (λ x. t x && equals k (key x)) f xs) ∙ sym (filtered_any (λ x. equals k (key x)) t (map f xs)) ∙ sym (any_map (equals k) key (filter t (map f xs))) ∙ there) in
+    let both = and_parts (t (f (get_or xs at.0 d))) (equals k (key (f (get_or xs at.0 d)))) at.2 in
+    (at.0, at.1, both.0, is_same k (key (f (get_or xs at.0 d))) both.1)
 
 has_rows : (w : World) (p : Key) → w.round ≡ Second → has (project_keys (in_play w)) p ≡ true → HasRows w p
-has_rows w p two there = by_project (project_row w p two there)
+has_rows w p two there =
+    let at = kept_row project_key (lowered_project w.students) (is_open w) w.projects no_project p (subst (λ u. has (project_keys u) p ≡ true) (second_plays w two) there) in
+    let row : ProjectRow = get_or w.projects at.0 no_project in
+    let rooms = and_parts (nat_lt 0 (row.capacity - given_to w.students row.key)) (has (map lecturer_key (lecturers_left w.lecturers w.projects w.students)) row.lecturer) at.2 in
+    let by = kept_row lecturer_key (lowered_lecturer w.projects w.students) (λ (l : Lecturer). nat_lt 0 l.row.capacity) w.lecturers no_lecturer row.lecturer rooms.1 in
+    let owner : Lecturer = get_or w.lecturers by.0 no_lecturer in
+    record {
+      project = at.0;
+      lecturer = by.0;
+      project_in = at.1;
+      lecturer_in = by.1;
+      key = at.3;
+      own = by.3;
+      room = below row.capacity (given_to w.students row.key) rooms.0;
+      lecturer_room = below owner.row.capacity (given_with w.projects w.students owner.row.key) by.2;
+    }
   where
-    by_project : (k : ℕ) × (k < length w.projects) × ((is_open w (lowered_project w.students (get_or w.projects k no_project)) && equals p (get_or w.projects k no_project).key) ≡ true) → HasRows w p
-    by_project at =
-        let row : ProjectRow = get_or w.projects at.0 no_project in
-        let parts = and_parts (is_open w (lowered_project w.students row)) (equals p row.key) at.2 in
-        let rooms = and_parts (nat_lt 0 (lowered_project w.students row).capacity) (has (map lecturer_key (lecturers_left w.lecturers w.projects w.students)) row.lecturer) parts.0 in
-        by_lecturer at.0 at.1 (is_same p row.key parts.1) (below row.capacity (given_to w.students row.key) rooms.0) (lecturer_row w row.lecturer rooms.1)
-      where
-        below : (c n : ℕ) → nat_lt 0 (c - n) ≡ true → n < c
-        below c n h = let some : 0 < c - n = is_below (c - n) h in omega arith
-
-        by_lecturer : (k : ℕ) → k < length w.projects → p ≡ (get_or w.projects k no_project).key → given_to w.students (get_or w.projects k no_project).key < (get_or w.projects k no_project).capacity
-            → (h : ℕ) × (h < length w.lecturers) × ((nat_lt 0 (lowered_lecturer w.projects w.students (get_or w.lecturers h no_lecturer)).row.capacity && equals (get_or w.projects k no_project).lecturer (get_or w.lecturers h no_lecturer).row.key) ≡ true)
-            → HasRows w p
-        by_lecturer k k_in key room by =
-            let row : Lecturer = get_or w.lecturers by.0 no_lecturer in
-            let parts = and_parts (nat_lt 0 (lowered_lecturer w.projects w.students row).row.capacity) (equals (get_or w.projects k no_project).lecturer row.row.key) by.2 in
-            record {
-              project = k;
-              lecturer = by.0;
-              project_in = k_in;
-              lecturer_in = by.1;
-              key = key;
-              own = is_same (get_or w.projects k no_project).lecturer row.row.key parts.1;
-              room = room;
-              lecturer_room = below row.row.capacity (given_with w.projects w.students row.row.key) parts.0;
-            }
+    below : (c n : ℕ) → nat_lt 0 (c - n) ≡ true → n < c
+    below c n h = let some : 0 < c - n = grind (arith, nat_tests) in omega arith
 
 -- what takes part is on the roll
 pub plays_known : (w : World) (p : Key) → w.round ≡ Second → has (project_keys (in_play w)) p ≡ true → has (project_keys w) p ≡ true

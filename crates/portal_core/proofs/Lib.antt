@@ -42,7 +42,6 @@ pub mod Tables
 pub mod HonestLists
 pub mod HonestGroups
 pub mod LeftOver
-mod BothRounds
 mod OverRuns
 mod BestShown
 pub mod Going

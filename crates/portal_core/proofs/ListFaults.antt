@@ -118,43 +118,29 @@ module _ (wrong : List Key → Key → Option (List ℕ)) (passes : Key → Bool
 -- a student's list
 
 module _ (catalogue : List Listing) where
-  right_choice : (earlier : List Key) (k : Key) → wrong_choice catalogue earlier k ≡ None → (in_catalogue catalogue k ≡ true) × (has earlier k ≡ false)
-  right_choice earlier k e = grind arith
-
-  no_wrong_choice : (earlier : List Key) (k : Key) → length earlier < 20 → in_catalogue catalogue k ≡ true → has earlier k ≡ false → wrong_choice catalogue earlier k ≡ None
-  no_wrong_choice earlier k low known new = grind (arith, nat_tests)
-
-  has_room : (earlier : List Key) (k : Key) → length earlier ≤ 20 → wrong_choice catalogue earlier k ≡ None → length earlier + 1 ≤ 20
-  has_room earlier k low e = grind (arith, nat_tests)
-
   few : (earlier list : List Key) → length earlier ≤ 20 → first_wrong (wrong_choice catalogue) earlier list ≡ None → length earlier + length list ≤ 20
   few earlier [] low e = omega arith
   few earlier (k ∷ ks) low e =
       let parts = untold (length earlier + 1) (wrong_choice catalogue earlier k) (first_wrong (wrong_choice catalogue) (earlier ++ k ∷ []) ks) e in
-      let room = has_room earlier k low parts.0 in
+      let one = parts.0 in
+      let room : length earlier + 1 ≤ 20 = grind (arith, nat_tests) in
       let long = length-append earlier (k ∷ []) in
       let all = few (earlier ++ k ∷ []) ks (omega arith) parts.1 in
       omega arith
 
   pub chosen : (list : List Key) → choice_fault catalogue list ≡ None → (length list ≤ 20) × Fits (in_catalogue catalogue) [] list
-  chosen list e = ((let all = few [] list (omega arith) e in omega arith), fits (wrong_choice catalogue) (in_catalogue catalogue) right_choice [] list e)
+  chosen list e = ((let all = few [] list (omega arith) e in omega arith), fits (wrong_choice catalogue) (in_catalogue catalogue) (λ earlier k good. grind arith) [] list e)
 
   pub choice_taken : (list : List Key) → length list ≤ 20 → Fits (in_catalogue catalogue) [] list → choice_fault catalogue list ≡ None
-  choice_taken list low f = faultless (wrong_choice catalogue) (in_catalogue catalogue) 20 no_wrong_choice [] list (omega arith) f
+  choice_taken list low f = faultless (wrong_choice catalogue) (in_catalogue catalogue) 20 (λ earlier k room known new. grind (arith, nat_tests)) [] list (omega arith) f
 
 -- a lecturer's ranking
 
 module _ (applicants : List (Key × List Person)) where
-  right_rank : (earlier : List Key) (k : Key) → wrong_rank applicants earlier k ≡ None → (is_applicant applicants k ≡ true) × (has earlier k ≡ false)
-  right_rank earlier k e = grind arith
-
-  whole : (lacks : Bool) (o : Option ListFault) → or_missing lacks o ≡ None → (o ≡ None) × (lacks ≡ false)
-  whole lacks o e = grind arith
-
   pub ranked : (list : List Key) → ranking_fault applicants list ≡ None → Fits (is_applicant applicants) [] list × (lacks_one applicants list ≡ false)
   ranked list e =
-      let parts = whole (lacks_one applicants list) (first_wrong (wrong_rank applicants) [] list) e in
-      (fits (wrong_rank applicants) (is_applicant applicants) right_rank [] list parts.0, parts.1)
+      let parts : (first_wrong (wrong_rank applicants) [] list ≡ None) × (lacks_one applicants list ≡ false) = grind arith in
+      (fits (wrong_rank applicants) (is_applicant applicants) (λ earlier k good. grind arith) [] list parts.0, parts.1)
 
   pub ranking_taken : (list : List Key) → Fits (is_applicant applicants) [] list → lacks_one applicants list ≡ false → ranking_fault applicants list ≡ None
   ranking_taken list f all = rw (faultless (wrong_rank applicants) (is_applicant applicants) (length list) (λ earlier k low known new. rw (known, new) refl) [] list (omega arith) f, all) refl

@@ -36,21 +36,13 @@ with_applicants p = dictionary ((codes "applicants", several (map person p.1)) �
 with_students : Key × List Person → Data
 with_students p = dictionary ((codes "id", string p.0) ∷ (codes "students", several (map person p.1)) ∷ [])
 
-each_applicants : (p : Key × List Person) → has_float (with_applicants p) ≡ false
-unfolding with_applicants
-each_applicants p = rw (none_of person (λ s. refl) p.1) refl
-
-each_students : (p : Key × List Person) → has_float (with_students p) ≡ false
-unfolding with_students
-each_students p = rw (none_of person (λ s. refl) p.1) refl
-
 applicants_whole : (ps : List (Key × List Person)) → has_float (applicants_body ps) ≡ false
 unfolding with_applicants
-applicants_whole ps = rw (none_of with_applicants each_applicants ps) refl
+applicants_whole ps = rw (none_of with_applicants (λ p. rw (none_of person (λ s. refl) p.1) refl) ps) refl
 
 placed_whole : (ps : List (Key × List Person)) → has_float (placed_body ps) ≡ false
 unfolding with_students
-placed_whole ps = rw (none_of with_students each_students ps) refl
+placed_whole ps = rw (none_of with_students (λ p. rw (none_of person (λ s. refl) p.1) refl) ps) refl
 
 lecturer_whole : (v : LecturerSees) (ask : AbstractCall) → HasWholeNumbers (to_lecturer v ask).reply.body
 lecturer_whole v ask =
@@ -63,13 +55,9 @@ status_whole v r f b e = grind (arith, of_texts)
 as_pair : Key × Key → Data
 as_pair x = dictionary ((codes "project", string x.1) ∷ (codes "student", string x.0) ∷ [])
 
-each_pair : (x : Key × Key) → has_float (as_pair x) ≡ false
-unfolding as_pair
-each_pair x = refl
-
 pairs_whole : (xs : List (Key × Key)) → has_float (allocation_body xs) ≡ false
 unfolding as_pair
-pairs_whole xs = rw (none_of as_pair each_pair xs) refl
+pairs_whole xs = rw (none_of as_pair (λ x. refl) xs) refl
 
 office_whole : (v : OfficeSees) (ask : AbstractCall) → HasWholeNumbers (to_office v ask).reply.body
 office_whole v AbstractCall.Status = status_whole v v.round refl (has_result v.round v.phase) refl

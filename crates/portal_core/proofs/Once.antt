@@ -42,11 +42,8 @@ heard_there c w (r ∷ rs) (v ∷ worlds) =
 
 -- and no other
 
-change_once : (old new : Sight) (a b : List HeardItem) → ChangeSeen old new a → ChangeSeen old new b → a ≡ b
-change_once old new a b x y = grind arith
-
 seen_once : (s : Bool) (old new : Sight) (a b : List HeardItem) → SeenIf s old new a → SeenIf s old new b → a ≡ b
-seen_once s old new a b x y = grind (arith, change_once old new a b)
+seen_once s old new a b x y = grind arith
 
 pub heard_once : (c : Key) (w : World) (asked : List Request) (worlds : List World) (a b : List HeardItem) → Heard c w asked worlds a → Heard c w asked worlds b → a ≡ b
 heard_once c w [] worlds a b x y = x ∙ sym y

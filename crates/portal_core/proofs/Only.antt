@@ -1,5 +1,5 @@
 -- A step has one reply and one end, since there is one best matching; and so has a run.
-use Rattle.portal_core.proofs.Base.{◌≡◌, ℕ, zero, suc, ◌<◌, ◌≤◌, true, false, cond, List, [], ◌∷◌, map, length, get_or, refl, sym, ◌∙◌, ap, subst, arith, Contains, ◌||◌, Option, Some, None, option_map, AllByRecursion, eq-eqb, nat_tests, length-map, IsBest, IsMatching, IsOn, project_of, is_project, at_project, number_in, number_is, number_known, Key, equals, has, World, in_play, project_key, is_left, students_in, Round, First, Second, Placements, placement_in, with_place, changed, instance, matching_of, places_of, project_keys, view, AbstractCall, Answer, Act, Nothing, Apply, Publish, Render, decision, ProjectRow, IsChoice, StepLeaves, Step, Wish, Calls, Refused, Request, Answers, Run, AllAnswered}
+use Rattle.portal_core.proofs.Base.{◌≡◌, ℕ, zero, suc, ◌<◌, ◌≤◌, true, false, cond, List, [], ◌∷◌, map, length, get_or, refl, sym, ◌∙◌, ap, subst, arith, Contains, Option, Some, None, option_map, AllByRecursion, eq-eqb, nat_tests, length-map, IsBest, IsMatching, IsOn, project_of, is_project, at_project, number_in, number_is, number_known, Key, equals, has, World, in_play, project_key, is_left, students_in, Round, First, Second, Placements, placement_in, with_place, changed, instance, matching_of, places_of, project_keys, view, AbstractCall, Answer, Act, Nothing, Apply, Publish, Render, decision, ProjectRow, IsChoice, StepLeaves, Step, Wish, Calls, Refused, Request, Answers, Run, AllAnswered, Any-from_list_any}
 use Rattle.spa_model.proofs.Counts.{one_if, count_by-cons}
 use Rattle.spa_model.proofs.OneOnly.{best_is_one}
 use Rattle.portal_core.specs.World as rows
@@ -8,12 +8,9 @@ use Rattle.portal_core.proofs.InPlay.{play_placed}
 use Rattle.portal_core.proofs.Hearing.{really}
 
 pub has_contains : (ks : List Key) (c : Key) → has ks c ≡ true → Contains ks c
-has_contains [] c h = cc
-has_contains (k ∷ ks) c h =
-    (elim (equals c k) as (λ b. equals c k ≡ b → (b || has ks c) ≡ true → Contains (k ∷ ks) c) [
-      | true ↦ λ e f. (0, omega arith, sym (is_same c k e))
-      | false ↦ λ e f. let later : Contains ks c = has_contains ks c f in (suc later.0, (let low = later.1 in omega arith), later.2)
-    ]) refl h
+has_contains ks c h =
+    let at = Any-from_list_any (equals c) ks h in
+    subst (Contains ks) (sym (is_same c at.1 at.4)) (at.0, at.2, at.3)
 
 module _ (keys : List Key) where
   -- what a list of known keys holds is a number of the roll

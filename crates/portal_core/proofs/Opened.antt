@@ -1,5 +1,6 @@
 -- The second round: what it opens with, and that the first stays as it was published.
-use Rattle.portal_core.proofs.Base.{◌≡◌, Bool, true, false, cond, List, [], ◌∷◌, ◌++◌, length, refl, sym, ◌∙◌, ap, subst, arith, map, Some, None, IfSome, is_none, find, AllByRecursion, length-map, Key, equals, has, is_before, Rise, AreDistinct, World, lecturer_key, student_key, applicants_of, is_second, is_left, in_play, first, first_placed, first_published, shown_placement, Choices, Ranks, Fill, SecondRound, changed, opened, ranked_before, placed_before, with_choice, with_ranking, with_fill, Phase, Published, First, project_keys, Good, IsRound, Sound, IsChoice, IsRanking, IsLecturer, IsStudent, ProjectRow, ◌≤◌, is_still_to_rank, Round, Second, Caller, caller, sight_of, AbstractCall, Answer, Decision, decision, is_open_to_rolls, StepLeaves, Step}
+use Rattle.portal_core.proofs.Base.{◌≡◌, Bool, true, false, cond, List, [], ◌∷◌, ◌++◌, length, refl, sym, ◌∙◌, ap, subst, arith, map, Some, None, IfSome, is_none, find, AllByRecursion, length-map, Key, equals, has, is_before, Rise, AreDistinct, World, lecturer_key, student_key, applicants_of, is_second, is_left, in_play, first, first_placed, first_published, shown_placement, Choices, Ranks, Fill, SecondRound, changed, opened, ranked_before, placed_before, with_choice, with_ranking, with_fill, Published, First, project_keys, Good, IsRound, Sound, IsChoice, IsRanking, IsLecturer, IsStudent, ProjectRow, ◌≤◌, is_still_to_rank, Round, Second, Caller, caller, sight_of, AbstractCall, Answer, Decision, decision, StepLeaves, Step, All-from_recursion, map_fixed}
+use Rattle.std.proofs.lemmas.Simd.{map-map}
 use Rattle.portal_core.specs.World as rows
 use Rattle.portal_core.proofs.Keys.{is_same, not_before_itself, found_all, all_unmap}
 use Rattle.portal_core.proofs.AllLaws.{each_one, all_map, all_weaker, map_same}
@@ -23,20 +24,12 @@ first_filled w = λ i. record (first w) { lecturers = map_same first_published (
 
 -- what was before the second round opened
 
-back_lecturers : (ls : List rows.Lecturer) → AllByRecursion (λ l. l.earlier_ranking ≡ None) ls → map first_published (map ranked_before ls) ≡ ls
-back_lecturers [] all = refl
-back_lecturers (l ∷ ls) all = λ i. record l { earlier_ranking = sym all.0 i } ∷ back_lecturers ls all.1 i
-
-back_students : (ss : List rows.Student) → AllByRecursion (λ s. (s.earlier_choice ≡ []) × (s.earlier_placement ≡ None)) ss → map first_placed (map placed_before ss) ≡ ss
-back_students [] all = refl
-back_students (s ∷ ss) all = λ i. record s { earlier_choice = sym all.0.0 i; earlier_placement = sym all.0.1 i } ∷ back_students ss all.1 i
-
 pub first_back : (w : World) → Sound w → w.round ≡ First → w.phase ≡ Published → first (opened First Published w) ≡ w
 first_back w g one out = λ i. record w {
   round = sym one i;
   phase = sym out i;
-  lecturers = back_lecturers w.lecturers (g.no_earlier_rankings (ap is_second one)) i;
-  students = back_students w.students (g.no_earlier_lists (ap is_second one)) i;
+  lecturers = (map-map first_published ranked_before w.lecturers ∙ map_fixed (λ l. first_published (ranked_before l)) w.lecturers (All-from_recursion (λ l. first_published (ranked_before l) ≡ l) w.lecturers (all_weaker (λ (l : rows.Lecturer). l.earlier_ranking ≡ None) (λ l. first_published (ranked_before l) ≡ l) (λ l e j. record l { earlier_ranking = sym e j }) w.lecturers (g.no_earlier_rankings (ap is_second one))))) i;
+  students = (map-map first_placed placed_before w.students ∙ map_fixed (λ s. first_placed (placed_before s)) w.students (All-from_recursion (λ s. first_placed (placed_before s) ≡ s) w.students (all_weaker (λ (s : rows.Student). (s.earlier_choice ≡ []) × (s.earlier_placement ≡ None)) (λ s. first_placed (placed_before s) ≡ s) (λ s e j. record s { earlier_choice = sym e.0 j; earlier_placement = sym e.1 j }) w.students (g.no_earlier_lists (ap is_second one))))) i;
 }
 
 opened_sound : (w : World) → Sound w → Sound (opened First Published w)
@@ -91,14 +84,11 @@ rows_with {X} key p (x ∷ xs) a rise e =
           (λ same. absurd (not_before_itself (key x) (subst (λ l. is_before (key x) l ≡ true) (sym same) (found_all _ p xs a later f))), rows_with key p xs a rise.1 f)
     ]) e
 
--- a student who is shown no project has none of the first round
-unplaced_left : (phase : Phase) (s : rows.Student) → is_none (shown_placement phase s) ≡ true → is_left s ≡ true
-unplaced_left phase s e = grind arith
-
--- and no other student has this key
+-- a student who is shown no project has none of the first round, and no other student has this key
 pub alone_left : (w : World) (p : rows.Student → Bool) (s : rows.Student) → Sound w → find p w.students ≡ Some s → is_none (shown_placement w.phase s) ≡ true → AllByRecursion (λ t. equals t.row.key s.row.key ≡ true → is_left t ≡ true) w.students
 alone_left w p s g found free =
-    all_weaker _ _ (λ t one same. ap is_left (one (is_same t.row.key s.row.key same)) ∙ unplaced_left w.phase s free) w.students (rows_with student_key p w.students s g.students_rise found)
+    let left : is_left s ≡ true = grind arith in
+    all_weaker _ _ (λ t one same. ap is_left (one (is_same t.row.key s.row.key same)) ∙ left) w.students (rows_with student_key p w.students s g.students_rise found)
 
 -- no step of the second round changes the first
 
@@ -106,12 +96,6 @@ module _ (w v : World) (second : w.round ≡ Second) where
   -- an act that leaves the round and the first
   abbrev Keeps : AbstractCall → Decision → Type 0
   Keeps ask d = StepLeaves w d.act v → (v.round ≡ w.round) × (first v ≡ first w)
-
-  keeps : (u : World) → u.round ≡ w.round → first u ≡ first w → v ≡ u → (v.round ≡ w.round) × (first v ≡ first w)
-  keeps u round before e = (ap (λ x. x.round) e ∙ round, ap first e ∙ before)
-
-  closed : {X : Type 0} → is_open_to_rolls w.round w.phase ≡ true → X
-  closed now = let none : false ≡ true = subst (λ r. is_open_to_rolls r w.phase ≡ true) second now in cc
 
   stays : (x : Caller) (ask : AbstractCall) → Keeps ask (decision (sight_of w x) ask)
   stays x ask = grind (arith, second, first_chosen w, first_ranked w, first_filled w, first_kept w)

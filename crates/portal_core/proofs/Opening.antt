@@ -10,9 +10,6 @@ module _ (w v : World) (code : Key) (reply : Answer) where
   abbrev Turns : AbstractCall → Decision → Type 0
   Turns ask d = reply ≡ d.reply → StepLeaves w d.act v → (v.round ≡ w.round) ⊎ OpensSecond w code (Calls ask) reply v
 
-  stays : (ask : AbstractCall) (u : World) → u.round ≡ w.round → v ≡ u → (v.round ≡ w.round) ⊎ OpensSecond w code (Calls ask) reply v
-  stays ask u same e = inl (ap (λ x. x.round) e ∙ same)
-
   turns : (x : Caller) → caller w code ≡ x → (ask : AbstractCall) → Turns ask (decision (sight_of w x) ask)
   turns x equals ask =
       let office : x ≡ OfficeCaller → code ≡ w.office = λ e. sym (is_office w code (equals ∙ e)) in

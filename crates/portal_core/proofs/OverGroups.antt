@@ -1,18 +1,18 @@
--- No group of students gains over both rounds: of worlds.
-use Rattle.portal_core.proofs.Base.{◌≡◌, inl, inr, ℕ, zero, suc, ◌+◌, ◌<◌, ◌≤◌, Bool, true, false, List, [], ◌∷◌, map, length, get_or, refl, sym, ◌∙◌, ap, subst, arith, Option, Some, None, option_map, is_none, filter, count_by, ◌&&◌, ◌||◌, AllByRecursion, list_any, get_or-map, length-map, length-filter, AllZip-get_or, AllZip-long, cases_lt, IsOn, project_of, number_in, number_is, Second, Phase, StudentRow, Key, equals, has, World, project_key, student_key, is_at, is_left, is_published, is_second, shown_placement, students_in, in_play, first, first_placed, first_published, instance_of, places_of, project_keys, student_keys, view, student_sees, Good, HasBest, Sound, at_lecturer, count_with, DifferInLists, ListAlike, IsNoWorse, OneGainsNothing, KeepsCapacities, no_group_over_by_number, given_to, given_with, placed_to, placed_with, limit_of, get_or_default}
+-- No group of students gains over both rounds, nor does one student: of worlds.
+use Rattle.portal_core.proofs.Base.{◌≡◌, inl, inr, ℕ, zero, suc, ◌+◌, ◌<◌, ◌≤◌, Bool, true, false, List, [], ◌∷◌, map, length, get_or, refl, sym, ◌∙◌, ap, subst, arith, Option, Some, None, option_map, is_none, filter, count_by, ◌&&◌, ◌||◌, AllByRecursion, list_any, get_or-map, length-map, length-filter, cases_lt, IsOn, project_of, number_in, Second, Phase, Key, equals, has, World, project_key, is_at, is_left, is_published, is_second, shown_placement, students_in, in_play, first, first_placed, first_published, instance_of, places_of, project_keys, student_keys, view, student_sees, Good, HasBest, Sound, at_lecturer, count_with, DifferInLists, ListAlike, IsNoWorse, OneGainsNothing, KeepsCapacities, no_group_over_by_number, given_to, given_with, placed_to, placed_with, limit_of, DifferInOneList, First, IsBest, StudentSees}
 use Rattle.spa_honest.specs.Honest as instances
 use Rattle.portal_core.specs.declared.view.View.TheVariants as sees
 use Rattle.portal_core.specs.World.{Lecturer, Student, ProjectRow}
 use Rattle.portal_core.proofs.Keys.{all_unmap}
-use Rattle.portal_core.proofs.AllLaws.{all_at, all_weaker, all_both, each_one}
+use Rattle.portal_core.proofs.AllLaws.{all_at, all_weaker, all_both, each_one, map_same}
 use Rattle.portal_core.proofs.Named.{students_named}
 use Rattle.portal_core.proofs.InPlay.{given_none}
 use Rattle.portal_core.proofs.Opened.{the_second}
-use Rattle.portal_core.proofs.Capacities.{number_has, known_in, keeps}
-use Rattle.portal_core.proofs.HonestLists.{has_number, key_of, no_student, no_project, no_lecturer, IsBestRound, IsStableRound, world_ranked, differ_by_number, no_worse_by_number, shown}
-use Rattle.portal_core.proofs.HonestGroups.{kept_key, was_key, of_group}
-use Rattle.portal_core.proofs.LeftOver.{few_at, few_with, none_at, none_with, placed_known, plays_known}
-use Rattle.portal_core.proofs.BothRounds.{honest_round, stable_first}
+use Rattle.portal_core.proofs.Capacities.{number_has, known_in, keeps, first_plays}
+use Rattle.portal_core.proofs.HonestLists.{has_number, no_student, no_project, no_lecturer, IsBestRound, IsStableRound, world_ranked, differ_by_number, shown, shown_student}
+use Rattle.portal_core.proofs.HonestGroups.{kept_key, of_group, IsShown, of_number, own_group, differ_in_group, one_gains_nothing, found_has}
+use Rattle.portal_core.proofs.LeftOver.{few_at, few_with, none_at, none_with, placed_known, plays_known, stable_rows}
+use Rattle.portal_core.proofs.Zips.{zip_same}
 
 -- ---- what is shown of both rounds
 
@@ -25,14 +25,11 @@ shown_counts : (t : Option Key → Bool) (phase : Phase) → t None ≡ false �
 shown_counts t phase off ss =
     omega (
       arith,
-      either_sizes (λ s. t (shown_placement phase s)) (λ (s : Student). t s.earlier_placement) (λ (s : Student). t s.placed) ss (each_one _ each ss),
+      either_sizes (λ s. t (shown_placement phase s)) (λ (s : Student). t s.earlier_placement) (λ (s : Student). t s.placed) ss (each_one _ (λ s on. grind (arith, off)) ss),
       length-filter (λ s. t (shown_placement phase s)) ss,
       length-filter (λ (s : Student). t s.earlier_placement) ss,
       length-filter (λ (s : Student). t s.placed) ss,
     )
-  where
-    each : (s : Student) → t (shown_placement phase s) ≡ true → (t s.earlier_placement || t s.placed) ≡ true
-    each s on = grind (arith, off)
 
 -- what the first round gave is shown
 shown_stays : (keys : List Key) (phase : Phase) (ss : List Student) (s p : ℕ) → project_of (map (λ (x : Student). option_map (number_in keys) x.placed) (map first_placed ss)) s ≡ Some p → project_of (map (λ x. option_map (number_in keys) (shown_placement phase x)) ss) s ≡ Some p
@@ -123,55 +120,47 @@ module _ (u : World) (good : Good u) (second : is_second u.round ≡ true) where
         let top : limit_of (instance_of (first u)) h ≡ (get_or u.lecturers h no_lecturer).row.capacity = get_or-map (λ (l : Lecturer). l.row.capacity) (first u).lecturers h no_lecturer 0 h_first ∙ ap (λ (l : Lecturer). l.row.capacity) row in
         omega (arith, few, counts, fits, top)
 
--- ---- NO GROUP GAINS
-module _ (w u : World) (group : List Key) (best : HasBest w) (good : Good u) (second : is_second u.round ≡ true) (differ : DifferInLists w (first u) (λ k. has group k ≡ true)) where
-  honest : IsBestRound w
-  honest = honest_round w best (sym differ.round)
+-- a published first round, and one that a second round keeps
+honest_round : (w : World) → HasBest w → w.round ≡ First → IsBestRound w
+honest_round w best one = record {
+  sound = best.good.sound;
+  one = one;
+  published = best.published;
+  best = subst (λ x. IsBest (instance_of x) (places_of x)) (first_plays w one) best.best;
+}
 
-  other : IsStableRound (first u)
-  other = stable_first u good second
+stable_first : (u : World) → Good u → is_second u.round ≡ true → IsStableRound (first u)
+stable_first u good second = record {
+  sound = (good.before second).sound;
+  one = refl;
+  published = refl;
+  stable = stable_rows (first u) (good.before second).sound refl refl ((good.before second).stable refl);
+}
 
-  -- a student with a key of the group gains nothing, if that is so by number
-  of_key : (k : Key) → has group k ≡ true → number_in (student_keys w) k < length (student_keys w)
-      → instances.IsNoWorse (instance_of w) (number_in (student_keys w) k) (project_of (places_of w) (number_in (student_keys w) k)) (project_of (both_places u) (number_in (student_keys w) k))
-      → OneGainsNothing w u group
-  of_key k of_k k_low by_number =
-      let s : ℕ = number_in (student_keys w) k in
-      let s_in : s < length w.students = omega (arith, k_low, length-map w.students student_key) in
-      let s_first : s < length (first u).students = omega (arith, s_in, AllZip-long (ListAlike (λ k. has group k ≡ true)) w.students (first u).students differ.students) in
-      let s_u : s < length u.students = omega (arith, s_first, length-map u.students first_placed) in
-      let x : Student = get_or w.students s no_student in
-      let z : Student = get_or u.students s no_student in
-      let alike = AllZip-get_or (ListAlike (λ k. has group k ≡ true)) w.students (first u).students s no_student no_student differ.students s_in in
-      let row : get_or (first u).students s no_student ≡ first_placed z = get_or-map first_placed u.students s no_student no_student s_u in
-      let same_row : z.row ≡ x.row = sym (ap (λ (y : Student). y.row) row) ∙ alike.0 in
-      let x_key : k ≡ x.row.key = sym (number_is (student_keys w) k k_low) ∙ get_or-map student_key w.students s no_student [] s_in in
-      let none : x.earlier_placement ≡ None = (all_at (λ (y : Student). (y.earlier_choice ≡ []) × (y.earlier_placement ≡ None)) w.students s no_student (best.good.sound.no_earlier_lists (ap is_second (sym differ.round))) s_in).1 in
-      record {
-        code = x.row.code;
-        one = student_sees w x;
-        other = student_sees u z;
-        sees_one = all_at (λ (y : Student). view w y.row.code ≡ sees.Student (student_sees w y)) w.students s no_student (students_named w best.good.sound) s_in;
-        sees_other = subst (λ (r : StudentRow). view u r.code ≡ sees.Student (student_sees u z)) same_row (all_at (λ (y : Student). view u y.row.code ≡ sees.Student (student_sees u y)) u.students s no_student (students_named u good.sound) s_u);
-        of_group = subst (λ k. has group k ≡ true) x_key of_k;
-        no_worse = subst (λ o. IsNoWorse x.choice o (shown_placement u.phase z)) (sym (shown w x best.published none))
-            (λ p shows there. no_worse_by_number w s x honest (record { in_range = s_in; is = get_or_default w.students s x no_student s_in }) p there
-            (by_number (number_in (project_keys w) p)
-            (get_or-map (λ (y : Student). option_map (number_in (project_keys u)) (shown_placement u.phase y)) u.students s no_student None s_u ∙ ap (option_map (number_in (project_keys u))) shows ∙ ap (λ keys. Some (number_in keys p)) (ap (map project_key) differ.projects))));
-      }
+-- NO GROUP GAINS
+pub no_group_gains_over_both : (w u : World) (group : List Key) (key : Key) → HasBest w → Good u → is_second u.round ≡ true → DifferInLists w (first u) (λ k. has group k ≡ true) → has group key ≡ true → has (student_keys w) key ≡ true → OneGainsNothing w u group
+no_group_gains_over_both w u group key best good second differ in_group there =
+    let honest : IsBestRound w = honest_round w best (sym differ.round) in
+    let other : IsStableRound (first u) = stable_first u good second in
+    let keys : List Key = student_keys w in
+    let ours : List Key = filter (has (student_keys w)) group in
+    let some : number_in ours key < length ours = has_number ours key (kept_key (has (student_keys w)) group key in_group there) in
+    let found =
+    no_group_over_by_number (instance_of w) (instance_of (first u)) (map (number_in keys) ours) (places_of w) (places_of (first u)) (both_places u)
+    (world_ranked w honest.sound honest.one honest.published) (world_ranked (first u) other.sound other.one other.published)
+    (omega (arith, some, length-map ours (number_in keys)))
+    (differ_by_number w (first u) other.sound (λ k. has group k ≡ true) (IsOn (map (number_in keys) ours)) differ (of_group w group honest.sound.students_rise))
+    honest.best other.stable (adds u good second) in
+    let same : map (λ (s : Student). s.row) u.students ≡ map (λ (s : Student). s.row) w.students
+    = sym (map_same (λ (s : Student). s.row) first_placed (λ s. refl) u.students) ∙ zip_same (ListAlike (λ k. has group k ≡ true)) (λ (s : Student). s.row) (λ x y r. r.0) w.students (first u).students differ.students in
+    let ones : AllByRecursion (IsShown w (λ s. s.placed)) w.students
+    = all_weaker _ _ (λ s h. (student_sees w s, h.0, refl, refl, shown w s best.published h.1.1)) w.students (all_both _ _ w.students (students_named w best.good.sound) (best.good.sound.no_earlier_lists (ap is_second (sym differ.round)))) in
+    let others : AllByRecursion (IsShown u (shown_placement u.phase)) u.students = all_weaker _ _ (λ s h. (student_sees u s, h, refl, refl, refl)) u.students (students_named u good.sound) in
+    of_number w u w u honest (shown_placement u.phase) same (ap (map project_key) differ.projects) ones others group found.0 found.1 found.2
 
-  pub no_group_gains_over_both : (key : Key) → has group key ≡ true → has (student_keys w) key ≡ true → OneGainsNothing w u group
-  no_group_gains_over_both key in_group there =
-      let keys : List Key = student_keys w in
-      let ours : List Key = filter (has (student_keys w)) group in
-      let some : number_in ours key < length ours = has_number ours key (kept_key (has (student_keys w)) group key in_group there) in
-      let found =
-      no_group_over_by_number (instance_of w) (instance_of (first u)) (map (number_in keys) ours) (places_of w) (places_of (first u)) (both_places u)
-      (world_ranked w honest.sound honest.one honest.published) (world_ranked (first u) other.sound other.one other.published)
-      (omega (arith, some, length-map ours (number_in keys)))
-      (differ_by_number w (first u) other.sound (λ k. has group k ≡ true) (IsOn (map (number_in keys) ours)) differ (of_group w group honest.sound.students_rise))
-      honest.best other.stable (adds u good second) in
-      let k = key_of keys ours found.0 found.1 in
-      let mine = was_key (has (student_keys w)) group k.0 k.1 in
-      of_key k.0 mine.0 (has_number keys k.0 mine.1)
-      (subst (λ n. instances.IsNoWorse (instance_of w) n (project_of (places_of w) n) (project_of (both_places u) n)) (sym k.2) found.2)
+-- NO LIST GAINS OVER BOTH ROUNDS
+pub honest_over_both : (w u : World) (code : Key) (a b : StudentSees) → HasBest w → Good u → is_second u.round ≡ true → DifferInOneList w (first u) a.me.key → view w code ≡ sees.Student a → view u code ≡ sees.Student b → IsNoWorse a.choices a.result b.result
+honest_over_both w u code a b best good second differ sees_a sees_b =
+    let x = shown_student w code a sees_a in
+    let there : has (student_keys w) a.me.key ≡ true = subst (λ (z : StudentSees). has (student_keys w) z.me.key ≡ true) x.2 (found_has _ w.students x.0 x.1) in
+    one_gains_nothing w u code a b best.good.sound sees_a sees_b (no_group_gains_over_both w u (a.me.key ∷ []) a.me.key best good second (differ_in_group w (first u) a.me.key differ) (own_group a.me.key) there)

@@ -1,12 +1,11 @@
 -- From a published first round a run reaches that world, or a second round that opened from it.
-use Rattle.portal_core.proofs.Base.{DifferInLists, OneGainsNothing, has, student_keys, ◌≡◌, ◌⊎◌, inl, inr, true, false, List, refl, sym, ◌∙◌, ap, subst, AllByRecursion, Key, World, is_published, is_second, first, SecondRound, changed, Published, First, StudentSees, Caller, caller, sight_of, view, AbstractCall, Answer, Decision, decision, Good, StepLeaves, Step, Request, Run, HasBest, DifferInOneList, IsNoWorse, arith}
+use Rattle.portal_core.proofs.Base.{DifferInLists, OneGainsNothing, has, student_keys, ◌≡◌, ◌⊎◌, inl, inr, true, false, List, refl, sym, ◌∙◌, ap, subst, AllByRecursion, Key, World, is_second, first, SecondRound, changed, Published, First, StudentSees, Caller, caller, sight_of, view, AbstractCall, Answer, Decision, decision, Good, StepLeaves, Step, Request, Run, HasBest, DifferInOneList, IsNoWorse, arith}
 use Rattle.portal_core.specs.declared.view.View.TheVariants as sees
 use Rattle.portal_core.proofs.Steps.{run_keeps, step_good}
 use Rattle.portal_core.proofs.Opened.{opens_to, first_stays}
 use Rattle.portal_core.proofs.Opening.{first_kept}
 use Rattle.portal_core.proofs.AllLaws.{all_weaker}
-use Rattle.portal_core.proofs.BothRounds.{honest_over_both}
-use Rattle.portal_core.proofs.OverGroups.{no_group_gains_over_both}
+use Rattle.portal_core.proofs.OverGroups.{honest_over_both, no_group_gains_over_both}
 
 module _ (w u : World) (out : w.phase ≡ Published) where
   -- nothing changed, or the second round opened
@@ -15,9 +14,6 @@ module _ (w u : World) (out : w.phase ≡ Published) where
 
   abbrev Leads : AbstractCall → Decision → Type 0
   Leads ask d = StepLeaves w d.act u → Outcome
-
-  closed : {P : Type 0} → is_published w.phase ≡ false → P
-  closed e = let no : true ≡ false = sym (ap is_published out) ∙ e in cc
 
   outcome : (x : Caller) (ask : AbstractCall) → Leads ask (decision (sight_of w x) ask)
   outcome x ask = grind (arith, out)
@@ -66,4 +62,4 @@ no_group_over_runs w v group key asked told after best good one out differ in_gr
   where
     no_worse : (u : World) → Reached v one out u → is_second u.round ≡ true → OneGainsNothing w u group
     no_worse u (good_u, inl is) two = let no : is_second u.round ≡ false = ap (λ (x : World). is_second x.round) is ∙ ap is_second one in absurd (cc)
-    no_worse u (good_u, inr (two_u, is)) two = no_group_gains_over_both w u group best good_u two (subst (λ x. DifferInLists w x (λ k. has group k ≡ true)) (sym is) differ) key in_group there
+    no_worse u (good_u, inr (two_u, is)) two = no_group_gains_over_both w u group key best good_u two (subst (λ x. DifferInLists w x (λ k. has group k ≡ true)) (sym is) differ) in_group there

@@ -13,10 +13,7 @@ pub number_back : (keys : List Key) (n : ℕ) → Rise keys → n < length keys 
 number_back [] n rise lt = absurd (omega arith)
 number_back (k ∷ ks) zero rise lt = rw (is_own k) refl
 number_back (k ∷ ks) (suc n) rise lt =
-    rw (before_other k (get_or ks n []) (all_at (λ l. is_before k l ≡ true) ks n [] rise.0 (omega arith))) (ap (λ (m : ℕ). 1 + m) (number_back ks n rise.1 (omega arith)) ∙ one_more)
-  where
-    one_more : 1 + n ≡ suc n
-    one_more = omega arith
+    rw (before_other k (get_or ks n []) (all_at (λ l. is_before k l ≡ true) ks n [] rise.0 (omega arith))) (ap (λ (m : ℕ). 1 + m) (number_back ks n rise.1 (omega arith)) ∙ omega arith)
 
 module _ (projects : List Key) (rise : Rise projects) where
   abbrev number_of : List (Key × Key) → rows.Student → Option ℕ

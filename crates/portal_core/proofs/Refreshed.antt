@@ -29,9 +29,6 @@ module _ {X : Type 0} (key : X → Key) (chosen : X → Bool) (change : X → X)
   chosen_after [] = refl
   chosen_after (x ∷ xs) = grind (arith, one x, same x, chosen_after xs)
 
-listed : (k p : Key) (ps : List Key) (s : rows.Student) → is_empty (with_choice k (p ∷ ps) s).choice ≡ (is_empty s.choice && not (equals s.row.key k))
-listed k p ps s = grind arith
-
 ranked : (wanted : Bool) (k : Key) (list : List Key) (l : rows.Lecturer) → (wanted && is_none (with_ranking k list l).ranking) ≡ ((wanted && is_none l.ranking) && not (equals l.row.key k))
 ranked wanted k list l = grind arith
 
@@ -60,7 +57,7 @@ choosing_seen w k (p ∷ ps) e some =
       students = map_same (λ (s : rows.Student). s.row) (with_choice k (p ∷ ps)) (choice_row k (p ∷ ps)) w.students i;
       catalogue = catalogue_chosen w k (p ∷ ps) i;
       without_list = ((λ j. map (λ (s : rows.Student). s.row.key) (filter (λ s. is_empty s.choice) (play_chosen w k (p ∷ ps) j).students))
-          ∙ chosen_after (λ s. s.row.key) (λ s. is_empty s.choice) (with_choice k (p ∷ ps)) (λ x. not (equals x k)) (λ s. ap (λ r. r.key) (choice_row k (p ∷ ps) s)) (listed k p ps) (in_play w).students) i;
+          ∙ chosen_after (λ s. s.row.key) (λ s. is_empty s.choice) (with_choice k (p ∷ ps)) (λ x. not (equals x k)) (λ s. ap (λ r. r.key) (choice_row k (p ∷ ps) s)) (λ s. grind arith) (in_play w).students) i;
       still_to_rank = ((λ j. cond (is_from_ranking (e j)) (map (λ (l : rows.Lecturer). l.row.key) (filter (is_still_to_rank to) w.lecturers)) [])
           ∙ sym (λ j. cond (is_from_ranking (e j)) (map (λ (l : rows.Lecturer). l.row.key) (filter (is_still_to_rank w) w.lecturers)) [])) i;
       pairs = pairs_chosen w k (p ∷ ps) i;

@@ -1,5 +1,5 @@
 -- Worlds that differ in the order within students' lists show all but the lists alike, and stay so.
-use Rattle.portal_core.proofs.Base.{◌≡◌, Bool, true, false, cond, List, [], ◌∷◌, refl, sym, ◌∙◌, ap, subst, map, filter, Option, Some, None, option_map, not, ◌&&◌, is_none, list_any, find, filter_map, cons_option, AllZip, Key, equals, has, is_empty, put, put_all, World, lecturer_key, project_key, student_key, applicants_to, projects_of, applicants_of, placed_at, is_at, shown_placement, students_in, is_still_to_rank, is_from_ranking, Round, First, Second, Phase, Published, Change, Choices, Ranks, Lecturers, Projects, Students, To, Placements, Fill, SecondRound, changed, opened, ranked_before, placed_before, in_first, with_lecturers, with_projects, with_students, with_choice, with_ranking, with_place, with_fill, new_lecturer, new_student, Person, Office, Lecturer, Student, OfficeCaller, caller_among, lecturer_with, student_with, sight_of, view, student_sees, lecturer_sees, office_sees, persons, listings, catalogue, Reordered, SameButPlaces, arith, Sight, SameStudent}
+use Rattle.portal_core.proofs.Base.{◌≡◌, Bool, true, false, cond, List, [], ◌∷◌, refl, sym, ◌∙◌, ap, subst, map, filter, Option, Some, None, option_map, not, ◌&&◌, is_none, list_any, find, filter_map, cons_option, AllZip, Key, equals, has, is_empty, put, put_all, World, lecturer_key, project_key, student_key, projects_of, applicants_of, is_at, shown_placement, students_in, is_still_to_rank, is_from_ranking, Round, First, Second, Phase, Published, Change, Choices, Ranks, Lecturers, Projects, Students, To, Placements, Fill, SecondRound, changed, opened, ranked_before, placed_before, in_first, with_lecturers, with_projects, with_students, with_choice, with_ranking, with_place, with_fill, new_lecturer, new_student, Person, Office, Lecturer, Student, OfficeCaller, caller_among, lecturer_with, student_with, sight_of, view, student_sees, lecturer_sees, office_sees, listings, catalogue, Reordered, SameButPlaces, arith, Sight, SameStudent}
 use Rattle.portal_core.specs.World as rows
 use Rattle.portal_core.proofs.Zips.{zip_by, zip_same, zip_mapped, zip_in, zip_lecturers, zip_projects}
 use Rattle.portal_core.proofs.Kept.{empty_map}
@@ -64,17 +64,8 @@ module _ (w : World) (ss ts : List rows.Student) (z : AllZip SameStudent ss ts) 
   catalogue_same : catalogue one ≡ catalogue other
   catalogue_same = λ i. listings (sym (zip_lecturers SameStudent left ss ts z w.round w.lecturers w.projects) i) (sym (zip_projects SameStudent left ss ts z w.round w.lecturers w.projects) i)
 
-  applicants_same : (p : Key) → persons (applicants_to one p) ≡ persons (applicants_to other p)
-  applicants_same p = zip_filter person_of (λ s. has s.choice p) same_person (λ s t same. any_reordered (equals p) s.choice t.choice same.choice) ss ts z
-
-  placed_same : (p : Key) → persons (placed_at one p) ≡ persons (placed_at other p)
-  placed_same p = zip_filter person_of (λ s. is_at p (shown_placement w.phase s)) same_person (λ s t same. ap (is_at p) (same_shown w.phase s t same)) ss ts z
-
-  same_any : (s t : rows.Student) → SameStudent s t → (l : Key) → list_any (λ p. has s.choice p.key) (projects_of w l) ≡ list_any (λ p. has t.choice p.key) (projects_of w l)
-  same_any s t same l = λ i. list_any (λ p. any_reordered (equals p.key) s.choice t.choice same.choice i) (projects_of w l)
-
   keys_same : (l : Key) → map student_key (applicants_of one l) ≡ map student_key (applicants_of other l)
-  keys_same l = zip_filter student_key (λ s. list_any (λ p. has s.choice p.key) (projects_of w l)) (λ s t same. ap (λ r. r.key) same.row) (λ s t same. same_any s t same l) ss ts z
+  keys_same l = zip_filter student_key (λ s. list_any (λ p. has s.choice p.key) (projects_of w l)) (λ s t same. ap (λ r. r.key) same.row) (λ s t same i. list_any (λ p. any_reordered (equals p.key) s.choice t.choice same.choice i) (projects_of w l)) ss ts z
 
   ranked_same : (l : rows.Lecturer) → is_still_to_rank one l ≡ is_still_to_rank other l
   ranked_same l =
@@ -95,9 +86,9 @@ module _ (w : World) (ss ts : List rows.Student) (z : AllZip SameStudent ss ts) 
 
   lecturer_same : (l : rows.Lecturer) → lecturer_sees one l ≡ lecturer_sees other l
   lecturer_same l = λ i. record (lecturer_sees one l) {
-    applicants = map (λ p. (p.key, cond (is_from_ranking w.phase) (applicants_same p.key i) [])) (projects_of w l.row.key);
+    applicants = map (λ p. (p.key, cond (is_from_ranking w.phase) (zip_filter person_of (λ s. has s.choice p.key) same_person (λ s t same. any_reordered (equals p.key) s.choice t.choice same.choice) ss ts z i) [])) (projects_of w l.row.key);
     catalogue = catalogue_same i;
-    placed = map (λ p. (p.key, placed_same p.key i)) (projects_of w l.row.key);
+    placed = map (λ p. (p.key, zip_filter person_of (λ s. is_at p.key (shown_placement w.phase s)) same_person (λ s t same. ap (is_at p.key) (same_shown w.phase s t same)) ss ts z i)) (projects_of w l.row.key);
   }
 
   student_same : (s t : rows.Student) → SameStudent s t → record (student_sees one s) { choices = t.choice } ≡ student_sees other t

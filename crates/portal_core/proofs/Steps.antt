@@ -2,7 +2,7 @@
 use Rattle.portal_core.proofs.Base.{List, [], ◌∷◌, AllByRecursion, Request, Serves, Run, ◌≡◌, true, false, refl, sym, ◌∙◌, ap, subst, Key, World, is_setup, is_ranking, is_published, is_from_ranking, is_second, Round, First, Choices, Ranks, To, Placements, Fill, changed, opened, in_first, with_lecturers, with_projects, with_students, Phase, Choosing, Ranking, Published, Caller, NoCaller, OfficeCaller, LecturerCaller, StudentCaller, caller, sight_of, office_sees, lecturer_sees, student_sees, AbstractCall, Answer, Decision, is_open_to_rolls, refuses, decision, Good, IsRound, Sound, IsBest, instance, matching_of, StepLeaves, Step, HasForm, arith}
 use Rattle.portal_core.proofs.Cases.{by_student, by_lecturer, by_office}
 use Rattle.portal_core.proofs.Unseen.{choosing_open, student_found}
-use Rattle.portal_core.proofs.Kept.{not_published, to_choosing, to_ranking, to_published, all_ranked, choosing, ranking}
+use Rattle.portal_core.proofs.Kept.{not_published, to_phase, to_published, all_ranked, choosing, ranking}
 use Rattle.portal_core.proofs.Fills.{filling}
 use Rattle.portal_core.proofs.Enrol.{open_phase, lecturers_added, projects_added, students_added}
 use Rattle.portal_core.proofs.Opened.{opened_good, opens_to, first_chosen, first_ranked, first_filled, alone_left}
@@ -10,16 +10,10 @@ use Rattle.portal_core.proofs.Opened.{opened_good, opens_to, first_chosen, first
 pub ranking_open : (phase : Phase) → is_ranking phase ≡ true → is_published phase ≡ false
 ranking_open phase e = grind arith
 
-rolls_first : (round : Round) (phase : Phase) → is_open_to_rolls round phase ≡ true → round ≡ First
-rolls_first round phase e = grind arith
-
 pub rolls_early : (round : Round) (phase : Phase) → is_open_to_rolls round phase ≡ true → is_from_ranking phase ≡ false
 rolls_early round phase e = grind arith
 
 module _ (w v : World) (code : Key) (g : Good w) where
-  none_before : {P : Type 0} → w.round ≡ First → is_second w.round ≡ true → P
-  none_before one h = cc
-
   becomes : (u : World) → Good u → v ≡ u → Good v
   becomes u h e = subst Good (sym e) h
 
@@ -34,8 +28,8 @@ module _ (w v : World) (code : Key) (g : Good w) where
   enrolled : (u : World) → is_open_to_rolls w.round w.phase ≡ true → (is_from_ranking w.phase ≡ false → w.round ≡ First → Sound u) → u.round ≡ w.round → u.phase ≡ w.phase → v ≡ in_first w.round u w → Good v
   enrolled u now sound round phase e =
       let early : is_from_ranking w.phase ≡ false = rolls_early w.round w.phase now in
-      let one : w.round ≡ First = rolls_first w.round w.phase now in
-      becomes u (not_published u (sound early one) (ap is_published phase ∙ open_phase w.phase early) (λ h. none_before one (ap is_second (sym round) ∙ h)))
+      let one : w.round ≡ First = grind arith in
+      becomes u (not_published u (sound early one) (ap is_published phase ∙ open_phase w.phase early) (λ h. let second : is_second w.round ≡ true = ap is_second (sym round) ∙ h in cc))
       (e ∙ ap (λ r. in_first r u w) one)
 
   pub step_case : (x : Caller) → caller w code ≡ x → (ask : AbstractCall) → Leads ask (decision (sight_of w x) ask)
@@ -58,8 +52,8 @@ module _ (w v : World) (code : Key) (g : Good w) where
         lecturers = λ rs new n now took form. enrolled (with_lecturers w new) now (λ early one. lecturers_added w early one rs new n g.sound form took) refl refl;
         projects = λ rs new n now took form. enrolled (with_projects w new) now (λ early one. projects_added w early one rs new n g.sound form took) refl refl;
         students = λ rs new n now took form. enrolled (with_students w new) now (λ early one. students_added w early one rs new n g.sound form took) refl refl;
-        choosing = λ named at form. becomes _ (not_published (changed w (To Choosing)) (to_choosing w g.sound at) refl g.before);
-        ranking = λ named at form. becomes _ (not_published (changed w (To Ranking)) (to_ranking w g.sound at) refl g.before);
+        choosing = λ named at form. becomes _ (not_published (changed w (To Choosing)) (to_phase w Choosing g.sound refl refl (ap is_published at) (λ h. ap is_from_ranking at)) refl g.before);
+        ranking = λ named at form. becomes _ (not_published (changed w (To Ranking)) (to_phase w Ranking g.sound refl refl (ap is_published at) (λ h. ap is_from_ranking at)) refl g.before);
         published = λ named at none form left.
             becomes (changed w (Placements left.0))
             (to_published w left.0 g (ap is_setup at) (all_ranked w (ap is_from_ranking at) none) (subst (λ u. IsBest (instance w) (matching_of u)) left.1 left.2))

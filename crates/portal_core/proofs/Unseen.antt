@@ -1,5 +1,5 @@
 -- What others do is not seen.
-use Rattle.portal_core.proofs.Base.{◌≡◌, Bool, true, false, cond, List, [], ◌∷◌, ◌++◌, refl, sym, ◌∙◌, ap, subst, map, Option, Some, find, Key, equals, Rise, Choices, Ranks, changed, with_choice, with_ranking, World, is_choosing, is_published, is_from_ranking, shown_placement, is_at, lecturer_key, student_key, applicants_to, placed_at, projects_of, Phase, Person, LecturerSees, Lecturer, Student, Caller, NoCaller, OfficeCaller, LecturerCaller, StudentCaller, caller_among, lecturer_with, student_with, caller, sight_of, view, student_sees, lecturer_sees, persons, AbstractCall, Answer, Decision, refuses, decision, Good, StepLeaves, Step, Serves, Run, Request, end_of, replies_to, arith, IsMember, IsIdle}
+use Rattle.portal_core.proofs.Base.{◌≡◌, Bool, true, false, cond, List, [], ◌∷◌, ◌++◌, refl, sym, ◌∙◌, ap, subst, map, Some, find, Key, equals, Rise, Choices, Ranks, changed, with_choice, with_ranking, World, is_choosing, is_published, is_from_ranking, shown_placement, is_at, lecturer_key, student_key, applicants_to, placed_at, projects_of, Phase, Person, LecturerSees, Lecturer, Student, Caller, NoCaller, OfficeCaller, LecturerCaller, StudentCaller, lecturer_with, student_with, caller, sight_of, view, student_sees, lecturer_sees, persons, AbstractCall, Answer, Decision, refuses, decision, Good, StepLeaves, Step, Serves, Run, Request, end_of, replies_to, arith, IsMember, IsIdle}
 use Rattle.portal_core.specs.World as rows
 use Rattle.portal_core.proofs.Keys.{is_same, is_own, found_passes, one_row}
 use Rattle.portal_core.proofs.Reranked.{re_called}
@@ -8,17 +8,11 @@ use Rattle.portal_core.proofs.AllLaws.{kept_filtered}
 
 -- whom a code names was found by that code
 
-among_lecturer : (w : World) (c : Key) (l : rows.Lecturer) (b : Bool) (o : Option rows.Lecturer) (s : Option rows.Student) → cond b OfficeCaller (caller_among o s) ≡ LecturerCaller l → o ≡ Some l
-among_lecturer w c l b o s e = grind arith
-
-among_student : (w : World) (c : Key) (t : rows.Student) (b : Bool) (o : Option rows.Lecturer) (s : Option rows.Student) → cond b OfficeCaller (caller_among o s) ≡ StudentCaller t → s ≡ Some t
-among_student w c t b o s e = grind arith
-
 pub lecturer_found : (w : World) (c : Key) (l : rows.Lecturer) → caller w c ≡ LecturerCaller l → lecturer_with w c ≡ Some l
-lecturer_found w c l e = among_lecturer w c l (equals w.office c) (lecturer_with w c) (student_with w c) e
+lecturer_found w c l e = grind arith
 
 pub student_found : (w : World) (c : Key) (s : rows.Student) → caller w c ≡ StudentCaller s → student_with w c ≡ Some s
-student_found w c s e = among_student w c s (equals w.office c) (lecturer_with w c) (student_with w c) e
+student_found w c s e = grind arith
 
 -- two codes name two rows
 apart : {X : Type 0} (key code : X → Key) (xs : List X) (c d : Key) (x y : X) → Rise (map key xs)
@@ -29,12 +23,6 @@ apart key code xs c d x y rise ex ey other =
     let of_d : code x ≡ d = is_same _ _ (found_passes _ xs x ex) in
     grind (arith, one, is_own d)
 
-apart_lecturers : (w : World) (c d : Key) (l m : rows.Lecturer) → Good w → caller w d ≡ LecturerCaller l → caller w c ≡ LecturerCaller m → equals d c ≡ false → equals m.row.key l.row.key ≡ false
-apart_lecturers w c d l m good el em other = apart lecturer_key (λ l. l.row.code) w.lecturers c d l m good.sound.lecturers_rise (lecturer_found w d l el) (lecturer_found w c m em) other
-
-apart_students : (w : World) (c d : Key) (s t : rows.Student) → Good w → caller w d ≡ StudentCaller s → caller w c ≡ StudentCaller t → equals d c ≡ false → equals t.row.key s.row.key ≡ false
-apart_students w c d s t good es et other = apart student_key (λ s. s.row.code) w.students c d s t good.sound.students_rise (student_found w d s es) (student_found w c t et) other
-
 -- while the lists are open a lecturer sees nothing of them
 
 pub choosing_open : (phase : Phase) → is_choosing phase ≡ true → (is_from_ranking phase ≡ false) × (is_published phase ≡ false)
@@ -43,15 +31,8 @@ choosing_open phase e = grind arith
 abbrev pub person_of : rows.Student → Person
 person_of s = record { key = s.row.key; name = s.row.name }
 
--- a new list keeps the person and the place that is shown
-same_person : (k : Key) (list : List Key) (s : rows.Student) → person_of (with_choice k list s) ≡ person_of s
-same_person k list s = λ i. record { key = (choice_row k list s i).key; name = (choice_row k list s i).name }
-
-same_place : (k : Key) (list : List Key) (phase : Phase) (s : rows.Student) → shown_placement phase (with_choice k list s) ≡ shown_placement phase s
-same_place k list phase s = elim (equals s.row.key k) as (λ b. shown_placement phase (cond b (record s { choice = list }) s) ≡ shown_placement phase s) [ true ↦ refl | false ↦ refl ]
-
 placed_chosen : (w : World) (k : Key) (list : List Key) (p : Key) → persons (placed_at (changed w (Choices k list)) p) ≡ persons (placed_at w p)
-placed_chosen w k list p = kept_filtered person_of (with_choice k list) (λ s. is_at p (shown_placement w.phase s)) (same_person k list) (λ s. ap (is_at p) (same_place k list w.phase s)) w.students
+placed_chosen w k list p = kept_filtered person_of (with_choice k list) (λ s. is_at p (shown_placement w.phase s)) (λ s i. record { key = (choice_row k list s i).key; name = (choice_row k list s i).name }) (λ s. grind arith) w.students
 
 abbrev gated : World → rows.Lecturer → Bool → LecturerSees
 gated w l closed = record (lecturer_sees w l) { applicants = map (λ p. (p.key, cond closed (persons (applicants_to w p.key)) [])) (projects_of w l.row.key) }
@@ -86,7 +67,7 @@ chosen_unseen w c d s list good es other office open' x e =
     seen OfficeCaller e = absurd (office_not w c office e)
     seen (LecturerCaller l) e = ap Lecturer (lecturer_blind w s.row.key list l open')
     seen (StudentCaller t) e =
-        ap (λ u. Student (student_sees (changed w (Choices s.row.key list)) u)) (choice_other s.row.key list t (apart_students w c d s t good es e other))
+        ap (λ u. Student (student_sees (changed w (Choices s.row.key list)) u)) (choice_other s.row.key list t (apart student_key (λ s. s.row.code) w.students c d s t good.sound.students_rise (student_found w d s es) (student_found w c t e) other))
         ∙ λ i. Student (record (student_sees w t) { catalogue = catalogue_chosen w s.row.key list i })
 
 -- a lecturer's new ranking, seen by another
@@ -99,7 +80,7 @@ ranked_unseen w c d l list good el other office x e =
     seen NoCaller e = refl
     seen OfficeCaller e = absurd (office_not w c office e)
     seen (LecturerCaller m) e =
-        ap (λ u. Lecturer (lecturer_sees (changed w (Ranks l.row.key list)) u)) (ranking_other l.row.key list m (apart_lecturers w c d l m good el e other))
+        ap (λ u. Lecturer (lecturer_sees (changed w (Ranks l.row.key list)) u)) (ranking_other l.row.key list m (apart lecturer_key (λ l. l.row.code) w.lecturers c d l m good.sound.lecturers_rise (lecturer_found w d l el) (lecturer_found w c m e) other))
         ∙ λ i. Lecturer (record (lecturer_sees w m) { catalogue = catalogue_ranked w l.row.key list i })
     seen (StudentCaller t) e = λ i. Student (record (student_sees w t) { catalogue = catalogue_ranked w l.row.key list i })
 

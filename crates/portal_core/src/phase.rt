@@ -32,10 +32,7 @@ impl Round {
     pub fn has_result(self, phase: Phase) -> bool
         ensures { result ≡ world.has_result self phase }
     {
-        match self {
-            Round::First => phase == Phase::Published,
-            Round::Second => true,
-        }
+        self == Round::Second || phase == Phase::Published
     }
 }
 
@@ -62,30 +59,21 @@ impl Phase {
     pub fn is_setup(self) -> bool
         ensures { result ≡ world.is_setup self }
     {
-        match self {
-            Phase::Setup => true,
-            Phase::Choosing | Phase::Ranking | Phase::Published => false,
-        }
+        self == Phase::Setup
     }
 
     /// Returns whether the students' lists are closed and lecturers see their applicants.
     pub fn is_from_ranking(self) -> bool
         ensures { result ≡ world.is_from_ranking self }
     {
-        match self {
-            Phase::Setup | Phase::Choosing => false,
-            Phase::Ranking | Phase::Published => true,
-        }
+        self == Phase::Ranking || self == Phase::Published
     }
 
     /// Returns whether the round's result is published.
     pub fn is_published(self) -> bool
         ensures { result ≡ world.is_published self }
     {
-        match self {
-            Phase::Setup | Phase::Choosing | Phase::Ranking => false,
-            Phase::Published => true,
-        }
+        self == Phase::Published
     }
 
     /// Returns the phase's word, such as `setup`.

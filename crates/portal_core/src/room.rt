@@ -76,14 +76,12 @@ pub fn project_left(
 ) -> Result<Option<ProjectRow>, AllocError>
     ensures { IfOk result (λ row. row ≡ meant.project_left pairs.now project.now) }
 {
-    match room_of(project.capacity, students_at(pairs, &project.key)) {
-        Some(capacity) => {
-            let mut row = project.copy(alloc)?;
-            row.capacity = capacity;
-            Ok(Some(row))
-        }
-        None => Ok(None),
-    }
+    let Some(capacity) = room_of(project.capacity, students_at(pairs, &project.key)) else {
+        return Ok(None);
+    };
+    let mut row = project.copy(alloc)?;
+    row.capacity = capacity;
+    Ok(Some(row))
 }
 
 /// Returns the lecturer with the capacity that the first round left over all projects, or `None` if
@@ -97,12 +95,10 @@ pub fn lecturer_left(
     ensures { IfOk result (λ row. row ≡ meant.lecturer_left projects.now pairs.now lecturer.now) }
 {
     let own = own_keys(alloc, projects, &lecturer.key)?;
-    match room_of(lecturer.capacity, given_among(pairs, &own)) {
-        Some(capacity) => {
-            let mut row = lecturer.copy(alloc)?;
-            row.capacity = capacity;
-            Ok(Some(row))
-        }
-        None => Ok(None),
-    }
+    let Some(capacity) = room_of(lecturer.capacity, given_among(pairs, &own)) else {
+        return Ok(None);
+    };
+    let mut row = lecturer.copy(alloc)?;
+    row.capacity = capacity;
+    Ok(Some(row))
 }

@@ -117,22 +117,6 @@ fn show_ranking(alloc: Global, view: &LecturerView) -> Result<Decision, AllocErr
     }
 }
 
-/// Decides to replace the lecturer's ranking by this one, which has no fault.
-fn replace_ranking(
-    alloc: Global,
-    view: &LecturerView,
-    students: Vec<Key>,
-) -> Result<Decision, AllocError>
-    ensures { IfOk result (λ decision. decision_model decision
-        ≡ answer.applies (shown.students_body (Some students.items))
-        (world.Ranks view.now.me.key students.items)) }
-{
-    let ranking = array_of(alloc, &students)?;
-    let body = object_of(alloc, "students", ranking)?;
-    let lecturer = view.me.key.copy(alloc)?;
-    Ok(applies(body, Change::Ranking { lecturer, students }))
-}
-
 /// Decides to accept the lecturer's ranking if it has no fault, and otherwise to refuse it.
 fn take_ranking(
     alloc: Global,
@@ -144,10 +128,13 @@ fn take_ranking(
         ≡ unless_faulty (ranking_fault view.now.applicants texts)
         (answer.applies (shown.students_body (Some texts)) (world.Ranks view.now.me.key texts))) }
 {
-    match checked_ranking(alloc, &view.applicants, list)? {
-        Ok(students) => replace_ranking(alloc, view, students),
-        Err(fault) => bad_list(alloc, fault),
-    }
+    let students = match checked_ranking(alloc, &view.applicants, list)? {
+        Ok(students) => students,
+        Err(fault) => return bad_list(alloc, fault),
+    };
+    let body = object_of(alloc, "students", array_of(alloc, &students)?)?;
+    let lecturer = view.me.key.copy(alloc)?;
+    Ok(applies(body, Change::Ranking { lecturer, students }))
 }
 
 /// Decides a lecturer's call to set the ranking: accepted without a fault, in the phase ranking.

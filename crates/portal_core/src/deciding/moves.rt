@@ -1,10 +1,6 @@
 //! Decides the office's moves to a phase or to the second round.
 
-ghost use Rattle.std.specs.Prelude.{◌≡◌, ◌∷◌, [], codes, IfOk};
-ghost use Rattle.serde_json.specs.View as json;
-ghost use Rattle.serde_json.specs.Data.{string};
-ghost use Rattle.portal_core.specs.Bodies as form;
-ghost use Rattle.portal_core.specs.Bodies.{dictionary};
+ghost use Rattle.std.specs.Prelude.{◌≡◌, IfOk};
 ghost use Rattle.portal_core.specs.Answer as answer;
 ghost use Rattle.portal_core.specs.Answer.{publishes, moves_on, opens, moves_in, moves};
 ghost use Rattle.portal_core.specs.Meaning.{reply_model, decision_model};
@@ -18,23 +14,14 @@ use serde_json::{Map, Value, put};
 use spa_rows::Key;
 use std::alloc::{AllocError, Global};
 
-/// Makes the body that tells the office which lecturers are still to rank.
-fn still_to_rank_body(alloc: Global, keys: &[Key]) -> Result<Value, AllocError>
-    ensures { IfOk result (λ body. json.view body
-        ≡ dictionary ((codes "error", string (codes "still_to_rank"))
-        ∷ (codes "lecturers", form.texts keys.now) ∷ [])) }
+/// Makes the reply that refuses to publish while lecturers are still to rank, and names them.
+fn still_to_rank(alloc: Global, keys: &[Key]) -> Result<Reply, AllocError>
+    ensures { IfOk result (λ reply. reply_model reply ≡ answer.still_to_rank keys.now) }
 {
     let mut body = Map::new(alloc);
     put_text(&mut body, alloc, "error", "still_to_rank")?;
     put(&mut body, alloc, "lecturers", array_of(alloc, keys)?)?;
-    Ok(Value::Object(body))
-}
-
-/// Makes the reply that refuses to publish while lecturers are still to rank.
-fn still_to_rank(alloc: Global, keys: &[Key]) -> Result<Reply, AllocError>
-    ensures { IfOk result (λ reply. reply_model reply ≡ answer.still_to_rank keys.now) }
-{
-    Ok(json_reply(409, still_to_rank_body(alloc, keys)?))
+    Ok(json_reply(409, Value::Object(body)))
 }
 
 /// Decides to publish, unless lecturers are still to rank. The reply does not contain the result.

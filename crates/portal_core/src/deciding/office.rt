@@ -1,13 +1,11 @@
 //! Decides the office's calls.
 
-ghost use Rattle.std.specs.Prelude.{◌≡◌, ◌∷◌, [], codes, if◌then◌else◌, IfOk};
+ghost use Rattle.std.specs.Prelude.{◌≡◌, if◌then◌else◌, IfOk};
 ghost use Rattle.serde_json.specs.View as json;
-ghost use Rattle.serde_json.specs.Data.{string};
 ghost use Rattle.portal_core.specs.Words.{is_empty};
 ghost use Rattle.portal_core.specs.World as world;
 ghost use Rattle.portal_core.specs.World.{is_ranking, Fill};
 ghost use Rattle.portal_core.specs.Bodies as form;
-ghost use Rattle.portal_core.specs.Bodies.{dictionary, count};
 ghost use Rattle.portal_core.specs.Faults as rolls;
 ghost use Rattle.portal_core.specs.Faults.{Took};
 ghost use Rattle.portal_core.specs.Answer as answer;
@@ -47,25 +45,19 @@ fn allocation_body(alloc: Global, pairs: &[(Key, Key)]) -> Result<Value, AllocEr
     object_of(alloc, "pairs", array_of(alloc, pairs)?)
 }
 
-/// Makes the body that refuses the office's new rows and names the faulty one.
-fn row_body(alloc: Global, word: &str, row: u64) -> Result<Value, AllocError>
-    ensures { IfOk result (λ body. json.view body
-        ≡ dictionary ((codes "error", string word.now) ∷ (codes "row", count row) ∷ [])) }
-{
-    let mut body = Map::new(alloc);
-    put_text(&mut body, alloc, "error", word)?;
-    put(&mut body, alloc, "row", Value::from(row))?;
-    Ok(Value::Object(body))
-}
-
-/// Makes the reply that refuses the office's new rows.
+/// Makes the reply that refuses the office's new rows, and names the faulty one if there is one.
 fn row_refusal(alloc: Global, fault: &RollRefusal) -> Result<Reply, AllocError>
     ensures { IfOk result (λ reply. reply_model reply
         ≡ row_fault fault.now.status fault.now.word fault.now.row) }
 {
     match fault.row {
         None => refused(alloc, fault.status, fault.word),
-        Some(row) => Ok(json_reply(fault.status, row_body(alloc, fault.word, row)?)),
+        Some(row) => {
+            let mut body = Map::new(alloc);
+            put_text(&mut body, alloc, "error", fault.word)?;
+            put(&mut body, alloc, "row", Value::from(row))?;
+            Ok(json_reply(fault.status, Value::Object(body)))
+        }
     }
 }
 

@@ -79,13 +79,6 @@ pub(crate) fn refused(alloc: Global, status: u16, word: &str) -> Result<Reply, A
     Ok(json_reply(status, object_of(alloc, "error", word)?))
 }
 
-/// Makes the decision that refuses a call whose code identifies nobody.
-pub(crate) fn no_caller(alloc: Global) -> Result<Decision, AllocError>
-    ensures { IfOk result (λ decision. decision_model decision ≡ answer.no_caller) }
-{
-    Ok(refuses(refused(alloc, 403, "no_caller")?))
-}
-
 /// Makes the decision that refuses a call of another role.
 pub(crate) fn not_yours(alloc: Global) -> Result<Decision, AllocError>
     ensures { IfOk result (λ decision. decision_model decision ≡ answer.not_yours) }
@@ -98,11 +91,4 @@ pub(crate) fn wrong_phase(alloc: Global) -> Result<Decision, AllocError>
     ensures { IfOk result (λ decision. decision_model decision ≡ answer.wrong_phase) }
 {
     Ok(refuses(refused(alloc, 409, "wrong_phase")?))
-}
-
-/// Makes the decision that refuses the list of a student who has a project of the first round.
-pub(crate) fn already_placed(alloc: Global) -> Result<Decision, AllocError>
-    ensures { IfOk result (λ decision. decision_model decision ≡ answer.already_placed) }
-{
-    Ok(refuses(refused(alloc, 409, "already_placed")?))
 }

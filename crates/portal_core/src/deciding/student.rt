@@ -15,7 +15,7 @@ use crate::deciding::bodies::{
     ToJson, array_of, catalogue_body, me_members, object_of, put_person,
 };
 use crate::deciding::lists::{bad_list, checked_choices};
-use crate::deciding::replies::{already_placed, applies, not_yours, shows, wrong_phase};
+use crate::deciding::replies::{applies, not_yours, refused, refuses, shows, wrong_phase};
 use crate::decision::{Call, Change, Decision};
 use crate::phase::Phase;
 use crate::view::StudentView;
@@ -56,21 +56,6 @@ fn result_body(alloc: Global, project: &Option<Key>) -> Result<Value, AllocError
     object_of(alloc, "project", project_value(alloc, project)?)
 }
 
-/// Decides to replace the student's list by this one, which has no fault.
-fn replace_choices(
-    alloc: Global,
-    view: &StudentView,
-    projects: Vec<Key>,
-) -> Result<Decision, AllocError>
-    ensures { IfOk result (λ decision. decision_model decision
-        ≡ answer.applies (shown.projects_body projects.items)
-        (change.Choices view.now.me.key projects.items)) }
-{
-    let body = choices_body(alloc, &projects)?;
-    let student = view.me.key.copy(alloc)?;
-    Ok(applies(body, Change::Choices { student, projects }))
-}
-
 /// Decides to accept the student's list if it has no fault, and otherwise to refuse it.
 fn take_choices(alloc: Global, view: &StudentView, list: &[Vec<u8>]) -> Result<Decision, AllocError>
     ensures { let texts = texts_of list.now in
@@ -78,10 +63,13 @@ fn take_choices(alloc: Global, view: &StudentView, list: &[Vec<u8>]) -> Result<D
         ≡ unless_faulty (choice_fault view.now.catalogue texts)
         (answer.applies (shown.projects_body texts) (change.Choices view.now.me.key texts))) }
 {
-    match checked_choices(alloc, &view.catalogue, list)? {
-        Ok(projects) => replace_choices(alloc, view, projects),
-        Err(fault) => bad_list(alloc, fault),
-    }
+    let projects = match checked_choices(alloc, &view.catalogue, list)? {
+        Ok(projects) => projects,
+        Err(fault) => return bad_list(alloc, fault),
+    };
+    let body = choices_body(alloc, &projects)?;
+    let student = view.me.key.copy(alloc)?;
+    Ok(applies(body, Change::Choices { student, projects }))
 }
 
 /// Decides a student's call to set the list: accepted without a fault, in choosing, unless already
@@ -93,7 +81,7 @@ fn set_choices(alloc: Global, view: &StudentView, list: &[Vec<u8>]) -> Result<De
     match view.phase {
         Phase::Choosing => match view.result {
             None => take_choices(alloc, view, list),
-            Some(_) => already_placed(alloc),
+            Some(_) => Ok(refuses(refused(alloc, 409, "already_placed")?)),
         },
         _ => wrong_phase(alloc),
     }

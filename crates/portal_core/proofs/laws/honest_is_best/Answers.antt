@@ -1,4 +1,4 @@
-use Rattle.portal_core.proofs.HonestLists.{honest_is_best}
+use Rattle.portal_core.proofs.HonestGroups.{honest_is_best}
 use Rattle.portal_core.proofs.laws.honest_is_best.Goals as goal
 
 pub returns : goal.returns

@@ -1,4 +1,4 @@
-use Rattle.portal_core.proofs.BothRounds.{honest_over_both}
+use Rattle.portal_core.proofs.OverGroups.{honest_over_both}
 use Rattle.portal_core.proofs.OverRuns.{honest_over_runs}
 use Rattle.portal_core.proofs.laws.honest_over_both.Goals as goal
 

@@ -56,26 +56,8 @@ loop-row-init g c = record {
   rest = rw c.new-new.ensures.items grind (arith, common_steps);
 }
 
-pub returns-in_err-register-clause-ok : goal.returns-in_err-register-clause-ok
-returns-in_err-register-clause-ok g c = search rules
-
-pub returns-in_err-register-clause-err : goal.returns-in_err-register-clause-err
-returns-in_err-register-clause-err g c = search rules
-
-pub overflow_add-at : goal.overflow_add-at
-overflow_add-at g c = omega arith
-
 pub is_new-requires-clause-rows : goal.is_new-requires-clause-rows
 is_new-requires-clause-rows g c = rw c.deref.ensures.value c.loop-row.invariant.rows
 
 pub is_new-requires-clause-texts : goal.is_new-requires-clause-texts
 is_new-requires-clause-texts g c = rw c.deref.ensures.value c.loop-row.invariant.texts
-
-pub returns-in-Err-clause-ok : goal.returns-in-Err-clause-ok
-returns-in-Err-clause-ok g c = search rules
-
-pub overflow_add-same : goal.overflow_add-same
-overflow_add-same g c = omega arith
-
-pub returns-clause-err : goal.returns-clause-err
-returns-clause-err g c = search rules
