@@ -1,7 +1,10 @@
 -- The lines of the students, one after the other.
-use Rattle.portal_answer.proofs.Base.{◌≡◌, ◌+◌, ◌<◌, ◌++◌, ℕ, List, [], length, take, get_or, Option, Some, None, is_some, is_none, refl, sym, ap, arith, flat_map, zip, count_by, Spa, Text, assign_line, take_more, append-nil, take_all}
+use Rattle.portal_answer.proofs.Base.{◌≡◌, ◌+◌, ◌<◌, ◌++◌, ℕ, List, [], length, take, get_or, Option, Some, None, is_some, is_none, inl, inr, ◌∷◌, ◌∙◌, refl, arith, flat_map, zip, count_by, Spa, Text, assign_line, take_more, append-nil, take_all}
+use mir.Val.{bool_byte}
+use Rattle.std.proofs.lemmas.Bool.{cases_Bool}
 use Rattle.std.proofs.lemmas.List.Sums.{count_by_more_yes, count_by_more_no}
 use Rattle.std.proofs.lemmas.Grind.{flat_map-append}
+use Rattle.spa_model.proofs.Counts.{count_by-cons}
 use Rattle.std.proofs.lemmas.Slice.Zip.{get_or-zip, length-zip}
 
 abbrev pub line : Spa → Text × Option ℕ → Text
@@ -17,14 +20,18 @@ line_more i m s text o h k e so_far =
     let at = get_or-zip i.student_keys m s here h k in
     rw (more, at, flat_map-append (λ (e : Text × Option ℕ). assign_line i e.0 e.1), so_far, e, append-nil) refl
 
--- the counts after a student who has a project, and after one who has none
-pub one_assigned : (m : List (Option ℕ)) (s p : ℕ) → s < length m → Some p ≡ get_or m s None
-    → (count_by is_some (take (s + 1) m) ≡ count_by is_some (take s m) + 1) × (count_by is_none (take (s + 1) m) ≡ count_by is_none (take s m))
-one_assigned m s p h e = (count_by_more_yes is_some m s None h (ap is_some (sym e)), count_by_more_no is_none m s None h (ap is_none (sym e)))
+-- the count after one student more
+pub one_more : (m : List (Option ℕ)) (s : ℕ) → s < length m → count_by is_some (take (s + 1) m) ≡ count_by is_some (take s m) + bool_byte (is_some (get_or m s None))
+one_more m s h = elim (cases_Bool (is_some (get_or m s None))) [
+  | inl placed ↦ rw placed (count_by_more_yes is_some m s None h placed)
+  | inr free ↦ rw free (count_by_more_no is_some m s None h free ∙ omega arith)
+]
 
-pub one_unassigned : (m : List (Option ℕ)) (s : ℕ) → s < length m → None ≡ get_or m s None
-    → (count_by is_some (take (s + 1) m) ≡ count_by is_some (take s m)) × (count_by is_none (take (s + 1) m) ≡ count_by is_none (take s m) + 1)
-one_unassigned m s h e = (count_by_more_no is_some m s None h (ap is_some (sym e)), count_by_more_yes is_none m s None h (ap is_none (sym e)))
+-- who has no project is not counted
+pub counts : (m : List (Option ℕ)) → count_by is_some m + count_by is_none m ≡ length m
+counts [] = refl
+counts (None ∷ m) = omega (arith, counts m, count_by-cons is_some None m, count_by-cons is_none None m)
+counts (Some p ∷ m) = omega (arith, counts m, count_by-cons is_some (Some p) m, count_by-cons is_none (Some p) m)
 
 -- all lines, and the line of the counts
 pub whole : (keys : List Text) (m : List (Option ℕ)) (n : ℕ) → n ≡ length m → length keys ≡ length m → (take n (zip keys m) ≡ zip keys m) × (take n m ≡ m)

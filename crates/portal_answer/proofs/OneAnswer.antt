@@ -1,11 +1,11 @@
 -- To the bytes of a file one text alone is told.
-use Rattle.portal_answer.proofs.Base.{◌≡◌, ◌∙◌, inl, inr, ℕ, ◌<◌, Bool, true, false, Result, Ok, Err, List, [], length, get_or, Option, Some, None, refl, sym, subst, ap, arith, Pair, InstanceFault, File, rows, RollFault, Spa, Text, Told, refused_instance, Tells, OfPairs, OfRead, IfLonger, IsAnswer, Task, Check, Solve, ◌⊎◌, zero, suc, ◌∷◌, ext_get_or, Rows, Blocks, project_of, refused_matching, blocking, assignment, OfFile, file_rows, limit}
+use Rattle.portal_answer.proofs.Base.{◌≡◌, ◌∙◌, inl, inr, ℕ, ◌<◌, ◌≤◌, Bool, true, false, Result, Ok, Err, List, [], length, get_or, Option, Some, None, refl, sym, subst, ap, arith, Pair, InstanceFault, File, rows, RollFault, Spa, Text, Told, refused_instance, Tells, OfPairs, OfRead, IfLonger, IsAnswer, Task, Check, Solve, ◌⊎◌, zero, suc, ◌∷◌, ext_get_or, Rows, Blocks, project_of, refused_matching, blocking, assignment, OfFile, file_rows, limit}
 use Rattle.std.specs.Prelude.{AllPairs, Contains, nat_lt}
 use Rattle.std.proofs.lemmas.Bool.{cases_lt}
-use Rattle.spa_rows.specs.Faults.{HasNoneBefore, IsFirstFault, number_of}
+use Rattle.spa_rows.specs.Faults.{HasFault, HasNoneBefore, IsFirstFault, number_of}
 use Rattle.spa_rows.specs.declared.faults.InstanceFault.TheVariants as row
 use Rattle.spa_rows.proofs.FirstFault.{same_number}
-use Rattle.spa_model.specs.Pairs.{HasPairs, IsFirstPairFault, number_of_pair_fault, student_in, project_in}
+use Rattle.spa_model.specs.Pairs.{HasPairFault, HasPairs, number_of_pair_fault, student_in, project_in}
 use Rattle.spa_model.specs.declared.matching.MatchingFault.{MatchingFault}
 use Rattle.spa_model.proofs.FirstFault.{fault_of, fault_of-number}
 use Rattle.spa_model.proofs.OneOnly.{best_is_one}
@@ -93,25 +93,27 @@ matching_one i pairs m n a b = ext_get_or None m n (a.students ∙ sym b.student
     each s (Some p) y e f = sym (has_too i pairs m n a b s p e) ∙ f
     each s None (Some q) e f = sym e ∙ has_too i pairs n m b a s q f
 
--- ---- the first fault of pairs is one
+-- ---- the first fault is one, of pairs as of rows
 
-fault_one : (i : Spa) (pairs : List Pair) (f g : MatchingFault) (r q : ℕ) → IsFirstPairFault i pairs f r → IsFirstPairFault i pairs g q → f ≡ g
-fault_one i pairs f g r q a b = elim (cases_lt (number_of_pair_fault f) (number_of_pair_fault g)) [
-  | inl less ↦ absurd (b.none_before f less r a.here)
-  | inr not ↦ elim (cases_lt (number_of_pair_fault g) (number_of_pair_fault f)) [
-    | inl less ↦ absurd (a.none_before g less q b.here)
-    | inr same ↦
-        let number : number_of_pair_fault f ≡ number_of_pair_fault g = omega arith in
-        sym (fault_of-number f) ∙ ap fault_of number ∙ fault_of-number g
+module _ {F : Type 0} (number : F → ℕ) (same : (f g : F) → number f ≡ number g → f ≡ g) (Has : F → ℕ → Type 0) (refusal : F → ℕ → Told) where
+  abbrev IsFirst : F → ℕ → Type 0
+  IsFirst f r = Has f r × ((q : ℕ) → Has f q → r ≤ q) × ((e : F) → number e < number f → (q : ℕ) → Has e q → ⊥)
+
+  first_one : (f g : F) (r q : ℕ) → IsFirst f r → IsFirst g q → refusal f r ≡ refusal g q
+  first_one f g r q a b = elim (cases_lt (number f) (number g)) [
+    | inl less ↦ absurd (b.2 f less r a.0)
+    | inr not ↦ elim (cases_lt (number g) (number f)) [
+      | inl less ↦ absurd (a.2 g less q b.0)
+      | inr still ↦
+          let one : f ≡ g = same f g (omega (arith, not, still)) in
+          let moved : IsFirst g r = subst (λ (e : F). IsFirst e r) one a in
+          let row : r ≡ q = omega (arith, moved.1 q b.0, b.1 r moved.0) in
+          λ j. refusal (one j) (row j)
+    ]
   ]
-]
 
-refusal_one : (i : Spa) (pairs : List Pair) (f g : MatchingFault) (r q : ℕ) → IsFirstPairFault i pairs f r → IsFirstPairFault i pairs g q → refused_matching f r ≡ refused_matching g q
-refusal_one i pairs f g r q a b =
-    let one : f ≡ g = fault_one i pairs f g r q a b in
-    let moved : IsFirstPairFault i pairs g r = subst (λ (x : MatchingFault). IsFirstPairFault i pairs x r) one a in
-    let row : r ≡ q = omega (arith, moved.least q b.here, b.least r moved.here) in
-    λ j. refused_matching (one j) (row j)
+same_pair_fault : (f g : MatchingFault) → number_of_pair_fault f ≡ number_of_pair_fault g → f ≡ g
+same_pair_fault f g e = sym (fault_of-number f) ∙ ap fault_of e ∙ fault_of-number g
 
 -- ---- what is told
 
@@ -124,7 +126,7 @@ tells_one Solve i m n t u e a b = a.2 ∙ ap (assignment i) (best_is_one i a.0 b
 told_is_one : (task : Task) (i : Spa) (pairs : List Pair) (t u : Told) → OfPairs task i pairs t → OfPairs task i pairs u → t ≡ u
 told_is_one task i pairs t u a b = elim a [
   | inl bad ↦ elim b [
-    | inl worse ↦ bad.3 ∙ refusal_one i pairs bad.0 worse.0 bad.1 worse.1 bad.2 worse.2 ∙ sym worse.3
+    | inl worse ↦ bad.3 ∙ first_one number_of_pair_fault same_pair_fault (HasPairFault i pairs) refused_matching bad.0 worse.0 bad.1 worse.1 (bad.2.here, bad.2.least, bad.2.none_before) (worse.2.here, worse.2.least, worse.2.none_before) ∙ sym worse.3
     | inr good ↦ absurd (good.1 bad.0 bad.1 bad.2.here)
   ]
   | inr good ↦ elim b [
@@ -132,24 +134,6 @@ told_is_one task i pairs t u a b = elim a [
     | inr other ↦ tells_one task i good.0 other.0 t u (matching_one i pairs good.0 other.0 good.2 other.2) good.4 other.4
   ]
 ]
-
--- ---- the first fault of rows is one
-
-row_fault_one : (rows : Rows) (f g : InstanceFault) (r q : ℕ) → IsFirstFault rows f r → IsFirstFault rows g q → f ≡ g
-row_fault_one rows f g r q a b = elim (cases_lt (number_of f) (number_of g)) [
-  | inl less ↦ absurd (b.none_before f less r a.here)
-  | inr not ↦ elim (cases_lt (number_of g) (number_of f)) [
-    | inl less ↦ absurd (a.none_before g less q b.here)
-    | inr same ↦ same_number f g (omega arith)
-  ]
-]
-
-row_refusal_one : (rows : Rows) (f g : InstanceFault) (r q : ℕ) → IsFirstFault rows f r → IsFirstFault rows g q → refused_instance f r ≡ refused_instance g q
-row_refusal_one rows f g r q a b =
-    let one : f ≡ g = row_fault_one rows f g r q a b in
-    let moved : IsFirstFault rows g r = subst (λ (x : InstanceFault). IsFirstFault rows x r) one a in
-    let at : r ≡ q = omega (arith, moved.least q b.here, b.least r moved.here) in
-    λ j. refused_instance (one j) (at j)
 
 -- a fault that is told has a lesser number than want of memory, which no rows have
 told_first : (rows : Rows) (f : InstanceFault) (r : ℕ) → IsFirstFault rows f r → HasNoneBefore rows row.Memory → ⊥
@@ -161,7 +145,7 @@ told_first rows f r a none = none f (omega arith) r a.here
 file_is_one : (task : Task) (f : File) (t u : Told) → OfFile task f t → OfFile task f u → t ≡ u
 file_is_one task f t u a b = elim a [
   | inl bad ↦ elim b [
-    | inl worse ↦ bad.3 ∙ row_refusal_one (file_rows f) bad.0 worse.0 bad.1 worse.1 bad.2 worse.2 ∙ sym worse.3
+    | inl worse ↦ bad.3 ∙ first_one number_of same_number (HasFault (file_rows f)) refused_instance bad.0 worse.0 bad.1 worse.1 (bad.2.here, bad.2.least, bad.2.none_before) (worse.2.here, worse.2.least, worse.2.none_before) ∙ sym worse.3
     | inr good ↦ absurd (told_first (file_rows f) bad.0 bad.1 bad.2 good.1)
   ]
   | inr good ↦ elim b [

@@ -13,33 +13,24 @@ use std::alloc::{AllocError, Global};
 pub(crate) fn plain(alloc: Global, word: &str) -> Result<Told, AllocError>
     ensures { IfOk result (λ t. t ≡ refused_plain word.now) }
 {
-    let text = format!(in alloc; "refused {word}\n")?;
-    Ok(Told {
-        text: Vec::from_slice(alloc, text.as_bytes())?,
-        status: 2,
-    })
+    let text = format!(in alloc; "refused {word}\n")?.into_bytes();
+    Ok(Told { text, status: 2 })
 }
 
 /// Writes the text of a refusal that names a row.
 fn at_row(alloc: Global, word: &str, row: u32) -> Result<Told, AllocError>
     ensures { IfOk result (λ t. t ≡ refused_row word.now row) }
 {
-    let text = format!(in alloc; "refused {word} row {row}\n")?;
-    Ok(Told {
-        text: Vec::from_slice(alloc, text.as_bytes())?,
-        status: 2,
-    })
+    let text = format!(in alloc; "refused {word} row {row}\n")?.into_bytes();
+    Ok(Told { text, status: 2 })
 }
 
 /// Writes the text that refuses a malformed field of a file.
 fn bad_field(alloc: Global, row: u32, column: u32) -> Result<Told, AllocError>
     ensures { IfOk result (λ t. t ≡ spec.refused_file (RollFault.BadField row column)) }
 {
-    let text = format!(in alloc; "refused bad_field row {row} column {column}\n")?;
-    Ok(Told {
-        text: Vec::from_slice(alloc, text.as_bytes())?,
-        status: 2,
-    })
+    let text = format!(in alloc; "refused bad_field row {row} column {column}\n")?.into_bytes();
+    Ok(Told { text, status: 2 })
 }
 
 /// Writes the text that refuses a file that cannot be read. An error means that memory ran out.

@@ -45,15 +45,12 @@ fn lines(alloc: Global, instance: &Instance, matching: &Matching) -> Result<Told
 {
     let mut text = Vec::new(alloc);
     let mut assigned = 0usize;
-    let mut unassigned = 0usize;
     for student in 0..instance.students() {
         let project = instance.project_of(matching, student);
         put_student(&mut text, instance, student, project)?;
-        match project {
-            Some(_) => assigned += 1,
-            None => unassigned += 1,
-        }
+        assigned += usize::from(project.is_some());
     }
+    let unassigned = instance.students() - assigned;
     let last = format!(in alloc; "assigned {assigned} unassigned {unassigned}\n")?;
     text.extend_from_slice(last.as_bytes())?;
     Ok(Told { text, status: 0 })

@@ -22,10 +22,8 @@ follows (Some more) new before after ended f (rest, known, same, last) framed no
     record { goes = (rest, known, same, heads (before ++ more) after rest ended f same last framed not_need) }
 
 pub within : (buffer : List ℕ) (f : Frame) → IsWithinLimits buffer f → IsWithin buffer f
-within buffer frame.Need limits = tt
-within buffer frame.End limits = tt
 within buffer (frame.Request request used) limits = (limits.1, limits.2)
-within buffer (frame.Bad refusal head_only) limits = tt
+within buffer _ limits = tt
 
 too_short : (n : ℕ) (rest : List ℕ) (short : length rest < n) (h : RequestHead) (b : Bool) (a : Asked) (after : List ℕ) → nat_le n (length rest) ≡ b
     → whole a after ≡ (if b then whole (asked_of h (take n rest)) (drop n rest) else fault bad_length (is_head h.method)) → ⊥

@@ -3,6 +3,7 @@ use Rattle.portal_desk.proofs.Base.{◌≡◌, ℕ, inl, inr, Bool, true, false,
 use Rattle.portal_core.specs.Heard.{HeardItem, Asked, Sees, own_item, SeenIf, Heard, replies_to, SameButPlaces, SameRequest, AlikeUntilPublished, has_places, moves_to_published}
 use Rattle.portal_core.proofs.Hearing.{same_replies}
 use Rattle.portal_core.proofs.Disclosed.{places_unseen, unless_map}
+use Rattle.portal_desk.proofs.Steps.{Run-append}
 
 -- the marks of the caller's own requests
 marks : List HeardItem → List (Bool × Bool)
@@ -34,23 +35,13 @@ texts_heard : (c : Key) (w : World) (es : List Exchange) (worlds : List World) (
     → Heard c w (asked_in es) worlds items → texts_to c es ≡ texts_by (marks items) (replies_to c (asked_in es) (told_in es))
 unfolding marks texts_by
 texts_heard c w [] [] items run heard = ap (λ xs. texts_by (marks xs) []) (sym heard)
-texts_heard c w [] (v ∷ worlds) items run heard = absurd run
-texts_heard c w (e ∷ es) [] items run heard = absurd run
 texts_heard c w (e ∷ es) (v ∷ worlds) items run (first, rest, (seen, see, is_first), later, all) =
     let none = unmarked _ (view w c) (view v c) seen rest see in
     let more = texts_heard c v es worlds rest run.1 later in
     let whole : items ≡ (own_item c e.request ++ seen) ++ rest = all ∙ ap (λ f. f ++ rest) is_first in
     one (equals e.request.code c) e seen rest (texts_to c es) (replies_to c (asked_in es) (told_in es)) none more
     ∙ ap (λ xs. texts_by (marks xs) (replies_to c (asked_in (e ∷ es)) (told_in (e ∷ es)))) (sym whole)
-
--- one list of exchanges after another
-
-Run-append : (w : World) (es fs : List Exchange) (us vs : List World) → Run w (asked_in es) (told_in es) us
-    → Run (end_of w us) (asked_in fs) (told_in fs) vs → Run w (asked_in (es ++ fs)) (told_in (es ++ fs)) (us ++ vs)
-Run-append w [] fs [] vs run next = next
-Run-append w [] fs (u ∷ us) vs run next = absurd run
-Run-append w (e ∷ es) fs [] vs run next = absurd run
-Run-append w (e ∷ es) fs (u ∷ us) vs run next = (run.0, Run-append u es fs us vs run.1 next)
+texts_heard c w _ _ items run heard = absurd run
 
 pub whole_run : (w : World) (vs : List Visit) → AreVisits w vs → Run w (asked_in (exchanges_of vs)) (told_in (exchanges_of vs)) (worlds_of vs)
 whole_run w [] visits = tt

@@ -1,7 +1,7 @@
 -- What one exchange more does to a keeper, and what a stop may leave after it.
-use Rattle.portal_desk.proofs.Base.{◌≡◌, inl, inr, List, [], ◌∷◌, ◌++◌, refl, sym, ap, ◌∙◌, subst, append_assoc, World, Answer, Wanted, Serves, Exchange, asked_in, told_in, Run, end_of, Reaches, KeeperState, Moves, IsMoved, MayReach, Acted, LastsOrBreaks, LeavesBy, MayLeave, Bool, Asked, request_of}
+use Rattle.portal_desk.proofs.Base.{inl, inr, List, [], ◌∷◌, ◌++◌, refl, sym, ap, ◌∙◌, subst, append_assoc, World, Answer, Wanted, Serves, Exchange, Reaches, KeeperState, Moves, IsMoved, MayReach, Acted, LastsOrBreaks, LeavesBy, MayLeave, Bool, Asked, request_of}
 use Rattle.portal_desk.proofs.Failing.{lasts_then}
-use Rattle.portal_desk.proofs.Steps.{Reaches-snoc, answered_apart}
+use Rattle.portal_desk.proofs.Steps.{Reaches-append, answered_apart}
 
 unfoldable pub exchange : Wanted → Answer → Exchange
 exchange r a = record { request = r; reply = a }
@@ -31,69 +31,32 @@ Moves-none s = record {
   leaves = λ rest on disk w left. inl ([], tt, rest w left);
 }
 
--- one more step that leaves each world as it is
-may_stay : (old w : World) (es : List Exchange) (e : Exchange) → ((v : World) → Serves v e.request e.reply v) → MayReach old es w → MayReach old (es ++ e ∷ []) w
-may_stay old w es e stays (inl run) = inl (Reaches-snoc old w w es e run (stays w))
-may_stay old w es e stays (inr (front, back, x, other, is, untold, run)) =
-    let y : Exchange = record x { reply = other } in
-    inr (
-      front,
-      back ++ e ∷ [],
-      x,
-      other,
-      ap (λ fs. fs ++ e ∷ []) is ∙ append_assoc front (x ∷ back) (e ∷ []),
-      untold,
-      subst (λ fs. Reaches old fs w) (append_assoc front (y ∷ back) (e ∷ [])) (Reaches-snoc old w w (front ++ y ∷ back) e run (stays w)),
-    )
-
-pub Moves-snoc : (old mid new : KeeperState) (es : List Exchange) (r : Wanted) (reply : Answer) → Moves old mid es → (new.clean → mid.clean) → Acted mid new r reply
-    → Moves old new (es ++ exchange r reply ∷ [])
+-- one exchange
+pub Moves-one : (old new : KeeperState) (r : Wanted) (reply : Answer) → Acted old new r reply → Moves old new (exchange r reply ∷ [])
 unfolding exchange
-Moves-snoc old mid new es r reply moves back acted = record {
-  reaches = λ on. Reaches-snoc old.world mid.world new.world es e (moves.reaches (back on)) (acted.serves on);
-  lasts = λ all. let apart = answered_apart es (e ∷ []) all in lasts_then _ _ _ _ _ _ (moves.lasts apart.0) (acted.lasts apart.1.0);
-  breaks = breaks;
-  settled = λ rest on. acted.settled (moves.settled rest (back on)) on;
-  still = λ disk bad w.
-      let before = (acted.breaks disk).0 in
-      let was = moves.still before bad w in (
-        Reaches-snoc w w w es e was.0 (acted.broken disk ((breaks disk).2 bad) w),
-        λ left. elim (acted.leaves disk w left) [ inl mid ↦ was.1 mid | inr may ↦ absurd (may.alive ((moves.breaks before).2 bad)) ],
-      );
-  leaves = λ rest on disk w left. elim ((breaks disk).1 on) [
-    | inl up ↦ inl (subst (Reaches old.world (es ++ e ∷ [])) (sym (acted.settled (moves.settled rest (back up)) up w left)) (Reaches-snoc old.world mid.world new.world es e (moves.reaches (back up)) (acted.serves up)))
+Moves-one old new r reply acted = record {
+  reaches = λ on. one old.world new.world reply (acted.serves on);
+  lasts = λ all. acted.lasts all.0;
+  breaks = acted.breaks;
+  settled = acted.settled;
+  still = λ disk bad w. (
+    one w w reply (acted.broken disk ((acted.breaks disk).2 bad) w),
+    λ left. elim (acted.leaves disk w left) [ inl was ↦ was | inr may ↦ absurd (may.alive bad) ],
+  );
+  leaves = λ rest on disk w left. elim ((acted.breaks disk).1 on) [
+    | inl up ↦ inl (one old.world w reply (subst (Serves old.world r reply) (sym (acted.settled rest up w left)) (acted.serves up)))
     | inr down ↦ elim (acted.leaves disk w left) [
-      | inl was ↦ may_stay old.world w es e (acted.broken disk down) (moves.leaves rest on (acted.breaks disk).0 w was)
-      | inr may ↦ elim ((moves.breaks (acted.breaks disk).0).1 on) [
-        | inl up ↦ let t = may.turned up in
-            inr (es, [], e, t.0, refl, may.untold down, Reaches-snoc old.world mid.world w es (exchange r t.0) (moves.reaches up) t.1)
-        | inr bad ↦ absurd (may.alive bad)
-      ]
+      | inl was ↦ inl (one old.world w reply (subst (λ x. Serves x r reply w) (rest w was) (acted.broken disk down w)))
+      | inr may ↦ let t = may.turned on in inr ([], [], exchange r reply, t.0, refl, may.untold down, one old.world w t.0 t.1)
     ]
   ];
 }
   where
-    e : Exchange
-    e = exchange r reply
-
-    breaks : LastsOrBreaks old new
-    breaks = breaks_then old mid new moves.breaks acted.breaks
-
--- what these exchanges did, and one more
-pub more_moves : (old mid new : KeeperState) (r : Wanted) (reply : Answer) → IsMoved old mid → (new.clean → mid.clean) → Acted mid new r reply → IsMoved old new
-more_moves old mid new r reply (es, moves) back acted = (es ++ exchange r reply ∷ [], Moves-snoc old mid new es r reply moves back acted)
-
-runs_on : (w u v : World) (es fs : List Exchange) (worlds : List World) → Run w (asked_in es) (told_in es) worlds → u ≡ end_of w worlds → Reaches u fs v → Reaches w (es ++ fs) v
-runs_on w u v [] fs [] run same more = subst (λ x. Reaches x fs v) same more
-runs_on w u v [] fs (x ∷ worlds) run same more = absurd run
-runs_on w u v (e ∷ es) fs [] run same more = absurd run
-runs_on w u v (e ∷ es) fs (y ∷ worlds) run same more = let r = runs_on y u v es fs worlds run.1 same more in (y ∷ r.0, (run.0, r.1), r.2)
-
-reach_on : (w u v : World) (es fs : List Exchange) → Reaches w es u → Reaches u fs v → Reaches w (es ++ fs) v
-reach_on w u v es fs (worlds, run, same) more = runs_on w u v es fs worlds run same more
+    one : (w v : World) (a : Answer) → Serves w r a v → Reaches w (exchange r a ∷ []) v
+    one w v a step = (v ∷ [], (step, tt), refl)
 
 may_before : (w u v : World) (es fs : List Exchange) → Reaches w es u → MayReach u fs v → MayReach w (es ++ fs) v
-may_before w u v es fs first (inl run) = inl (reach_on w u v es fs first run)
+may_before w u v es fs first (inl run) = inl (Reaches-append w u v es fs first run)
 may_before w u v es fs first (inr (front, back, x, other, is, untold, run)) =
     let y : Exchange = record x { reply = other } in
     inr (
@@ -103,11 +66,11 @@ may_before w u v es fs first (inr (front, back, x, other, is, untold, run)) =
       other,
       ap (λ l. es ++ l) is ∙ sym (append_assoc es front (x ∷ back)),
       untold,
-      subst (λ l. Reaches w l v) (sym (append_assoc es front (y ∷ back))) (reach_on w u v es (front ++ y ∷ back) first run),
+      subst (λ l. Reaches w l v) (sym (append_assoc es front (y ∷ back))) (Reaches-append w u v es (front ++ y ∷ back) first run),
     )
 
 may_after : (w v : World) (es fs : List Exchange) → MayReach w es v → Reaches v fs v → MayReach w (es ++ fs) v
-may_after w v es fs (inl run) stays = inl (reach_on w v v es fs run stays)
+may_after w v es fs (inl run) stays = inl (Reaches-append w v v es fs run stays)
 may_after w v es fs (inr (front, back, x, other, is, untold, run)) stays =
     let y : Exchange = record x { reply = other } in
     inr (
@@ -117,13 +80,13 @@ may_after w v es fs (inr (front, back, x, other, is, untold, run)) stays =
       other,
       ap (λ l. l ++ fs) is ∙ append_assoc front (x ∷ back) fs,
       untold,
-      subst (λ l. Reaches w l v) (append_assoc front (y ∷ back) fs) (reach_on w v v (front ++ y ∷ back) fs run stays),
+      subst (λ l. Reaches w l v) (append_assoc front (y ∷ back) fs) (Reaches-append w v v (front ++ y ∷ back) fs run stays),
     )
 
 -- one list of exchanges after another, as of one connection after another
 pub Moves-append : (a b c : KeeperState) (es fs : List Exchange) → Moves a b es → Moves b c fs → (c.clean → b.clean) → Moves a c (es ++ fs)
 Moves-append a b c es fs h k back = record {
-  reaches = λ on. reach_on a.world b.world c.world es fs (h.reaches (back on)) (k.reaches on);
+  reaches = λ on. Reaches-append a.world b.world c.world es fs (h.reaches (back on)) (k.reaches on);
   lasts = λ all. let apart = answered_apart es fs all in lasts_then _ _ _ _ _ _ (h.lasts apart.0) (k.lasts apart.1);
   breaks = breaks_then a b c h.breaks k.breaks;
   settled = λ rest on. k.settled (h.settled rest (back on)) on;
@@ -131,7 +94,7 @@ Moves-append a b c es fs h k back = record {
       let mid = (k.breaks disk).0 in
       let one = h.still mid bad w in
       let two = k.still disk ((h.breaks mid).2 bad) w in
-      (reach_on w w w es fs one.0 two.0, λ left. one.1 (two.1 left));
+      (Reaches-append w w w es fs one.0 two.0, λ left. one.1 (two.1 left));
   leaves = λ rest on disk w left.
       let mid = (k.breaks disk).0 in
       elim ((h.breaks mid).1 on) [
@@ -139,6 +102,14 @@ Moves-append a b c es fs h k back = record {
         | inr bad ↦ let s = k.still disk bad w in may_after a.world w es fs (h.leaves rest on mid w (s.1 left)) s.0
       ];
 }
+
+pub Moves-snoc : (old mid new : KeeperState) (es : List Exchange) (r : Wanted) (reply : Answer) → Moves old mid es → (new.clean → mid.clean) → Acted mid new r reply
+    → Moves old new (es ++ exchange r reply ∷ [])
+Moves-snoc old mid new es r reply moves back acted = Moves-append old mid new es (exchange r reply ∷ []) moves (Moves-one mid new r reply acted) back
+
+-- what these exchanges did, and one more
+pub more_moves : (old mid new : KeeperState) (r : Wanted) (reply : Answer) → IsMoved old mid → (new.clean → mid.clean) → Acted mid new r reply → IsMoved old new
+more_moves old mid new r reply (es, moves) back acted = (es ++ exchange r reply ∷ [], Moves-snoc old mid new es r reply moves back acted)
 
 -- the same of some exchanges, whichever they are
 pub moves_then : (a b c : KeeperState) → IsMoved a b → IsMoved b c → (c.clean → b.clean) → IsMoved a c

@@ -22,10 +22,9 @@ stays_served state k (s ∷ ss) (resumes, serves, later) all last =
 -- the visits have the streams' own requests and replies
 pub same_exchanges : {K : Type 0} (state : K → KeeperState) (ss : List (Session K)) (vs : List Visit) → AllTellOf state ss vs → exchanges_in ss ≡ exchanges_of vs
 same_exchanges state [] [] tell = refl
-same_exchanges state [] (v ∷ vs) tell = absurd tell
-same_exchanges state (s ∷ ss) [] tell = absurd tell
 same_exchanges state (s ∷ ss) (v ∷ vs) tell =
     ap (λ es. es ++ exchanges_in ss) (sym tell.0.exchanges) ∙ ap (λ es. v.exchanges ++ es) (same_exchanges state ss vs tell.1)
+same_exchanges state _ _ tell = absurd tell
 
 -- one step
 
@@ -121,11 +120,8 @@ left_more k (x ∷ ss) s = left_more x.new ss s
 of_more : {K : Type 0} (ss : List (Session K)) (xs ts : List (List ℕ)) (s : Session K) (t : List ℕ) → AreOf ss xs ts → s.before ≡ Some [] → s.after ≡ Some t → IsEnded s.finish
     → AreOf (ss ++ s ∷ []) (xs ++ s.bytes ∷ []) (ts ++ t ∷ [])
 of_more [] [] [] s t are none all ended = (refl, none, all, ended, tt)
-of_more [] (x ∷ xs) ts s t are none all ended = absurd are
-of_more [] [] (u ∷ ts) s t are none all ended = absurd are
-of_more (r ∷ ss) [] ts s t are none all ended = absurd are
-of_more (r ∷ ss) (x ∷ xs) [] s t are none all ended = absurd are
 of_more (r ∷ ss) (x ∷ xs) (u ∷ ts) s t are none all ended = (are.0, are.1, are.2, are.3, of_more ss xs ts s t are.4 none all ended)
+of_more _ _ _ s t are none all ended = absurd are
 
 pub each_more : {K : Type 0} (state : K → KeeperState) (k old new : K) (xs ts : List (List ℕ)) (x t : List ℕ) (count : ℕ) (ending : Last) → ServesEach state k old xs ts
     → SomeSession state old new (Some []) (Some t) count (Ended ending) x → ServesEach state k new (xs ++ x ∷ []) (ts ++ t ∷ [])

@@ -4,10 +4,8 @@ use Rattle.portal_desk.specs.declared.served.Cause.TheVariants as cause
 
 pub broke : (why : Cause) (failed : Bool) (reply : Answer) (head closes : Bool) (before after : Option (List ℕ))
     → Partly why before after (reply_text reply head (closes || failed)) → Broke why failed reply head closes before after
-broke cause.Read failed reply head closes before after p = p
-broke cause.Write failed reply head closes before after p = p
-broke cause.Memory failed reply head closes before after p = p
 broke cause.Store failed reply head closes before after p = absurd p
+broke _ failed reply head closes before after p = p
 
 pub still : (before after : Option (List ℕ)) (reply : Answer) (head closes failed : Bool) → failed ≡ false
     → Appends before after (reply_text reply head (closes || failed)) → Appends before after (reply_text reply head closes)

@@ -24,20 +24,14 @@ follows_taken {old = None} taken follows = record { few = tt }
 follows_taken {done = done} {old = Some bytes} {new = new} {before = before} {after = after} {f = f} taken follows =
     let x = taken.few in
     let g = (subst (λ o. Follows o new before after f) x.1 follows).goes in
-    record { few = (g.0, g.1, few (length before) (length after) (length x.0) (length g.0) (length bytes) (one_stream before after x.0 g.0 g.2) x.2) }
-  where
-    few : (b a m r x : ℕ) → a + r ≡ b + m → x ≤ m + (done * LONGEST_REQUEST + b) → x ≤ r + (done * LONGEST_REQUEST + a)
-    few b a m r x same fits = omega (arith, same, fits)
+    record { few = (g.0, g.1, omega (arith, one_stream before after x.0 g.0 g.2, x.2)) }
 
 -- what a buffer with room for so many bytes took
 pub reads_taken : (room : ℕ) (old new : Option (List ℕ)) (before after : List ℕ) (ended : Bool) → ReadsMore old new before after ended → length after ≤ room
     → TakesAtMost (room - length before) old new
 reads_taken room None new before after ended reads held = tt
 reads_taken room (Some bytes) new before after ended (left, known, same, last) held =
-    (left, known, few (length before) (length after) (length left) (length bytes) (one_stream before after bytes left same) held)
-  where
-    few : (b a r x : ℕ) → a + r ≡ b + x → a ≤ room → x ≤ r + (room - b)
-    few b a r x same held = omega (arith, same, held)
+    (left, known, omega (arith, one_stream before after bytes left same, held))
 
 -- the same, and what one more read took
 pub more_taken : (room : ℕ) (old mid new : Option (List ℕ)) (before during : List ℕ) (ended : Bool) → ReadsMore old mid before during ended → length during ≤ room
@@ -45,10 +39,7 @@ pub more_taken : (room : ℕ) (old mid new : Option (List ℕ)) (before during :
 more_taken room None mid new before during ended reads held taken = tt
 more_taken room (Some bytes) mid new before during ended (left, known, same, last) held taken =
     let t = subst (λ o. TakesAtMost (room - length during) o new) known taken in
-    (t.0, t.1, few (length before) (length during) (length left) (length bytes) (length t.0) (one_stream before during bytes left same) held t.2)
-  where
-    few : (b a r x s : ℕ) → a + r ≡ b + x → a ≤ room → r ≤ s + (room - a) → x ≤ s + (room - b)
-    few b a r x s same held taken = omega (arith, same, held, taken)
+    (t.0, t.1, omega (arith, one_stream before during bytes left same, held, t.2))
 
 -- where serving ends after this frame
 pub ended_taken : {done : ℕ} {old mid new : Option (List ℕ)} {before after : List ℕ} {f : Frame} → done < MOST_REQUESTS → length after ≤ LONGEST_REQUEST
@@ -56,10 +47,7 @@ pub ended_taken : {done : ℕ} {old mid new : Option (List ℕ)} {before after :
 ended_taken {old = None} small low taken follows = tt
 ended_taken {done = done} {old = Some bytes} {after = after} small low taken follows =
     let x = (follows_taken taken follows).few in
-    (x.0, x.1, few (length after) (length x.0) (length bytes) low x.2)
-  where
-    few : (b m x : ℕ) → b ≤ LONGEST_REQUEST → x ≤ m + (done * LONGEST_REQUEST + b) → x ≤ m + MOST_BYTES
-    few b m x low fits = omega (arith, small, low, fits)
+    (x.0, x.1, omega (arith, small, low, x.2))
 
 -- where no frame was found
 pub missed_taken : {done : ℕ} {old mid : Option (List ℕ)} (new : Option (List ℕ)) (before : List ℕ) → done < MOST_REQUESTS → length before ≤ LONGEST_REQUEST
@@ -68,23 +56,14 @@ missed_taken {old = None} new before small held taken last = tt
 missed_taken {done = done} {old = Some bytes} new before small held taken last =
     let x = taken.few in
     let y = subst (λ o. TakesAtMost (LONGEST_REQUEST - length before) o new) x.1 last in
-    (y.0, y.1, few (length before) (length x.0) (length y.0) (length bytes) held x.2 y.2)
-  where
-    few : (h m r x : ℕ) → h ≤ LONGEST_REQUEST → x ≤ m + (done * LONGEST_REQUEST + h) → m ≤ r + (LONGEST_REQUEST - h) → x ≤ r + MOST_BYTES
-    few h m r x low fits last = omega (arith, small, low, fits, last)
+    (y.0, y.1, omega (arith, small, held, x.2, y.2))
 
 pub cut_taken : {done : ℕ} {old new : Option (List ℕ)} (used : ℕ) (held kept : List ℕ) → used ≤ LONGEST_REQUEST → kept ≡ drop used held
     → TakenBy done (length held) old new → TakenBy (done + 1) (length kept) old new
 cut_taken {old = None} used held kept few cut taken = record { few = tt }
 cut_taken {done = done} {old = Some bytes} used held kept few cut taken =
     let x = taken.few in
-    record { few = (x.0, x.1, fewer (length held) (length kept) (length x.0) (length bytes) (ap length cut ∙ length-drop used held) x.2) }
-  where
-    fewer : (b k m x : ℕ) → k ≡ b - used → x ≤ m + (done * LONGEST_REQUEST + b) → x ≤ m + ((done + 1) * LONGEST_REQUEST + k)
-    fewer b k m x cut fits = omega (arith, few, cut, fits)
+    record { few = (x.0, x.1, omega (arith, few, ap length cut ∙ length-drop used held, x.2)) }
 
 pub cut_held : (used : ℕ) (held kept : List ℕ) → kept ≡ drop used held → length held ≤ LONGEST_REQUEST → length kept ≤ LONGEST_REQUEST
-cut_held used held kept cut low = fewer (length held) (length kept) (ap length cut ∙ length-drop used held) low
-  where
-    fewer : (b k : ℕ) → k ≡ b - used → b ≤ LONGEST_REQUEST → k ≤ LONGEST_REQUEST
-    fewer b k e low = omega (arith, e, low)
+cut_held used held kept cut low = omega (arith, ap length cut ∙ length-drop used held, low)

@@ -7,6 +7,7 @@ use Rattle.portal_desk.specs.declared.served.Cause.TheVariants as cause
 use Rattle.portal_wire.specs.Wish.{answer_to}
 use Rattle.portal_wire.specs.Conversation as talk
 use Rattle.portal_wire.specs.inner.Calls.{last_for}
+use Rattle.std.proofs.lemmas.Bool.{or_parts}
 use Rattle.portal_desk.proofs.Known.{Appends-append}
 use Rattle.portal_desk.proofs.Moving.{exchange, Moves-none, Moves-snoc}
 use Rattle.portal_desk.proofs.Steps.{text-snoc, after_one, Leads-snoc}
@@ -78,11 +79,8 @@ Deals-snoc old mid new bytes left after count es a closes reply deals back opens
       leads = subst (λ b. Leads MOST_REQUESTS bytes (asked_in (es ++ e ∷ [])) (after_one b a after)) (sym at)
           (Leads-snoc MOST_REQUESTS (MOST_REQUESTS - count) bytes es left e a after deals.leads opens (ap (λ n. MOST_REQUESTS - n) deals.counted) (ap (λ b. request_of b a) at));
       moves = Moves-snoc old mid new es (request_of closes a) reply deals.moves back acted;
-      counted = one_longer count es e deals.counted;
+      counted = rw (length-append es (e ∷ [])) (omega (arith, deals.counted));
     }
-  where
-    one_longer : (n : ℕ) (es : List Exchange) (e : Exchange) → n ≡ length es → n + 1 ≡ length (es ++ e ∷ [])
-    one_longer n es e same = rw (length-append es (e ∷ [])) (omega (arith, same))
 
 Dealt-snoc : (old mid new : KeeperState) (before w now : Option (List ℕ)) (bytes left after : List ℕ) (count : ℕ) (a : Asked) (closes : Bool)
     → Dealt old mid before w bytes count (more left) → (new.clean → mid.clean) → Opens left (whole a after) → closes ≡ closes_at (MOST_REQUESTS - count) a
@@ -114,8 +112,7 @@ module _ {K : Type 0} {state : K → KeeperState} {src rem : Option (List ℕ)} 
           let m = subst (λ o. KeepsStream o known front buffer) is (stays refl) in
           made mid w count _ (text d.es) d.deals d.adds (more (front ++ rest), d.deals.leads, ((buffer, m.0, ap more (sym m.2), m.1, none refl), refl))
       go (Some bytes) (rest, is, d) cause.Memory causes stays none = made mid w count _ (text d.es) d.deals d.adds (more (front ++ rest), d.deals.leads, inr refl)
-      go (Some bytes) x cause.Write causes stays none = absurd (elim causes [ inl e ↦ cc | inr e ↦ cc ])
-      go (Some bytes) x cause.Store causes stays none = absurd (elim causes [ inl e ↦ cc | inr e ↦ cc ])
+      go (Some bytes) x _ causes stays none = absurd (elim causes [ inl e ↦ cc | inr e ↦ cc ])
 
   pub end_known : (known : Option (List ℕ)) (buffer : List ℕ) → Follows rem known front buffer frame.End
       → IfSome src (SomeSession state old mid before w count (Ended talk.End))
@@ -140,13 +137,12 @@ module _ {K : Type 0} {state : K → KeeperState} {src rem : Option (List ℕ)} 
       where
         go : (bytes stream : List ℕ) → Dealt (state old) (state mid) before w bytes count (more stream) → Opens stream (fault (refused refusal) head_only) → (why : Cause)
             → Partly why w now closing → SomeSession state old mid before now count (Stopped why failed left) bytes
-        go bytes stream d opens cause.Read part = absurd part
         go bytes stream d opens cause.Write (k, adds) =
             made mid now count _ (text d.es ++ take k closing) d.deals (Appends-append before w now (text d.es) (take k closing) d.adds adds)
             (more stream, d.deals.leads, inr (talk.Refused refusal.word.now, closing, k, (refused refusal, head_only, opens, refl, refl), refl))
         go bytes stream d opens cause.Memory adds =
             made mid now count _ (text d.es ++ []) d.deals (Appends-append before w now (text d.es) [] d.adds adds) (more stream, d.deals.leads, inr (append-nil (text d.es)))
-        go bytes stream d opens cause.Store part = absurd part
+        go bytes stream d opens _ part = absurd part
 
   module _ (known now : Option (List ℕ)) (buffer : List ℕ) (new : K) (request : Request) (used : ℕ) (closes : Bool) (follows : Follows rem known front buffer (frame.Request request used))
       (back : (state new).clean → (state mid).clean) (at : closes ≡ closes_at (MOST_REQUESTS - count) (seen request)) where
@@ -203,12 +199,9 @@ module _ {K : Type 0} {state : K → KeeperState} {src rem : Option (List ℕ)} 
             (after rest, deals.leads, (is_failed, d.es, e, refl, same, refl))
 
 pub goes_on : (count : ℕ) (asked : Asked) (closes : Bool) → count < MOST_REQUESTS → closes ≡ false → closes ≡ closes_at (MOST_REQUESTS - count) asked → count + 1 < MOST_REQUESTS
-goes_on count asked closes small stays at = last asked.close (nat_le (MOST_REQUESTS - count) 1) refl (sym at ∙ stays)
-  where
-    last : (close few : Bool) → nat_le (MOST_REQUESTS - count) 1 ≡ few → (close || few) ≡ false → count + 1 < MOST_REQUESTS
-    last true few e f = absurd (cc)
-    last false true e f = absurd (cc)
-    last false false e f = omega (arith, small, leb-false (MOST_REQUESTS - count) 1 e)
+goes_on count asked closes small stays at =
+    let many = leb-false (MOST_REQUESTS - count) 1 (or_parts asked.close (nat_le (MOST_REQUESTS - count) 1) (sym at ∙ stays)).1 in
+    omega (arith, small, many)
 
 -- a desk that had failed is as it was, and so it cannot have answered
 pub still_failed : {K : Type 0} (first now next : Kept K) → (first.failed ≡ true → now ≡ first) → (now.failed ≡ true → next ≡ now) → next.failed ≡ false

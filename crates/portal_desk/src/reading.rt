@@ -1,8 +1,9 @@
 //! Buffers a stream until its next request is complete; removes answered requests.
 
 ghost use Rattle.std.specs.Prelude.{◌≡◌, ◌⊎◌, ◌≢◌, ◌+◌, ◌-◌, ◌<◌, ◌≤◌, length, drop, IfOk};
-ghost use Rattle.std.specs.Prelude.{OnErr, IfErr, OnOk, if◌then◌else◌};
-ghost use Rattle.portal_desk.specs.Kept.{FailsAfter, TakesAtMost};
+ghost use Rattle.std.specs.Prelude.{OnErr, IfErr, if◌then◌else◌};
+ghost use Rattle.portal_desk.specs.inner.Turns.{CountsFor};
+ghost use Rattle.portal_desk.specs.Kept.{TakesAtMost};
 ghost use Rattle.portal_desk.specs.inner.Reading.{ReadsMore, Follows, IsWithin, KeepsStream, NoneWhole};
 ghost use Rattle.portal_desk.specs.declared.served.Cause.TheVariants.{Memory as OutOfMemory};
 ghost use Rattle.portal_desk.specs.declared.served.Cause.TheVariants.{Read as ReadFailed};
@@ -27,11 +28,7 @@ fn read_piece<R: Source>(source: &mut R, buffer: &mut Vec<u8>) -> Result<bool, C
         (R.remaining source.new) buffer.old.items buffer.new.items) }
     ensures taken { OnErr result (TakesAtMost (LONGEST_REQUEST - length buffer.old.items)
         (R.remaining source.old) (R.remaining source.new)) }
-    ensures calm { OnOk result (R.failed source.new ≡ R.failed source.old) }
-    ensures counts { IfErr result (λ cause. cause ≡ ReadFailed
-        → FailsAfter (R.failed source.old) (R.failed source.new)) }
-    ensures spared { IfErr result (λ cause. cause ≢ ReadFailed
-        → R.failed source.new ≡ R.failed source.old) }
+    ensures failures { CountsFor ReadFailed result (R.failed source.old) (R.failed source.new) }
     ensures same_device { R.name source.new ≡ R.name source.old }
 {
     let mut piece = [0u8; 4096];
@@ -67,11 +64,7 @@ pub(crate) fn next_frame<R: Source>(
     ensures none { IfErr result (λ cause. cause ≡ ReadFailed → NoneWhole buffer.new.items) }
     ensures taken { OnErr result (TakesAtMost (LONGEST_REQUEST - length buffer.old.items)
         (R.remaining source.old) (R.remaining source.new)) }
-    ensures calm { OnOk result (R.failed source.new ≡ R.failed source.old) }
-    ensures counts { IfErr result (λ cause. cause ≡ ReadFailed
-        → FailsAfter (R.failed source.old) (R.failed source.new)) }
-    ensures spared { IfErr result (λ cause. cause ≢ ReadFailed
-        → R.failed source.new ≡ R.failed source.old) }
+    ensures failures { CountsFor ReadFailed result (R.failed source.old) (R.failed source.new) }
     ensures same_device { R.name source.new ≡ R.name source.old }
 {
     let mut ended = false;

@@ -1,14 +1,13 @@
 //! Writes replies to a sink.
 
-ghost use Rattle.std.specs.Prelude.{◌≡◌, ◌≢◌, true, OnOk, IfErr};
+ghost use Rattle.std.specs.Prelude.{◌≡◌, true, OnOk, IfErr};
 ghost use Rattle.std.specs.Io.KnownBytes.{Appends};
 ghost use Rattle.portal_core.specs.Answer.{HasWholeNumbers};
 ghost use Rattle.portal_core.specs.Meaning.{reply_model, body_model};
 ghost use Rattle.portal_frame.specs.Stream.{refused};
 ghost use Rattle.portal_wire.specs.Wish.{answer_to};
 ghost use Rattle.portal_wire.specs.Conversation.{reply_text};
-ghost use Rattle.portal_desk.specs.Kept.{FailsAfter};
-ghost use Rattle.portal_desk.specs.inner.Turns.{Partly};
+ghost use Rattle.portal_desk.specs.inner.Turns.{CountsFor, Partly};
 ghost use Rattle.portal_desk.specs.declared.served.Cause.TheVariants.{Write as WriteFailed};
 
 use crate::devices::{Sink, write_whole};
@@ -23,11 +22,7 @@ fn send<W: Sink>(bytes: &[u8], sink: &mut W) -> Result<(), Cause>
     ensures ok { OnOk result (Appends (W.contents sink.old) (W.contents sink.new) bytes.now) }
     ensures err { IfErr result (λ cause. Partly cause (W.contents sink.old)
         (W.contents sink.new) bytes.now) }
-    ensures calm { OnOk result (W.failed sink.new ≡ W.failed sink.old) }
-    ensures counts { IfErr result (λ cause. cause ≡ WriteFailed
-        → FailsAfter (W.failed sink.old) (W.failed sink.new)) }
-    ensures spared { IfErr result (λ cause. cause ≢ WriteFailed
-        → W.failed sink.new ≡ W.failed sink.old) }
+    ensures failures { CountsFor WriteFailed result (W.failed sink.old) (W.failed sink.new) }
     ensures same_device { W.name sink.new ≡ W.name sink.old }
 {
     match write_whole(sink, bytes) {
@@ -49,11 +44,7 @@ pub(crate) fn send_reply<W: Sink>(
         (reply_text (reply_model reply) head_only close)) }
     ensures err { IfErr result (λ cause. Partly cause (W.contents sink.old) (W.contents sink.new)
         (reply_text (reply_model reply) head_only close)) }
-    ensures calm { OnOk result (W.failed sink.new ≡ W.failed sink.old) }
-    ensures counts { IfErr result (λ cause. cause ≡ WriteFailed
-        → FailsAfter (W.failed sink.old) (W.failed sink.new)) }
-    ensures spared { IfErr result (λ cause. cause ≢ WriteFailed
-        → W.failed sink.new ≡ W.failed sink.old) }
+    ensures failures { CountsFor WriteFailed result (W.failed sink.old) (W.failed sink.new) }
     ensures same_device { W.name sink.new ≡ W.name sink.old }
 {
     let Ok(bytes) = reply_bytes(alloc, &reply, head_only, close) else {
@@ -73,11 +64,7 @@ pub(crate) fn send_refusal<W: Sink>(
         (reply_text (answer_to (refused refusal.now)) head_only true)) }
     ensures err { IfErr result (λ cause. Partly cause (W.contents sink.old) (W.contents sink.new)
         (reply_text (answer_to (refused refusal.now)) head_only true)) }
-    ensures calm { OnOk result (W.failed sink.new ≡ W.failed sink.old) }
-    ensures counts { IfErr result (λ cause. cause ≡ WriteFailed
-        → FailsAfter (W.failed sink.old) (W.failed sink.new)) }
-    ensures spared { IfErr result (λ cause. cause ≢ WriteFailed
-        → W.failed sink.new ≡ W.failed sink.old) }
+    ensures failures { CountsFor WriteFailed result (W.failed sink.old) (W.failed sink.new) }
     ensures same_device { W.name sink.new ≡ W.name sink.old }
 {
     let Ok(reply) = reply_of(alloc, refusal) else {

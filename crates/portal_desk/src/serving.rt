@@ -6,11 +6,11 @@ ghost use Rattle.std.specs.Io.KnownBytes.{Appends};
 ghost use Rattle.portal_frame.specs.Stream.{seen, is_head};
 ghost use Rattle.portal_wire.specs.Conversation.{Exchange, request_of, closes_at, last, reply_text};
 ghost use Rattle.portal_wire.specs.inner.Calls.{last_for};
-ghost use Rattle.portal_desk.specs.Kept.{AtFirst, Blames, FailsAfter, FailsByCount, IsMoved};
+ghost use Rattle.portal_desk.specs.Kept.{AtFirst, Blames, FailsByCount, IsMoved};
 ghost use Rattle.portal_desk.specs.Kept.{TakesAtMost, state_of};
 ghost use Rattle.portal_desk.specs.Session.{IsSession, count_of, finish_of};
 ghost use Rattle.portal_desk.specs.Headline.{ServesEach};
-ghost use Rattle.portal_desk.specs.inner.Turns.{Broke, Replied};
+ghost use Rattle.portal_desk.specs.inner.Turns.{Broke, CountsFor, Replied};
 ghost use Rattle.portal_desk.specs.declared.served.Cause.TheVariants.{Read as ReadFailed};
 ghost use Rattle.portal_desk.specs.declared.served.Cause.TheVariants.{Write as WriteFailed};
 ghost use Rattle.portal_desk.specs.declared.served.Cause.TheVariants.{Store as StoreFailed};
@@ -51,11 +51,7 @@ impl<K: Keeper> Desk<K> {
             (λ reply. Broke cause self.new.failed reply (is_head request.now.method.items) closes
             (W.contents sink.old) (W.contents sink.new))) }
         ensures stays { self.old.failed ≡ true → self.new ≡ self.old }
-        ensures calm { OnOk result (W.failed sink.new ≡ W.failed sink.old) }
-        ensures blames { IfErr result (λ cause. cause ≡ WriteFailed
-            → FailsAfter (W.failed sink.old) (W.failed sink.new)) }
-        ensures spared { IfErr result (λ cause. cause ≢ WriteFailed
-            → W.failed sink.new ≡ W.failed sink.old) }
+        ensures failures { CountsFor WriteFailed result (W.failed sink.old) (W.failed sink.new) }
         ensures counts { FailsByCount self.old.failed self.new.failed (K.faults self.old.keeper)
             (K.faults self.new.keeper) }
         ensures unread { IfErr result (λ cause. cause ≢ ReadFailed) }

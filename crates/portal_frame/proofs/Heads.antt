@@ -1,6 +1,7 @@
 -- Heads at the front of a stream, cut and continued.
-use Rattle.portal_frame.proofs.Base.{◌≡◌, ℕ, ◌+◌, ◌-◌, ◌<◌, ◌≤◌, inl, inr, Bool, true, false, List, [], ◌∷◌, ◌++◌, length, take, drop, refl, sym, ap, ◌∙◌, arith, rules, append_assoc, subst, ◌==◌, ◌&&◌, if◌then◌else◌, Ok, Result, eqb-true, common_steps, take-append-drop, length-append, IsTrue, nat_lt, nat_le, RequestHead, IsRequestHead, HasNoRequest, print_request, LineEnd, lf, crlf, print_blank, print_version, is_token_byte, is_uri_byte, Field, IsField, RequestOverflows, Fault, body_length, bad_head, Asked, whole, fault, asked_of, fields_of, Opens, headless, is_blank, header_bytes, map, append-nil, ◌||◌, min, le-leb, cases_lt, take-append-le, drop-append-le, drop-drop, length-take-le, length-take, length-map, take_all, All-cons, All-nil, ReadsRequest, ReadsRequest-append, print_request-append, Refuses, bad_length, Takes, HasNoHead, over, after_lines, is_head, IsHead, IsRequestAt, IsRequestWithin, name_and_value, LONGEST_HEAD}
+use Rattle.portal_frame.proofs.Base.{◌≡◌, ℕ, ◌+◌, ◌-◌, ◌<◌, ◌≤◌, inl, inr, true, false, List, [], ◌∷◌, ◌++◌, length, take, drop, refl, sym, ap, ◌∙◌, arith, rules, append_assoc, subst, ◌==◌, ◌&&◌, Ok, eqb-true, common_steps, take-append-drop, length-append, IsTrue, nat_lt, nat_le, RequestHead, IsRequestHead, HasNoRequest, print_request, LineEnd, lf, crlf, print_blank, print_version, is_token_byte, is_uri_byte, IsField, RequestOverflows, body_length, bad_head, whole, fault, asked_of, fields_of, Opens, is_blank, append-nil, min, le-leb, cases_lt, take-append-le, drop-append-le, drop-drop, length-take-le, length-take, length-map, take_all, All-cons, All-nil, ReadsRequest, ReadsRequest-append, print_request-append, Takes, HasNoHead, IsHead, IsRequestAt, IsRequestWithin, LONGEST_HEAD}
 use Rattle.std.proofs.Math.Seq.{take-append-add}
+use Rattle.std.proofs.lemmas.Bool.{and_parts, cases_Bool, or_cases}
 use Rattle.std.specs.Char.{encode_utf8}
 use Rattle.httparse.specs.declared.spans.HeaderSpan.{HeaderSpan}
 use Rattle.httparse.specs.declared.spans.RequestSpans.{RequestSpans}
@@ -13,12 +14,10 @@ Takes-append bytes more h rest t = record {
   short = t.short;
 }
 
-split_number : (n k : ℕ) → k ≤ n → n ≡ k + (n - k)
-split_number n k le = omega (arith, le)
-
 cut : (n : ℕ) (bytes p rest : List ℕ) → bytes ≡ p ++ rest → length p ≤ n → take n bytes ≡ p ++ take (n - length p) rest
 cut n bytes p rest e le =
-    ap (take n) e ∙ (ap (λ k. take k (p ++ rest)) (split_number n (length p) le) ∙ take-append-add p rest (n - length p))
+    let split : n ≡ length p + (n - length p) = omega (arith, le) in
+    ap (take n) e ∙ (ap (λ k. take k (p ++ rest)) split ∙ take-append-add p rest (n - length p))
 
 pub none_so_far : (bytes : List ℕ) → HasNoRequest (take LONGEST_HEAD bytes) → HasNoHead bytes
 none_so_far bytes none h rest t =
@@ -48,28 +47,21 @@ none_now bytes overflows = subst HasNoHead (append-nil bytes) (none_ever bytes [
 abbrev GoesOn : List ℕ → Type 0
 GoesOn bytes = (more : List ℕ) × (ends : List LineEnd) × (bytes ++ more ≡ print_blank ends)
 
-last_byte : (b : ℕ) (is_lf is_cr : Bool) → (b == 10) ≡ is_lf → (b == 13) ≡ is_cr → (is_lf || is_cr) ≡ true → GoesOn (b ∷ [])
-last_byte b true is_cr f g h = ([], lf ∷ [], ap (λ x. x ∷ []) (eqb-true b 10 f))
-last_byte b false true f g h = (10 ∷ [], crlf ∷ [], ap (λ x. x ∷ 10 ∷ []) (eqb-true b 13 g))
-last_byte b false false f g h = absurd (cc)
-
-two_bytes : (b c : ℕ) (bytes : List ℕ) (is_lf is_cr then_lf : Bool) → (b == 10) ≡ is_lf → (b == 13) ≡ is_cr → (c == 10) ≡ then_lf
-    → (is_blank (c ∷ bytes) ≡ true → GoesOn (c ∷ bytes)) → (is_blank bytes ≡ true → GoesOn bytes)
-    → (if is_lf then is_blank (c ∷ bytes) else (is_cr && then_lf && is_blank bytes)) ≡ true → GoesOn (b ∷ c ∷ bytes)
-two_bytes b c bytes true is_cr then_lf f g k one two h =
-    let r = one h in
-    (r.0, lf ∷ r.1, ap (λ x. x ∷ ((c ∷ bytes) ++ r.0)) (eqb-true b 10 f) ∙ ap (λ xs. 10 ∷ xs) r.2)
-two_bytes b c bytes false true true f g k one two h =
-    let r = two h in
-    (r.0, crlf ∷ r.1, ap (λ x. x ∷ c ∷ (bytes ++ r.0)) (eqb-true b 13 g) ∙ (ap (λ x. 13 ∷ x ∷ (bytes ++ r.0)) (eqb-true c 10 k) ∙ ap (λ xs. 13 ∷ 10 ∷ xs) r.2))
-two_bytes b c bytes false true false f g k one two h = absurd (cc)
-two_bytes b c bytes false false then_lf f g k one two h = absurd (cc)
-
 blank_ends : (bytes : List ℕ) → is_blank bytes ≡ true → GoesOn bytes
 blank_ends [] e = ([], [], refl)
-blank_ends (b ∷ []) e = last_byte b (b == 10) (b == 13) refl refl e
-blank_ends (b ∷ c ∷ bytes) e =
-    two_bytes b c bytes (b == 10) (b == 13) (c == 10) refl refl refl (blank_ends (c ∷ bytes)) (blank_ends bytes) e
+blank_ends (b ∷ []) e = elim (or_cases (b == 10) (b == 13) e) [
+  | inl is_lf ↦ ([], lf ∷ [], ap (λ x. x ∷ []) (eqb-true b 10 is_lf))
+  | inr is_cr ↦ (10 ∷ [], crlf ∷ [], ap (λ x. x ∷ 10 ∷ []) (eqb-true b 13 is_cr))
+]
+blank_ends (b ∷ c ∷ bytes) e = elim (cases_Bool (b == 10)) [
+  | inl is_lf ↦ let r = blank_ends (c ∷ bytes) (rw is_lf at e) in
+      (r.0, lf ∷ r.1, ap (λ x. x ∷ ((c ∷ bytes) ++ r.0)) (eqb-true b 10 is_lf) ∙ ap (λ xs. 10 ∷ xs) r.2)
+  | inr other ↦
+      let both = and_parts (b == 13 && c == 10) (is_blank bytes) (rw other at e) in
+      let ends = and_parts (b == 13) (c == 10) both.0 in
+      let r = blank_ends bytes both.1 in
+      (r.0, crlf ∷ r.1, ap (λ x. x ∷ c ∷ (bytes ++ r.0)) (eqb-true b 13 ends.0) ∙ (ap (λ x. 13 ∷ x ∷ (bytes ++ r.0)) (eqb-true c 10 ends.1) ∙ ap (λ xs. 13 ∷ 10 ∷ xs) r.2))
+]
 
 abbrev least : List LineEnd → RequestHead
 least ends = record { blank = ends; method = 71 ∷ []; target = 47 ∷ []; minor = 1; line_end = lf; fields = []; last = lf }
@@ -101,69 +93,36 @@ never_blank bytes overflows blank =
     let over : 32 < 0 = overflows (r.0 ++ tail_of_least) (least r.1) [] (least_reads bytes r.0 r.1 r.2) in
     omega (arith, over)
 
-not_over : (bytes : List ℕ) (b : Bool) → is_blank bytes ≡ b → (is_blank bytes ≡ true → ⊥) → headless bytes ≡ fault bad_head false
-not_over bytes true e never = absurd (never e)
-not_over bytes false e never = ap (λ b. if b && nat_lt (length bytes) LONGEST_HEAD then over else fault bad_head false) e
-
 -- no head can come: the stream is refused, however it goes on
 pub opens_never : (bytes more : List ℕ) → RequestOverflows 32 bytes → Opens (bytes ++ more) (fault bad_head false)
-opens_never bytes more overflows =
-    inr (none_ever bytes more overflows, sym (not_over (bytes ++ more) _ refl (never_blank (bytes ++ more) (overflows_on bytes more overflows))))
-
--- what is refused, by the refusal that is told
-pub as_told : (bytes : List ℕ) (given wanted : Refuses) (head_only : Bool) → given ≡ wanted
-    → Opens bytes (fault wanted head_only) → Opens bytes (fault given head_only)
-as_told bytes given wanted head_only e opens = subst (λ r. Opens bytes (fault r head_only)) (sym e) opens
+opens_never bytes more overflows = inr (
+  none_ever bytes more overflows,
+  elim (cases_Bool (is_blank (bytes ++ more))) [
+    | inl blank ↦ absurd (never_blank (bytes ++ more) (overflows_on bytes more overflows) blank)
+    | inr other ↦ rw other
+  ],
+)
 
 -- the longest head is passed, and none stands there
 pub opens_full : (bytes more : List ℕ) → HasNoHead (bytes ++ more) → LONGEST_HEAD ≤ length bytes → Opens (bytes ++ more) (fault bad_head false)
 opens_full bytes more none full =
-    inr (none, sym (too_long (bytes ++ more) (is_blank (bytes ++ more)) (lt-leb-not bytes more full)))
-  where
-    lt-leb-not : (bytes more : List ℕ) → LONGEST_HEAD ≤ length bytes → nat_lt (length (bytes ++ more)) LONGEST_HEAD ≡ false
-    lt-leb-not bytes more full = rw (length-append bytes more) (grind (arith, common_steps, full))
-
-    too_long : (bytes : List ℕ) (blank : Bool) → nat_lt (length bytes) LONGEST_HEAD ≡ false
-        → (if blank && nat_lt (length bytes) LONGEST_HEAD then over else fault bad_head false) ≡ fault bad_head false
-    too_long bytes true e = ap (λ b. if b then over else fault bad_head false) e
-    too_long bytes false e = refl
+    let long : nat_lt (length (bytes ++ more)) LONGEST_HEAD ≡ false = rw (length-append bytes more) (grind (arith, common_steps, full)) in
+    inr (none, elim (cases_Bool (is_blank (bytes ++ more))) [ inl blank ↦ rw (blank, long) | inr other ↦ rw other ])
 
 -- ---- after a head
-
--- the item for a length that the head announces
-sized : (h : RequestHead) (n : ℕ) (rest : List ℕ) (enough : Bool) → nat_le n (length rest) ≡ enough
-    → after_lines h (Ok n) rest ≡ (if enough then whole (asked_of h (take n rest)) (drop n rest) else fault bad_length (is_head h.method))
-sized h n rest enough e = ap (λ b. if b then whole (asked_of h (take n rest)) (drop n rest) else fault bad_length (is_head h.method)) e
 
 pub after_whole : (bytes more : List ℕ) (h : RequestHead) (len n : ℕ) → Takes bytes h (drop len bytes)
     → body_length h.minor (fields_of h) ≡ Ok n → n ≤ length (drop len bytes)
     → Opens (bytes ++ more) (whole (asked_of h (take n (drop len bytes))) (drop (len + n) bytes ++ more))
 after_whole bytes more h len n t e enough =
     let rest = drop len bytes in
+    let fits : nat_le n (length (rest ++ more)) ≡ true = le-leb n (length (rest ++ more)) (rw (length-append rest more) (omega (arith, enough))) in
     inl (
       h,
       rest ++ more,
       Takes-append bytes more h rest t,
-      sym (
-          ap (λ r. after_lines h r (rest ++ more)) e
-          ∙ (sized h n (rest ++ more) true (le-leb n (length (rest ++ more)) (longer n rest more enough))
-          ∙ (ap (λ body. whole (asked_of h body) (drop n (rest ++ more))) (take-append-le n rest more enough)
-          ∙ ap (whole (asked_of h (take n rest))) (drop-append-le n rest more enough ∙ ap (λ xs. xs ++ more) (drop-drop n len bytes))))
-          ),
+      rw (e, fits, take-append-le n rest more enough, drop-append-le n rest more enough, drop-drop n len bytes),
     )
-  where
-    longer : (n : ℕ) (rest more : List ℕ) → n ≤ length rest → n ≤ length (rest ++ more)
-    longer n rest more le = rw (length-append rest more) (omega (arith, le))
-
--- the lines as the spans have them
-pub lines_same : (bytes front : List ℕ) (spans : RequestSpans) (headers : List HeaderSpan) (h : RequestHead) (r : Result ℕ Fault)
-    → IsHead bytes front spans headers h → body_length spans.version (map (header_bytes front) headers) ≡ r
-    → body_length h.minor (fields_of h) ≡ r
-lines_same bytes front spans headers h r x e =
-    ap (λ v. body_length v (fields_of h)) (sym x.version) ∙ (ap (body_length spans.version) (sym x.lines) ∙ e)
-
-pub same_asked : (a b : Asked) → a.method ≡ b.method → a.path ≡ b.path → a.code ≡ b.code → a.close ≡ b.close → a.body ≡ b.body → a ≡ b
-same_asked a b m p c l d = λ i. record { method = m i; path = p i; code = c i; close = l i; body = d i }
 
 reads_whole : (bytes front back : List ℕ) (len : ℕ) (h : RequestHead) → front ++ back ≡ bytes → len ≤ length front
     → ReadsRequest front h (drop len front) → ReadsRequest bytes h (drop len bytes)
@@ -179,14 +138,8 @@ pub head_of : (bytes front back : List ℕ) (headers : List HeaderSpan) (spans :
 head_of bytes front back headers spans h e short few at within =
     let fits : spans.len ≤ length front = within.section.len_fits in
     let len : length bytes ≡ length front + length back = ap length (sym e) ∙ length-append front back in
-    let count : length h.fields ≤ 32 =
-    omega (
-      arith,
-      few,
-      within.section.count_fits,
-      length-take-le spans.headers headers within.section.count_fits,
-      same_length _ _ _ at.fields,
-    ) in
+    let same = simp length-map at (ap length at.fields) in
+    let count : length h.fields ≤ 32 = omega (arith, few, within.section.count_fits, length-take-le spans.headers headers within.section.count_fits, same) in
     record {
       takes = record {
         reads = reads_whole bytes front back spans.len h e fits at.reads;
@@ -205,10 +158,6 @@ head_of bytes front back headers spans h e short few at within =
           let w = within.section.headers_fit k d lt in
           ((w.0.0, omega (arith, fits, w.0.1)), (w.1.0, omega (arith, fits, w.1.1)));
     }
-  where
-    same_length : (front : List ℕ) (hs : List HeaderSpan) (fs : List Field)
-        → map (header_bytes front) hs ≡ map name_and_value fs → length hs ≡ length fs
-    same_length front hs fs e = sym (length-map hs (header_bytes front)) ∙ (ap length e ∙ length-map fs name_and_value)
 
 pub front_is : (n : ℕ) (bytes : List ℕ) → n ≡ min (length bytes) LONGEST_HEAD → take n bytes ≡ take LONGEST_HEAD bytes
 front_is n bytes e = elim (cases_lt (length bytes) LONGEST_HEAD) [

@@ -1,18 +1,15 @@
 -- How long what is waited for can be.
-use Rattle.portal_frame.proofs.Base.{◌≡◌, ℕ, ◌+◌, ◌<◌, ◌≤◌, Bool, true, false, List, [], ◌∷◌, ◌++◌, length, refl, arith, Result, Ok, if◌then◌else◌, nat_lt, codes, digits_value, length-append, RequestHead, print_request, print_section, print_end, print_version, print_blank, Fault, values_of, body_length, fields_of, Err, ltb-false, is_length, has_bad_host, has_any, length_of, LONGEST_BODY, LONGEST_HEAD, LONGEST_REQUEST}
+use Rattle.portal_frame.proofs.Base.{◌≡◌, ℕ, ◌+◌, ◌<◌, ◌≤◌, Bool, true, false, List, [], ◌∷◌, length, refl, arith, Result, Ok, if◌then◌else◌, nat_lt, codes, digits_value, length-append, RequestHead, print_request, Fault, values_of, body_length, fields_of, Err, ltb-false, is_length, has_bad_host, has_any, length_of, LONGEST_BODY, LONGEST_HEAD, LONGEST_REQUEST}
 use Rattle.portal_frame.specs.declared.types.Fault.TheVariants as faults
-
-ok_same : (d n : ℕ) → ◌≡◌ {A = Result ℕ Fault} (Ok d) (Ok n) → d ≡ n
-ok_same d n e = cc
 
 pick : (is_len over : Bool) (d n : ℕ) → nat_lt LONGEST_BODY d ≡ over
     → ◌≡◌ {A = Result ℕ Fault} (if is_len then (if over then Err faults.TooLarge else Ok d) else Err faults.BadLength) (Ok n) → n ≤ LONGEST_BODY
 pick true true d n o e = absurd (cc)
-pick true false d n o e = omega (arith, ok_same d n e, ltb-false LONGEST_BODY d o)
+pick true false d n o e = let same : d ≡ n = cc in omega (arith, same, ltb-false LONGEST_BODY d o)
 pick false over d n o e = absurd (cc)
 
 length_of-le : (values : List (List ℕ)) (n : ℕ) → length_of values ≡ Ok n → n ≤ LONGEST_BODY
-length_of-le [] n e = omega (arith, ok_same 0 n e)
+length_of-le [] n e = let same : 0 ≡ n = cc in omega (arith, same)
 length_of-le (value ∷ []) n e = pick (is_length value) (nat_lt LONGEST_BODY (digits_value 10 value)) (digits_value 10 value) n refl e
 length_of-le (value ∷ other ∷ values) n e = absurd (cc)
 
@@ -26,17 +23,9 @@ pub body_length-le : (minor : ℕ) (lines : List (List ℕ × List ℕ)) (n : �
 body_length-le minor lines n e =
     after_host (has_bad_host minor (values_of (codes "host") lines)) (has_any (values_of (codes "transfer-encoding") lines)) (values_of (codes "content-length") lines) n e
 
-some_left : (xs ys : List ℕ) → 0 < length xs → 0 < length (xs ++ ys)
-some_left xs ys some = rw (length-append xs ys) (omega (arith, some))
-
-some_right : (xs ys : List ℕ) → 0 < length ys → 0 < length (xs ++ ys)
-some_right xs ys some = rw (length-append xs ys) (omega (arith, some))
-
 head-some : (h : RequestHead) → 0 < length (print_request h)
 unfolding print_request
-head-some h =
-    some_left _ (print_section h.fields h.last) (some_left _ (print_end h.line_end) (some_left _ (32 ∷ print_version h.minor)
-    (some_right (print_blank h.blank ++ h.method) (32 ∷ h.target) (omega arith))))
+head-some h = simp length-append (omega arith)
 
 -- what a request takes
 pub whole-within : (h : RequestHead) (len n : ℕ) → len ≡ length (print_request h) → length (print_request h) ≤ LONGEST_HEAD

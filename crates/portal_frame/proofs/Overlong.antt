@@ -1,5 +1,6 @@
 -- A head of at most 32 fields has an empty line among its first 34.
-use Rattle.portal_frame.proofs.Base.{◌≡◌, ℕ, ◌+◌, ◌<◌, ◌≤◌, Bool, true, false, List, [], ◌∷◌, ◌++◌, length, refl, sym, ap, ◌∙◌, subst, arith, rules, append_assoc, zero-add, if◌then◌else◌, ◌==◌, IsTrue, eqb-true, RequestHead, IsRequestHead, print_request, print_blank, print_end, print_version, print_section, LineEnd, crlf, lf, Field, IsField, is_token_byte, is_uri_byte, RequestOverflows, Opens, fault, bad_head, Leading, Fresh, Inside, lines_from, header_lines, All, flat_map, AllByRecursion, leb-true, All-head, All-tail, print_field, AllPass, is_value_byte, step, stops, counts, is_overlong}
+use Rattle.portal_frame.proofs.Base.{◌≡◌, ℕ, ◌+◌, ◌<◌, ◌≤◌, Bool, true, false, List, [], ◌∷◌, ◌++◌, length, refl, sym, ap, ◌∙◌, subst, arith, rules, append_assoc, zero-add, if◌then◌else◌, ◌==◌, IsTrue, RequestHead, IsRequestHead, print_request, print_blank, print_end, print_version, print_section, LineEnd, crlf, lf, Field, IsField, is_token_byte, is_uri_byte, RequestOverflows, Opens, fault, bad_head, Leading, Fresh, Inside, lines_from, header_lines, All, flat_map, AllByRecursion, leb-true, All-head, All-tail, print_field, AllPass, is_value_byte, step, stops, counts, is_overlong}
+use Rattle.std.proofs.lemmas.Bool.{ne_eqb}
 use Rattle.portal_frame.proofs.Heads.{opens_never}
 use Rattle.portal_frame.specs.declared.counting.At.{At}
 use Rattle.portal_frame.proofs.HeadLines.{counted_is}
@@ -52,30 +53,18 @@ empty_line lf rest = refl
 abbrev pub FieldLines : List Field → Type 0
 FieldLines fields = AllByRecursion (λ f. Starts (f.name ++ 58 ∷ f.raw)) fields
 
-field_text : (f : Field) (rest : List ℕ) → print_field f ++ rest ≡ (f.name ++ 58 ∷ f.raw) ++ (print_end f.end ++ rest)
-field_text f rest = ap (λ xs. xs ++ rest) (append_line f.name f.raw (print_end f.end)) ∙ append_assoc (f.name ++ 58 ∷ f.raw) (print_end f.end) rest
-  where
-    append_line : (a b c : List ℕ) → a ++ 58 ∷ b ++ c ≡ (a ++ 58 ∷ b) ++ c
-    append_line a b c = refl
-
 section_lines : (fields : List Field) (last : LineEnd) (rest : List ℕ) → FieldLines fields
     → lines_from Fresh (print_section fields last ++ rest) ≡ length fields
 section_lines [] last rest lines = empty_line last rest
 section_lines (f ∷ fields) last rest lines =
+    let one_more : 1 + length fields ≡ length (f ∷ fields) = omega arith in
     ap (lines_from Fresh) (append_assoc (print_field f ++ flat_map print_field fields) (print_end last) rest
-    ∙ (append_assoc (print_field f) (flat_map print_field fields) (print_end last ++ rest) ∙ field_text f (flat_map print_field fields ++ (print_end last ++ rest))))
+    ∙ (append_assoc (print_field f) (flat_map print_field fields) (print_end last ++ rest) ∙ append_assoc (f.name ++ 58 ∷ f.raw) (print_end f.end) (flat_map print_field fields ++ (print_end last ++ rest))))
     ∙ (fresh (f.name ++ 58 ∷ f.raw) f.end (flat_map print_field fields ++ (print_end last ++ rest)) lines.0
-    ∙ ap (λ n. 1 + n) (ap (lines_from Fresh) (sym (append_assoc (flat_map print_field fields) (print_end last) rest)) ∙ section_lines fields last rest lines.1) ∙ one_more f fields)
-  where
-    one_more : (f : Field) (fields : List Field) → 1 + length fields ≡ length (f ∷ fields)
-    one_more f fields = omega arith
+    ∙ ap (λ n. 1 + n) (ap (lines_from Fresh) (sym (append_assoc (flat_map print_field fields) (print_end last) rest)) ∙ section_lines fields last rest lines.1) ∙ one_more)
 
 shape : (b m t v e s r : List ℕ) → (b ++ m ++ t ++ v ++ e ++ s) ++ r ≡ b ++ ((m ++ t ++ v) ++ (e ++ (s ++ r)))
-shape b m t v e s r =
-    append_assoc (b ++ m ++ t ++ v ++ e) s r
-    ∙ (append_assoc (b ++ m ++ t ++ v) e (s ++ r)
-    ∙ (ap (λ x. x ++ (e ++ (s ++ r))) (ap (λ x. x ++ v) (append_assoc b m t) ∙ append_assoc b (m ++ t) v)
-    ∙ append_assoc b (m ++ t ++ v) (e ++ (s ++ r))))
+shape b m t v e s r = simp append_assoc
 
 -- the start line and the field lines are no empty lines
 pub record IsLined (h : RequestHead) : Type 0 where
@@ -94,42 +83,28 @@ lines_counted h rest lined =
 
 -- from tests of each byte
 
-differs : (test : ℕ → Bool) (x c : ℕ) (b : Bool) → IsTrue (test x) → test c ≡ false → x == c ≡ b → b ≡ false
-differs test x c true yes_x not e = absurd (never (test c) (subst (λ z. IsTrue (test z)) (eqb-true x c e) yes_x) not)
-  where
-    never : (b : Bool) → IsTrue b → b ≡ false → ⊥
-    never true t f = absurd (cc)
-    never false t f = absurd (search (rules, t))
-differs test x c false yes_x not e = refl
+differs : (test : ℕ → Bool) (x c : ℕ) → IsTrue (test x) → test c ≡ false → x == c ≡ false
+differs test x c yes_x not = ne_eqb x c (λ e. let never : IsTrue false = rw (e, not) at yes_x in search (rules, never))
 
 no_lf : (test : ℕ → Bool) (xs : List ℕ) → AllPass test xs → test 10 ≡ false → NoLf xs
 no_lf test [] all not = tt
 no_lf test (x ∷ xs) all not =
-    (differs test x 10 (x == 10) (All-head (λ b. IsTrue (test b)) x xs all) not refl, no_lf test xs (All-tail (λ b. IsTrue (test b)) x xs all) not)
-
-token_lf : is_token_byte 10 ≡ false
-unfolding is_token_byte
-token_lf = refl
-
-token_cr : is_token_byte 13 ≡ false
-unfolding is_token_byte
-token_cr = refl
+    (differs test x 10 (All-head (λ b. IsTrue (test b)) x xs all) not, no_lf test xs (All-tail (λ b. IsTrue (test b)) x xs all) not)
 
 starts : (name more : List ℕ) → 0 < length name → AllPass is_token_byte name → NoLf more → Starts (name ++ more)
+unfolding is_token_byte
 starts [] more some all none = absurd (omega (arith, some))
 starts (x ∷ xs) more some all none =
     let first = All-head (λ b. IsTrue (is_token_byte b)) x xs all in (
-      differs is_token_byte x 10 (x == 10) first token_lf refl,
-      differs is_token_byte x 13 (x == 13) first token_cr refl,
-      no_lf-append xs more (no_lf is_token_byte xs (All-tail (λ b. IsTrue (is_token_byte b)) x xs all) token_lf) none,
+      differs is_token_byte x 10 first refl,
+      differs is_token_byte x 13 first refl,
+      no_lf-append xs more (no_lf is_token_byte xs (All-tail (λ b. IsTrue (is_token_byte b)) x xs all) refl) none,
     )
 
 version_lf : (minor : ℕ) → minor ≤ 1 → NoLf (32 ∷ print_version minor)
-version_lf minor le = (refl, (refl, (refl, (refl, (refl, (refl, (refl, (refl, (last minor le (48 + minor == 10) refl, tt)))))))))
-  where
-    last : (minor : ℕ) → minor ≤ 1 → (b : Bool) → (48 + minor == 10) ≡ b → (48 + minor == 10) ≡ false
-    last minor le true e = absurd (omega (arith, eqb-true (48 + minor) 10 e))
-    last minor le false e = e
+version_lf minor le =
+    let digit : 48 + minor == 10 ≡ false = ne_eqb (48 + minor) 10 (λ e. omega (arith, le, e)) in
+    (refl, (refl, (refl, (refl, (refl, (refl, (refl, (refl, (digit, tt)))))))))
 
 field_lines : (fields : List Field) → All IsField fields → FieldLines fields
 field_lines [] all = tt

@@ -43,10 +43,14 @@ has_bad_host minor (value ∷ other ∷ values) = true
 abbrev pub is_length : List ℕ → Bool
 is_length value = nat_lt 0 (length value) && nat_le (length value) 18 && list_all is_ascii_digit value
 
+-- the bytes before the first one that equals `end`, or all if none does
+abbrev pub up_to : ℕ → List ℕ → List ℕ
+up_to end [] = []
+up_to end (b ∷ bytes) = if b == end then [] else b ∷ up_to end bytes
+
 -- the target up to its first question mark
 abbrev pub path_of : List ℕ → List ℕ
-path_of [] = []
-path_of (b ∷ target) = if b == 63 then [] else b ∷ path_of target
+path_of target = up_to 63 target
 
 abbrev pub is_nothing : List ℕ → Bool
 is_nothing [] = true
@@ -58,8 +62,7 @@ is_close part = same_name (take 5 (skip_ows part)) (codes "close") && is_nothing
 
 -- the value up to its first comma
 abbrev pub before_comma : List ℕ → List ℕ
-before_comma [] = []
-before_comma (b ∷ bytes) = if b == 44 then [] else b ∷ before_comma bytes
+before_comma value = up_to 44 value
 
 -- some part after a comma is `close`
 abbrev pub later_close : List ℕ → Bool

@@ -3,9 +3,10 @@
 ghost use Rattle.std.specs.Prelude.{◌≡◌, length, map, All, codes};
 ghost use Rattle.httparse.specs.Grammar.{skip_ows};
 ghost use Rattle.httparse.specs.Spans.{IsHeaderWithin, header_bytes};
-ghost use Rattle.portal_frame.specs.Stream.{same_name, values_of, is_close, has_close, asks_close};
-ghost use Rattle.portal_frame.specs.Stream.{before_comma, closes_after};
+ghost use Rattle.portal_frame.specs.Stream.{values_of, is_close, has_close, asks_close};
+ghost use Rattle.portal_frame.specs.Stream.{closes_after};
 
+use crate::values::{is_named, up_to};
 use httparse::spans::HeaderSpan;
 
 /// Skips leading spaces and tabs, to find the word `close` in a header.
@@ -34,40 +35,21 @@ fn is_close_part(part: &[u8]) -> bool
     word.eq_ignore_ascii_case(b"close") && skip(after).is_empty()
 }
 
-/// Returns the part of a `Connection` header before the first comma, or all if there is none.
-fn part_of(value: &[u8]) -> &[u8]
-    ensures { result.now ≡ before_comma value.now }
-{
-    let mut at = 0;
-    while at < value.len() && value[at] != b',' {
-        at += 1;
-    }
-    let (part, _) = value.split_at(at);
-    part
-}
-
 /// Returns whether some comma-separated part of a header's value is the word `close`.
 fn has_close_part(value: &[u8]) -> bool
     ensures { result ≡ has_close value.now }
 {
-    if is_close_part(part_of(value)) {
+    if is_close_part(up_to(value, b',')) {
         return true;
     }
     let mut rest = value;
     while let [byte, after @ ..] = rest {
-        if *byte == b',' && is_close_part(part_of(after)) {
+        if *byte == b',' && is_close_part(up_to(after, b',')) {
             return true;
         }
         rest = after;
     }
     false
-}
-
-/// Returns whether a header's name is `Connection` in any case, so that it may ask to close.
-fn is_connection(name: &[u8]) -> bool
-    ensures { result ≡ same_name name.now (codes "connection") }
-{
-    name.eq_ignore_ascii_case(b"connection")
 }
 
 /// Returns whether a `Connection` header asks to close the connection.
@@ -77,7 +59,9 @@ fn asks_to_close(bytes: &[u8], headers: &[HeaderSpan]) -> bool
         (values_of (codes "connection") (map (header_bytes bytes.now) headers.now)) }
 {
     for header in headers {
-        if is_connection(header.name.of(bytes)) && has_close_part(header.value.of(bytes)) {
+        if is_named(header.name.of(bytes), b"connection")
+            && has_close_part(header.value.of(bytes))
+        {
             return true;
         }
     }

@@ -24,28 +24,12 @@ pub(crate) enum At {
 fn step(at: At, byte: u8) -> At
     ensures { result ≡ step_of at byte }
 {
-    match at {
-        At::Leading => {
-            if byte == b'\n' {
-                At::Leading
-            } else if byte == b'\r' {
-                At::LeadingCr
-            } else {
-                At::Inside
-            }
-        }
-        At::LeadingCr => if byte == b'\n' {
-            At::Leading
-        } else {
-            At::Inside
-        },
-        At::Fresh => if byte == b'\r' {
-            At::FreshCr
-        } else {
-            At::Inside
-        },
-        At::FreshCr => At::Inside,
-        At::Inside => if byte == b'\n' { At::Fresh } else { At::Inside },
+    match (at, byte) {
+        (At::Leading, b'\n') | (At::LeadingCr, b'\n') => At::Leading,
+        (At::Leading, b'\r') => At::LeadingCr,
+        (At::Fresh, b'\r') => At::FreshCr,
+        (At::Inside, b'\n') => At::Fresh,
+        _ => At::Inside,
     }
 }
 
@@ -53,11 +37,7 @@ fn step(at: At, byte: u8) -> At
 fn stops(at: At, byte: u8) -> bool
     ensures { result ≡ stops_at at byte }
 {
-    match at {
-        At::Fresh => byte == b'\n',
-        At::FreshCr => byte == b'\n',
-        _ => false,
-    }
+    matches!(at, At::Fresh | At::FreshCr) && byte == b'\n'
 }
 
 /// Returns how many non-empty lines of a head the byte ends: 0 or 1.
@@ -65,11 +45,7 @@ fn counts(at: At, byte: u8) -> usize
     ensures exact { result ≡ counted at byte }
     ensures few { result ≤ 1 }
 {
-    if at == At::Inside && byte == b'\n' {
-        1
-    } else {
-        0
-    }
+    usize::from(at == At::Inside && byte == b'\n')
 }
 
 /// Counts the complete lines of a head, from its first non-empty line to the next empty one.

@@ -17,7 +17,7 @@ use crate::closing::ends_after;
 use crate::counting::is_overlong_head;
 use crate::types::Fault;
 pub use crate::types::{Frame, LONGEST_BODY, LONGEST_HEAD, LONGEST_REQUEST, Refusal, Request};
-use crate::values::{check_lines, code_of, copied, path_in};
+use crate::values::{check_lines, code_of, up_to};
 use httparse::spans::{EMPTY_HEADER_SPAN, HeaderSpan, RequestSpans, parse_request};
 use httparse::{Error, Status};
 use std::alloc::{AllocError, Global};
@@ -49,23 +49,13 @@ fn frame_open(bytes: &[u8], ended: bool) -> Frame
     ensures due { IsDue bytes.now ended result }
     ensures limits { IsWithinLimits bytes.now result }
 {
-    if bytes.len() >= LONGEST_HEAD {
-        return Frame::Bad {
-            refusal: Fault::BadHead.refusal(),
-            head_only: false,
-        };
-    }
-    if is_overlong_head(bytes) {
-        return Frame::Bad {
-            refusal: Fault::BadHead.refusal(),
-            head_only: false,
-        };
-    }
-    if !ended {
-        return Frame::Need;
-    }
-    if is_all_blank(bytes) {
-        return Frame::End;
+    if bytes.len() < LONGEST_HEAD && !is_overlong_head(bytes) {
+        if !ended {
+            return Frame::Need;
+        }
+        if is_all_blank(bytes) {
+            return Frame::End;
+        }
     }
     Frame::Bad {
         refusal: Fault::BadHead.refusal(),
@@ -108,11 +98,11 @@ fn frame_head(
     }
     let (body, _) = rest.split_at(n);
     let request = Request {
-        method: copied(alloc, method)?,
-        path: path_in(alloc, spans.path.of(front))?,
+        method: Vec::from_slice(alloc, method)?,
+        path: Vec::from_slice(alloc, up_to(spans.path.of(front), b'?'))?,
         code: code_of(alloc, front, headers)?,
         close: ends_after(spans.version, front, headers),
-        body: copied(alloc, body)?,
+        body: Vec::from_slice(alloc, body)?,
     };
     Ok(Frame::Request(request, spans.len + n))
 }

@@ -1,9 +1,9 @@
-//! Checks headers; reads body length, caller's code and path; copies method and body.
+//! Checks headers; reads body length and caller's code; cuts values.
 
 ghost use Rattle.std.specs.Prelude.{◌≡◌, length, map, All, IfOk, codes, ◌∷◌, []};
 ghost use Rattle.httparse.specs.Spans.{IsHeaderWithin, header_bytes};
-ghost use Rattle.portal_frame.specs.Stream.{same_name, values_of, only, path_of, length_of};
-ghost use Rattle.portal_frame.specs.Stream.{body_length};
+ghost use Rattle.portal_frame.specs.Stream.{same_name, values_of, only, length_of};
+ghost use Rattle.portal_frame.specs.Stream.{body_length, up_to as bytes_up_to};
 ghost use Rattle.portal_frame.specs.inner.Counting.{IsFound};
 
 use crate::types::{Fault, LONGEST_BODY};
@@ -19,10 +19,22 @@ pub(crate) enum Found<'b> {
 }
 
 /// Returns whether two header names are equal, ignoring case.
-fn is_named(name: &[u8], wanted: &[u8]) -> bool
+pub(crate) fn is_named(name: &[u8], wanted: &[u8]) -> bool
     ensures { result ≡ same_name name.now wanted.now }
 {
     name.eq_ignore_ascii_case(wanted)
+}
+
+/// Returns the bytes before the first one that equals `end`, or all if none does.
+pub(crate) fn up_to(bytes: &[u8], end: u8) -> &[u8]
+    ensures { result.now ≡ bytes_up_to end bytes.now }
+{
+    let mut at = 0;
+    while at < bytes.len() && bytes[at] != end {
+        at += 1;
+    }
+    let (front, _) = bytes.split_at(at);
+    front
 }
 
 /// Finds the values of the headers with this name.
@@ -102,25 +114,4 @@ pub(crate) fn code_of(
         Found::One(value) => Vec::from_slice(alloc, value),
         _ => Ok(Vec::new(alloc)),
     }
-}
-
-/// Copies the bytes of a request's method or body to a new vector.
-pub(crate) fn copied(alloc: Global, bytes: &[u8]) -> Result<Vec<u8>, AllocError>
-    ensures { IfOk result (λ copy. copy.items ≡ bytes.now) }
-{
-    Vec::from_slice(alloc, bytes)
-}
-
-/// Copies the request target up to its first question mark.
-pub(crate) fn path_in(alloc: Global, target: &[u8]) -> Result<Vec<u8>, AllocError>
-    ensures { IfOk result (λ path. path.items ≡ path_of target.now) }
-{
-    let mut path = Vec::new(alloc);
-    for byte in target {
-        if *byte == b'?' {
-            return Ok(path);
-        }
-        path.push(*byte)?;
-    }
-    Ok(path)
 }

@@ -60,9 +60,7 @@ struct Listening<'a, T> {
 
 impl<'a, T: Clock + AllocGlobal> Connections for Listening<'a, T> {
     fn serve_next<K: Keeper>(&mut self, desk: &mut Desk<K>) -> Option<Outcome> {
-        let Ok((stream, _)) = self.listener.accept() else {
-            return None;
-        };
+        let (stream, _) = self.listener.accept().ok()?;
         let _ = stream.set_nodelay(true);
         let ended = serve_stream(self.rt, &stream, desk);
         let failed = desk.failed();

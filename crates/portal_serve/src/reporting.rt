@@ -32,10 +32,7 @@ fn told(alloc: Global, view: &View) -> Result<Vec<u8>, KeepFault>
     let View::Office(office) = view else {
         return Err(KeepFault::Store);
     };
-    match text_of(alloc, office) {
-        Ok(text) => Ok(text),
-        Err(_) => Err(KeepFault::Memory),
-    }
+    text_of(alloc, office).map_err(|_| KeepFault::Memory)
 }
 
 /// Returns the office's report on a keeper's world; `office` has to be the office's code.

@@ -1,7 +1,7 @@
 -- Names from below that the proofs use.
 unfoldable pub use Rattle.matchit.proofs.OnLiterals.{matchit_on_literals}
 unfoldable pub use Rattle.portal_wire.specs.Wish.{route_at, the_paths}
-unfoldable pub use Rattle.portal_wire.specs.inner.RouteRows.{own_rows, roll_route_rows, the_rows}
+unfoldable pub use Rattle.portal_wire.specs.inner.RouteRows.{the_rows}
 pub use lib.Pointwise.{bytes_decides}
 pub use Rattle.std.proofs.Common.{Bool, List, [], ap, arith, drop, false, length, map, refl, rules, subst, suc, sym, true, zero, ℕ, ◌++◌, ◌-◌, ◌<◌, ◌∙◌, ◌∷◌, ◌≡◌, ◌≤◌, cond, inl, inr, take, append_assoc, below_more}
 pub use Rattle.std.proofs.lemmas.Bool.{ne_eqb, and_parts, ltb-true, eqb-true, eq-eqb}

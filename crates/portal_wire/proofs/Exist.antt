@@ -1,6 +1,7 @@
 -- A stream has requests, an ending and its text, if something stands at the front of each rest.
-use Rattle.portal_wire.proofs.Base.{◌≡◌, ℕ, zero, suc, ◌-◌, ◌<◌, ◌≤◌, Bool, true, false, List, [], ◌∷◌, ◌++◌, length, drop, refl, sym, ap, ◌∙◌, subst, arith, if◌then◌else◌, MatchBool, Request, Asked, Item, whole, fault, over, Opens, answer_to, reply_text, request_of, closes_at, Rest, more, shut, Leads, Ends, Last, End, Refused, inl, inr, take, append_assoc, Ok, Err, nat_le, ◌||◌, take-append-drop, length-append, asked_of, after_lines, body_length, fields_of, bad_length, bad_head, is_head}
+use Rattle.portal_wire.proofs.Base.{◌≡◌, ℕ, zero, suc, ◌-◌, ◌<◌, ◌≤◌, Bool, true, false, List, [], ◌∷◌, ◌++◌, length, drop, refl, sym, ap, ◌∙◌, subst, arith, if◌then◌else◌, Request, Asked, Item, whole, fault, over, Opens, answer_to, reply_text, request_of, closes_at, Rest, more, shut, Leads, Ends, Last, End, Refused, inl, inr, take, append_assoc, Ok, Err, nat_le, take-append-drop, length-append, asked_of, after_lines, body_length, fields_of, bad_length, bad_head, is_head}
 use Rattle.std.proofs.Math.Seq.{drop-append_seam}
+use Rattle.std.proofs.lemmas.Bool.{both_ways, or_right}
 use Rattle.httparse.specs.Grammar.{RequestHead, print_request}
 use Rattle.portal_wire.specs.inner.Calls.{last_for}
 
@@ -47,13 +48,6 @@ pub shut_ends : (close : Bool) → Ends (shut close) (last_for close) []
 shut_ends true = refl
 shut_ends false = refl
 
-closes : (b close : Bool) (rs : List Request) (rest : Rest) (P : Type 0) → b ≡ true → rs ≡ [] → rest ≡ shut close
-    → MatchBool b ((rs ≡ []) × (rest ≡ shut close)) P
-closes b close rs rest P e f g = subst (λ c. MatchBool c ((rs ≡ []) × (rest ≡ shut close)) P) (sym e) (f, g)
-
-goes_on : (b close : Bool) (rs : List Request) (rest : Rest) (P : Type 0) → b ≡ false → P → MatchBool b ((rs ≡ []) × (rest ≡ shut close)) P
-goes_on b close rs rest P e p = subst (λ c. MatchBool c ((rs ≡ []) × (rest ≡ shut close)) P) (sym e) p
-
 -- a request that closes, or one after which others come
 first : (left : ℕ) (bytes : List ℕ) (a : Asked) (after : List ℕ) (b : Bool) → closes_at left a ≡ b → Opens bytes (whole a after)
     → (b ≡ false → Ended (left - 1) after) → Ended left bytes
@@ -62,7 +56,7 @@ first left bytes a after true e opens later = (
   last_for a.close,
   [],
   shut a.close,
-  (a, after, opens, refl, closes (closes_at left a) a.close [] (shut a.close) (Leads (left - 1) after [] (shut a.close)) e refl refl),
+  (a, after, opens, refl, rw e (refl, refl)),
   shut_ends a.close,
 )
 first left bytes a after false e opens later =
@@ -71,7 +65,7 @@ first left bytes a after false e opens later =
       others.1,
       others.2,
       others.3,
-      (a, after, opens, refl, goes_on (closes_at left a) a.close others.0 others.3 (Leads (left - 1) after others.0 others.3) e others.4),
+      (a, after, opens, refl, rw e others.4),
       others.5,
     )
 
@@ -82,14 +76,10 @@ step left bytes (fault why head_only) opens later =
     ([], Refused why.word, reply_text (answer_to why) head_only true, more bytes, refl, (why, head_only, opens, refl, refl))
 step left bytes (whole a after) opens later = first left bytes a after (closes_at left a) refl opens (λ open'. later a after opens open')
 
-closes_last : (close : Bool) → (close || nat_le 0 1) ≡ false → ⊥
-closes_last true e = cc
-closes_last false e = cc
-
 pub ended : (left : ℕ) (bytes : List ℕ) → Fronts bytes → Ended left bytes
 ended zero bytes fronts =
     let front : (item : Item) × Opens bytes item = fronts [] bytes refl in
-    step zero bytes front.0 front.1 (λ a after opens goes. absurd (closes_last a.close goes))
+    step zero bytes front.0 front.1 (λ a after opens goes. absurd (both_ways (closes_at 0 a) goes (or_right a.close (nat_le 0 1) refl)))
 ended (suc n) bytes fronts =
     let front : (item : Item) × Opens bytes item = fronts [] bytes refl in
     step (suc n) bytes front.0 front.1

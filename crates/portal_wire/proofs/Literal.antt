@@ -1,5 +1,6 @@
 -- A router without parameters is a table of texts.
-use Rattle.portal_wire.proofs.Base.{◌≡◌, ℕ, zero, suc, ◌-◌, Bool, true, false, List, [], ◌∷◌, length, map, refl, ap, ◌∙◌, subst, ◌<◌, ◌≤◌, arith, Option, Some, None, option_map, if◌then◌else◌, IsUtf8, bytes_eq, is_utf8, ne_eqb, IsUtf8-from_is_utf8, is_utf8-from_IsUtf8, RowsOf, Route, the_paths, route_at, the_rows, cond, ◌==◌, ◌&&◌, nat_lt, slice_index, and_parts, ltb-true, eqb-true, IsUtf8-from_ascii, param_token, catch_all_token, step, own, or_else, has_slash, look_up}
+use Rattle.portal_wire.proofs.Base.{◌≡◌, ℕ, zero, suc, ◌-◌, Bool, true, false, List, [], ◌∷◌, length, map, refl, ap, ◌∙◌, subst, ◌<◌, ◌≤◌, arith, Option, Some, None, option_map, if◌then◌else◌, inl, inr, bytes_decides, IsUtf8, bytes_eq, is_utf8, ne_eqb, IsUtf8-from_is_utf8, is_utf8-from_IsUtf8, RowsOf, Route, the_paths, route_at, the_rows, cond, ◌==◌, ◌&&◌, nat_lt, slice_index, and_parts, ltb-true, IsUtf8-from_ascii, param_token, catch_all_token, step, own, or_else, has_slash, look_up}
+use Rattle.std.proofs.lemmas.Bool.{cases_Bool}
 use Rattle.std.specs.List.{list_all}
 use Rattle.matchit.specs.Seek.{seek, param_step}
 use Rattle.portal_wire.specs.inner.RouteRows.{row_of}
@@ -45,12 +46,10 @@ own_is ((x ∷ t, k) ∷ rows) = own_is rows
 find_step : {K : Type 0} (b : ℕ) (path : List ℕ) (rows : RowsOf K) → find path (step b rows) ≡ find (b ∷ path) rows
 find_step b path [] = refl
 find_step b path (([], k) ∷ rows) = find_step b path rows
-find_step b path ((x ∷ t, k) ∷ rows) = either (x == b) (find_step b path rows)
-  where
-    either : (v : Bool) → find path (step b rows) ≡ find (b ∷ path) rows
-        → find path (cond v ((t, k) ∷ step b rows) (step b rows)) ≡ (if v && bytes_eq t path then Some k else find (b ∷ path) rows)
-    either true e = ap (λ o. if bytes_eq t path then Some k else o) e
-    either false e = e
+find_step b path ((x ∷ t, k) ∷ rows) = elim (cases_Bool (x == b)) [
+  | inl same ↦ rw same (ap (λ o. if bytes_eq t path then Some k else o) (find_step b path rows))
+  | inr other ↦ rw other (find_step b path rows)
+]
 
 literal_step : {K : Type 0} (b : ℕ) (rows : RowsOf K) → is_literal rows ≡ true → is_literal (step b rows) ≡ true
 literal_step b [] e = refl
@@ -58,12 +57,8 @@ literal_step b (([], k) ∷ rows) e = literal_step b rows e
 literal_step b ((x ∷ t, k) ∷ rows) e =
     let parts = and_parts (list_all (λ c. nat_lt c 256) (x ∷ t)) (is_literal rows) e in
     let tail = and_parts (nat_lt x 256) (list_all (λ c. nat_lt c 256) t) parts.0 in
-    either (x == b) tail.1 (literal_step b rows parts.1)
-  where
-    either : (v : Bool) → list_all (λ c. nat_lt c 256) t ≡ true → is_literal (step b rows) ≡ true
-        → is_literal (cond v ((t, k) ∷ step b rows) (step b rows)) ≡ true
-    either true e f = ap (λ c. c && is_literal (step b rows)) e ∙ f
-    either false e f = f
+    let rest = literal_step b rows parts.1 in
+    elim (cases_Bool (x == b)) [ inl same ↦ rw (same, tail.1) rest | inr other ↦ rw other rest ]
 
 no_step : {K : Type 0} (token : ℕ) (rows : RowsOf K) → 256 ≤ token → is_literal rows ≡ true → step token rows ≡ []
 no_step token [] high e = refl
@@ -87,35 +82,21 @@ seek_is {K} (b ∷ path) rows e =
 
 map_find : (path : List ℕ) (ps : List (List ℕ × Route)) → option_map (λ r. r.value) (find path (map row_of ps)) ≡ look_up path ps
 map_find path [] = refl
-map_find path (p ∷ ps) = either (bytes_eq p.0 path) (map_find path ps)
-  where
-    either : (v : Bool) → option_map (λ r. r.value) (find path (map row_of ps)) ≡ look_up path ps
-        → option_map (λ r. r.value) (if v then Some ((row_of p).1) else find path (map row_of ps)) ≡ (if v then Some p.1 else look_up path ps)
-    either true e = refl
-    either false e = e
+map_find path (p ∷ ps) = elim (cases_Bool (bytes_eq p.0 path)) [ inl same ↦ rw same | inr other ↦ rw other (map_find path ps) ]
 
 pub first_is : (path : List ℕ) → option_map (λ r. r.value) (seek 0 the_rows path) ≡ route_at path
 unfolding the_rows the_paths route_at
 first_is path = ap (option_map (λ r. r.value)) (seek_is path the_rows refl) ∙ map_find path the_paths
 
 -- a path that is no text is none of these
-same_bytes : (xs ys : List ℕ) → bytes_eq xs ys ≡ true → xs ≡ ys
-same_bytes [] [] e = refl
-same_bytes [] (y ∷ ys) e = absurd (cc)
-same_bytes (x ∷ xs) [] e = absurd (cc)
-same_bytes (x ∷ xs) (y ∷ ys) e =
-    let parts = and_parts (x == y) (bytes_eq xs ys) e in
-    ap (λ z. z ∷ xs) (eqb-true x y parts.0) ∙ ap (λ zs. y ∷ zs) (same_bytes xs ys parts.1)
-
 no_text : (path : List ℕ) (ps : List (List ℕ × Route)) → list_all (λ p. is_utf8 p.0) ps ≡ true → ¬ (IsUtf8 path) → look_up path ps ≡ None
 no_text path [] e never = refl
 no_text path (p ∷ ps) e never =
     let parts = and_parts (is_utf8 p.0) (list_all (λ q. is_utf8 q.0) ps) e in
-    either (bytes_eq p.0 path) refl (no_text path ps parts.1 never)
-  where
-    either : (v : Bool) → bytes_eq p.0 path ≡ v → look_up path ps ≡ None → (if v then Some p.1 else look_up path ps) ≡ None
-    either true same rest = absurd (never (IsUtf8-from_is_utf8 path (subst (λ t. is_utf8 t ≡ true) (same_bytes p.0 path same) (and_parts (is_utf8 p.0) (list_all (λ q. is_utf8 q.0) ps) e).0)))
-    either false same rest = rest
+    elim (cases_Bool (bytes_eq p.0 path)) [
+      | inl same ↦ absurd (never (IsUtf8-from_is_utf8 path (subst (λ t. is_utf8 t ≡ true) ((bytes_decides p.0 path).0 same) parts.0)))
+      | inr other ↦ rw other (no_text path ps parts.1 never)
+    ]
 
 all_text : (ps : List (List ℕ × Route)) → list_all (λ p. list_all (λ b. nat_lt b 128) p.0) ps ≡ true → list_all (λ p. is_utf8 p.0) ps ≡ true
 all_text [] e = refl

@@ -1,64 +1,34 @@
 -- A stream has one list of requests and one ending.
-use Rattle.portal_wire.proofs.Base.{◌≡◌, ℕ, ◌-◌, Bool, true, false, List, [], ◌∷◌, refl, sym, ap, ◌∙◌, subst, MatchBool, Request, Asked, whole, fault, over, Opens, answer_to, reply_text, request_of, closes_at, Rest, more, shut, Leads, Ends, Last, End, Refused, Refuses, Closed, Limit}
+use Rattle.portal_wire.proofs.Base.{◌≡◌, ℕ, ◌-◌, Bool, true, false, List, [], ◌∷◌, refl, sym, ap, ◌∙◌, subst, MatchBool, Request, Asked, whole, Opens, answer_to, reply_text, request_of, closes_at, Rest, more, shut, Leads, Ends, Last, End, Refused, Closed, Limit}
 use Rattle.portal_frame.proofs.Unique.{Opens-unique}
 
 -- what two accounts of one stream share
 abbrev pub Same : List Request → List Request → Last → Last → List ℕ → List ℕ → Type 0
 Same rs qs end last closing text = (rs ≡ qs) × (end ≡ last) × (closing ≡ text)
 
-refused_same : (r q : Refuses) (h k : Bool) → fault r h ≡ fault q k → (r ≡ q) × (h ≡ k)
-refused_same r q h k e = (cc, cc)
-
-asked_same : (a b : Asked) (xs ys : List ℕ) → whole a xs ≡ whole b ys → (a ≡ b) × (xs ≡ ys)
-asked_same a b xs ys e = (cc, cc)
-
-over_fault : (r : Refuses) (h : Bool) → over ≡ fault r h → ⊥
-over_fault r h e = absurd (cc)
-
-over_whole : (a : Asked) (after : List ℕ) → over ≡ whole a after → ⊥
-over_whole a after e = absurd (cc)
-
-fault_whole : (r : Refuses) (h : Bool) (a : Asked) (after : List ℕ) → fault r h ≡ whole a after → ⊥
-fault_whole r h a after e = absurd (cc)
-
 ends_more : (bytes : List ℕ) (end last : Last) (closing text : List ℕ) → Ends (more bytes) end closing → Ends (more bytes) last text
     → (end ≡ last) × (closing ≡ text)
 ends_more bytes End End closing text x y = (refl, x.1 ∙ sym y.1)
-ends_more bytes End (Refused word) closing text x y = absurd (over_fault y.0 y.1 (Opens-unique bytes _ _ x.0 y.2))
-ends_more bytes (Refused word) End closing text x y = absurd (over_fault x.0 x.1 (Opens-unique bytes _ _ y.0 x.2))
+ends_more bytes End (Refused word) closing text x y = let same = Opens-unique bytes _ _ x.0 y.2 in absurd (cc)
+ends_more bytes (Refused word) End closing text x y = let same = Opens-unique bytes _ _ y.0 x.2 in absurd (cc)
 ends_more bytes (Refused word) (Refused other) closing text x y =
-    let same = refused_same x.0 y.0 x.1 y.1 (Opens-unique bytes _ _ x.2 y.2) in (
-      ap Refused (x.3 ∙ (ap (λ r. r.word) same.0 ∙ sym y.3)),
-      x.4 ∙ (ap (λ r. reply_text (answer_to r) x.1 true) same.0 ∙ (ap (λ h. reply_text (answer_to y.0) h true) same.1 ∙ sym y.4)),
-    )
-ends_more bytes Closed last closing text x y = absurd x
-ends_more bytes Limit last closing text x y = absurd x
-ends_more bytes end Closed closing text x y = absurd y
-ends_more bytes end Limit closing text x y = absurd y
+    let same = Opens-unique bytes _ _ x.2 y.2 in
+    let why : x.0 ≡ y.0 = cc in
+    let head : x.1 ≡ y.1 = cc in
+    (ap Refused (x.3 ∙ ap (λ r. r.word) why ∙ sym y.3), x.4 ∙ (λ i. reply_text (answer_to (why i)) (head i) true) ∙ sym y.4)
+ends_more bytes _ _ closing text x y = absurd (search)
 
 ends_shut : (close : Bool) (end last : Last) (closing text : List ℕ) → Ends (shut close) end closing → Ends (shut close) last text
     → (end ≡ last) × (closing ≡ text)
 ends_shut true Closed Closed closing text x y = (refl, x ∙ sym y)
 ends_shut false Limit Limit closing text x y = (refl, x ∙ sym y)
-ends_shut true End last closing text x y = absurd x
-ends_shut true Limit last closing text x y = absurd x
-ends_shut true (Refused r) last closing text x y = absurd x
-ends_shut true Closed End closing text x y = absurd y
-ends_shut true Closed Limit closing text x y = absurd y
-ends_shut true Closed (Refused r) closing text x y = absurd y
-ends_shut false End last closing text x y = absurd x
-ends_shut false Closed last closing text x y = absurd x
-ends_shut false (Refused r) last closing text x y = absurd x
-ends_shut false Limit End closing text x y = absurd y
-ends_shut false Limit Closed closing text x y = absurd y
-ends_shut false Limit (Refused r) closing text x y = absurd y
+ends_shut _ _ _ closing text x y = absurd (search)
 
 -- a stream that ends does not begin with a request
 ends_whole : (bytes : List ℕ) (end : Last) (closing : List ℕ) (a : Asked) (after : List ℕ) → Ends (more bytes) end closing → Opens bytes (whole a after) → ⊥
-ends_whole bytes End closing a after x opens = over_whole a after (Opens-unique bytes _ _ x.0 opens)
-ends_whole bytes (Refused r) closing a after x opens = fault_whole x.0 x.1 a after (Opens-unique bytes _ _ x.2 opens)
-ends_whole bytes Closed closing a after x opens = x
-ends_whole bytes Limit closing a after x opens = x
+ends_whole bytes End closing a after x opens = let same = Opens-unique bytes _ _ x.0 opens in absurd (cc)
+ends_whole bytes (Refused r) closing a after x opens = let same = Opens-unique bytes _ _ x.2 opens in absurd (cc)
+ends_whole bytes _ closing a after x opens = x
 
 -- the rest of two lists, after equal first requests
 rest_same : (b close : Bool) (rs qs : List Request) (rest other : Rest) (end last : Last) (closing text : List ℕ) (P Q : Type 0)
@@ -80,12 +50,12 @@ once left bytes [] (q ∷ qs) rest other end last closing text e (b, after, open
 once left bytes (r ∷ rs) [] rest other end last closing text (a, after, opens, is, then) f x y =
     absurd (ends_whole bytes last text a after (subst (λ r. Ends r last text) f y) opens)
 once left bytes (r ∷ rs) (q ∷ qs) rest other end last closing text (a, after, opens, is, then) (b, next, opened, was, later) x y =
-    let same = asked_same a b after next (Opens-unique bytes _ _ opens opened) in
-    let later' = subst (λ z. MatchBool (closes_at left z) ((qs ≡ []) × (other ≡ shut z.close)) (Leads (left - 1) after qs other)) (sym same.0)
-    (subst (λ z. MatchBool (closes_at left b) ((qs ≡ []) × (other ≡ shut b.close)) (Leads (left - 1) z qs other)) (sym same.1) later) in
+    let same = Opens-unique bytes _ _ opens opened in
+    let one : a ≡ b = cc in
+    let rest_one : after ≡ next = cc in
+    let later' = subst (λ z. MatchBool (closes_at left z) ((qs ≡ []) × (other ≡ shut z.close)) (Leads (left - 1) after qs other)) (sym one)
+    (subst (λ z. MatchBool (closes_at left b) ((qs ≡ []) × (other ≡ shut b.close)) (Leads (left - 1) z qs other)) (sym rest_one) later) in
     let s = rest_same (closes_at left a) a.close rs qs rest other end last closing text _ _ then later' x y
     (λ p u. once (left - 1) after rs qs rest other end last closing text p u x y) in
-    (cons_same (is ∙ (ap (λ z. request_of (closes_at left z) z) same.0 ∙ sym was)) s.0, s.1, s.2)
-  where
-    cons_same : r ≡ q → rs ≡ qs → r ∷ rs ≡ q ∷ qs
-    cons_same e f = cc
+    let head : r ≡ q = is ∙ ap (λ z. request_of (closes_at left z) z) one ∙ sym was in
+    (λ i. head i ∷ s.0 i, s.1, s.2)

@@ -3,12 +3,11 @@
 ghost use Rattle.std.specs.Prelude.{◌≡◌, ◌⊎◌, None, IfOk, IfErr};
 ghost use Rattle.portal_core.specs.Meaning.{call_model};
 ghost use Rattle.portal_core.specs.Run.{HasForm, Calls};
-ghost use Rattle.portal_rolls.specs.Lines as roll;
 ghost use Rattle.portal_frame.specs.Stream.{seen, refused};
 ghost use Rattle.portal_core.specs.Sight.{AbstractCall};
 ghost use Rattle.portal_wire.specs.declared.calls.CallFault.TheVariants as why;
 ghost use Rattle.portal_wire.specs.Wish.{no_memory, turned_away, get_at, put_at, post_at, to_move};
-ghost use Rattle.portal_wire.specs.Wish.{wish_at, wish_of, by_body, by_roll, move_in, nothing_in};
+ghost use Rattle.portal_wire.specs.Wish.{wish_at, wish_of, by_body, move_in, nothing_in};
 ghost use Rattle.portal_wire.specs.inner.Calls.{IsCallOf, told_by, of_body, of_roll};
 
 use crate::bodies::{BodyFault, read_empty, read_list, read_move};
@@ -131,39 +130,15 @@ fn fill_call(alloc: Global, body: &[u8]) -> Result<Call, CallFault>
     Ok(Call::FillRankings)
 }
 
-/// Returns the call that adds the lecturers of the roll in a request's body.
-fn add_lecturers(alloc: Global, body: &[u8]) -> Result<Call, CallFault>
-    ensures wish { IsCallOf (by_roll AbstractCall.AddLecturers (roll.lecturers body.now)) result }
-    ensures form { IfOk result (λ call. HasForm (call_model call)) }
-{
-    Ok(Call::AddLecturers(read_lecturers(alloc, body)?))
-}
-
-/// Returns the call that adds the projects of the roll in a request's body.
-fn add_projects(alloc: Global, body: &[u8]) -> Result<Call, CallFault>
-    ensures wish { IsCallOf (by_roll AbstractCall.AddProjects (roll.projects body.now)) result }
-    ensures form { IfOk result (λ call. HasForm (call_model call)) }
-{
-    Ok(Call::AddProjects(read_projects(alloc, body)?))
-}
-
-/// Returns the call that adds the students of the roll in a request's body.
-fn add_students(alloc: Global, body: &[u8]) -> Result<Call, CallFault>
-    ensures wish { IsCallOf (by_roll AbstractCall.AddStudents (roll.students body.now)) result }
-    ensures form { IfOk result (λ call. HasForm (call_model call)) }
-{
-    Ok(Call::AddStudents(read_students(alloc, body)?))
-}
-
 /// Returns the call of POST at a route.
 fn post_call(alloc: Global, route: Route, body: &[u8]) -> Result<Call, CallFault>
     ensures wish { IsCallOf (post_at route body.now) result }
     ensures form { IfOk result (λ call. HasForm (call_model call)) }
 {
     match route {
-        Route::Lecturers => add_lecturers(alloc, body),
-        Route::Projects => add_projects(alloc, body),
-        Route::Students => add_students(alloc, body),
+        Route::Lecturers => Ok(Call::AddLecturers(read_lecturers(alloc, body)?)),
+        Route::Projects => Ok(Call::AddProjects(read_projects(alloc, body)?)),
+        Route::Students => Ok(Call::AddStudents(read_students(alloc, body)?)),
         Route::Phase => move_call(alloc, body),
         Route::Fill => fill_call(alloc, body),
         _ => Err(CallFault::BadMethod(route)),
@@ -202,17 +177,13 @@ fn refusal_of(fault: CallFault) -> Refusal
     match fault {
         CallFault::NoRoute => Refusal::by_word(404, "no_route"),
         CallFault::BadMethod(route) => Refusal {
-            status: 405,
-            word: "bad_method",
             allow: allow_at(route),
-            row: None,
+            ..Refusal::by_word(405, "bad_method")
         },
         CallFault::BadBody => Refusal::by_word(400, "bad_body"),
         CallFault::BadRow(row) => Refusal {
-            status: 422,
-            word: "bad_row",
-            allow: "",
             row: Some(row),
+            ..Refusal::by_word(422, "bad_row")
         },
         CallFault::RollFull => Refusal::by_word(422, "roll_full"),
         CallFault::Memory => Refusal::by_word(503, "unavailable"),

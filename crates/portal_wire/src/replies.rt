@@ -72,10 +72,9 @@ fn content_type(body: &Body) -> &'static str
     ensures { result.now ≡ type_of (body_model body.now) }
 {
     match body {
-        Body::Json(_) => "application/json",
+        Body::Json(_) | Body::Unavailable => "application/json",
         Body::Csv(_) => "text/csv; charset=utf-8",
         Body::Plain(_) => "text/plain; charset=utf-8",
-        Body::Unavailable => "application/json",
     }
 }
 

@@ -3,7 +3,7 @@
 ghost use Rattle.std.specs.Prelude.{◌≡◌, IfOk, option_map};
 ghost use Rattle.matchit.specs.Seek.{first};
 ghost use Rattle.portal_wire.specs.Wish.{route_at, allow_of, method_of};
-ghost use Rattle.portal_wire.specs.inner.RouteRows.{the_rows, own_rows, roll_route_rows};
+ghost use Rattle.portal_wire.specs.inner.RouteRows.{the_rows};
 
 use http::method::MethodError;
 use matchit::{InsertError, Router};
@@ -31,9 +31,9 @@ pub(crate) enum Route {
     Report,
 }
 
-/// Makes a router for the routes of students and lecturers.
-fn own_routes(alloc: Global) -> Result<Router<Route>, InsertError>
-    ensures { IfOk result (λ router. router ≡ own_rows) }
+/// Makes a router for all routes.
+fn all_routes(alloc: Global) -> Result<Router<Route>, InsertError>
+    ensures { IfOk result (λ router. router ≡ the_rows) }
 {
     let mut router = Router::new(alloc);
     router.insert("/me", Route::Me)?;
@@ -42,26 +42,10 @@ fn own_routes(alloc: Global) -> Result<Router<Route>, InsertError>
     router.insert("/applicants", Route::Applicants)?;
     router.insert("/ranking", Route::Ranking)?;
     router.insert("/result", Route::Outcome)?;
-    Ok(router)
-}
-
-/// Makes a router for the routes of `own_routes`, of the rolls and of the phase.
-fn roll_routes(alloc: Global) -> Result<Router<Route>, InsertError>
-    ensures { IfOk result (λ router. router ≡ roll_route_rows) }
-{
-    let mut router = own_routes(alloc)?;
     router.insert("/rolls/lecturers", Route::Lecturers)?;
     router.insert("/rolls/projects", Route::Projects)?;
     router.insert("/rolls/students", Route::Students)?;
     router.insert("/phase", Route::Phase)?;
-    Ok(router)
-}
-
-/// Makes a router for all routes.
-fn all_routes(alloc: Global) -> Result<Router<Route>, InsertError>
-    ensures { IfOk result (λ router. router ≡ the_rows) }
-{
-    let mut router = roll_routes(alloc)?;
     router.insert("/ranking/fill", Route::Fill)?;
     router.insert("/status", Route::Status)?;
     router.insert("/allocation", Route::Allocation)?;

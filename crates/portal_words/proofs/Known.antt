@@ -1,5 +1,5 @@
 -- What the parser makes of the words that ask for `check` and `solve`.
-use Rattle.portal_words.proofs.Base.{◌≡◌, ◌∙◌, ◌&&◌, Bool, true, false, not, Option, Some, None, List, [], ◌∷◌, refl, sym, ap, subst, inl, inr, codes, rules, Row, Text, is_simple, subcommand_of, takes, AsksFile, MeetsFile, TakesFile, portal_app}
+use Rattle.portal_words.proofs.Base.{◌≡◌, ◌∙◌, ◌&&◌, Bool, true, false, Option, Some, None, List, [], ◌∷◌, refl, sym, ap, subst, inl, inr, codes, rules, Row, Text, is_simple, subcommand_of, takes, AsksFile, MeetsFile, TakesFile, portal_app}
 use Rattle.std.specs.Prelude.{◌==◌, IsTrue}
 use Rattle.std.specs.Str.{bytes_eq}
 use Rattle.clap.specs.Lexer.{strip_byte}
@@ -16,11 +16,7 @@ simple = refl
 -- a word with no hyphen in front
 is_no_option : (word : Text) → IsTrue (is_file_word word) → (strip_byte 45 word ≡ None) × (bytes_eq word (codes "--") ≡ false)
 is_no_option [] h = (refl, refl)
-is_no_option (b ∷ word) h = let other : (b == 45) ≡ false = is_false (b == 45) h in (rw other refl, rw other refl)
-  where
-    is_false : (t : Bool) → IsTrue (not t) → t ≡ false
-    is_false true h = absurd (search (rules, h))
-    is_false false h = refl
+is_no_option (b ∷ word) h = let other : (b == 45) ≡ false = search (rules, h) in (rw other refl, rw other refl)
 
 -- of the words after the program's name
 
@@ -30,53 +26,32 @@ is_taken ws = is_simple portal_app && built_takes (built portal_app) nothing_hel
 abbrev met : List Text → Option (Text × List Row)
 met ws = entered (built portal_app) (stop_after (built portal_app).top.rules (names_of (built portal_app)) ws)
 
-check_taken : is_taken (codes "check" ∷ []) ≡ true
+name_taken : (name : Text) → TakesFile name → is_taken (name ∷ []) ≡ true
 unfolding clap_on_literals
-check_taken = refl
+name_taken name (inl e) = rw e
+name_taken name (inr e) = rw e
 
-solve_taken : is_taken (codes "solve" ∷ []) ≡ true
+file_taken : (name file : Text) → TakesFile name → strip_byte 45 file ≡ None → bytes_eq file (codes "--") ≡ false → is_taken (name ∷ file ∷ []) ≡ true
 unfolding clap_on_literals
-solve_taken = refl
+file_taken name file (inl e) short long = rw e (simp (short, long))
+file_taken name file (inr e) short long = rw e (simp (short, long))
 
-check_file_taken : (file : Text) → strip_byte 45 file ≡ None → bytes_eq file (codes "--") ≡ false → is_taken (codes "check" ∷ file ∷ []) ≡ true
+name_met : (name : Text) → TakesFile name → MeetsFile (met (name ∷ [])) name None
 unfolding clap_on_literals
-check_file_taken file short long = simp (short, long)
+name_met name (inl e) = rw e (_, refl, refl)
+name_met name (inr e) = rw e (_, refl, refl)
 
-solve_file_taken : (file : Text) → strip_byte 45 file ≡ None → bytes_eq file (codes "--") ≡ false → is_taken (codes "solve" ∷ file ∷ []) ≡ true
+file_met : (name file : Text) → TakesFile name → strip_byte 45 file ≡ None → bytes_eq file (codes "--") ≡ false → MeetsFile (met (name ∷ file ∷ [])) name (Some file)
 unfolding clap_on_literals
-solve_file_taken file short long = simp (short, long)
-
-check_met : MeetsFile (met (codes "check" ∷ [])) (codes "check") None
-unfolding clap_on_literals
-check_met = (_, refl, refl)
-
-solve_met : MeetsFile (met (codes "solve" ∷ [])) (codes "solve") None
-unfolding clap_on_literals
-solve_met = (_, refl, refl)
-
-check_file_met : (file : Text) → strip_byte 45 file ≡ None → bytes_eq file (codes "--") ≡ false → MeetsFile (met (codes "check" ∷ file ∷ [])) (codes "check") (Some file)
-unfolding clap_on_literals
-check_file_met file short long = (_, refl, simp (short, long))
-
-solve_file_met : (file : Text) → strip_byte 45 file ≡ None → bytes_eq file (codes "--") ≡ false → MeetsFile (met (codes "solve" ∷ file ∷ [])) (codes "solve") (Some file)
-unfolding clap_on_literals
-solve_file_met file short long = (_, refl, simp (short, long))
-
--- what holds of both commands holds of the one that is named
-both : (P : Text → Type 0) (name : Text) → TakesFile name → P (codes "check") → P (codes "solve") → P name
-both P name (inl e) check solve = subst P (sym e) check
-both P name (inr e) check solve = subst P (sym e) solve
+file_met name file (inl e) short long = rw e (_, refl, simp (short, long))
+file_met name file (inr e) short long = rw e (_, refl, simp (short, long))
 
 pub taken : (words : List Text) (name : Text) (file : Option Text) → AsksFile words name file → takes portal_app words ≡ true
-taken words name None h = ap is_taken h.1 ∙ both (λ n. is_taken (n ∷ []) ≡ true) name h.0 check_taken solve_taken
-taken words name (Some file) h =
-    let plain = is_no_option file h.2 in
-    ap is_taken h.1 ∙ both (λ n. is_taken (n ∷ file ∷ []) ≡ true) name h.0 (check_file_taken file plain.0 plain.1) (solve_file_taken file plain.0 plain.1)
+taken words name None h = ap is_taken h.1 ∙ name_taken name h.0
+taken words name (Some file) h = let plain = is_no_option file h.2 in ap is_taken h.1 ∙ file_taken name file h.0 plain.0 plain.1
 
 pub is_met : (words : List Text) (name : Text) (file : Option Text) → AsksFile words name file → MeetsFile (subcommand_of portal_app words) name file
-is_met words name None h =
-    subst (λ ws. MeetsFile (met ws) name None) (sym h.1) (both (λ n. MeetsFile (met (n ∷ [])) n None) name h.0 check_met solve_met)
+is_met words name None h = subst (λ ws. MeetsFile (met ws) name None) (sym h.1) (name_met name h.0)
 is_met words name (Some file) h =
     let plain = is_no_option file h.2 in
-    subst (λ ws. MeetsFile (met ws) name (Some file)) (sym h.1)
-    (both (λ n. MeetsFile (met (n ∷ file ∷ [])) n (Some file)) name h.0 (check_file_met file plain.0 plain.1) (solve_file_met file plain.0 plain.1))
+    subst (λ ws. MeetsFile (met ws) name (Some file)) (sym h.1) (file_met name file h.0 plain.0 plain.1)

@@ -1,7 +1,7 @@
 //! Builds the command line's parser and help texts.
 
 ghost use Rattle.std.specs.Prelude.{◌≡◌, false, IfOk};
-ghost use Rattle.clap.specs.Words.{App, rule_of, with_subcommand};
+ghost use Rattle.clap.specs.Words.{rule_of};
 ghost use Rattle.portal_words.specs.inner.Arguments.{Reads, file_app, database_app, port_rule};
 ghost use Rattle.portal_words.specs.inner.Arguments.{connections_rule, serve_app, files_app};
 ghost use Rattle.portal_words.specs.inner.Arguments.{portal_app};
@@ -112,96 +112,62 @@ fn serve<'a>(alloc: Global) -> Result<Command<'a>, AllocError>
     .arg(connections(alloc))
 }
 
-// Adds a command on one optional file to the parser.
-fn with_file<'a>(
-    commands: Command<'a>,
-    alloc: Global,
-    name: &'a str,
-    about: &'a str,
-    prints: &'a str,
-) -> Result<Command<'a>, AllocError>
-    ensures { (app : App) → Reads commands.entry app
-        → IfOk result (λ c. Reads c (with_subcommand app (file_app name.entry.now).top)) }
-{
-    commands.subcommand(of_file(alloc, name, about, prints)?)
-}
-
-// Adds a command on one database to the parser.
-fn with_database<'a>(
-    commands: Command<'a>,
-    alloc: Global,
-    name: &'a str,
-    about: &'a str,
-    prints: &'a str,
-) -> Result<Command<'a>, AllocError>
-    ensures { (app : App) → Reads commands.entry app
-        → IfOk result (λ c. Reads c (with_subcommand app (database_app name.entry.now).top)) }
-{
-    commands.subcommand(of_database(alloc, name, about, prints)?)
-}
-
-// Adds the command that listens on a port to the parser.
-fn with_serve<'a>(commands: Command<'a>, alloc: Global) -> Result<Command<'a>, AllocError>
-    ensures { (app : App) → Reads commands.entry app
-        → IfOk result (λ c. Reads c (with_subcommand app serve_app.top)) }
-{
-    commands.subcommand(serve(alloc)?)
-}
-
 // Creates the parser with only the commands on instance files.
 fn with_files<'a>(alloc: Global) -> Result<Command<'a>, AllocError>
     ensures { IfOk result (λ c. Reads c files_app) }
 {
-    let commands = Command::new(alloc, "portal")
-        .about("Student-project allocation with lecturer preferences over students")
-        .version(VERSION)
-        .subcommand_required(true);
-    let commands = with_file(
-        commands,
+    let check = of_file(
         alloc,
         "check",
         "Print the pairs that block the matching of an instance file",
         CHECK_PRINTS,
     )?;
-    with_file(
-        commands,
+    let solve = of_file(
         alloc,
         "solve",
         "Print the students' best stable matching of an instance file",
         SOLVE_PRINTS,
-    )
+    )?;
+    Command::new(alloc, "portal")
+        .about("Student-project allocation with lecturer preferences over students")
+        .version(VERSION)
+        .subcommand_required(true)
+        .subcommand(check)?
+        .subcommand(solve)
 }
 
 /// Creates the parser of the whole command line.
 pub(crate) fn portal<'a>(alloc: Global) -> Result<Command<'a>, AllocError>
     ensures { IfOk result (λ c. Reads c portal_app) }
 {
-    let commands = with_database(
-        with_files(alloc)?,
+    let init = of_database(
         alloc,
         "init",
         "Make a database; the first line of the input is the office's code",
         INIT_PRINTS,
     )?;
-    let commands = with_database(
-        with_serve(commands, alloc)?,
+    let pipe = of_database(
         alloc,
         "pipe",
         "Answer the requests of the input, as one connection, on the output",
         PIPE_PRINTS,
     )?;
-    let commands = with_database(
-        commands,
+    let report = of_database(
         alloc,
         "report",
         "Print where the year stands, and the allocation once it is published",
         REPORT_PRINTS,
     )?;
-    with_database(
-        commands,
+    let upgrade = of_database(
         alloc,
         "upgrade",
         "Bring a database of version 1 to version 2",
         UPGRADE_PRINTS,
-    )
+    )?;
+    with_files(alloc)?
+        .subcommand(init)?
+        .subcommand(serve(alloc)?)?
+        .subcommand(pipe)?
+        .subcommand(report)?
+        .subcommand(upgrade)
 }

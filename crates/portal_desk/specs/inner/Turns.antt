@@ -8,7 +8,7 @@ use Rattle.portal_core.specs.Run.{Request, Serves, unavailable}
 use Rattle.portal_desk.specs.declared.served.Cause.{Cause}
 use Rattle.portal_desk.specs.declared.served.Cause.TheVariants as cause
 use Rattle.portal_wire.specs.Conversation.{reply_text}
-use Rattle.portal_desk.specs.Kept.{KeeperState, LastsOrBreaks, IsSettled}
+use Rattle.portal_desk.specs.Kept.{KeeperState, LastsOrBreaks, IsSettled, FailsAfter}
 use Rattle.portal_core.specs.declared.decision.Reply.{Reply}
 use Rattle.portal_core.specs.declared.keeper.KeepFault.{KeepFault}
 use Rattle.portal_core.specs.declared.keeper.KeepFault.TheVariants.{Memory, Store}
@@ -21,6 +21,11 @@ abbrev pub Partly : Cause → Option (List ℕ) → Option (List ℕ) → List �
 Partly cause.Write before after text = (k : ℕ) × Appends before after (take k text)
 Partly cause.Memory before after text = Appends before after []
 Partly _ before after text = ⊥
+
+-- the count of a device's failed calls: it has risen where the cause is the device's own, else it is as before
+abbrev pub CountsFor : {A : Type 0} → Cause → Result A Cause → ℕ → ℕ → Type 0
+CountsFor own (Ok x) old new = new ≡ old
+CountsFor own (Err why) old new = (why ≡ own → FailsAfter old new) × (why ≢ own → new ≡ old)
 
 -- a stop may leave the world after this request, of a keeper that was not broken; if it is now, the
 -- reply is 503

@@ -1,5 +1,5 @@
 use Rattle.portal_frame.proofs.Base.{rules, inl, inr, take, drop, subst, refl, take-append-drop, HasNoRequest, RequestOverflows, MayBecomeRequest, NeverHasRequest, RequestExceeds}
-use Rattle.portal_frame.proofs.Heads.{as_told, overflows_all, none_now, none_ever, head_of, none_so_far, none_later, opens_never, front_is, front_all, length_front}
+use Rattle.portal_frame.proofs.Heads.{overflows_all, none_now, none_ever, head_of, none_so_far, none_later, opens_never, front_is, front_all, length_front}
 use Rattle.portal_frame.proofs.frame.Goals as goal
 
 pub frame_head-requires : goal.frame_head-requires
@@ -40,7 +40,7 @@ frame_open-requires-in-TooManyHeaders-clause-may c =
 
 pub returns-in_default : goal.returns-in_default
 returns-in_default c = record {
-  framed = λ more _. as_told _ _ _ _ c.refusal.ensures (opens_never c.args.bytes.now more
+  framed = λ more _. rw c.refusal.ensures (opens_never c.args.bytes.now more
       (overflows_all _ (subst (RequestOverflows 32) (front_is _ _ c.min.ensures) c.in-Err.ensures.no_room)));
   due = inr (inr (inr (inr (subst NeverHasRequest (front_is _ _ c.min.ensures) (c.in-Err.ensures.invalid c.in_default.not-TooManyHeaders)))));
   limits = tt;

@@ -1,12 +1,14 @@
-use Rattle.portal_frame.proofs.Base.{◌∙◌, sym}
-use Rattle.portal_frame.proofs.Heads.{opens_full, as_told}
+use Rattle.portal_frame.proofs.Base.{◌∙◌, rules, sym}
+use Rattle.portal_frame.proofs.Heads.{opens_full}
 use Rattle.portal_frame.proofs.Overlong.{opens_overlong}
 use Rattle.portal_frame.proofs.frame_open.Goals as goal
+use Rattle.portal_frame.proofs.frame_open.Goals.{then-bytes-lt-LONGEST_HEAD+then-not-is_overlong_head+else-not-ended+else-is_all_blank, else-bytes-lt-LONGEST_HEAD, else-bytes-lt-LONGEST_HEAD-via-then-bytes-lt-LONGEST_HEAD+else-not-is_overlong_head, else-bytes-lt-LONGEST_HEAD-via-else-bytes-lt-LONGEST_HEAD}
 
-pub returns-then-bytes-ge-LONGEST_HEAD-clause-framed : goal.returns-then-bytes-ge-LONGEST_HEAD-clause-framed
-returns-then-bytes-ge-LONGEST_HEAD-clause-framed c =
-    λ more _. as_told _ _ _ _ c.refusal.ensures (opens_full c.args.bytes.now more (c.requires.full c.if-bytes-ge-LONGEST_HEAD.true more) c.if-bytes-ge-LONGEST_HEAD.true)
-
-pub returns-then-is_overlong_head-clause-framed : goal.returns-then-is_overlong_head-clause-framed
-returns-then-is_overlong_head-clause-framed c =
-    λ more _. as_told _ _ _ _ c.refusal-then-is_overlong_head.ensures (opens_overlong c.args.bytes.now more (sym c.is_overlong_head.ensures ∙ c.if-is_overlong_head.true))
+pub returns-clause-framed : goal.returns-clause-framed
+returns-clause-framed c more last = elim c.if-bytes-lt-LONGEST_HEAD.branch [
+  | then-bytes-lt-LONGEST_HEAD+then-not-is_overlong_head+else-not-ended+else-is_all_blank w ↦ search rules
+  | else-bytes-lt-LONGEST_HEAD w ↦ rw c.refusal.ensures (elim w.else-bytes-lt-LONGEST_HEAD.branch [
+    | else-bytes-lt-LONGEST_HEAD-via-then-bytes-lt-LONGEST_HEAD+else-not-is_overlong_head v ↦ opens_overlong c.args.bytes.now more (sym v.is_overlong_head.ensures ∙ v.if-not-is_overlong_head.false)
+    | else-bytes-lt-LONGEST_HEAD-via-else-bytes-lt-LONGEST_HEAD v ↦ opens_full c.args.bytes.now more (c.requires.full v.if-bytes-lt-LONGEST_HEAD.false more) v.if-bytes-lt-LONGEST_HEAD.false
+  ])
+]

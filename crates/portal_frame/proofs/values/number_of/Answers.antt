@@ -4,25 +4,20 @@ use Rattle.std.proofs.lemmas.Int.Digits.{digits_value_more}
 use Rattle.std.proofs.lemmas.List.Folds.{list_all_more}
 use Rattle.portal_frame.proofs.values.number_of.Goals as goal
 
-below : (n i : ℕ) → n < 10 ^ i → i ≤ 17 → n < 10 ^ 17
-below n i h le =
-    let most : 10 ^ i ≤ 10 ^ 17 = pow-le-pow_right (omega arith) le in
+short : (n i len : ℕ) → n < 10 ^ i → i < len → len ≤ 18 → n < 10 ^ 17
+short n i len h a b =
+    let few : i ≤ 17 = omega (arith, a, b) in
+    let most : 10 ^ i ≤ 10 ^ 17 = pow-le-pow_right (omega arith) few in
     omega (arith, h, most)
-
-short : (n i : ℕ) (len : ℕ) → n < 10 ^ i → i < len → len ≤ 18 → n < 100000000000000000
-short n i len h a b = below n i h (omega (arith, a, b))
 
 digit : (b : ℕ) → is_ascii_digit b ≡ true → (digit_value b ≡ b - 48) × (b - 48 < 10)
 digit b is = (grind (arith, common_steps, is), grind (arith, common_steps, is))
-
-next : (n d i : ℕ) → n < 10 ^ i → d < 10 → n * 10 + d < 10 ^ (i + 1)
-next n d i h k = rw add-one (omega (arith, h, k))
 
 pub overflow_mul-number : goal.overflow_mul-number
 overflow_mul-number c = omega (arith, short _ _ _ c.loop-digit.invariant.small c.loop-digit-test.true c.if-value-gt18.false)
 
 pub overflow_add-number : goal.overflow_add-number
-overflow_add-number c = omega (arith, short _ _ _ c.loop-digit.invariant.small c.loop-digit-test.true c.if-value-gt18.false, c.is_ascii_digit.ensures.bound, c.type_inv.value c.loop-digit.digit-index)
+overflow_add-number c = omega (arith, short _ _ _ c.loop-digit.invariant.small c.loop-digit-test.true c.if-value-gt18.false)
 
 pub loop-digit-preserved : goal.loop-digit-preserved
 loop-digit-preserved c =
@@ -34,6 +29,6 @@ loop-digit-preserved c =
     let small : c.loop-digit.number < 10 ^ i = c.loop-digit.invariant.small in
     record {
       value_is = ap (λ n. n * 10 + (b - 48)) c.loop-digit.invariant.value_is ∙ (ap (λ n. digits_value 10 (take i ds) * 10 + n) (sym d.0) ∙ sym (digits_value_more 10 ds i c.loop-digit-test.true));
-      small = next _ _ i small d.1;
+      small = rw add-one (omega (arith, small, d.1));
       digits = list_all_more is_ascii_digit ds i 0 c.loop-digit-test.true ∙ ap (λ t. t && is_ascii_digit b) c.loop-digit.invariant.digits ∙ is;
     }

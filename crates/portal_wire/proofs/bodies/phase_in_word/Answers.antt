@@ -1,4 +1,5 @@
-use Rattle.portal_wire.proofs.Base.{◌≡◌, ℕ, Bool, true, false, List, refl, sym, ap, ◌∙◌, codes, Option, Some, None, bytes_eq, bytes_decides, IfSome, IfNone, phase_of}
+use Rattle.portal_wire.proofs.Base.{◌≡◌, ℕ, false, List, refl, sym, ap, ◌∙◌, codes, Option, Some, None, bytes_eq, bytes_decides, IfSome, IfNone, phase_of}
+use Rattle.std.proofs.lemmas.Bool.{false_from_ne_true}
 use Rattle.portal_core.specs.World.{phase_word}
 use Rattle.portal_core.specs.declared.phase.Phase.{Phase}
 use Rattle.portal_core.specs.declared.phase.Phase.TheVariants.{Setup, Choosing, Ranking, Published}
@@ -10,18 +11,17 @@ of_word Choosing = refl
 of_word Ranking = refl
 of_word Published = refl
 
-differs : (word other : List ℕ) → (other ≡ word → ⊥) → (b : Bool) → bytes_eq word other ≡ b → b ≡ false
-differs word other not true e = absurd (not (sym ((bytes_decides word other).0 e)))
-differs word other not false e = refl
+differs : (word other : List ℕ) → (other ≡ word → ⊥) → bytes_eq word other ≡ false
+differs word other not = false_from_ne_true (bytes_eq word other) (λ e. not (sym ((bytes_decides word other).0 e)))
 
 of_parse : (r : Option Phase) (word : List ℕ) → IfSome r (λ p. phase_word p ≡ word) → IfNone r ((p : Phase) → phase_word p ≡ word → ⊥) → r ≡ phase_of word
 of_parse (Some p) word some none = of_word p ∙ ap phase_of some
 of_parse None word some none =
     rw (
-      differs word (codes "setup") (none Setup) (bytes_eq word (codes "setup")) refl,
-      differs word (codes "choosing") (none Choosing) (bytes_eq word (codes "choosing")) refl,
-      differs word (codes "ranking") (none Ranking) (bytes_eq word (codes "ranking")) refl,
-      differs word (codes "published") (none Published) (bytes_eq word (codes "published")) refl,
+      differs word (codes "setup") (none Setup),
+      differs word (codes "choosing") (none Choosing),
+      differs word (codes "ranking") (none Ranking),
+      differs word (codes "published") (none Published),
     )
     refl
 

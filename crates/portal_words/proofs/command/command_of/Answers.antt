@@ -40,21 +40,13 @@ pub returns-in-Ok-clause-solve_file : goal.returns-in-Ok-clause-solve_file
 returns-in-Ok-clause-solve_file g c file is plain = c.in-None.ensures.solve (Some file) (c.in-Ok.ensures.matches (codes "solve") (Some file) (inr refl, is, plain))
 
 pub returns-clause-check : goal.returns-clause-check
-returns-clause-check g c is =
-    let full = c.in-Err.ensures.passes (codes "check") None (inl refl, is) in
-    absurd (search (rules, full))
+returns-clause-check g c is = absurd (search (rules, c.in-Err.ensures.passes (codes "check") None (inl refl, is)))
 
 pub returns-clause-solve : goal.returns-clause-solve
-returns-clause-solve g c is =
-    let full = c.in-Err.ensures.passes (codes "solve") None (inr refl, is) in
-    absurd (search (rules, full))
+returns-clause-solve g c is = absurd (search (rules, c.in-Err.ensures.passes (codes "solve") None (inr refl, is)))
 
 pub returns-clause-check_file : goal.returns-clause-check_file
-returns-clause-check_file g c file is plain =
-    let full = c.in-Err.ensures.passes (codes "check") (Some file) (inl refl, is, plain) in
-    search (rules, full)
+returns-clause-check_file g c file is plain = search (rules, c.in-Err.ensures.passes (codes "check") (Some file) (inl refl, is, plain))
 
 pub returns-clause-solve_file : goal.returns-clause-solve_file
-returns-clause-solve_file g c file is plain =
-    let full = c.in-Err.ensures.passes (codes "solve") (Some file) (inr refl, is, plain) in
-    search (rules, full)
+returns-clause-solve_file g c file is plain = search (rules, c.in-Err.ensures.passes (codes "solve") (Some file) (inr refl, is, plain))

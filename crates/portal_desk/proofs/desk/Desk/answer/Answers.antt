@@ -1,4 +1,4 @@
-use Rattle.portal_desk.proofs.Base.{◌≡◌, ◌∙◌, ◌||◌, sym, reply_model}
+use Rattle.portal_desk.proofs.Base.{◌≡◌, ◌∙◌, ◌||◌, rules, sym, reply_model}
 use Rattle.portal_desk.proofs.Moving.{leaves_as}
 use Rattle.portal_desk.proofs.Sent.{broke, still}
 use Rattle.portal_desk.proofs.desk.Desk.answer.Goals as goal
@@ -9,14 +9,7 @@ returns-in-Err-clause-err g c =
     let shut : c.if-closes.shut ≡ (c.args.closes || c.failed-lost.result) =
     elim c.if-closes.branch [ then-closes w ↦ rw w.if-closes.true (w.shut-is ∙ w.if-closes.true) | else-closes w ↦ rw w.if-closes.false w.shut-is ] in (
       reply_model c.respond-reply.result,
-      record {
-        serves = c.respond-reply.ensures.serves;
-        lasts = c.respond-reply.ensures.lasts;
-        breaks = c.respond-reply.ensures.breaks;
-        broken = c.respond-reply.ensures.broken;
-        settled = c.respond-reply.ensures.settled;
-        leaves = leaves_as _ _ _ _ _ _ c.respond-reply.ensures.leaves;
-      },
+      search (rules, leaves_as),
       broke c.in-Err.cause _ _ _ c.args.closes _ _ (rw (c.asks_head.ensures, shut, c.failed-lost.ensures.failed) at c.in-Err.ensures.err),
     )
 
@@ -26,13 +19,6 @@ returns-clause-ok g c =
     let shut : c.if-closes.shut ≡ (c.args.closes || c.failed-lost.result) =
     elim c.if-closes.branch [ then-closes w ↦ rw w.if-closes.true (w.shut-is ∙ w.if-closes.true) | else-closes w ↦ rw w.if-closes.false w.shut-is ] in (
       reply_model c.respond-reply.result,
-      record {
-        serves = c.respond-reply.ensures.serves;
-        lasts = c.respond-reply.ensures.lasts;
-        breaks = c.respond-reply.ensures.breaks;
-        broken = c.respond-reply.ensures.broken;
-        settled = c.respond-reply.ensures.settled;
-        leaves = leaves_as _ _ _ _ _ _ c.respond-reply.ensures.leaves;
-      },
+      search (rules, leaves_as),
       (calm, still _ _ _ _ c.args.closes _ calm (rw (c.asks_head.ensures, shut, c.failed-lost.ensures.failed) at c.in-Ok.ensures.ok)),
     )

@@ -59,8 +59,8 @@ loop-found-preserved g c =
     record {
       bound = goes_on c.loop-found.done (seen c.in-Request.request) c.closes_now-closes.result x.bound c.if-closes.false c.closes_now-closes.ensures;
       clean = λ now. x.clean (c.answer.ensures.clean now);
-      reader = c.in-Ok.ensures.calm ∙ x.reader;
-      writer = c.in-Ok-answer.ensures.calm ∙ x.writer;
+      reader = c.in-Ok.ensures.failures ∙ x.reader;
+      writer = c.in-Ok-answer.ensures.failures ∙ x.writer;
       source = c.in-Ok.ensures.same_device ∙ x.source;
       sink = c.in-Ok-answer.ensures.same_device ∙ x.sink;
       counts = fails_then _ _ _ _ _ _ x.counts c.answer.ensures.counts;
