@@ -5,7 +5,7 @@ ghost use Rattle.portal_desk.specs.Kept.{AtFirst, FailsByCount, IsMoved, state_o
 ghost use Rattle.portal_serve.specs.Hall.{Settles, Tells};
 ghost use Rattle.portal_serve.specs.declared.server.Outcome.{Outcome};
 
-use crate::server::{Connections, Ended, Hall, Outcome, is_fault, serve_each};
+use crate::server::{Connections, Ended, Hall, Outcome, has_own_fault, serve_each};
 use crate::timeouts::{Connection, ConnectionReader, ConnectionWriter, TimedStream};
 use portal_core::Keeper;
 use portal_desk::{Desk, ServeFault, Served, pipe};
@@ -44,8 +44,9 @@ pub fn serve_stream<T: Clock + AllocGlobal, S: TimedStream, K: Keeper>(
         connection: &connection,
     };
     let ended = pipe(rt.alloc(), desk, &mut reader, &mut writer);
-    if !is_fault(&ended) {
-        // Every reply is written whole, so close gracefully to let the last one reach the client.
+    if !has_own_fault(&ended) {
+        // Every reply is written whole, also the 503 of a store fault, so close gracefully: the
+        // last one then reaches the client.
         let _ = connection.end();
     }
     ended

@@ -78,7 +78,7 @@ pub trait Service {
 
 /// Returns whether a connection ended with a fault of its own, not of the store. Its own faults are
 /// those of the reader, of the writer or of memory.
-pub(crate) fn is_fault(ended: &Result<Served, ServeFault>) -> bool
+pub(crate) fn has_own_fault(ended: &Result<Served, ServeFault>) -> bool
     ensures { result ≡ is_own_fault ended.now }
 {
     match ended {
@@ -95,7 +95,11 @@ fn faults_with(faults: u32, ended: &Result<Served, ServeFault>) -> u32
     requires { faults < 2 ^ 32 - 1 }
     ensures { result ≡ faults + (if is_own_fault ended.now then 1 else 0) }
 {
-    if is_fault(ended) { faults + 1 } else { faults }
+    if has_own_fault(ended) {
+        faults + 1
+    } else {
+        faults
+    }
 }
 
 /// Serves up to `most` connections one after another, and counts their faults. Stops early if the

@@ -1,7 +1,7 @@
 //! Checks the first round's tables, their version and rowids, and that loaded worlds are good.
 
-ghost use Rattle.std.specs.Prelude.{◌≡◌, ◌≢◌, ◌↔◌, [], ◌∷◌, pos, false, Err, List, IfErr};
-ghost use Rattle.std.specs.Prelude.{MatchResult, OnOk, IsTrue};
+ghost use Rattle.std.specs.Prelude.{◌≡◌, ◌≢◌, ◌↔◌, ◌⊎◌, [], ◌∷◌, pos, false, Err, List};
+ghost use Rattle.std.specs.Prelude.{IfErr, MatchResult, OnOk, IsTrue};
 ghost use Rattle.sqlite.specs.declared.types.Value.TheVariants.{Int};
 ghost use Rattle.sqlite.specs.Order.{Row as Cells, column};
 ghost use Rattle.sqlite.specs.Effect.{IsDatabase};
@@ -141,8 +141,11 @@ pub(crate) fn see_row_numbers<S: Alter>(
 
 /// Checks that rows are those of a good world, and returns its entries.
 pub(crate) fn judge_rows(alloc: Global, rows: WorldRows) -> Result<Entries, OpenFault>
-    ensures { (w : World) → rows ≡ world_rows w → (is_second w.round ≡ false → HasNothingBefore w)
+    ensures good { (w : World) → rows ≡ world_rows w
+        → (is_second w.round ≡ false → HasNothingBefore w)
         → MatchResult result (λ e. Good w × HasEntries e w) (λ fault. Denies fault (Good w)) }
+    ensures judged { IfErr result (λ fault. (fault ≡ OpenFault.Damaged)
+        ⊎ (fault ≡ OpenFault.Memory)) }
 {
     let keeper = match ListKeeper::from_rows(alloc, rows) {
         Ok(keeper) => keeper,

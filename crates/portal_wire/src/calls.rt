@@ -1,6 +1,6 @@
 //! Turns a request into a call, or refuses it.
 
-ghost use Rattle.std.specs.Prelude.{◌≡◌, ◌⊎◌, None, IfOk, IfErr};
+ghost use Rattle.std.specs.Prelude.{◌≡◌, ◌⊎◌, IfOk, IfErr};
 ghost use Rattle.portal_core.specs.Meaning.{call_model};
 ghost use Rattle.portal_core.specs.Run.{HasForm, Calls};
 ghost use Rattle.portal_frame.specs.Stream.{seen, refused};

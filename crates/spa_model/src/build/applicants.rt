@@ -4,7 +4,7 @@ ghost use Rattle.std.specs.Prelude.{◌≡◌, ◌<◌, ◌↔◌, All, Any, IfO
 ghost use Rattle.spa_rows.specs.inner.Least.{IsLeastOf};
 ghost use Rattle.spa_rows.specs.Faults.{BadAt};
 ghost use Rattle.spa_model.specs.Spa.{Rise};
-ghost use Rattle.spa_model.specs.inner.Numbers.{student_keys, lecturer_at, rank_at, row_at};
+ghost use Rattle.spa_model.specs.inner.Numbers.{student_keys};
 ghost use Rattle.spa_model.specs.inner.Numbers.{HaveChoicesBelow, Finds, IsApplicantOf, Misses};
 ghost use Rattle.spa_model.specs.inner.Numbers.{MissesBelow};
 

@@ -11,5 +11,5 @@ pub returns : goal.returns
 returns g c =
     let db = (state g.S.Store c.args.conn.now).now.trees in
     reads_more c.in_ok-rows.ensures
-    (λ own sound loads. MatchResult-weaker c.judge_rows.result (c.judge_rows.ensures (world_in First db) loads.rows_are (nothing_earlier First db))
+    (λ own sound loads. MatchResult-weaker c.judge_rows.result (c.judge_rows.ensures.good (world_in First db) loads.rows_are (nothing_earlier First db))
     (λ e it. (record { office = loads.office; whole = loads.whole; good = it.0 }, it.1)) (λ f. denies_more f _ _ (λ stands. stands.good)))

@@ -13,6 +13,6 @@ unfolding world_of
 returns g c =
     let db = (state g.S.Store c.args.conn.now).now.trees in
     reads_more c.in_ok-rows.ensures
-    (λ own sound loads. MatchResult-weaker c.judge_rows.result (c.judge_rows.ensures (world_of db) loads.rows_are (nothing_earlier (round_in db) db))
+    (λ own sound loads. MatchResult-weaker c.judge_rows.result (c.judge_rows.ensures.good (world_of db) loads.rows_are (nothing_earlier (round_in db) db))
     (λ e it. (record { office = loads.office; whole = loads.whole; good = it.0 }, it.1))
     (λ f no apart. denies_more f _ _ (λ stands. subst Good (sym (world_told stands.0 _ stands.1.second)) stands.1.good) no))
