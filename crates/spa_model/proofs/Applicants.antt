@@ -1,8 +1,9 @@
 -- Lemmas on the faults that speak of applicants, by number.
-use Rattle.spa_model.proofs.Base.{◌≡◌, ◌⊎◌, inl, inr, ◌↔◌, IsTrue, ℕ, ◌+◌, ◌<◌, Bool, true, false, List, [], length, get_or, Option, Some, None, refl, sym, ◌∙◌, ap, subst, arith, cases_lt, false≢true, get_or_default, Text, IsLeastOf, IsKeyOf, map_at, Student, Project, Lecturer, Rise, HasKey, student_keys, choices_at, lecturer_at, row_at, rank_at, Finds, IsApplicantOf, Misses, MissesBelow, rules, not, lesser_row, least_either}
+use Rattle.spa_model.proofs.Base.{◌≡◌, ◌⊎◌, inl, inr, ◌↔◌, IsTrue, ℕ, ◌+◌, ◌<◌, Bool, true, false, List, [], length, get_or, Option, Some, None, refl, sym, ◌∙◌, ap, subst, arith, cases_lt, false≢true, get_or_default, Text, IsLeastOf, map_at, at_place, Any, Student, Project, Lecturer, choices_at, lecturer_at, row_at, rank_at, Misses, MissesBelow, rules, not, lesser_row, least_either}
+use Rattle.std.specs.Bool.{MatchBool}
+use Rattle.std.specs.List.{AllWithin, HoldsAt}
 use Rattle.std.specs.Option.{is_some}
 use Rattle.spa_rows.specs.Lines
-use Rattle.spa_model.proofs.Keys.{one_number, is_key_of}
 
 -- rows at a place
 pub choices_here : (students : List Student) (s : ℕ) (x : Student) → s < length students → x ≡ get_or students s x → choices_at students s ≡ x.choices.items
@@ -17,13 +18,10 @@ row_here lines l x h at = map_at (λ y. y.row) lines l x 0 h (sym at)
 pub rank_here : (lecturers : List Lecturer) (l s : ℕ) (x : Lecturer) → l < length lecturers → x ≡ get_or lecturers l x → rank_at lecturers l s ≡ get_or x.ranks.items s None
 rank_here lecturers l s x h at = ap (λ ranks. get_or ranks s None) (map_at (λ y. y.ranks.items) lecturers l x [] h (sym at))
 
--- the student with the key is an applicant if a choice is the lecturer's
-pub applicant_iff : (lines : List Lines.Student) (students : List Student) (projects : List Project) (l : ℕ) (text : Text) (k : ℕ) (b : Bool) → Rise (student_keys lines) → HasKey (student_keys lines) k text → (IsTrue b ↔ Finds projects (choices_at students k) l) → (IsTrue b ↔ IsApplicantOf lines students projects l text)
-applicant_iff lines students projects l text k b rise key iff = search (rules, one_number)
-
-pub no_applicant : (lines : List Lines.Student) (students : List Student) (projects : List Project) (l : ℕ) (text : Text) → (IsKeyOf lines (λ x. x.key) text → ⊥) → (IsTrue false ↔ IsApplicantOf lines students projects l text)
-no_applicant lines students projects l text none =
-    (λ e. absurd (false≢true e), λ h. absurd (none (is_key_of (λ x. x.key) lines h.0 text h.1)))
+-- what a test of each element of a list says
+pub any_tested : {X : Type 0} (P : X → Type 0) (r : Bool) (xs : List X) → MatchBool r ((k : ℕ) × (k < length xs) × HoldsAt P xs k) (AllWithin (λ x. P x → ⊥) xs 0 (length xs)) → IsTrue r ↔ Any P xs
+any_tested P true xs some = (λ _. let x = at_place xs some.0 some.1 in (some.0, x.0, some.1, x.1, rw x.1 at (some.2 x.0)), λ _. refl)
+any_tested P false xs none = (λ e. absurd (false≢true e), λ (k, x, low, at, p). absurd (none k x (omega arith) low (subst P (sym at) p)))
 
 -- what is least for P is least for Q, which says the same
 pub least_same : (P Q : ℕ → Type 0) (o : Option ℕ) → ((r : ℕ) → P r → Q r) → ((r : ℕ) → Q r → P r) → IsLeastOf P o → IsLeastOf Q o

@@ -1,5 +1,5 @@
 -- Names from below that the proofs use.
-pub use Rattle.std.proofs.Common.{All, Any, Bool, Contains, Equal, Greater, IsTrue, Less, List, None, Option, Ordering, Some, [], ap, arith, cond, eqb, false, get_or, inl, inr, length, map, refl, rules, set, subst, suc, sym, take, true, zero, ℕ, ◌++◌, ◌+◌, ◌<◌, ◌↔◌, ◌∙◌, ◌∷◌, ◌≡◌, ◌≢◌, ◌≤◌, ◌⊎◌, ◌-◌, ltb, IsSortedByKey, IfSome, OnOk, Ok, Err}
+pub use Rattle.std.proofs.Common.{Vec, All, Any, Bool, Contains, Equal, Greater, IsTrue, Less, List, None, Option, Ordering, Some, [], ap, arith, cond, eqb, false, get_or, inl, inr, length, map, refl, rules, set, subst, suc, sym, take, true, zero, ℕ, ◌++◌, ◌+◌, ◌<◌, ◌↔◌, ◌∙◌, ◌∷◌, ◌≡◌, ◌≢◌, ◌≤◌, ◌⊎◌, ◌-◌, ltb, IsSortedByKey, IfSome, OnOk, Ok, Err}
 pub use Rattle.std.proofs.lemmas.Bool.{leb-true, le-leb, ltb-true, lt-ltb, cases_Bool, cases_eq, cases_lt, eq-eqb, eqb-true, false≢true, ne_eqb, true≢false, true_from_ne_false}
 pub use Rattle.std.proofs.lemmas.Bool.Decides.{Decides-eqb, nat_tests}
 pub use Rattle.std.proofs.lemmas.Cmp.{nat_list_cmp_total, tied_itself, nat_list_eq_equiv}
@@ -25,12 +25,14 @@ pub use Rattle.spa_model.specs.declared.instance.Student.{Student}
 pub use Rattle.spa_model.specs.declared.matching.MatchingFault.{MatchingFault}
 pub use Rattle.spa_model.specs.declared.matching.MatchingFault.TheVariants.{LecturerOver, NoSuchProject, NoSuchStudent, NotAcceptable, ProjectOver, StudentTwice}
 pub use Rattle.spa_model.specs.inner.Fitting.{AreAssigned, AreAcceptable}
-pub use Rattle.spa_model.specs.inner.Numbers.{AreKeysOf, AreNumbers, Finds, IsApplicantOf, IsLecturerOf, IsProjectOf, IsStudentOf, Misses, MissesBelow, choices_at, lecturer_at, lecturer_keys, project_keys, rank_at, row_at, student_keys, rows_of}
+pub use Rattle.spa_model.specs.inner.Numbers.{AreKeysOf, AreNumbers, Finds, IsApplicantOf, IsLecturerOf, IsProjectOf, IsStudentOf, Misses, MissesBelow, choices_at, lecturer_at, lecturer_keys, project_keys, rank_at, row_at, student_keys, rows_of, IsApplicantNumber, numbers_at}
 pub use Rattle.spa_rows.proofs.Carry.{SameLines, none_before_carry, same_lines_sym, first_fault_carry}
 pub use Rattle.spa_rows.proofs.FirstFault.{handed_on, refuse_ok, refuse_err}
-pub use Rattle.spa_rows.proofs.LeastRow.{least_all, least_step, least_either}
+pub use Rattle.spa_rows.proofs.LeastRow.{alike, least_all, least_step, least_either}
 pub use Rattle.spa_rows.proofs.Lists.{at_place, map_at}
 pub use Rattle.spa_rows.specs.Faults.{HasFault, HasNoneBefore, IsKeyOf, IsRefusal, NamesNone, Repeats, BadAt, BadBelow, IsEarlierKey, IsBadCapacity, FindsOne, IsApplicant}
 pub use Rattle.spa_rows.specs.Lines.{Pair, Rows, Text, is_key}
 pub use Rattle.spa_rows.specs.declared.faults.InstanceFault.TheVariants.{ApplicantMissing, BadCapacity, BadKey, KeyTwice, ListTooLong, Memory, NoSuchLecturer, NotApplicant, RepeatInList, TooMany}
 pub use Rattle.spa_rows.specs.inner.Least.{IsLeastOf, lesser_row}
+pub use Rattle.spa_rows.specs.inner.Index.{AreListNumbers, HasNumber, HaveNumbers}
+pub use Rattle.std.specs.Global.{Global}

@@ -1,9 +1,10 @@
 -- Numbered rows and the lines that they come from say the same of applicants.
-use Rattle.spa_model.proofs.Base.{◌≡◌, ℕ, ◌<◌, List, [], length, get_or, Any, sym, ◌∙◌, ap, arith, AllZip, get_or_default, length-map, AllZip-long, Text, Rows, BadAt, HasFault, NotApplicant, at_place, Student, Project, Rise, HasKey, student_keys, project_keys, lecturer_keys, AreNumbers, IsStudentOf, IsProjectOf, choices_at, lecturer_at, Finds, IsApplicantOf, FindsOne, IsApplicant}
+use Rattle.spa_model.proofs.Base.{◌≡◌, ℕ, ◌<◌, List, [], length, get_or, Any, sym, ◌∙◌, ap, arith, AllZip, get_or_default, length-map, AllZip-long, Text, Rows, BadAt, HasFault, NotApplicant, at_place, Student, Project, Rise, HasKey, student_keys, project_keys, lecturer_keys, AreNumbers, IsStudentOf, IsProjectOf, choices_at, lecturer_at, Finds, IsApplicantOf, FindsOne, IsApplicant, IsApplicantNumber, numbers_at, HasNumber, HaveNumbers, AreListNumbers, Vec, Global, IsLeastOf, Option, alike, map_at, cases_lt, inl, inr, subst, ◌↔◌}
 use Rattle.spa_rows.specs.Lines
-use Rattle.spa_model.proofs.Keys.{one_number, key_number}
+use Rattle.std.specs.Prelude.{⊤}
+use Rattle.spa_model.proofs.Keys.{one_number, key_number, has_key, is_key_of}
 use Rattle.spa_model.proofs.Ranks.{numbers_below}
-use Rattle.spa_model.proofs.Zips.{zip_at}
+use Rattle.spa_model.proofs.Zips.{zip_at, zip_any}
 use Rattle.spa_model.proofs.Applicants.{choices_here, lecturer_here}
 
 -- students and projects by number
@@ -98,3 +99,27 @@ module _ (rows : Rows) (students : List Student) (projects : List Project) (so :
 
   pub fault_others : (r : ℕ) → HasFault rows NotApplicant r → OthersAt r
   fault_others r (l, y, a, low, at, row, (k, text, under, is_text, none)) = (l, y, a, low, at, row, (k, text, under, is_text, λ yes. none (applicant_text l y low at text yes)))
+
+  -- of a number and of its text
+  applicant_same : (l : ℕ) (text : Text) (n : ℕ) → HasNumber rows.students (λ x. x.key) text n → IsApplicantOf rows.students students projects l text ↔ IsApplicantNumber students projects l n
+  applicant_same l text n has = (
+    λ (s, key, finds).
+        let known : n < length rows.students = elim (cases_lt n (length rows.students)) [ inl low ↦ low | inr past ↦ absurd (has.unknown past (is_key_of (λ x. x.key) rows.students s text key)) ] in
+        let same : s ≡ n = one_number (student_keys rows.students) s n text so.rise_students key (has_key (λ x. x.key) rows.students n text known (has.known known)) in
+        (omega (arith, student_count), subst (λ m. Finds projects (choices_at students m) l) same finds),
+    λ (low, finds).
+        let known : n < length rows.students = omega (arith, student_count) in
+        (n, has_key (λ x. x.key) rows.students n text known (has.known known), finds),
+  )
+
+  -- the least row of a ranking with a number that is no applicant's
+  pub others_numbered : (rankings : List (Vec ℕ Global)) → AreListNumbers rows.students (λ x. x.key) (λ x. x.list) rows.lecturers rankings → (o : Option ℕ) → IsLeastOf (BadAt rows.lecturers (λ x. x.row) (λ l _. Any (λ n. IsApplicantNumber students projects l n → ⊥) (numbers_at rankings l))) o → IsLeastOf OthersAt o
+  others_numbered rankings are o least =
+      let Has : Lines.Lecturer → Vec ℕ Global → Type 0 = λ y own. HaveNumbers rows.students (λ x. x.key) y.list own.items in
+      alike rows.lecturers (λ x. x.row) (λ _ _. ⊤) (λ l _. Any (λ n. IsApplicantNumber students projects l n → ⊥) (numbers_at rankings l)) (λ l x. Any (λ text. IsApplicantOf rows.students students projects l text → ⊥) x.list) (length rows.lecturers) o
+      (λ l y low at.
+      let own = at_place rankings l (omega (arith, AllZip-long Has rows.lecturers rankings are)) in
+      let have : HaveNumbers rows.students (λ x. x.key) (get_or rows.lecturers l y).list (get_or rankings l own.0).items = zip_at Has rows.lecturers rankings l y own.0 low are in
+      let here : numbers_at rankings l ≡ own.0.items = map_at (λ x. x.items) rankings l own.0 [] (omega (arith, AllZip-long Has rows.lecturers rankings are)) own.1 in
+      rw here (zip_any (HasNumber rows.students (λ x. x.key)) (λ text. IsApplicantOf rows.students students projects l text → ⊥) (λ n. IsApplicantNumber students projects l n → ⊥) y.list own.0.items (λ text n has. let same = applicant_same l text n has in (λ none is. none (same.1 is), λ none is. none (same.0 is))) (rw (at, own.1) at have)))
+      least

@@ -1,14 +1,36 @@
 -- What one stage of building hands to the next.
-use Rattle.spa_model.proofs.Base.{◌≡◌, ℕ, ◌<◌, List, length, get_or, Option, All, refl, sym, ◌∙◌, subst, arith, AllZip, get_or_default, length-map, Rows, IsLeastOf, HasFault, HasNoneBefore, AreKeysOf, NotApplicant, ApplicantMissing, Student, Project, Lecturer, student_keys, project_keys, lecturer_keys, IsStudentOf, IsProjectOf, IsLecturerOf, MissesBelow, rules}
+use Rattle.spa_model.proofs.Base.{◌≡◌, ℕ, ◌<◌, List, length, get_or, Option, All, refl, sym, ◌∙◌, subst, arith, AllZip, get_or_default, length-map, Rows, IsLeastOf, HasFault, HasNoneBefore, AreKeysOf, NotApplicant, ApplicantMissing, Student, Project, Lecturer, student_keys, project_keys, lecturer_keys, IsStudentOf, IsProjectOf, IsLecturerOf, MissesBelow, rules, AreListNumbers, HaveNumbers, HasNumber, HasKey, IsKeyOf, AreNumbers, Text, Vec, Global, map, cases_lt, inl, inr, IsDistinct, Repeats, at_place, AllZip-long}
 use Rattle.spa_rows.specs.Lines
-use Rattle.spa_model.proofs.Keys.{is_key_of, all_known}
-use Rattle.spa_model.proofs.Zips.{zip_all}
-use Rattle.spa_model.proofs.Ranks.{numbers_below}
+use Rattle.spa_model.proofs.Keys.{is_key_of, all_known, has_key}
+use Rattle.spa_model.proofs.Zips.{zip_all, zip_also, zip_at}
+use Rattle.spa_model.proofs.Ranks.{numbers_below, distinct_numbers}
 use Rattle.spa_model.proofs.Applicants.{least_same}
 use Rattle.spa_model.proofs.Good.{AreGood}
 use Rattle.spa_model.proofs.Numbered.{AreNumbered}
 use Rattle.spa_model.proofs.Numbered
 use Rattle.spa_model.proofs.Missing
+
+-- the numbers of texts that are keys
+pub numbers_listed : {X L : Type 0} (key : X → Text) (lines : List X) (list : L → List Text) (owners : List L) (numbers : List (Vec ℕ Global)) → AreListNumbers lines key list owners numbers → All (λ x. AreKeysOf lines key (list x)) owners → AllZip (λ x own. AreNumbers (map key lines) (list x) own.items) owners numbers
+numbers_listed key lines list owners numbers are known =
+    zip_also (λ x own. HaveNumbers lines key (list x) own.items) (λ x own. AreNumbers (map key lines) (list x) own.items) (λ x. AreKeysOf lines key (list x)) owners numbers (λ x own have keys. zip_also (HasNumber lines key) (λ text n. HasKey (map key lines) n text) (IsKeyOf lines key) (list x) own.items one keys have) known are
+  where
+    one : (text : Text) (n : ℕ) → HasNumber lines key text n → IsKeyOf lines key text → HasKey (map key lines) n text
+    one text n has is = elim (cases_lt n (length lines)) [
+      | inl low ↦ has_key key lines n text low (has.known low)
+      | inr past ↦ absurd (has.unknown past is)
+    ]
+
+-- rankings by number
+module _ (rows : Rows) (rankings : List (Vec ℕ Global)) (are : AllZip (λ x own. AreNumbers (student_keys rows.students) x.list own.items) rows.lecturers rankings) where
+  pub rankings_below : All (λ own. All (λ s. s < length rows.students) own.items) rankings
+  rankings_below = subst (λ n. All (λ own. All (λ s. s < n) own.items) rankings) (length-map rows.students (λ x. x.key))
+      (zip_all (λ x own. AreNumbers (student_keys rows.students) x.list own.items) (λ own. All (λ s. s < length (student_keys rows.students)) own.items) rows.lecturers rankings (λ x own have. numbers_below (student_keys rows.students) x.list own.items have) are)
+
+  pub rankings_distinct : All (λ x. Repeats x.list → ⊥) rows.lecturers → All (λ own. IsDistinct own.items) rankings
+  rankings_distinct apart k d low =
+      let line = at_place rows.lecturers k (omega (arith, low, AllZip-long (λ x own. AreNumbers (student_keys rows.students) x.list own.items) rows.lecturers rankings are)) in
+      distinct_numbers (student_keys rows.students) (get_or rows.lecturers k line.0).list (get_or rankings k d).items (zip_at (λ x own. AreNumbers (student_keys rows.students) x.list own.items) rows.lecturers rankings k line.0 d (omega (arith, low, AllZip-long (λ x own. AreNumbers (student_keys rows.students) x.list own.items) rows.lecturers rankings are)) are) (apart k line.0 (omega (arith, low, AllZip-long (λ x own. AreNumbers (student_keys rows.students) x.list own.items) rows.lecturers rankings are)))
 
 pub numbered : (rows : Rows) (students : List Student) (projects : List Project) → AreGood rows → AllZip (IsStudentOf (project_keys rows.projects)) rows.students students → AllZip (IsProjectOf (lecturer_keys rows.lecturers)) rows.projects projects → AreNumbered rows students projects
 numbered rows students projects good choices offers = search rules

@@ -7,6 +7,7 @@ ghost use Rattle.std.specs.Prelude.{IfErr, IfOk, OnOk, IsSortedByKey};
 ghost use Rattle.std.specs.Ordering.{nat_cmp};
 ghost use Rattle.std.specs.Cmp.Lexicographic.{slice_cmp};
 ghost use Rattle.spa_rows.specs.Faults.{HasNoneBefore, IsRefusal};
+ghost use Rattle.spa_rows.specs.inner.Index.{AreListNumbers};
 ghost use Rattle.spa_rows.specs.declared.faults.InstanceFault.TheVariants.{NotApplicant, Memory};
 ghost use Rattle.spa_model.specs.Pairs.{StandsFor};
 ghost use Rattle.spa_model.specs.Spa.{IsLawful};
@@ -21,18 +22,25 @@ use spa_rows::{
 };
 use std::alloc::Global;
 
-/// Builds the instance of sorted lines that `check_lines` and `check_lists` accept.
+/// Builds the instance of sorted lines that `check_lines` and `check_lists` accept, given their
+/// lists by number.
 fn instance_of(
     alloc: Global,
     lecturers: &[LecturerLine],
     projects: &[ProjectLine],
     students: &[StudentLine],
+    choices: &[Vec<usize>],
+    rankings: &[Vec<usize>],
 ) -> Result<Instance, BadInstance>
     requires lecturers { IsSortedByKey (λ x. x.key) (slice_cmp nat_cmp) lecturers.now }
     requires projects { IsSortedByKey (λ x. x.key) (slice_cmp nat_cmp) projects.now }
     requires students { IsSortedByKey (λ x. x.key) (slice_cmp nat_cmp) students.now }
     requires faultless { HasNoneBefore
         (rows_of lecturers.now projects.now students.now) NotApplicant }
+    requires choices { AreListNumbers projects.now (λ x. x.key) (λ x. x.list)
+        students.now choices.now }
+    requires rankings { AreListNumbers students.now (λ x. x.key) (λ x. x.list)
+        lecturers.now rankings.now }
     ensures ok { IfOk result (λ i. StandsFor (rows_of lecturers.now projects.now students.now) i) }
     ensures lawful { IfOk result (λ i. IsLawful i) }
     ensures sound { OnOk result
@@ -40,13 +48,13 @@ fn instance_of(
     ensures err { IfErr result
         (λ e. IsRefusal (rows_of lecturers.now projects.now students.now) e.fault e.row) }
 {
-    let student_rows = number_students(alloc, students, projects)?;
+    let student_rows = number_students(alloc, students, choices)?;
     let project_rows = number_projects(alloc, projects, lecturers)?;
     refuse(
         InstanceFault::NotApplicant,
-        not_applicant(alloc, lecturers, students, &student_rows, &project_rows)?,
+        not_applicant(lecturers, rankings, &student_rows, &project_rows),
     )?;
-    let lecturer_rows = number_lecturers(alloc, lecturers, students)?;
+    let lecturer_rows = number_lecturers(alloc, lecturers, rankings, students.len())?;
     refuse(
         InstanceFault::ApplicantMissing,
         applicant_missing(lecturers, &lecturer_rows, &project_rows, &student_rows),
@@ -69,7 +77,14 @@ impl Instance {
         check_lines(alloc, &rows)?;
         let mut sorted = rows;
         sort_rows(&mut sorted)?;
-        check_lists(alloc, &sorted)?;
-        instance_of(alloc, &sorted.lecturers, &sorted.projects, &sorted.students)
+        let lists = check_lists(alloc, &sorted)?;
+        instance_of(
+            alloc,
+            &sorted.lecturers,
+            &sorted.projects,
+            &sorted.students,
+            &lists.choices,
+            &lists.rankings,
+        )
     }
 }

@@ -1,9 +1,9 @@
 -- Names from below that the proofs use.
-pub use Rattle.std.proofs.Common.{Bool, Bor, Err, IsTrue, List, None, Ok, Option, Some, [], ap, arith, cond, eqb, false, get_or, inl, inr, length, map, refl, rules, subst, suc, sym, take, true, zero, ℕ, ◌+◌, ◌<◌, ◌↔◌, ◌∙◌, ◌∷◌, ◌≡◌, ◌⊎◌, ◌++◌, Ordering, BTreeSet, min, ◌≢◌, Result, IsOk, IsErrAnd, OnOk, IfErr, MatchOption, IsSortedByKey}
-pub use Rattle.std.proofs.lemmas.Bool.{cases_lt, eq-eqb, ne_eqb, false≢true, and_parts, false_from_ne_true}
+pub use Rattle.std.proofs.Common.{All, Contains, Vec, drop, Bool, Bor, Err, IsTrue, List, None, Ok, Option, Some, [], ap, arith, cond, eqb, false, get_or, inl, inr, length, map, refl, rules, subst, suc, sym, take, true, zero, ℕ, ◌+◌, ◌<◌, ◌↔◌, ◌∙◌, ◌∷◌, ◌≡◌, ◌⊎◌, ◌++◌, Ordering, BTreeSet, min, ◌≢◌, Result, IsOk, IsErrAnd, OnOk, IfErr, MatchOption, IsSortedByKey}
+pub use Rattle.std.proofs.lemmas.Bool.{cases_lt, eqb-true, eq-eqb, ne_eqb, false≢true, and_parts, false_from_ne_true}
 pub use Rattle.std.proofs.lemmas.Bool.Decides.{nat_tests}
 pub use Rattle.std.proofs.lemmas.Cmp.{nat_list_cmp_total, tied_itself, nat_list_eq_equiv}
-pub use Rattle.std.proofs.lemmas.List.{get_or_default, length-map, take_more, get_or_append_left, length-append, get_or-map, length-take, get_or-take}
+pub use Rattle.std.proofs.lemmas.List.{get_or_default, length-map, take_more, get_or_append_left, length-append, get_or-map, length-take, get_or-take, length-drop, take_all}
 pub use Rattle.std.proofs.lemmas.List.Sorted.{IsPermutation-sym, IsPermutation-map, Contains-permutation, length_permutation, ranks_by, answers_always}
 pub use Rattle.std.proofs.lemmas.Slice.Eq.{bytes_eq-Decides}
 pub use Rattle.std.specs.Cmp.Lexicographic.{slice_cmp}
@@ -15,5 +15,8 @@ pub use Rattle.spa_rows.specs.Faults.{BadLecturer, BadProject, BadStudent, HasFa
 pub use Rattle.spa_rows.specs.Lines.{is_key, Rows, Text, is_key_byte, Lecturer, Project, Student}
 pub use Rattle.spa_rows.specs.declared.faults.InstanceFault.{InstanceFault}
 pub use Rattle.spa_rows.specs.declared.faults.InstanceFault.TheVariants.{ApplicantMissing, BadCapacity, BadKey, KeyTwice, ListTooLong, Memory, NoSuchLecturer, NoSuchProject, NotApplicant, RepeatInList, TooMany}
-pub use Rattle.spa_rows.specs.inner.Index.{IsIndexOf, text_eq, HasPlace}
+pub use Rattle.spa_rows.specs.inner.Index.{IsIndexOf, text_eq, HasPlace, HasNumber, HaveNumbers, AreListNumbers, Differ}
 pub use Rattle.spa_rows.specs.inner.Least.{IsLeastOf, IsLeastTold, least_row, lesser_row}
+pub use Rattle.std.specs.Global.{Global}
+pub use Rattle.std.specs.List.{AllZip, IsAnyAnswer}
+pub use Rattle.std.proofs.lemmas.Slice.Zip.{AllZip-long, all_zipped_more}

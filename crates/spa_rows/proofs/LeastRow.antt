@@ -41,7 +41,7 @@ module _ {X : Type 0} (lines : List X) (row : X → ℕ) (Bad : ℕ → X → Ty
 -- what a test tells of each line
 module _ {X : Type 0} (lines : List X) (row : X → ℕ) (Says : X → Bool → Type 0) where
   -- two faults that the first n lines have alike
-  alike : (P Q : ℕ → X → Type 0) (n : ℕ) (o : Option ℕ) → ((j : ℕ) (x : X) → j < n → get_or lines j x ≡ x → P j x ↔ Q j x) → IsLeastOf (BadBelow lines row P n) o → IsLeastOf (BadBelow lines row Q n) o
+  pub alike : (P Q : ℕ → X → Type 0) (n : ℕ) (o : Option ℕ) → ((j : ℕ) (x : X) → j < n → get_or lines j x ≡ x → P j x ↔ Q j x) → IsLeastOf (BadBelow lines row P n) o → IsLeastOf (BadBelow lines row Q n) o
   alike P Q n None same none = λ r (j, x, below, h, at, is, bad). none r (j, x, below, h, at, is, (same j x below at).1 bad)
   alike P Q n (Some r) same ((j, x, below, h, at, is, bad), least) = ((j, x, below, h, at, is, (same j x below at).0 bad), λ q (k, y, under, g, there, has, worse). least q (k, y, under, g, there, has, (same k y under there).1 worse))
 

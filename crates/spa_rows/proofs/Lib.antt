@@ -7,3 +7,4 @@ pub mod Seen
 pub mod Indexed
 pub mod FirstFault
 pub mod Carry
+pub mod Numbers

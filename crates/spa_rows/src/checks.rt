@@ -1,18 +1,18 @@
 //! Tests all rows for one fault, then all rows for the next fault. A refusal names the
 //! lowest-numbered row that has the fault.
 
-ghost use Rattle.std.specs.Prelude.{◌≡◌, ◌↔◌, Err, IfErr, IfOk, IsOk, IsTrue, MatchOption, OnOk};
-ghost use Rattle.spa_rows.specs.Faults.{HasFault, HasNoneBefore, IsRefusal, NamesNone, Repeats};
+ghost use Rattle.std.specs.Prelude.{◌≡◌, Err, IfErr, IfOk, IsOk, MatchOption, OnOk};
+ghost use Rattle.spa_rows.specs.Faults.{HasFault, HasNoneBefore, IsRefusal};
+ghost use Rattle.spa_rows.specs.inner.Index.{AreListNumbers};
 ghost use Rattle.spa_rows.specs.inner.Least.{IsLeastOf, lesser_row};
 
 use crate::faults::{BadInstance, InstanceFault};
-use crate::index::Places;
+use crate::index::{Places, list_numbers};
 use crate::least::{
-    has_bad_key, is_bad_capacity, key_twice, least, least_where, names_none, repeats,
-    try_least_where,
+    has_bad_key, is_bad_capacity, key_twice, least, least_where, repeat_in_list, unknown_in_list,
 };
 use crate::limits::{LONGEST_CHOICE, MOST_LECTURERS, MOST_PROJECTS, MOST_STUDENTS};
-use crate::lines::{InstanceRows, LecturerLine, StudentLine};
+use crate::lines::{InstanceRows, ListNumbers};
 use std::alloc::{AllocError, Global};
 
 /// Returns the smaller of the faulty rows of two kinds of lines, or the only one present.
@@ -77,34 +77,30 @@ fn lecturers_missing(alloc: Global, rows: &InstanceRows) -> Result<Option<u32>, 
 
 /// Finds, in lines of every kind, the lowest-numbered row of a student who lists an unknown
 /// project.
-fn projects_missing(alloc: Global, rows: &InstanceRows) -> Result<Option<u32>, AllocError>
-    ensures { IfOk result (IsLeastOf (HasFault rows.now InstanceFault.NoSuchProject)) }
+fn projects_missing(rows: &InstanceRows, choices: &[Vec<usize>]) -> Option<u32>
+    requires { AreListNumbers rows.now.projects (λ x. x.key) (λ x. x.list)
+        rows.now.students choices.now }
+    ensures { IsLeastOf (HasFault rows.now InstanceFault.NoSuchProject) result }
 {
-    let projects = Places::of(alloc, &rows.projects)?;
-    Ok(least_where(
-        &rows.students,
-        |line: &StudentLine| -> bool
-            ensures { IsTrue result ↔ NamesNone projects.entry (λ x. x.key) line.now.list }
-        { names_none(&projects, &line.list) },
-    ))
+    unknown_in_list(&rows.students, choices, rows.projects.len())
 }
 
 /// Finds, in lines of every kind, the lowest-numbered row whose list contains a text twice.
-fn repeats_in_lists(alloc: Global, rows: &InstanceRows) -> Result<Option<u32>, AllocError>
+fn repeats_in_lists(
+    alloc: Global,
+    rows: &InstanceRows,
+    choices: &[Vec<usize>],
+    rankings: &[Vec<usize>],
+) -> Result<Option<u32>, AllocError>
+    requires faultless { HasNoneBefore rows.now InstanceFault.NoSuchLecturer }
+    requires choices { AreListNumbers rows.now.projects (λ x. x.key) (λ x. x.list)
+        rows.now.students choices.now }
+    requires rankings { AreListNumbers rows.now.students (λ x. x.key) (λ x. x.list)
+        rows.now.lecturers rankings.now }
     ensures { IfOk result (IsLeastOf (HasFault rows.now InstanceFault.RepeatInList)) }
 {
-    let lecturer = try_least_where(
-        &rows.lecturers,
-        |line: &LecturerLine| -> Result<bool, AllocError>
-            ensures { IfOk result (λ yes. IsTrue yes ↔ Repeats line.now.list) }
-        { repeats(alloc, &line.list) },
-    )?;
-    let student = try_least_where(
-        &rows.students,
-        |line: &StudentLine| -> Result<bool, AllocError>
-            ensures { IfOk result (λ yes. IsTrue yes ↔ Repeats line.now.list) }
-        { repeats(alloc, &line.list) },
-    )?;
+    let lecturer = repeat_in_list(alloc, &rows.lecturers, rankings, rows.students.len() + 1)?;
+    let student = repeat_in_list(alloc, &rows.students, choices, rows.projects.len() + 1)?;
     Ok(lesser(lecturer, student))
 }
 
@@ -137,17 +133,31 @@ pub fn check_lines(alloc: Global, rows: &InstanceRows) -> Result<(), BadInstance
     refuse(InstanceFault::BadCapacity, bad_capacities(rows))
 }
 
-/// Refuses an unknown lecturer or project, a repeat in a list, or over 20 projects on a list.
-pub fn check_lists(alloc: Global, rows: &InstanceRows) -> Result<(), BadInstance>
+/// Refuses an unknown lecturer or project, a repeat in a list, or over 20 projects on a list, or
+/// returns the lists by number.
+pub fn check_lists(alloc: Global, rows: &InstanceRows) -> Result<ListNumbers, BadInstance>
     requires { HasNoneBefore rows.now InstanceFault.NoSuchLecturer }
     ensures ok { OnOk result (HasNoneBefore rows.now InstanceFault.NotApplicant) }
+    ensures choices { IfOk result (λ numbers. AreListNumbers rows.now.projects (λ x. x.key)
+        (λ x. x.list) rows.now.students numbers.choices.items) }
+    ensures rankings { IfOk result (λ numbers. AreListNumbers rows.now.students (λ x. x.key)
+        (λ x. x.list) rows.now.lecturers numbers.rankings.items) }
     ensures err { IfErr result (λ e. IsRefusal rows.now e.fault e.row) }
 {
     refuse(
         InstanceFault::NoSuchLecturer,
         lecturers_missing(alloc, rows)?,
     )?;
-    refuse(InstanceFault::NoSuchProject, projects_missing(alloc, rows)?)?;
-    refuse(InstanceFault::RepeatInList, repeats_in_lists(alloc, rows)?)?;
-    refuse(InstanceFault::ListTooLong, lists_too_long(rows))
+    let choices = list_numbers(alloc, &rows.students, &rows.projects)?;
+    refuse(
+        InstanceFault::NoSuchProject,
+        projects_missing(rows, &choices),
+    )?;
+    let rankings = list_numbers(alloc, &rows.lecturers, &rows.students)?;
+    refuse(
+        InstanceFault::RepeatInList,
+        repeats_in_lists(alloc, rows, &choices, &rankings)?,
+    )?;
+    refuse(InstanceFault::ListTooLong, lists_too_long(rows))?;
+    Ok(ListNumbers { choices, rankings })
 }

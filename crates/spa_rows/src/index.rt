@@ -1,14 +1,14 @@
 //! Looks up lines by key, in a hash table, and sorts them by key.
 
 ghost use Rattle.std.specs.Prelude.{◌≡◌, ◌<◌, ◌↔◌, IsTrue, IfNone, IfOk, IfSome, OnOk, length};
-ghost use Rattle.std.specs.Prelude.{slice_index_or, IsPermutation, IsSortedByKey};
+ghost use Rattle.std.specs.Prelude.{map, slice_index_or, IsPermutation, IsSortedByKey};
 ghost use Rattle.std.specs.Ordering.{nat_cmp};
 ghost use Rattle.std.specs.Cmp.Lexicographic.{slice_cmp};
 ghost use Rattle.spa_rows.specs.Faults.{IsKeyOf};
 ghost use Rattle.std.specs.HashMap.{get};
-ghost use Rattle.spa_rows.specs.inner.Index.{text_eq};
+ghost use Rattle.spa_rows.specs.inner.Index.{text_eq, AreListNumbers, HasNumber, HaveNumbers};
 
-use crate::lines::{InstanceRows, Line};
+use crate::lines::{InstanceRows, Line, Listing};
 use std::alloc::{AllocError, Global};
 use std::cmp::Ordering;
 use std::collections::HashMap;
@@ -74,6 +74,46 @@ impl<'a, L: Line> Places<'a, L> {
     {
         self.find(key).is_some()
     }
+
+    /// Returns the index of a line with this key, or the number of lines if there is none.
+    fn number(&self, key: &[u8]) -> usize
+        ensures { HasNumber self.now L.key_of key.now result }
+    {
+        match self.find(key) {
+            Some(number) => number,
+            None => self.len(),
+        }
+    }
+
+    /// Returns the number of each key on a list.
+    fn numbers(&self, alloc: Global, list: &[Vec<u8>]) -> Result<Vec<usize>, AllocError>
+        ensures { IfOk result (λ numbers. HaveNumbers self.now L.key_of
+            (map (λ text. text.items) list.now) numbers.items) }
+    {
+        let mut numbers = Vec::with_capacity(alloc, list.len())?;
+        for text in list {
+            numbers.push(self.number(text))?;
+        }
+        Ok(numbers)
+    }
+}
+
+/// Returns the numbers of the keys on the list of each line: of a key, the index of its line, or
+/// the number of lines if no line has the key.
+pub(crate) fn list_numbers<L: Listing, K: Line>(
+    alloc: Global,
+    owners: &[L],
+    lines: &[K],
+) -> Result<Vec<Vec<usize>>, AllocError>
+    ensures { IfOk result (λ numbers. AreListNumbers lines.now K.key_of L.list_of
+        owners.now numbers.items) }
+{
+    let places = Places::of(alloc, lines)?;
+    let mut numbers = Vec::with_capacity(alloc, owners.len())?;
+    for owner in owners {
+        numbers.push(places.numbers(alloc, owner.list())?)?;
+    }
+    Ok(numbers)
 }
 
 /// Sorts the lines of one kind by key.

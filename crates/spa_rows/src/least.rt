@@ -1,17 +1,18 @@
 //! Finds the lowest-numbered row of one kind that has a given fault, such as a bad key.
 
-ghost use Rattle.std.specs.Prelude.{◌≡◌, ◌↔◌, false, if◌then◌else◌, IfOk};
-ghost use Rattle.std.specs.Prelude.{IsTrue, Ok, Some, length, map};
+ghost use Rattle.std.specs.Prelude.{◌≡◌, ◌<◌, ◌↔◌, false, if◌then◌else◌, All, Contains, IfOk};
+ghost use Rattle.std.specs.Prelude.{IsTrue, Some, [], length, map, slice_index_or};
 ghost use Rattle.std.specs.Fn.{FnReturnsAt};
-ghost use Rattle.spa_rows.specs.Faults.{IsBadCapacity, IsEarlierKey, NamesNone, Repeats};
+ghost use Rattle.spa_rows.specs.Faults.{IsBadCapacity, IsEarlierKey, Repeats};
 ghost use Rattle.spa_rows.specs.Faults.{BadAt};
 ghost use Rattle.spa_rows.specs.Lines.{is_key};
+ghost use Rattle.std.specs.List.{AllZip};
+ghost use Rattle.spa_rows.specs.inner.Index.{Differ};
 ghost use Rattle.spa_rows.specs.inner.Least.{IsLeastOf, IsLeastTold, least_row};
 
-use crate::index::Places;
 use crate::key::is_key_text;
 use crate::limits::is_capacity;
-use crate::lines::{Line, ProjectLine};
+use crate::lines::{Line, Listing};
 use std::alloc::{AllocError, Global};
 use std::collections::BTreeSet;
 
@@ -44,24 +45,6 @@ pub(crate) fn least_where<L: Line, F: Fn(&L) -> bool>(lines: &[L], is_bad: F) ->
     best
 }
 
-/// Finds the lowest-numbered row of the lines, all of one kind, that the closure calls bad, where
-/// the closure may run out of memory.
-pub(crate) fn try_least_where<L: Line, F: Fn(&L) -> Result<bool, AllocError>>(
-    lines: &[L],
-    is_bad: F,
-) -> Result<Option<u32>, AllocError>
-    requires { F.IsAlwaysCallable is_bad }
-    ensures { IfOk result (IsLeastTold lines.now L.row_of
-        (λ x b. FnReturnsAt F.Fn is_bad x (Ok b)) (length lines.now)) }
-{
-    let mut best = None;
-    for line in lines {
-        let is_bad = is_bad(line)?;
-        best = least_with(best, line.row(), is_bad);
-    }
-    Ok(best)
-}
-
 /// Returns whether a line's capacity has the fault that it is not 1 to 200.
 pub(crate) fn is_bad_capacity(capacity: u32) -> bool
     ensures { IsTrue result ↔ IsBadCapacity capacity }
@@ -90,17 +73,25 @@ pub(crate) fn key_twice<L: Line>(alloc: Global, lines: &[L]) -> Result<Option<u3
     Ok(best)
 }
 
-/// Returns whether a student's list has the fault that it names an unknown project.
-pub(crate) fn names_none(projects: &Places<ProjectLine>, list: &[Vec<u8>]) -> bool
-    ensures { IsTrue result ↔ NamesNone projects.now (λ x. x.key)
-        (map (λ text. text.items) list.now) }
+/// Returns whether a number may occur twice on a list. Each number gets the list's mark; if none
+/// had it before, `true` says that one does.
+fn may_repeat(marks: &mut [usize], mark: usize, numbers: &[usize]) -> bool
+    requires { All (λ n. n < length marks.old) numbers.now }
+    ensures count { length marks.new ≡ length marks.old }
+    ensures apart { result ≡ false → Differ numbers.now }
 {
-    list.iter().any(|text| !projects.has(text))
+    for number in numbers {
+        if marks[*number] == mark {
+            return true;
+        }
+        marks[*number] = mark;
+    }
+    false
 }
 
-/// Returns whether a line's list has the fault that a text occurs twice. Crafted texts can collide
-/// in a hash set and make it slow, so the texts go into a tree.
-pub(crate) fn repeats(alloc: Global, list: &[Vec<u8>]) -> Result<bool, AllocError>
+/// Returns whether the list has the fault that a text occurs twice. Crafted texts can collide in a
+/// hash set and make it slow, so the texts go into a tree.
+fn repeats(alloc: Global, list: &[Vec<u8>]) -> Result<bool, AllocError>
     ensures { IfOk result (λ yes. IsTrue yes ↔ Repeats (map (λ text. text.items) list.now)) }
 {
     let mut seen = BTreeSet::new(alloc);
@@ -110,4 +101,66 @@ pub(crate) fn repeats(alloc: Global, list: &[Vec<u8>]) -> Result<bool, AllocErro
         }
     }
     Ok(false)
+}
+
+/// Returns whether a line's list has the fault that a text occurs twice, given the text's numbers.
+/// Two texts that are no keys have one number, so the texts decide where a number may repeat.
+fn list_repeats(
+    alloc: Global,
+    marks: &mut [usize],
+    mark: usize,
+    list: &[Vec<u8>],
+    numbers: &[usize],
+) -> Result<bool, AllocError>
+    requires below { All (λ n. n < length marks.old) numbers.now }
+    requires apart { Differ numbers.now → ¬ Repeats (map (λ text. text.items) list.now) }
+    ensures count { length marks.new ≡ length marks.old }
+    ensures repeats { IfOk result (λ yes. IsTrue yes
+        ↔ Repeats (map (λ text. text.items) list.now)) }
+{
+    if may_repeat(marks, mark, numbers) {
+        return repeats(alloc, list);
+    }
+    Ok(false)
+}
+
+/// Finds the lowest-numbered row of a line whose list contains a text twice, given the numbers of
+/// the texts, which are below `count`.
+pub(crate) fn repeat_in_list<L: Line + Listing>(
+    alloc: Global,
+    lines: &[L],
+    numbers: &[Vec<usize>],
+    count: usize,
+) -> Result<Option<u32>, AllocError>
+    requires length { length numbers.now ≡ length lines.now }
+    requires below { All (λ own. All (λ n. n < count) own.items) numbers.now }
+    requires apart { AllZip (λ x own. Differ own.items → ¬ Repeats (L.list_of x))
+        lines.now numbers.now }
+    ensures { IfOk result (IsLeastOf (BadAt lines.now L.row_of (λ _ x. Repeats (L.list_of x)))) }
+{
+    let mut marks = vec![in alloc; lines.len(); count]?;
+    let mut best = None;
+    for (place, line) in lines.iter().enumerate() {
+        let is_bad = list_repeats(alloc, &mut marks, place, line.list(), &numbers[place])?;
+        best = least_with(best, line.row(), is_bad);
+    }
+    Ok(best)
+}
+
+/// Finds the lowest-numbered row of a line whose list has the number `unknown`.
+pub(crate) fn unknown_in_list<L: Line>(
+    lines: &[L],
+    numbers: &[Vec<usize>],
+    unknown: usize,
+) -> Option<u32>
+    requires { length numbers.now ≡ length lines.now }
+    ensures { IsLeastOf (BadAt lines.now L.row_of (λ j _. Contains
+        (slice_index_or (map (λ own. own.items) numbers.now) j []) unknown)) result }
+{
+    let mut best = None;
+    for (place, line) in lines.iter().enumerate() {
+        let is_bad = numbers[place].contains(&unknown);
+        best = least_with(best, line.row(), is_bad);
+    }
+    best
 }

@@ -14,4 +14,6 @@ pub use faults::{BadInstance, InstanceFault};
 pub use index::{Places, sort_rows};
 pub use key::{Key, KeyFault};
 pub use least::least_with;
-pub use lines::{InstanceRows, LecturerLine, Line, PairLine, ProjectLine, StudentLine};
+pub use lines::{
+    InstanceRows, LecturerLine, Line, ListNumbers, PairLine, ProjectLine, StudentLine,
+};

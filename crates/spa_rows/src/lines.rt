@@ -1,6 +1,7 @@
 //! The lines of an instance, unchecked (keys are plain bytes), and traits for reading their parts.
 
-ghost use Rattle.std.specs.Prelude.{◌≡◌, ℕ, List};
+ghost use Rattle.std.specs.Prelude.{◌≡◌, ℕ, List, map};
+ghost use Rattle.spa_rows.specs.Lines.{Text};
 
 use std::marker::Model;
 
@@ -110,6 +111,14 @@ impl Model for InstanceRows {
     } };
 }
 
+/// The lists of an instance's lines by number: of each key, the index of its line, or the number of
+/// lines if no line has the key.
+#[derive(Drop)]
+pub struct ListNumbers {
+    pub choices: Vec<Vec<usize>>,
+    pub rankings: Vec<Vec<usize>>,
+}
+
 /// A line with a row and a key.
 pub trait Line {
     ghost row_of: { Self → ℕ };
@@ -164,5 +173,30 @@ impl Line for StudentLine {
 
     fn key(&self) -> &[u8] {
         &self.key
+    }
+}
+
+/// A line with a list of keys.
+pub trait Listing {
+    ghost list_of: { Self → List Text };
+
+    /// Returns the keys on the line's list.
+    fn list(&self) -> &[Vec<u8>]
+        ensures { map (λ text. text.items) result.now ≡ list_of self.now };
+}
+
+impl Listing for LecturerLine {
+    ghost list_of = { λ x. x.list };
+
+    fn list(&self) -> &[Vec<u8>] {
+        &self.list
+    }
+}
+
+impl Listing for StudentLine {
+    ghost list_of = { λ x. x.list };
+
+    fn list(&self) -> &[Vec<u8>] {
+        &self.list
     }
 }

@@ -1,5 +1,6 @@
 -- How lines are kept by number, and what numbers show of applicants.
-use Rattle.std.specs.Prelude.{◌≡◌, ◌<◌, ℕ, List, [], All, Any, map, length, Option, None, slice_index_or}
+use Rattle.std.specs.Prelude.{◌≡◌, ◌<◌, ℕ, List, [], All, Any, map, length, Option, None, Vec, slice_index_or}
+use Rattle.std.specs.Global.{Global}
 use Rattle.std.specs.List.{AllZip}
 use Rattle.spa_rows.specs.Lines
 use Rattle.spa_rows.specs.Lines.{Text, Rows}
@@ -67,6 +68,14 @@ Finds projects choices l = Any (λ p. lecturer_at projects p ≡ l) choices
 -- the text is the key of a student with such a choice
 abbrev pub IsApplicantOf : List Lines.Student → List Student → List Project → ℕ → Text → Type 0
 IsApplicantOf lines students projects l text = (s : ℕ) × HasKey (student_keys lines) s text × Finds projects (choices_at students s) l
+
+-- the number is that of a student with such a choice
+abbrev pub IsApplicantNumber : List Student → List Project → ℕ → ℕ → Type 0
+IsApplicantNumber students projects l n = (n < length students) × Finds projects (choices_at students n) l
+
+-- the list of numbers at a place
+abbrev pub numbers_at : List (Vec ℕ Global) → ℕ → List ℕ
+numbers_at lists k = slice_index_or (map (λ own. own.items) lists) k []
 
 -- the row of a lecturer's line
 abbrev pub row_at : List Lines.Lecturer → ℕ → ℕ

@@ -1,16 +1,14 @@
 //! Checks that the ranking in a lecturer's line has exactly the lecturer's applicants.
 
-ghost use Rattle.std.specs.Prelude.{◌≡◌, ◌<◌, ◌↔◌, All, Any, IfOk, IsTrue, None, length, map};
+ghost use Rattle.std.specs.Prelude.{◌≡◌, ◌<◌, ◌↔◌, All, Any, IsTrue, None, length};
 ghost use Rattle.spa_rows.specs.inner.Least.{IsLeastOf};
 ghost use Rattle.spa_rows.specs.Faults.{BadAt};
-ghost use Rattle.spa_model.specs.Spa.{Rise};
-ghost use Rattle.spa_model.specs.inner.Numbers.{student_keys};
-ghost use Rattle.spa_model.specs.inner.Numbers.{HaveChoicesBelow, Finds, IsApplicantOf, Misses};
+ghost use Rattle.spa_model.specs.inner.Numbers.{HaveChoicesBelow, Finds, IsApplicantNumber};
+ghost use Rattle.spa_model.specs.inner.Numbers.{Misses, numbers_at};
 ghost use Rattle.spa_model.specs.inner.Numbers.{MissesBelow};
 
 use crate::instance::{Lecturer, Project, Student};
-use spa_rows::{LecturerLine, Places, StudentLine, least_with};
-use std::alloc::{AllocError, Global};
+use spa_rows::{LecturerLine, least_with};
 
 /// Returns whether a student with these choices is an applicant of the lecturer.
 fn finds(projects: &[Project], choices: &[usize], lecturer: usize) -> bool
@@ -26,68 +24,51 @@ fn finds(projects: &[Project], choices: &[usize], lecturer: usize) -> bool
     false
 }
 
-/// Returns whether the text, from a ranking in a line, is the key of an applicant of the lecturer.
-fn is_applicant(
-    lines: &Places<StudentLine>,
-    students: &[Student],
-    projects: &[Project],
-    lecturer: usize,
-    text: &[u8],
-) -> bool
-    requires rise { Rise (student_keys lines.now) }
-    requires count { length students.now ≡ length lines.now }
-    requires choices { HaveChoicesBelow (length projects.now) students.now }
-    ensures { IsTrue result ↔ IsApplicantOf lines.now students.now projects.now lecturer text.now }
+/// Returns whether the number, from a ranking, is that of an applicant of the lecturer.
+fn is_applicant(students: &[Student], projects: &[Project], lecturer: usize, number: usize) -> bool
+    requires { HaveChoicesBelow (length projects.now) students.now }
+    ensures { IsTrue result ↔ IsApplicantNumber students.now projects.now lecturer number }
 {
-    match lines.find(text) {
-        Some(number) => {
-            let student = &students[number];
-            finds(projects, &student.choices, lecturer)
-        }
-        None => false,
+    if number >= students.len() {
+        return false;
     }
+    let student = &students[number];
+    finds(projects, &student.choices, lecturer)
 }
 
-/// Returns whether the ranking in a lecturer's line lists a text that is no applicant's key.
+/// Returns whether the lecturer's ranking has a number that is no applicant's.
 fn lists_other(
-    lines: &Places<StudentLine>,
     students: &[Student],
     projects: &[Project],
     lecturer: usize,
-    list: &[Vec<u8>],
+    ranking: &[usize],
 ) -> bool
-    requires rise { Rise (student_keys lines.now) }
-    requires count { length students.now ≡ length lines.now }
-    requires choices { HaveChoicesBelow (length projects.now) students.now }
+    requires { HaveChoicesBelow (length projects.now) students.now }
     ensures { IsTrue result ↔ Any
-        (λ text. ¬ IsApplicantOf lines.now students.now projects.now lecturer text)
-        (map (λ text. text.items) list.now) }
+        (λ n. ¬ IsApplicantNumber students.now projects.now lecturer n) ranking.now }
 {
-    list.iter().any(|text| !is_applicant(lines, students, projects, lecturer, text))
+    ranking.iter().any(|number| !is_applicant(students, projects, lecturer, *number))
 }
 
 /// Finds the lowest-numbered row of a lecturer whose ranking lists a non-applicant.
 pub(crate) fn not_applicant(
-    alloc: Global,
     lecturers: &[LecturerLine],
-    lines: &[StudentLine],
+    rankings: &[Vec<usize>],
     students: &[Student],
     projects: &[Project],
-) -> Result<Option<u32>, AllocError>
-    requires rise { Rise (student_keys lines.now) }
-    requires count { length students.now ≡ length lines.now }
+) -> Option<u32>
+    requires count { length rankings.now ≡ length lecturers.now }
     requires choices { HaveChoicesBelow (length projects.now) students.now }
-    ensures { IfOk result (IsLeastOf (BadAt lecturers.now (λ x. x.row)
-        (λ l x. Any (λ text. ¬ IsApplicantOf lines.now students.now projects.now l text)
-        x.list))) }
+    ensures { IsLeastOf (BadAt lecturers.now (λ x. x.row)
+        (λ l _. Any (λ n. ¬ IsApplicantNumber students.now projects.now l n)
+        (numbers_at rankings.now l))) result }
 {
-    let places = Places::of(alloc, lines)?;
     let mut best = None;
     for (number, lecturer) in lecturers.iter().enumerate() {
-        let is_bad = lists_other(&places, students, projects, number, &lecturer.list);
+        let is_bad = lists_other(students, projects, number, &rankings[number]);
         best = least_with(best, lecturer.row, is_bad);
     }
-    Ok(best)
+    best
 }
 
 /// Finds the lowest-numbered row of a lecturer whose ranking lacks the applicant with these

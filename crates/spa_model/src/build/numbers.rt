@@ -1,17 +1,17 @@
 //! Converts lines into students, projects and lecturers, replacing keys by indices.
 
-ghost use Rattle.std.specs.Prelude.{◌≡◌, ◌<◌, ◌≤◌, All, IfOk, true, length, map};
-ghost use Rattle.spa_rows.specs.Lines.{is_key};
-ghost use Rattle.spa_rows.specs.Faults.{IsKeyOf, Repeats};
+ghost use Rattle.std.specs.Prelude.{◌≡◌, ◌<◌, ◌≤◌, All, IfOk, List, true, length};
+ghost use Rattle.spa_rows.specs.Lines.{Text, is_key};
+ghost use Rattle.spa_rows.specs.Faults.{IsKeyOf};
 ghost use Rattle.spa_model.specs.Spa.{IsDistinct};
 ghost use Rattle.spa_model.specs.inner.Inside.{AreRanks};
-ghost use Rattle.spa_model.specs.inner.Numbers.{student_keys, project_keys, lecturer_keys};
-ghost use Rattle.spa_model.specs.inner.Numbers.{AreKeysOf, AreNumbers, IsStudentOf, IsProjectOf};
+ghost use Rattle.spa_model.specs.inner.Numbers.{lecturer_keys};
+ghost use Rattle.spa_model.specs.inner.Numbers.{AreNumbers, IsStudentOf, IsProjectOf};
 ghost use Rattle.spa_model.specs.inner.Numbers.{IsLecturerOf};
 ghost use Rattle.std.specs.List.{AllZip};
 
 use crate::instance::{Lecturer, Project, Student};
-use spa_rows::{Key, KeyFault, LecturerLine, Line, Places, ProjectLine, StudentLine};
+use spa_rows::{Key, KeyFault, LecturerLine, Places, ProjectLine, StudentLine};
 use std::alloc::{AllocError, Global};
 
 /// Converts the bytes of a line's key, known to be well formed, into a key.
@@ -24,26 +24,6 @@ fn key_of(alloc: Global, bytes: &[u8]) -> Result<Key, AllocError>
         Err(KeyFault::Memory) => Err(AllocError),
         Err(KeyFault::BadKey) => unreachable!(),
     }
-}
-
-/// Returns the indices that replace the keys of lines on a list.
-fn numbers_of<L: Line>(
-    alloc: Global,
-    lines: &Places<L>,
-    list: &[Vec<u8>],
-) -> Result<Vec<usize>, AllocError>
-    requires { AreKeysOf lines.now L.key_of (map (λ text. text.items) list.now) }
-    ensures { IfOk result (λ numbers. AreNumbers (map L.key_of lines.now)
-        (map (λ text. text.items) list.now) numbers.items) }
-{
-    let mut numbers = Vec::with_capacity(alloc, list.len())?;
-    for text in list {
-        let Some(number) = lines.find(text) else {
-            unreachable!()
-        };
-        numbers.push(number)?;
-    }
-    Ok(numbers)
 }
 
 /// Converts a lecturer's ranking into each student's position on it, or none.
@@ -60,19 +40,20 @@ fn ranks_of(alloc: Global, count: usize, ranking: &[usize]) -> Result<Vec<Option
     Ok(ranks)
 }
 
-/// Converts a student's line, replacing the keys on the list by indices.
+/// Converts a student's line, replacing the keys on the list by their numbers.
 fn numbered_student(
     alloc: Global,
     line: &StudentLine,
-    projects: &Places<ProjectLine>,
+    choices: &[usize],
 ) -> Result<Student, AllocError>
-    requires form { is_key line.now.key ≡ true }
-    requires known { AreKeysOf projects.now (λ x. x.key) line.now.list }
-    ensures { IfOk result (IsStudentOf (project_keys projects.now) line.now) }
+    requires { is_key line.now.key ≡ true }
+    ensures { IfOk result (λ student. (keys : List Text) →
+        AreNumbers keys line.now.list choices.now → IsStudentOf keys line.now student) }
 {
+    let own = Vec::from_slice(alloc, choices)?;
     Ok(Student {
         key: key_of(alloc, &line.key)?,
-        choices: numbers_of(alloc, projects, &line.list)?,
+        choices: own,
     })
 }
 
@@ -96,43 +77,46 @@ fn numbered_project(
     })
 }
 
-/// Converts a lecturer's line, replacing the keys on the ranking by indices.
+/// Converts a lecturer's line, replacing the keys on the ranking by their numbers.
 fn numbered_lecturer(
     alloc: Global,
     line: &LecturerLine,
-    students: &Places<StudentLine>,
+    ranking: &[usize],
+    students: usize,
 ) -> Result<Lecturer, AllocError>
     requires form { is_key line.now.key ≡ true }
-    requires count { length students.now ≤ 2000 }
-    requires known { AreKeysOf students.now (λ x. x.key) line.now.list }
-    requires apart { ¬ Repeats line.now.list }
-    ensures { IfOk result (IsLecturerOf (student_keys students.now) line.now) }
+    requires count { students ≤ 2000 }
+    requires below { All (λ s. s < students) ranking.now }
+    requires distinct { IsDistinct ranking.now }
+    ensures { IfOk result (λ lecturer. (keys : List Text) → length keys ≡ students →
+        AreNumbers keys line.now.list ranking.now → IsLecturerOf keys line.now lecturer) }
 {
-    let ranking = numbers_of(alloc, students, &line.list)?;
-    let ranks = ranks_of(alloc, students.len(), &ranking)?;
+    let own = Vec::from_slice(alloc, ranking)?;
+    let ranks = ranks_of(alloc, students, ranking)?;
     Ok(Lecturer {
         key: key_of(alloc, &line.key)?,
         capacity: line.capacity,
-        ranking,
+        ranking: own,
         ranks,
     })
 }
 
-/// Converts the lines of all students, in order, replacing keys by indices.
+/// Converts the lines of all students, in order, given the numbers of the keys on their lists.
 pub(crate) fn number_students(
     alloc: Global,
     lines: &[StudentLine],
-    projects: &[ProjectLine],
+    choices: &[Vec<usize>],
 ) -> Result<Vec<Student>, AllocError>
     requires form { All (λ x. is_key x.key ≡ true) lines.now }
-    requires known { All (λ x. AreKeysOf projects.now (λ y. y.key) x.list) lines.now }
-    ensures { IfOk result (λ students. AllZip (IsStudentOf
-        (project_keys projects.now)) lines.now students.items) }
+    requires count { length choices.now ≡ length lines.now }
+    ensures { IfOk result (λ students. (keys : List Text) →
+        AllZip (λ x own. AreNumbers keys x.list own.items) lines.now choices.now →
+        AllZip (IsStudentOf keys) lines.now students.items) }
 {
-    let places = Places::of(alloc, projects)?;
     let mut students = Vec::with_capacity(alloc, lines.len())?;
-    for line in lines {
-        students.push(numbered_student(alloc, line, &places)?)?;
+    for (place, line) in lines.iter().enumerate() {
+        let student = numbered_student(alloc, line, &choices[place])?;
+        students.push(student)?;
     }
     Ok(students)
 }
@@ -156,23 +140,27 @@ pub(crate) fn number_projects(
     Ok(projects)
 }
 
-/// Converts the lines of all lecturers, in order, with each student's position on the ranking.
+/// Converts the lines of all lecturers, in order, with each student's position on the ranking,
+/// given the numbers of the keys on the rankings.
 pub(crate) fn number_lecturers(
     alloc: Global,
     lines: &[LecturerLine],
-    students: &[StudentLine],
+    rankings: &[Vec<usize>],
+    students: usize,
 ) -> Result<Vec<Lecturer>, AllocError>
     requires form { All (λ x. is_key x.key ≡ true) lines.now }
-    requires count { length students.now ≤ 2000 }
-    requires known { All (λ x. AreKeysOf students.now (λ y. y.key) x.list) lines.now }
-    requires apart { All (λ x. ¬ Repeats x.list) lines.now }
-    ensures { IfOk result (λ lecturers. AllZip (IsLecturerOf
-        (student_keys students.now)) lines.now lecturers.items) }
+    requires count { length rankings.now ≡ length lines.now }
+    requires few { students ≤ 2000 }
+    requires below { All (λ own. All (λ s. s < students) own.items) rankings.now }
+    requires distinct { All (λ own. IsDistinct own.items) rankings.now }
+    ensures { IfOk result (λ lecturers. (keys : List Text) → length keys ≡ students →
+        AllZip (λ x own. AreNumbers keys x.list own.items) lines.now rankings.now →
+        AllZip (IsLecturerOf keys) lines.now lecturers.items) }
 {
-    let places = Places::of(alloc, students)?;
     let mut lecturers = Vec::with_capacity(alloc, lines.len())?;
-    for line in lines {
-        lecturers.push(numbered_lecturer(alloc, line, &places)?)?;
+    for (place, line) in lines.iter().enumerate() {
+        let lecturer = numbered_lecturer(alloc, line, &rankings[place], students)?;
+        lecturers.push(lecturer)?;
     }
     Ok(lecturers)
 }

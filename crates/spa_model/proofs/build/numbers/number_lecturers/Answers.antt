@@ -1,15 +1,12 @@
-use Rattle.spa_model.proofs.Base.{subst, AllZip, take_all, student_keys, IsLecturerOf, rules}
-use Rattle.spa_model.proofs.Zips.{zip_more}
+use Rattle.spa_model.proofs.Base.{arith, subst, take_all, AllZip, AreNumbers, IsLecturerOf}
+use Rattle.spa_model.proofs.Zips.{zip_at, zip_more}
 use Rattle.spa_model.proofs.build.numbers.number_lecturers.Goals as goal
 
-pub loop-line-preserved : goal.loop-line-preserved
-loop-line-preserved c = search (rules, zip_more)
+pub loop-place-preserved : goal.loop-place-preserved
+loop-place-preserved c = λ keys long are.
+    let own : AreNumbers keys c.index-lines-place.result.list c.index-rankings-place.result.items = rw (← c.index-rankings-place.is, ← c.index-lines-place.is) at (zip_at (λ x own. AreNumbers keys x.list own.items) c.args.lines.now c.args.rankings.now c.loop-place.place c.index-lines-place.result c.index-rankings-place.result c.loop-place-test.true are) in
+    let one : IsLecturerOf keys c.index-lines-place.result c.in_ok-lecturer.lecturer = c.in_ok-lecturer.ensures keys long (rw c.deref.ensures.value own) in
+    rw c.in_ok-push.ensures.items (zip_more (IsLecturerOf keys) c.args.lines.now c.loop-place.lecturers.items c.loop-place.place c.index-lines-place.result c.in_ok-lecturer.lecturer c.loop-place-test.true c.index-lines-place.is (c.loop-place.invariant keys long are) one)
 
 pub returns : goal.returns
-returns c = subst (λ lines. AllZip (IsLecturerOf (student_keys c.args.students.now)) lines c.loop-line.lecturers.items) (take_all c.loop-line.line-index c.args.lines.now c.loop-line-test.false) c.loop-line.invariant
-
-pub numbered_lecturer-requires-clause-known : goal.numbered_lecturer-requires-clause-known
-numbered_lecturer-requires-clause-known c = rw (c.in_ok-places.ensures, c.line-item.is) (c.requires.known c.loop-line.line-index c.line-item.result c.loop-line-test.true)
-
-pub numbered_lecturer-requires-clause-apart : goal.numbered_lecturer-requires-clause-apart
-numbered_lecturer-requires-clause-apart c = rw c.line-item.is (c.requires.apart c.loop-line.line-index c.line-item.result c.loop-line-test.true)
+returns c = λ keys long are. subst (λ lines. AllZip (IsLecturerOf keys) lines c.loop-place.lecturers.items) (take_all c.loop-place.place c.args.lines.now (omega arith)) (c.loop-place.invariant keys long are)

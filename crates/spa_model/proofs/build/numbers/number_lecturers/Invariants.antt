@@ -1,6 +1,6 @@
-use Rattle.spa_model.proofs.Base.{take, AllZip, student_keys, IsLecturerOf}
+use Rattle.spa_model.proofs.Base.{◌≡◌, List, length, take, AllZip, Text, AreNumbers, IsLecturerOf}
 use Rattle.spa_model.proofs.build.numbers.number_lecturers.Given as goal
 
 -- the rows so far
-abbrev pub invariant-loop-line : goal.invariant-loop-line
-invariant-loop-line l = AllZip (IsLecturerOf (student_keys l.students)) (take l.line-index l.lines) l.lecturers.items
+abbrev pub invariant-loop-place : goal.invariant-loop-place
+invariant-loop-place l = (keys : List Text) → length keys ≡ l.students → AllZip (λ x own. AreNumbers keys x.list own.items) l.lines l.rankings → AllZip (IsLecturerOf keys) (take l.place l.lines) l.lecturers.items

@@ -1,12 +1,12 @@
-use Rattle.spa_model.proofs.Base.{subst, AllZip, take_all, project_keys, IsStudentOf, rules}
-use Rattle.spa_model.proofs.Zips.{zip_more}
+use Rattle.spa_model.proofs.Base.{arith, subst, take_all, AllZip, AreNumbers, IsStudentOf}
+use Rattle.spa_model.proofs.Zips.{zip_at, zip_more}
 use Rattle.spa_model.proofs.build.numbers.number_students.Goals as goal
 
-pub loop-line-preserved : goal.loop-line-preserved
-loop-line-preserved c = search (rules, zip_more)
+pub loop-place-preserved : goal.loop-place-preserved
+loop-place-preserved c = λ keys are.
+    let own : AreNumbers keys c.index-lines-place.result.list c.index-choices-place.result.items = rw (← c.index-choices-place.is, ← c.index-lines-place.is) at (zip_at (λ x own. AreNumbers keys x.list own.items) c.args.lines.now c.args.choices.now c.loop-place.place c.index-lines-place.result c.index-choices-place.result c.loop-place-test.true are) in
+    let one : IsStudentOf keys c.index-lines-place.result c.in_ok-student.student = c.in_ok-student.ensures keys (rw c.deref.ensures.value own) in
+    rw c.in_ok-push.ensures.items (zip_more (IsStudentOf keys) c.args.lines.now c.loop-place.students.items c.loop-place.place c.index-lines-place.result c.in_ok-student.student c.loop-place-test.true c.index-lines-place.is (c.loop-place.invariant keys are) one)
 
 pub returns : goal.returns
-returns c = subst (λ lines. AllZip (IsStudentOf (project_keys c.args.projects.now)) lines c.loop-line.students.items) (take_all c.loop-line.line-index c.args.lines.now c.loop-line-test.false) c.loop-line.invariant
-
-pub numbered_student-requires-clause-known : goal.numbered_student-requires-clause-known
-numbered_student-requires-clause-known c = rw (c.in_ok-places.ensures, c.line-item.is) (c.requires.known c.loop-line.line-index c.line-item.result c.loop-line-test.true)
+returns c = λ keys are. subst (λ lines. AllZip (IsStudentOf keys) lines c.loop-place.students.items) (take_all c.loop-place.place c.args.lines.now (omega arith)) (c.loop-place.invariant keys are)

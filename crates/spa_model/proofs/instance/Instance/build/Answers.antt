@@ -7,8 +7,8 @@ check_lists-requires c =
     let same : SameLines c.args.rows c.sort_rows.new.rows = record { lecturers = c.sort_rows.ensures.lecturers; projects = c.sort_rows.ensures.projects; students = c.sort_rows.ensures.students } in
     none_before_carry c.args.rows c.sort_rows.new.rows same NoSuchLecturer c.in_ok-check_lines.ensures.ok
 
-pub returns-in_err-check_lists-clause-err : goal.returns-in_err-check_lists-clause-err
-returns-in_err-check_lists-clause-err c = search (rules, refusal_of_rows, handed_on)
+pub returns-in_err-lists-clause-err : goal.returns-in_err-lists-clause-err
+returns-in_err-lists-clause-err c = search (rules, refusal_of_rows, handed_on)
 
 pub returns-clause-ok : goal.returns-clause-ok
 returns-clause-ok c = search (rules, stands_for_rows)

@@ -1,7 +1,0 @@
-use Rattle.std.specs.Fn.{FnReturnsAt}
-use Rattle.spa_rows.proofs.Base.{Ok, IsLeastTold}
-use Rattle.spa_rows.proofs.least.try_least_where.Given as goal
-
--- the least row so far
-abbrev pub invariant-loop-line : goal.invariant-loop-line
-invariant-loop-line g l = IsLeastTold l.lines g.L.Line.row_of (λ x b. FnReturnsAt g.F.Fn l.is_bad x (Ok b)) l.line-index l.best
