@@ -7,7 +7,8 @@ ghost use Rattle.std.specs.Prelude.{Some, length, slice_set, slice_index, map};
 ghost use Rattle.spa_model.specs.Spa.{IsWith, IsAcceptable, choices_of, project_of, lecturer_of};
 ghost use Rattle.spa_model.specs.Spa.{ranking_of};
 ghost use Rattle.spa_student.specs.inner.Cuts.{IsPastCut, IsUncut, IsUnderWay, AreCounts, AreMarks};
-ghost use Rattle.spa_student.specs.inner.Cuts.{IsNextEntry, KeepsCuts, Puts, Leaves, Exchanges};
+ghost use Rattle.spa_student.specs.inner.Cuts.{IsNextEntry, KeepsCuts, Puts, Leaves, LetsGoAt};
+ghost use Rattle.spa_student.specs.inner.Cuts.{LetsGoWith, Exchanges};
 ghost use Rattle.spa_student.specs.inner.Machine.{rank_of};
 ghost use Rattle.spa_student.specs.inner.Worst.{IsWorstAt, IsWorstWith};
 
@@ -165,14 +166,7 @@ impl Progress {
         requires uncut { IsUncut instance.now self.old }
         requires in_range { p < length instance.now.lecturers }
         requires some { (s : ℕ) × (project_of self.old.projects.items s ≡ Some p) }
-        ensures worst { IsWorstAt instance.now self.old.projects.items p result }
-        ensures leaves { Leaves result self.old self.new }
-        ensures project_cuts { self.new.project_cuts.items
-            ≡ slice_set self.old.project_cuts.items p
-            (rank_of instance.now (lecturer_of instance.now p) result) }
-        ensures lecturer_cuts { self.new.lecturer_cuts.items ≡ self.old.lecturer_cuts.items }
-        ensures marks { AreMarks instance.now self.new }
-        ensures counts { AreCounts instance.now self.new }
+        ensures { LetsGoAt instance.now p result self.old self.new }
     {
         let rank = self.worst_at(instance, p);
         let w = instance.ranking(instance.lecturer_of(p))[rank];
@@ -189,15 +183,7 @@ impl Progress {
         requires in_range { p < length instance.now.lecturers }
         requires some { (s : ℕ) × IsWith instance.now self.old.projects.items
             (lecturer_of instance.now p) s }
-        ensures worst { IsWorstWith instance.now self.old.projects.items
-            (lecturer_of instance.now p) result }
-        ensures leaves { Leaves result self.old self.new }
-        ensures project_cuts { self.new.project_cuts.items ≡ self.old.project_cuts.items }
-        ensures lecturer_cuts { self.new.lecturer_cuts.items
-            ≡ slice_set self.old.lecturer_cuts.items (lecturer_of instance.now p)
-            (rank_of instance.now (lecturer_of instance.now p) result) }
-        ensures marks { AreMarks instance.now self.new }
-        ensures counts { AreCounts instance.now self.new }
+        ensures { LetsGoWith instance.now p result self.old self.new }
     {
         let l = instance.lecturer_of(p);
         let rank = self.worst_with(instance, p);

@@ -3,7 +3,7 @@ use Rattle.std.specs.Prelude.{◌≡◌, ◌⊎◌, ℕ, ◌+◌, ◌<◌, ◌�
 use Rattle.spa_model.specs.Spa.{Spa, place, project_of, choices_of, lecturer_of, ranking_of, at_project, at_lecturer, IsAcceptable, IsLawful}
 use Rattle.spa_student.specs.declared.cuts.Progress.{Progress}
 use Rattle.spa_student.specs.inner.Machine.{rank_of, Holds}
-use Rattle.spa_student.specs.inner.Worst.{IsAssignment}
+use Rattle.spa_student.specs.inner.Worst.{IsAssignment, IsWorstAt, IsWorstWith}
 
 -- s stands at or past the cut of p, or of p's lecturer
 abbrev pub IsPastCut : Spa → Progress → ℕ → ℕ → Type 0
@@ -66,6 +66,24 @@ pub record Puts (s p : ℕ) (before after : Progress) : Type 0 where
 pub record Leaves (w : ℕ) (before after : Progress) : Type 0 where
   pub projects : after.projects.items ≡ slice_set before.projects.items w None
   pub cursors : after.cursors.items ≡ slice_set before.cursors.items w (slice_index before.cursors.items w + 1)
+
+-- w, the worst student at p, is let go, and the cut of p moves to w's place
+pub record LetsGoAt (i : Spa) (p w : ℕ) (before after : Progress) : Type 0 where
+  pub worst : IsWorstAt i before.projects.items p w
+  pub leaves : Leaves w before after
+  pub project_cuts : after.project_cuts.items ≡ slice_set before.project_cuts.items p (rank_of i (lecturer_of i p) w)
+  pub lecturer_cuts : after.lecturer_cuts.items ≡ before.lecturer_cuts.items
+  pub marks : AreMarks i after
+  pub counts : AreCounts i after
+
+-- the same of the worst student with p's lecturer, whose cut moves
+pub record LetsGoWith (i : Spa) (p w : ℕ) (before after : Progress) : Type 0 where
+  pub worst : IsWorstWith i before.projects.items (lecturer_of i p) w
+  pub leaves : Leaves w before after
+  pub project_cuts : after.project_cuts.items ≡ before.project_cuts.items
+  pub lecturer_cuts : after.lecturer_cuts.items ≡ slice_set before.lecturer_cuts.items (lecturer_of i p) (rank_of i (lecturer_of i p) w)
+  pub marks : AreMarks i after
+  pub counts : AreCounts i after
 
 -- s is put at p, and w is let go
 pub record Exchanges (s p w : ℕ) (before after : Progress) : Type 0 where

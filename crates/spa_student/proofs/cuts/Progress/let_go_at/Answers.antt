@@ -8,5 +8,12 @@ leave-requires-clause-marks c = search (rules, rank_found, rank_at_below, fallen
 pub leave-requires-clause-past : goal.leave-requires-clause-past
 leave-requires-clause-past c = search (rules, rank_found, get_or-set_same)
 
-pub returns-clause-project_cuts : goal.returns-clause-project_cuts
-returns-clause-project_cuts c = search (rules, rank_found)
+pub returns : goal.returns
+returns c = record {
+  worst = search rules;
+  leaves = search rules;
+  project_cuts = search (rules, rank_found);
+  lecturer_cuts = search rules;
+  marks = search rules;
+  counts = search rules;
+}

@@ -17,5 +17,12 @@ leave-requires-clause-marks c =
 pub leave-requires-clause-past : goal.leave-requires-clause-past
 leave-requires-clause-past c = search (rules, rank_found, student_in_range, get_or_read, same_Some, get_or-set_same)
 
-pub returns-clause-lecturer_cuts : goal.returns-clause-lecturer_cuts
-returns-clause-lecturer_cuts c = search (rules, rank_found)
+pub returns : goal.returns
+returns c = record {
+  worst = search rules;
+  leaves = search rules;
+  project_cuts = search rules;
+  lecturer_cuts = search (rules, rank_found);
+  marks = search rules;
+  counts = search rules;
+}
