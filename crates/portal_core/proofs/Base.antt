@@ -40,7 +40,7 @@ pub use Rattle.portal_core.specs.declared.rows.ProjectRow.{ProjectRow}
 pub use Rattle.portal_core.specs.declared.rows.StudentRow.{StudentRow}
 pub use Rattle.portal_core.specs.declared.view.View.{View as Sight}
 pub use Rattle.portal_core.specs.declared.view.View.TheVariants.{Lecturer, Nobody, Office, Student}
-pub use Rattle.portal_core.specs.inner.Alone.{alone, alone_lecturer, alone_student}
+pub use Rattle.portal_core.specs.Alone.{alone, alone_lecturer, alone_student}
 pub use Rattle.portal_core.specs.inner.Room.{by_project, own_keys, pairs_among, project_left, lecturer_left, pairs_by, room_of}
 pub use Rattle.portal_core.specs.inner.Tables.{HasKeys, HasRows, HasTexts}
 pub use Rattle.serde_json.specs.Data.{Data, string}

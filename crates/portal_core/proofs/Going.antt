@@ -6,7 +6,7 @@ use Rattle.portal_core.proofs.Cases.{by_student, by_lecturer, by_office}
 use Rattle.portal_core.proofs.Kept.{all_ranked, placed_sound, instance_placed}
 use Rattle.portal_core.proofs.Alone.{alone_sound, rows_alone}
 use Rattle.portal_core.proofs.Capacities.{first_plays, second_plays, left_of}
-use Rattle.portal_core.specs.inner.Alone.{alone}
+use Rattle.portal_core.specs.Alone.{alone}
 use Rattle.portal_core.proofs.HonestLists.{world_ranked}
 use Rattle.portal_core.proofs.Published.{pairs_place}
 use Rattle.portal_core.proofs.Steps.{step_good}

@@ -1,5 +1,5 @@
--- The meaning of calls, changes, replies and decisions of the code, and how a keeper counts faults.
-use Rattle.std.specs.Prelude.{ℕ, List, Vec, map, ◌≡◌, ◌⊎◌, ◌+◌, Result, Ok, Err, OnOk}
+-- The meaning of calls, changes, replies and decisions of the code.
+use Rattle.std.specs.Prelude.{ℕ, List, Vec, map}
 use Rattle.std.specs.declared.alloc.Global.{Global}
 use Rattle.serde_json.specs.View as json
 use Rattle.portal_core.specs.declared.decision.Call.{Call}
@@ -15,8 +15,6 @@ use Rattle.portal_core.specs.declared.decision.Decision as taken
 use Rattle.portal_core.specs.World.{World, Change, Choices, Ranks, Lecturers, Projects, Students, To, Placements, Fill, SecondRound}
 use Rattle.portal_core.specs.Sight.{AbstractCall}
 use Rattle.portal_core.specs.Answer.{Answer, Said, Json, Csv, Plain, Unavailable, Act, Nothing, Apply, Publish, Render, Decision}
-use Rattle.portal_core.specs.declared.keeper.KeepFault.{KeepFault}
-use Rattle.portal_core.specs.declared.keeper.KeepFault.TheVariants.{Memory, Store}
 
 -- the texts of a list as they were received
 abbrev pub texts_of : List (Vec ℕ Global) → List (List ℕ)
@@ -69,32 +67,3 @@ act_model (act.Render sheet) = Render sheet
 
 abbrev pub decision_model : taken.Decision → Decision
 decision_model d = record { reply = reply_model d.reply; act = act_model d.act }
-
--- only a call that ends with a fault of the store is counted, once
-abbrev pub CountsFaults : {A : Type 0} → Result A KeepFault → ℕ → ℕ → Type 0
-CountsFaults (Ok answer) old new = new ≡ old
-CountsFaults (Err Memory) old new = new ≡ old
-CountsFaults (Err Store) old new = new ≡ old + 1
-
--- a disk that is clean after a call was clean before it, and then a clean keeper stayed clean
-abbrev pub StaysClean : Type 0 → Type 0 → Type 0 → Type 0 → Type 0
-StaysClean disk_old disk_new clean_old clean_new = disk_new → disk_old × (clean_old → clean_new)
-
--- if the disk is clean after a call: it was before, a clean keeper stayed clean or broke, and a
--- broken one is still broken
-abbrev pub KeepsOrBreaks : Type 0 → Type 0 → Type 0 → Type 0 → Type 0 → Type 0 → Type 0
-KeepsOrBreaks disk_old disk_new clean_old clean_new broken_old broken_new =
-    disk_new → disk_old × (clean_old → clean_new ⊎ broken_new) × (broken_old → broken_new)
-
--- the same of a call that has to reach the disk: one of a broken keeper does not return `Ok`
-abbrev pub Breaks : {A E : Type 0} → Result A E → Type 0 → Type 0 → Type 0 → Type 0 → Type 0 → Type 0 → Type 0
-Breaks r disk_old disk_new clean_old clean_new broken_old broken_new =
-    disk_new → disk_old × (clean_old → clean_new ⊎ broken_new) × (broken_old → broken_new) × OnOk r (broken_new → ⊥)
-
--- a stop now leaves only this world
-abbrev pub Settles : World → (World → Type 0) → Type 0
-Settles world leaves = (w : World) → leaves w → w ≡ world
-
--- a stop after a call leaves what one before it left, or what the call makes
-abbrev pub LeavesBy : Type 0 → (World → Type 0) → (World → Type 0) → (World → Type 0) → Type 0
-LeavesBy disk_new leaves_old leaves_new made = disk_new → (w : World) → leaves_new w → leaves_old w ⊎ made w

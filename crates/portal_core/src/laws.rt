@@ -6,7 +6,7 @@ ghost use Rattle.portal_core.specs.Words.{Key, equals, has};
 ghost use Rattle.portal_core.specs.World.{World, Lecturer, is_published, in_play, first, is_second};
 ghost use Rattle.portal_core.specs.World.{student_key, applicants_of, is_from_ranking, SecondRound};
 ghost use Rattle.portal_core.specs.World.{changed};
-ghost use Rattle.portal_core.specs.inner.Alone.{alone};
+ghost use Rattle.portal_core.specs.Alone.{alone};
 ghost use Rattle.portal_core.specs.Good.{Good, KeepsCapacities, codes_of, IsChoice, IsRanking};
 ghost use Rattle.portal_core.specs.Good.{instance};
 ghost use Rattle.portal_core.specs.Honest.{HasBest, HonestIsBest, HonestOverBoth, HonestOverRuns};

@@ -8,7 +8,8 @@ pub use Rattle.std.specs.List.{AllZip, AllByRecursion}
 pub use Rattle.std.specs.Prelude.{◌⊎◌, None, Option, Some, if◌then◌else◌, nat_le, ◌||◌, IsTrue, ◌≢◌, IfErr, Result, Ok, Err, IfSome, is_none}
 pub use Rattle.portal_core.specs.Answer.{Answer, Apply, Decision, Nothing, decision, Act, Publish, Render, Said, Json, Unavailable, emptied, open_where, unless_faulty, added, row_fault, already_placed, moves_on, opens, moves_in, moves, publishes, is_open_to_rolls, to_student, to_lecturer, to_office}
 pub use Rattle.portal_core.specs.Good.{Good, instance, matching_of, CanPublish}
-pub use Rattle.portal_core.specs.Meaning.{call_model, decision_model, reply_model, StaysClean, LeavesBy}
+pub use Rattle.portal_core.specs.Keeping.{KeeperState, StaysClean, LastsOrBreaks, IsSettled, IsAlive, LeavesBy, CountsFaults, Uses, Looks, Changes}
+pub use Rattle.portal_core.specs.Meaning.{call_model, decision_model, reply_model}
 pub use Rattle.portal_core.specs.Run.{AllAnswered, Request, Run, Serves, Step, end_of, Request as Wanted, unavailable, HasForm, StepLeaves, Wish, Calls, Refused, Answers}
 pub use Rattle.portal_core.specs.Sight.{AbstractCall, StudentSees, LecturerSees, OfficeSees}
 pub use Rattle.portal_core.specs.View.{view}
@@ -16,17 +17,17 @@ pub use Rattle.portal_core.specs.Words.{Key, equals, is_empty}
 pub use Rattle.portal_core.specs.World.{World, is_setup, Placements, changed, is_choosing, is_ranking, is_from_ranking, has_result, Change, Lecturers, Projects, Students, Fill, is_published}
 pub use Rattle.portal_core.specs.declared.view.View.{View as Sight}
 pub use Rattle.portal_core.specs.inner.Room.{pairs_by}
-pub use Rattle.portal_desk.specs.Session.{Finish, Ended, Stopped, Tells, Session, IsSession}
+pub use Rattle.portal_desk.specs.Session.{Finish, Ended, Stopped, Tells, Session, IsSession, ServesOne}
 pub use Rattle.portal_desk.specs.Headline.{ServesEach, AllTellOf, AreServed, AreVisits, Visit, exchanges_of, worlds_of, IsVisit, AreAnswered, Hears, texts_to, replies_in, AlikeTexts, AreServedOn, left_by, exchanges_in, IsServed, IsUnseen, AreUnseen, PublishesBest, IsUpheld, MainPromise, IsEnded, AreOf}
-pub use Rattle.portal_desk.specs.Kept.{KeeperState, state_of, FailsByCount, Moves, IsMoved, MayReach, LastsOrBreaks, Kept, TakesAtMost}
+pub use Rattle.portal_desk.specs.Kept.{Acted, MayLeave, FailsByCount, Moves, IsMoved, Worked, MayReach, Kept, TakesAtMost}
 pub use Rattle.portal_desk.specs.declared.served.Cause.{Cause}
 pub use Rattle.portal_desk.specs.inner.Play.{CanDo, IsSolved, with_sheet}
 pub use Rattle.portal_desk.specs.inner.Reading.{Follows, Heads, NoneWhole, ReadsMore, KeepsStream, IsWithin}
-pub use Rattle.portal_desk.specs.inner.Turns.{Broke, Partly, Acted, Replied, MayLeave}
+pub use Rattle.portal_desk.specs.inner.Turns.{Broke, Partly, Replied}
 pub use Rattle.portal_frame.specs.Stream.{Asked, Opens, fault, is_head, refused, seen, whole, Framed, IsWithinLimits, over, item_of, after_lines, asked_of, fields_of, body_length, bad_length}
 pub use Rattle.portal_frame.specs.declared.types.Frame.{Frame}
-pub use Rattle.portal_frame.specs.declared.types.TheConstants.{LONGEST_REQUEST}
-pub use Rattle.portal_wire.specs.declared.TheConstants.{MOST_REQUESTS}
-pub use Rattle.portal_desk.specs.declared.serving.TheConstants.{MOST_BYTES}
+pub use Rattle.portal_frame.specs.Stream.{request_limit}
+pub use Rattle.portal_wire.specs.Conversation.{connection_limit}
+pub use Rattle.portal_desk.specs.Kept.{taken_limit}
 pub use Rattle.portal_wire.proofs.Exist.{not_headless, shut_ends}
 pub use Rattle.portal_wire.specs.Conversation.{Exchange, Leads, Rest, asked_in, closes_at, exchange_text, more, request_of, shut, text, told_in, reply_text, Reaches, Last, last}

@@ -2,6 +2,7 @@ pub mod Base
 pub mod Known
 pub mod Pairs
 pub mod Sheet
+pub mod InTurn
 pub mod Played
 pub mod Steps
 pub mod Framing

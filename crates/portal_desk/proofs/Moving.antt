@@ -1,28 +1,31 @@
 -- What one exchange more does to a keeper, and what a stop may leave after it.
-use Rattle.portal_desk.proofs.Base.{inl, inr, List, [], ◌∷◌, ◌++◌, refl, sym, ap, ◌∙◌, subst, append_assoc, World, Answer, Wanted, Serves, Exchange, Reaches, KeeperState, Moves, IsMoved, MayReach, Acted, LastsOrBreaks, LeavesBy, MayLeave, Bool, Asked, request_of}
-use Rattle.portal_desk.proofs.Failing.{lasts_then}
+use Rattle.portal_desk.proofs.Base.{inl, inr, List, [], ◌∷◌, ◌++◌, refl, sym, ap, ◌∙◌, subst, append_assoc, World, Answer, Wanted, Serves, Exchange, Reaches, KeeperState, Kept, Moves, Worked, FailsByCount, MayReach, Acted, LastsOrBreaks, LeavesBy, MayLeave, Bool, Asked, request_of}
+use Rattle.portal_desk.proofs.Failing.{fails_then, fails_none}
+use Rattle.portal_desk.proofs.InTurn.{lasts_then, breaks_then}
 use Rattle.portal_desk.proofs.Steps.{Reaches-append, answered_apart}
 
 unfoldable pub exchange : Wanted → Answer → Exchange
 exchange r a = record { request = r; reply = a }
 
--- whether the reply closes does not matter to what may be left
-pub leaves_as : (old new : KeeperState) (b c : Bool) (a : Asked) (reply : Answer) → LeavesBy new.disk old.leaves new.leaves (MayLeave old new (request_of b a) reply)
-    → LeavesBy new.disk old.leaves new.leaves (MayLeave old new (request_of c a) reply)
-leaves_as old new b c a reply leaves = λ disk w left. elim (leaves disk w left) [
-  | inl was ↦ inl was
-  | inr may ↦ inr (record { alive = may.alive; untold = may.untold; turned = may.turned })
-]
-
-breaks_then : (a b c : KeeperState) → LastsOrBreaks a b → LastsOrBreaks b c → LastsOrBreaks a c
-breaks_then a b c h k = λ disk.
-    let after = k disk in
-    let before = h after.0 in
-    (before.0, λ on. elim (before.1 on) [ inl up ↦ after.1 up | inr bad ↦ inr (after.2 bad) ], λ bad. after.2 (before.2 bad))
+-- whether the reply closes does not matter
+pub acted_as : (old new : KeeperState) (b c : Bool) (a : Asked) (reply : Answer) → Acted old new (request_of b a) reply → Acted old new (request_of c a) reply
+acted_as old new b c a reply h = record {
+  clean = h.clean;
+  serves = h.serves;
+  lasts = h.lasts;
+  breaks = h.breaks;
+  broken = h.broken;
+  settled = h.settled;
+  leaves = λ disk w left. elim (h.leaves disk w left) [
+    | inl was ↦ inl was
+    | inr may ↦ inr (record { alive = may.alive; untold = may.untold; turned = may.turned })
+  ];
+}
 
 -- nothing was exchanged
 pub Moves-none : (s : KeeperState) → Moves s s []
 Moves-none s = record {
+  clean = λ on. on;
   reaches = λ on. ([], tt, refl);
   lasts = λ all disk. (disk, λ on. on);
   breaks = λ disk. (disk, λ on. inl on, λ bad. bad);
@@ -35,6 +38,7 @@ Moves-none s = record {
 pub Moves-one : (old new : KeeperState) (r : Wanted) (reply : Answer) → Acted old new r reply → Moves old new (exchange r reply ∷ [])
 unfolding exchange
 Moves-one old new r reply acted = record {
+  clean = acted.clean;
   reaches = λ on. one old.world new.world reply (acted.serves on);
   lasts = λ all. acted.lasts all.0;
   breaks = acted.breaks;
@@ -84,12 +88,13 @@ may_after w v es fs (inr (front, back, x, other, is, untold, run)) stays =
     )
 
 -- one list of exchanges after another, as of one connection after another
-pub Moves-append : (a b c : KeeperState) (es fs : List Exchange) → Moves a b es → Moves b c fs → (c.clean → b.clean) → Moves a c (es ++ fs)
-Moves-append a b c es fs h k back = record {
-  reaches = λ on. Reaches-append a.world b.world c.world es fs (h.reaches (back on)) (k.reaches on);
-  lasts = λ all. let apart = answered_apart es fs all in lasts_then _ _ _ _ _ _ (h.lasts apart.0) (k.lasts apart.1);
+pub Moves-append : (a b c : KeeperState) (es fs : List Exchange) → Moves a b es → Moves b c fs → Moves a c (es ++ fs)
+Moves-append a b c es fs h k = record {
+  clean = λ on. h.clean (k.clean on);
+  reaches = λ on. Reaches-append a.world b.world c.world es fs (h.reaches (k.clean on)) (k.reaches on);
+  lasts = λ all. let apart = answered_apart es fs all in lasts_then a b c (h.lasts apart.0) (k.lasts apart.1);
   breaks = breaks_then a b c h.breaks k.breaks;
-  settled = λ rest on. k.settled (h.settled rest (back on)) on;
+  settled = λ rest on. k.settled (h.settled rest (k.clean on)) on;
   still = λ disk bad w.
       let mid = (k.breaks disk).0 in
       let one = h.still mid bad w in
@@ -103,17 +108,25 @@ Moves-append a b c es fs h k back = record {
       ];
 }
 
-pub Moves-snoc : (old mid new : KeeperState) (es : List Exchange) (r : Wanted) (reply : Answer) → Moves old mid es → (new.clean → mid.clean) → Acted mid new r reply
+pub Moves-snoc : (old mid new : KeeperState) (es : List Exchange) (r : Wanted) (reply : Answer) → Moves old mid es → Acted mid new r reply
     → Moves old new (es ++ exchange r reply ∷ [])
-Moves-snoc old mid new es r reply moves back acted = Moves-append old mid new es (exchange r reply ∷ []) moves (Moves-one mid new r reply acted) back
+Moves-snoc old mid new es r reply moves acted = Moves-append old mid new es (exchange r reply ∷ []) moves (Moves-one mid new r reply acted)
 
--- what these exchanges did, and one more
-pub more_moves : (old mid new : KeeperState) (r : Wanted) (reply : Answer) → IsMoved old mid → (new.clean → mid.clean) → Acted mid new r reply → IsMoved old new
-more_moves old mid new r reply (es, moves) back acted = (es ++ exchange r reply ∷ [], Moves-snoc old mid new es r reply moves back acted)
+-- what a desk did, and one more exchange
+pub worked_more : {K : Type 0} (state : K → KeeperState) (a b c : Kept K) (r : Wanted) (reply : Answer) → Worked state a b → Acted (state b.keeper) (state c.keeper) r reply
+    → FailsByCount b.failed c.failed (state b.keeper).faults (state c.keeper).faults → Worked state a c
+worked_more state a b c r reply h acted counts = record {
+  moves = (h.moves.0 ++ exchange r reply ∷ [], Moves-snoc (state a.keeper) (state b.keeper) (state c.keeper) h.moves.0 r reply h.moves.1 acted);
+  counts = fails_then _ _ _ _ _ _ h.counts counts;
+}
 
--- the same of some exchanges, whichever they are
-pub moves_then : (a b c : KeeperState) → IsMoved a b → IsMoved b c → (c.clean → b.clean) → IsMoved a c
-moves_then a b c (es, h) (fs, k) back = (es ++ fs, Moves-append a b c es fs h k back)
+-- and what it did then
+pub worked_then : {K : Type 0} (state : K → KeeperState) (a b c : Kept K) → Worked state a b → Worked state b c → Worked state a c
+worked_then state a b c h k = record {
+  moves = (h.moves.0 ++ k.moves.0, Moves-append (state a.keeper) (state b.keeper) (state c.keeper) h.moves.0 k.moves.0 h.moves.1 k.moves.1);
+  counts = fails_then _ _ _ _ _ _ h.counts k.counts;
+}
 
-pub no_moves : (s : KeeperState) → IsMoved s s
-no_moves s = ([], Moves-none s)
+-- a desk that did nothing
+pub worked_none : {K : Type 0} (state : K → KeeperState) (k : Kept K) → Worked state k k
+worked_none state k = record { moves = ([], Moves-none (state k.keeper)); counts = fails_none k.failed _ }

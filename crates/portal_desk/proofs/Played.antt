@@ -1,6 +1,7 @@
 -- What was decided in a good world may be done, and leaves a good world.
-use Rattle.portal_desk.proofs.Base.{◌≡◌, List, sym, ◌∙◌, ap, subst, Key, World, pairs_by, AbstractCall, Nothing, Apply, Decision, decision, Good, Step, view, is_setup, Placements, changed, instance, matching_of, CanPublish, Act, Publish, Render, HasForm, StepLeaves, CanDo, IsSolved, Result, Ok, Err, inl, Bool, Answer, Asked, Answers, Calls, request_of, reply_model, unavailable, KeeperState, MayLeave}
-use Rattle.std.specs.Prelude.{IfOk, OnOk, MatchResult}
+use Rattle.portal_desk.proofs.Base.{◌≡◌, List, sym, ◌∙◌, ap, subst, Key, World, pairs_by, AbstractCall, Nothing, Apply, Decision, decision, Good, Step, view, is_setup, Placements, changed, instance, matching_of, CanPublish, Act, Publish, Render, HasForm, StepLeaves, CanDo, IsSolved, Result, Ok, Err, inl, inr, refl, Bool, Answer, Asked, Answers, Calls, Serves, Wanted, request_of, reply_model, unavailable, KeeperState, IsAlive, Uses, Looks, Changes, MayLeave, Acted}
+use Rattle.std.specs.Prelude.{IfOk, OnOk, OnErr, MatchResult}
+use Rattle.portal_core.specs.declared.keeper.KeepFault.{KeepFault}
 use Rattle.portal_core.specs.declared.decision.Reply.{Reply}
 use Rattle.portal_wire.specs.Wish.{wish_of}
 use Rattle.spa_model.specs.Spa.{Spa, IsBest}
@@ -8,6 +9,7 @@ use Rattle.portal_core.proofs.Kept.{to_published}
 use Rattle.portal_core.proofs.Play.{can_apply, can_publish}
 use Rattle.portal_core.proofs.Published.{pairs_place}
 use Rattle.portal_core.proofs.Steps.{step_good}
+use Rattle.portal_desk.proofs.InTurn.{uses_then}
 
 -- the solved pairs place the students as the best matching does
 pub solved_best : (w : World) (i : Spa) (pairs : List (Key × Key)) → Good w → i ≡ instance w → IsSolved i pairs → IsBest (instance w) (matching_of (changed w (Placements pairs)))
@@ -53,20 +55,62 @@ published w u v i pairs g is solved same made =
     let end : v ≡ changed w (Placements pairs) = made ∙ ap (λ x. changed x (Placements pairs)) same in
     (pairs, end, subst (λ x. IsBest (instance w) (matching_of x)) (sym end) (solved_best w i pairs g is solved))
 
--- where the keeper is broken now, the call failed, and its reply is 503
-untold_by : {A E : Type 0} (r : Result A E) (B Q : Type 0) (P : A → Type 0) → OnOk r (B → ⊥) → MatchResult r P (λ _. Q) → B → Q
-untold_by (Ok v) B Q P never told bad = absurd (never bad)
-untold_by (Err e) B Q P never told bad = told
+-- what performing the act that was decided makes
+pub performed : {A B : Type 0} (d : A) (r : Result B KeepFault) (old mid new : KeeperState) (code : Key) (ask : AbstractCall) (e : Decision) → HasForm ask → Looks (Ok d) old mid → IsAlive mid
+    → (mid.clean → e ≡ decision (view old.world code) ask) → Changes r mid new (StepLeaves mid.world e.act)
+    → Uses r old new (λ w. (old.broken → ⊥) × (old.clean → (reply : Answer) × Step old.world code ask reply w))
+performed d r old mid new code ask e form looks alive decided changes = uses_then d r old mid new _ _ looks.uses changes.uses (λ disk w made.
+    let before = (changes.uses.breaks disk).0 in (
+      λ bad. alive before ((looks.uses.breaks before).2 bad),
+      λ on.
+          let up = (looks.uses.lasts before).1 on in
+          (e.reply, stepped old.world w code ask e form (decided up) (subst (λ x. StepLeaves x e.act w) (looks.same up) (made up))),
+    ))
 
--- what a stop may leave of a call that was played for a request
-pub may_leave : {E : Type 0} (r : Result Reply E) (old new : KeeperState) (closes : Bool) (a : Asked) (code : Key) (ask : AbstractCall) (reply : Reply)
-    → OnOk r (new.broken → ⊥) → MatchResult r (λ told. reply ≡ told) (λ _. reply_model reply ≡ unavailable) → code ≡ a.code → wish_of a ≡ Calls ask
-    → (w : World) → (old.broken → ⊥) × (old.clean → (other : Answer) × Step old.world code ask other w) → MayLeave old new (request_of closes a) (reply_model reply) w
-may_leave r old new closes a code ask reply never told same is w (alive, made) = record {
-  alive = alive;
-  untold = untold_by r new.broken (reply_model reply ≡ unavailable) (λ v. reply ≡ v) never told;
-  turned = λ on. let m = made on in (
-    m.0,
-    inl (subst (λ wish. Answers old.world (request_of closes a) wish m.0 w) (sym is) (subst (λ c. Step old.world c ask m.0 w) same m.1)),
-  );
+-- what playing a call for a request does to a keeper
+pub acted : (r : Result Reply KeepFault) (old new : KeeperState) (closes : Bool) (a : Asked) (code : Key) (ask : AbstractCall) (reply : Reply) → code ≡ a.code → wish_of a ≡ Calls ask
+    → Uses r old new (λ w. (old.broken → ⊥) × (old.clean → (other : Answer) × Step old.world code ask other w)) → OnOk r (IsAlive new)
+    → IfOk r (λ told. new.clean → Step old.world code ask (reply_model told) new.world) → OnErr r (new.clean → new.world ≡ old.world)
+    → MatchResult r (λ told. reply ≡ told) (λ _. reply_model reply ≡ unavailable) → Acted old new (request_of closes a) (reply_model reply)
+acted r old new closes a code ask reply own is uses alive step same told = go r uses alive step same told
+  where
+    answers : (other : Answer) (w : World) → Step old.world code ask other w → Serves old.world (request_of closes a) other w
+    answers other w made = inl (subst (λ wish. Answers old.world (request_of closes a) wish other w) (sym is) (subst (λ c. Step old.world c ask other w) own made))
+
+    may_leave : (w : World) → (new.broken → reply_model reply ≡ unavailable) → (old.broken → ⊥) × (old.clean → (other : Answer) × Step old.world code ask other w)
+        → MayLeave old new (request_of closes a) (reply_model reply) w
+    may_leave w untold (alive, made) = record { alive = alive; untold = untold; turned = λ on. let m = made on in (m.0, answers m.0 w m.1) }
+
+    go : (r : Result Reply KeepFault) → Uses r old new (λ w. (old.broken → ⊥) × (old.clean → (other : Answer) × Step old.world code ask other w)) → OnOk r (IsAlive new)
+        → IfOk r (λ told. new.clean → Step old.world code ask (reply_model told) new.world) → OnErr r (new.clean → new.world ≡ old.world)
+        → MatchResult r (λ told. reply ≡ told) (λ _. reply_model reply ≡ unavailable) → Acted old new (request_of closes a) (reply_model reply)
+    go (Ok v) uses alive step same told = record {
+      clean = uses.clean;
+      serves = λ on. answers (reply_model reply) new.world (subst (λ x. Step old.world code ask (reply_model x) new.world) (sym told) (step on));
+      lasts = λ other. uses.lasts;
+      breaks = uses.breaks;
+      broken = λ disk bad w. absurd (alive disk bad);
+      settled = λ rest on. uses.settled on;
+      leaves = λ disk w left. elim (uses.leaves disk w left) [ inl was ↦ inl was | inr so ↦ inr (may_leave w (λ bad. absurd (alive disk bad)) so) ];
+    }
+    go (Err e) uses alive step same told = record {
+      clean = uses.clean;
+      serves = λ on. inr (told, same on);
+      lasts = λ other. absurd (other told);
+      breaks = uses.breaks;
+      broken = λ disk bad w. inr (told, refl);
+      settled = λ rest on. uses.settled on;
+      leaves = λ disk w left. elim (uses.leaves disk w left) [ inl was ↦ inl was | inr so ↦ inr (may_leave w (λ bad. told) so) ];
+    }
+
+-- a request that leaves the keeper alone
+pub acted_none : (s : KeeperState) (r : Wanted) (reply : Answer) → ((w : World) → Serves w r reply w) → Acted s s r reply
+acted_none s r reply serves = record {
+  clean = λ on. on;
+  serves = λ on. serves s.world;
+  lasts = λ other disk. (disk, λ on. on);
+  breaks = λ disk. (disk, λ on. inl on, λ bad. bad);
+  broken = λ disk bad. serves;
+  settled = λ rest on. rest;
+  leaves = λ disk w left. inl left;
 }

@@ -1,5 +1,5 @@
 -- How many bytes a reader gave.
-use Rattle.portal_desk.proofs.Base.{◌≡◌, ℕ, Bool, ◌+◌, ◌-◌, ◌<◌, ◌≤◌, List, ◌++◌, length, drop, refl, sym, ap, ◌∙◌, subst, arith, Option, Some, None, Result, Ok, Err, length-append, Frame, Follows, ◌*◌, length-drop, TakesAtMost, ReadsMore, LONGEST_REQUEST, MOST_REQUESTS, MOST_BYTES}
+use Rattle.portal_desk.proofs.Base.{◌≡◌, ℕ, Bool, ◌+◌, ◌-◌, ◌<◌, ◌≤◌, List, ◌++◌, length, drop, refl, sym, ap, ◌∙◌, subst, arith, Option, Some, None, Result, Ok, Err, length-append, Frame, Follows, ◌*◌, length-drop, TakesAtMost, ReadsMore, request_limit, connection_limit, taken_limit}
 use Rattle.std.specs.Prelude.{OnErr}
 
 pub at_err : {A E P : Type 0} (r : Result A E) → P → OnErr r P
@@ -12,7 +12,7 @@ one_stream before after more rest e = sym (length-append after rest) ∙ (ap len
 
 -- so many requests before, and what the buffer holds
 pub record TakenBy (done held : ℕ) (old new : Option (List ℕ)) : Type 0 where
-  pub few : TakesAtMost (done * LONGEST_REQUEST + held) old new
+  pub few : TakesAtMost (done * request_limit + held) old new
 
 pub none_taken : (old : Option (List ℕ)) (held : ℕ) → TakenBy 0 held old old
 none_taken None held = record { few = tt }
@@ -42,28 +42,28 @@ more_taken room (Some bytes) mid new before during ended (left, known, same, las
     (t.0, t.1, omega (arith, one_stream before during bytes left same, held, t.2))
 
 -- where serving ends after this frame
-pub ended_taken : {done : ℕ} {old mid new : Option (List ℕ)} {before after : List ℕ} {f : Frame} → done < MOST_REQUESTS → length after ≤ LONGEST_REQUEST
-    → TakenBy done (length before) old mid → Follows mid new before after f → TakesAtMost MOST_BYTES old new
+pub ended_taken : {done : ℕ} {old mid new : Option (List ℕ)} {before after : List ℕ} {f : Frame} → done < connection_limit → length after ≤ request_limit
+    → TakenBy done (length before) old mid → Follows mid new before after f → TakesAtMost taken_limit old new
 ended_taken {old = None} small low taken follows = tt
 ended_taken {done = done} {old = Some bytes} {after = after} small low taken follows =
     let x = (follows_taken taken follows).few in
     (x.0, x.1, omega (arith, small, low, x.2))
 
 -- where no frame was found
-pub missed_taken : {done : ℕ} {old mid : Option (List ℕ)} (new : Option (List ℕ)) (before : List ℕ) → done < MOST_REQUESTS → length before ≤ LONGEST_REQUEST
-    → TakenBy done (length before) old mid → TakesAtMost (LONGEST_REQUEST - length before) mid new → TakesAtMost MOST_BYTES old new
+pub missed_taken : {done : ℕ} {old mid : Option (List ℕ)} (new : Option (List ℕ)) (before : List ℕ) → done < connection_limit → length before ≤ request_limit
+    → TakenBy done (length before) old mid → TakesAtMost (request_limit - length before) mid new → TakesAtMost taken_limit old new
 missed_taken {old = None} new before small held taken last = tt
 missed_taken {done = done} {old = Some bytes} new before small held taken last =
     let x = taken.few in
-    let y = subst (λ o. TakesAtMost (LONGEST_REQUEST - length before) o new) x.1 last in
+    let y = subst (λ o. TakesAtMost (request_limit - length before) o new) x.1 last in
     (y.0, y.1, omega (arith, small, held, x.2, y.2))
 
-pub cut_taken : {done : ℕ} {old new : Option (List ℕ)} (used : ℕ) (held kept : List ℕ) → used ≤ LONGEST_REQUEST → kept ≡ drop used held
+pub cut_taken : {done : ℕ} {old new : Option (List ℕ)} (used : ℕ) (held kept : List ℕ) → used ≤ request_limit → kept ≡ drop used held
     → TakenBy done (length held) old new → TakenBy (done + 1) (length kept) old new
 cut_taken {old = None} used held kept few cut taken = record { few = tt }
 cut_taken {done = done} {old = Some bytes} used held kept few cut taken =
     let x = taken.few in
     record { few = (x.0, x.1, omega (arith, few, ap length cut ∙ length-drop used held, x.2)) }
 
-pub cut_held : (used : ℕ) (held kept : List ℕ) → kept ≡ drop used held → length held ≤ LONGEST_REQUEST → length kept ≤ LONGEST_REQUEST
+pub cut_held : (used : ℕ) (held kept : List ℕ) → kept ≡ drop used held → length held ≤ request_limit → length kept ≤ request_limit
 cut_held used held kept cut low = omega (arith, ap length cut ∙ length-drop used held, low)

@@ -1,5 +1,5 @@
 -- What is known at each exit of the serving loop.
-use Rattle.portal_desk.proofs.Base.{◌≡◌, ℕ, ◌+◌, ◌-◌, ◌<◌, inl, inr, Bool, true, false, List, [], ◌∷◌, ◌++◌, length, drop, take, refl, sym, ap, ◌∙◌, subst, arith, append-nil, Option, Some, None, nat_le, ◌||◌, Appends, length-append, both_ways, Answer, Frame, Asked, Opens, whole, is_head, seen, refused, Cause, reply_text, Heads, Follows, request_of, closes_at, Rest, more, shut, Leads, Exchange, asked_in, text, exchange_text, Partly, Broke, unavailable, KeeperState, Moves, IfSome, leb-false, shut_ends, Kept, Acted, Replied, KeepsStream, NoneWhole, ◌⊎◌, IsSession, Finish, Ended, Stopped, Tells, fault, MOST_REQUESTS}
+use Rattle.portal_desk.proofs.Base.{◌≡◌, ℕ, ◌+◌, ◌-◌, ◌<◌, inl, inr, Bool, true, false, List, [], ◌∷◌, ◌++◌, length, drop, take, refl, sym, ap, ◌∙◌, subst, arith, append-nil, Option, Some, None, nat_le, ◌||◌, Appends, length-append, both_ways, Answer, Frame, Asked, Opens, whole, is_head, seen, refused, Cause, reply_text, Heads, Follows, request_of, closes_at, Rest, more, shut, Leads, Exchange, asked_in, text, exchange_text, Partly, Broke, unavailable, KeeperState, Moves, IfSome, leb-false, shut_ends, Kept, Acted, Replied, KeepsStream, NoneWhole, ◌⊎◌, IsSession, Finish, Ended, Stopped, Tells, fault, connection_limit}
 use Rattle.portal_frame.specs.declared.types.Frame.TheVariants as frame
 use Rattle.portal_frame.specs.declared.types.Refusal.{Refusal}
 use Rattle.portal_frame.specs.declared.types.Request.{Request}
@@ -14,7 +14,7 @@ use Rattle.portal_desk.proofs.Steps.{text-snoc, after_one, Leads-snoc}
 
 -- these are the first requests of the bytes, and this is what they did to the keeper
 pub record Deals (old new : KeeperState) (bytes : List ℕ) (count : ℕ) (es : List Exchange) (rest : Rest) : Type 0 where
-  pub leads : Leads MOST_REQUESTS bytes (asked_in es) rest
+  pub leads : Leads connection_limit bytes (asked_in es) rest
   pub moves : Moves old new es
   pub counted : count ≡ length es
 
@@ -69,28 +69,28 @@ Did mid new a closes w now =
     Replied mid new (request_of closes a) (λ reply. Appends w now (reply_text reply (is_head a.method) closes))
 
 Deals-snoc : (old mid new : KeeperState) (bytes left after : List ℕ) (count : ℕ) (es : List Exchange) (a : Asked) (closes : Bool) (reply : Answer)
-    → Deals old mid bytes count es (more left) → (new.clean → mid.clean) → Opens left (whole a after) → closes ≡ closes_at (MOST_REQUESTS - count) a
+    → Deals old mid bytes count es (more left) → Opens left (whole a after) → closes ≡ closes_at (connection_limit - count) a
     → Acted mid new (request_of closes a) reply
     → Deals old new bytes (count + 1) (es ++ exchange (request_of closes a) reply ∷ []) (after_one closes a after)
 unfolding exchange
-Deals-snoc old mid new bytes left after count es a closes reply deals back opens at acted =
+Deals-snoc old mid new bytes left after count es a closes reply deals opens at acted =
     let e : Exchange = exchange (request_of closes a) reply in
     record {
-      leads = subst (λ b. Leads MOST_REQUESTS bytes (asked_in (es ++ e ∷ [])) (after_one b a after)) (sym at)
-          (Leads-snoc MOST_REQUESTS (MOST_REQUESTS - count) bytes es left e a after deals.leads opens (ap (λ n. MOST_REQUESTS - n) deals.counted) (ap (λ b. request_of b a) at));
-      moves = Moves-snoc old mid new es (request_of closes a) reply deals.moves back acted;
+      leads = subst (λ b. Leads connection_limit bytes (asked_in (es ++ e ∷ [])) (after_one b a after)) (sym at)
+          (Leads-snoc connection_limit (connection_limit - count) bytes es left e a after deals.leads opens (ap (λ n. connection_limit - n) deals.counted) (ap (λ b. request_of b a) at));
+      moves = Moves-snoc old mid new es (request_of closes a) reply deals.moves acted;
       counted = rw (length-append es (e ∷ [])) (omega (arith, deals.counted));
     }
 
 Dealt-snoc : (old mid new : KeeperState) (before w now : Option (List ℕ)) (bytes left after : List ℕ) (count : ℕ) (a : Asked) (closes : Bool)
-    → Dealt old mid before w bytes count (more left) → (new.clean → mid.clean) → Opens left (whole a after) → closes ≡ closes_at (MOST_REQUESTS - count) a
+    → Dealt old mid before w bytes count (more left) → Opens left (whole a after) → closes ≡ closes_at (connection_limit - count) a
     → Did mid new a closes w now → Dealt old new before now bytes (count + 1) (after_one closes a after)
 unfolding exchange
-Dealt-snoc old mid new before w now bytes left after count a closes d back opens at (reply, acted, adds) =
+Dealt-snoc old mid new before w now bytes left after count a closes d opens at (reply, acted, adds) =
     let e : Exchange = exchange (request_of closes a) reply in
     record {
       es = d.es ++ e ∷ [];
-      deals = Deals-snoc old mid new bytes left after count d.es a closes reply d.deals back opens at acted;
+      deals = Deals-snoc old mid new bytes left after count d.es a closes reply d.deals opens at acted;
       adds = subst (Appends before now) (sym (text-snoc d.es e)) (Appends-append before w now (text d.es) (exchange_text e) d.adds adds);
     }
 
@@ -145,7 +145,7 @@ module _ {K : Type 0} {state : K → KeeperState} {src rem : Option (List ℕ)} 
         go bytes stream d opens _ part = absurd part
 
   module _ (known now : Option (List ℕ)) (buffer : List ℕ) (new : K) (request : Request) (used : ℕ) (closes : Bool) (follows : Follows rem known front buffer (frame.Request request used))
-      (back : (state new).clean → (state mid).clean) (at : closes ≡ closes_at (MOST_REQUESTS - count) (seen request)) where
+      (at : closes ≡ closes_at (connection_limit - count) (seen request)) where
     pub closes_known : Did (state mid) (state new) (seen request) closes w now → closes ≡ true
         → IfSome src (SomeSession state old new before now (count + 1) (Ended (last_for request.close)))
     closes_known did shuts =
@@ -153,7 +153,7 @@ module _ {K : Type 0} {state : K → KeeperState} {src rem : Option (List ℕ)} 
         (λ bytes stream rest d is opens.
         let after = drop used buffer ++ rest in
         let t = subst (λ b. Dealt (state old) (state new) before now bytes (count + 1) (after_one b (seen request) after)) shuts
-        (Dealt-snoc (state old) (state mid) (state new) before w now bytes stream after count (seen request) closes d back opens at did) in
+        (Dealt-snoc (state old) (state mid) (state new) before w now bytes stream after count (seen request) closes d opens at did) in
         made new now (count + 1) _ (text t.es) t.deals t.adds ([], (shut request.close, t.deals.leads, shut_ends request.close), sym (append-nil (text t.es))))
 
     pub more_known : (kept : List ℕ) → Did (state mid) (state new) (seen request) closes w now → closes ≡ false → kept ≡ drop used buffer
@@ -166,7 +166,7 @@ module _ {K : Type 0} {state : K → KeeperState} {src rem : Option (List ℕ)} 
             is,
             subst (λ k. Dealt (state old) (state new) before now bytes (count + 1) (more (k ++ rest))) (sym e)
                 (subst (λ b. Dealt (state old) (state new) before now bytes (count + 1) (after_one b (seen request) (drop used buffer ++ rest))) stays
-                (Dealt-snoc (state old) (state mid) (state new) before w now bytes stream (drop used buffer ++ rest) count (seen request) closes d back opens at did)),
+                (Dealt-snoc (state old) (state mid) (state new) before w now bytes stream (drop used buffer ++ rest) count (seen request) closes d opens at did)),
           ));
     }
 
@@ -177,7 +177,7 @@ module _ {K : Type 0} {state : K → KeeperState} {src rem : Option (List ℕ)} 
     broke_known why failed left (reply, acted, broke) =
         turn state src rem known old mid before w front buffer count (frame.Request request used) (SomeSession state old new before now (count + 1) (Stopped why failed left)) so follows
         (λ bytes stream rest d is opens. go bytes stream rest d
-        (Deals-snoc (state old) (state mid) (state new) bytes stream (drop used buffer ++ rest) count d.es (seen request) closes reply d.deals back opens at acted) why broke)
+        (Deals-snoc (state old) (state mid) (state new) bytes stream (drop used buffer ++ rest) count d.es (seen request) closes reply d.deals opens at acted) why broke)
       where
         e : Exchange
         e = record { request = request_of closes (seen request); reply = reply }
@@ -198,9 +198,9 @@ module _ {K : Type 0} {state : K → KeeperState} {src rem : Option (List ℕ)} 
             made new now (count + 1) _ (text d.es ++ reply_text unavailable (is_head request.method.items) true) deals (Appends-append before w now (text d.es) _ d.adds adds)
             (after rest, deals.leads, (is_failed, d.es, e, refl, same, refl))
 
-pub goes_on : (count : ℕ) (asked : Asked) (closes : Bool) → count < MOST_REQUESTS → closes ≡ false → closes ≡ closes_at (MOST_REQUESTS - count) asked → count + 1 < MOST_REQUESTS
+pub goes_on : (count : ℕ) (asked : Asked) (closes : Bool) → count < connection_limit → closes ≡ false → closes ≡ closes_at (connection_limit - count) asked → count + 1 < connection_limit
 goes_on count asked closes small stays at =
-    let many = leb-false (MOST_REQUESTS - count) 1 (or_parts asked.close (nat_le (MOST_REQUESTS - count) 1) (sym at ∙ stays)).1 in
+    let many = leb-false (connection_limit - count) 1 (or_parts asked.close (nat_le (connection_limit - count) 1) (sym at ∙ stays)).1 in
     omega (arith, small, many)
 
 -- a desk that had failed is as it was, and so it cannot have answered

@@ -11,7 +11,7 @@ use Rattle.portal_core.specs.Honest.{HasBest, ShowsBest}
 use Rattle.portal_core.specs.Run.{Run, AllAnswered, end_of, Request}
 use Rattle.portal_core.specs.Heard.{HeardItem, Heard, Unless, has_places, moves_to_published, IsMember}
 use Rattle.portal_wire.specs.Conversation.{Exchange, asked_in, told_in, exchange_text}
-use Rattle.portal_desk.specs.Kept.{KeeperState}
+use Rattle.portal_core.specs.Keeping.{KeeperState}
 use Rattle.portal_desk.specs.Session.{Finish, Ended, Stopped, Tells, Session, IsSession}
 
 -- a stream, what is written for it, how serving it ends, its exchanges, and the world after each
@@ -134,6 +134,14 @@ abbrev pub AreEqual : World → World → List Visit → List Visit → Type 0
 AreEqual w v first second =
     (c : Key) (items : List HeardItem) → view w c ≡ view v c → Hears c w first items → Hears c v second items
     → (replies_in c first ≡ replies_in c second) × (view (end_of w (worlds_of first)) c ≡ view (end_of v (worlds_of second)) c)
+
+-- any other visits without a 503 give a caller who starts alike and hears the same the same replies
+abbrev pub IsLikeAll : World → List Visit → Type 0
+IsLikeAll w visits = (v : World) (others : List Visit) → AreVisits v others → AreAnswered others → AreEqual w v visits others
+
+-- the main promise holds of these visits, compared with any other visits without a 503
+abbrev pub HasPromise : World → List Visit → Type 0
+HasPromise w visits = IsUpheld w visits × IsLikeAll w visits
 
 -- visits describe the sessions of both lists, and the main promise holds of these visits
 abbrev pub MainPromise : {K L : Type 0} → (K → KeeperState) → (L → KeeperState) → World → World → List (Session K) → List (Session L) → Type 0

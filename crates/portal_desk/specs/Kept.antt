@@ -1,11 +1,11 @@
 -- What a desk, a metered device and a keeper hold, how they count failed calls, and what requests
 -- with their replies do to a keeper.
-use Rattle.std.specs.Prelude.{ℕ, Bool, ◌≡◌, ◌⊎◌, ◌+◌, ◌-◌, ◌^◌, ◌<◌, ◌≤◌, min, List, length, Option, Some, IfSome, Result, MatchResult, true, false, ◌∷◌, ◌++◌}
+use Rattle.std.specs.Prelude.{ℕ, Bool, ◌≡◌, ◌≢◌, ◌⊎◌, ◌+◌, ◌-◌, ◌^◌, ◌<◌, ◌≤◌, min, List, length, Option, Some, IfSome, Result, MatchResult, true, false, ◌∷◌, ◌++◌}
 use Rattle.serde_json.specs.Written.{has_float}
 use Rattle.portal_core.specs.World.{World}
 use Rattle.portal_core.specs.Answer.{Answer, Said, Json, Unavailable}
-use Rattle.portal_core.specs.Meaning.{StaysClean, Settles}
-use Rattle.portal_core.specs.Run.{AllAnswered, unavailable}
+use Rattle.portal_core.specs.Keeping.{KeeperState, IsSettled, StaysClean, LastsOrBreaks, LeavesBy}
+use Rattle.portal_core.specs.Run.{AllAnswered, Request, Serves, unavailable}
 use Rattle.portal_wire.specs.Conversation.{Exchange, told_in, Reaches}
 use Rattle.portal_desk.specs.declared.served.Cause.{Cause}
 use Rattle.portal_desk.specs.declared.served.Cause.TheVariants as cause
@@ -20,27 +20,6 @@ pub record Metered (T : Type 0) : Type 0 where
   pub inner : T
   pub failures : ℕ
 
--- a keeper's world, whether its disk has returned what was written, whether it is clean or broken,
--- and what worlds a stop may leave
-pub record KeeperState : Type 1 where
-  pub disk : Type 0
-  pub clean : Type 0
-  pub world : World
-  pub broken : Type 0
-  pub leaves : World → Type 0
-
-abbrev pub state_of : {K : Type 0} → (K → Type 0) → (K → Type 0) → (K → World) → (K → Type 0) → (K → World → Type 0) → K → KeeperState
-state_of disk clean world broken leaves k =
-    record { disk = disk k; clean = clean k; world = world k; broken = broken k; leaves = leaves k }
-
--- if a disk is clean, it was; a clean keeper stayed clean or broke, and a broken one is still broken
-abbrev pub LastsOrBreaks : KeeperState → KeeperState → Type 0
-LastsOrBreaks old new = new.disk → old.disk × (old.clean → new.clean ⊎ new.broken) × (old.broken → new.broken)
-
--- a stop leaves only the keeper's world
-abbrev pub IsSettled : KeeperState → Type 0
-IsSettled s = Settles s.world s.leaves
-
 -- a call that failed counts once, up to the greatest number, and no other does
 abbrev pub Counts : {A E : Type 0} → Result A E → ℕ → ℕ → Type 0
 Counts r old new = MatchResult r (λ _. new ≡ old) (λ _. new ≡ min (old + 1) (2 ^ 64 - 1))
@@ -48,6 +27,10 @@ Counts r old new = MatchResult r (λ _. new ≡ old) (λ _. new ≡ min (old + 1
 -- the count has risen, or is at its maximum
 abbrev pub FailsAfter : ℕ → ℕ → Type 0
 FailsAfter old new = (old < new) ⊎ (new ≡ 2 ^ 64 - 1)
+
+-- the most bytes that one call of `serve` takes: 256 requests of 1,064,960 bytes
+abbrev pub taken_limit : ℕ
+taken_limit = 272629760
 
 -- a reader whose bytes are known has given at most n of them
 abbrev pub TakesAtMost : ℕ → Option (List ℕ) → Option (List ℕ) → Type 0
@@ -72,21 +55,57 @@ MayReach old es w =
     ⊎ ((front back : List Exchange) × (e : Exchange) × (other : Answer) × (es ≡ front ++ e ∷ back) × (e.reply ≡ unavailable)
     × Reaches old (front ++ record e { reply = other } ∷ back) w)
 
--- what these exchanges did to a keeper, whatever is known of their bytes: a clean one has their
--- world, and is clean still if no reply is 503; else it is clean or broken. A broken one leaves each
--- world as it is. A stop may leave the world of these exchanges, or of a run in which the request of
--- one reply 503 was carried out
-pub record Moves (old new : KeeperState) (es : List Exchange) : Type 0 where
-  pub reaches : new.clean → Reaches old.world es new.world
-  pub lasts : AllAnswered (told_in es) → StaysClean old.disk new.disk old.clean new.clean
+-- a stop may leave the world after this request, of a keeper that was not broken; if it is now, the
+-- reply is 503
+pub record MayLeave (old new : KeeperState) (r : Request) (reply : Answer) (w : World) : Type 0 where
+  pub alive : old.broken → ⊥
+  pub untold : new.broken → reply ≡ unavailable
+  pub turned : old.clean → (other : Answer) × Serves old.world r other w
+
+-- what one request did to a keeper, with this reply
+pub record Acted (old new : KeeperState) (r : Request) (reply : Answer) : Type 0 where
+  -- it makes no keeper clean
+  pub clean : new.clean → old.clean
+  -- it is a step of a clean keeper's world
+  pub serves : new.clean → Serves old.world r reply new.world
+  -- a clean keeper is clean still if the reply is not 503, on a clean disk
+  pub lasts : reply ≢ unavailable → StaysClean old new
+  -- else it is clean or broken
   pub breaks : LastsOrBreaks old new
+  -- a broken keeper leaves each world as it is
+  pub broken : new.disk → new.broken → (w : World) → Serves w r reply w
+  -- a stop leaves only the keeper's world, if it did before
   pub settled : IsSettled old → new.clean → IsSettled new
+  -- else it may leave the world after this request
+  pub leaves : LeavesBy old new (MayLeave old new r reply)
+
+-- what these exchanges did to a keeper, whatever is known of their bytes
+pub record Moves (old new : KeeperState) (es : List Exchange) : Type 0 where
+  -- they make no keeper clean
+  pub clean : new.clean → old.clean
+  -- a clean keeper has their world
+  pub reaches : new.clean → Reaches old.world es new.world
+  -- it is clean still if no reply is 503, on a clean disk
+  pub lasts : AllAnswered (told_in es) → StaysClean old new
+  -- else it is clean or broken
+  pub breaks : LastsOrBreaks old new
+  -- a stop leaves only its world, if it did before
+  pub settled : IsSettled old → new.clean → IsSettled new
+  -- a broken keeper leaves each world as it is
   pub still : new.disk → old.broken → (w : World) → Reaches w es w × (new.leaves w → old.leaves w)
+  -- a stop may leave the world of these exchanges, or of a run in which the request of one reply 503
+  -- was carried out
   pub leaves : IsSettled old → old.clean → new.disk → (w : World) → new.leaves w → MayReach old.world es w
 
 -- some exchanges did, whatever is known of their bytes
 abbrev pub IsMoved : KeeperState → KeeperState → Type 0
 IsMoved old new = (es : List Exchange) × Moves old new es
+
+-- what a desk did: some exchanges moved its keeper, and it fails exactly if a fault of the store is
+-- counted
+pub record Worked {K : Type 0} (state : K → KeeperState) (old new : Kept K) : Type 0 where
+  pub moves : IsMoved (state old.keeper) (state new.keeper)
+  pub counts : FailsByCount old.failed new.failed (state old.keeper).faults (state new.keeper).faults
 
 -- the blamed device has failed in this call
 abbrev pub Blames : Cause → ℕ → ℕ → ℕ → ℕ → Type 0

@@ -1,15 +1,15 @@
 -- What one call of `serve` does: the requests of its stream, what is written, and how it ends.
-use Rattle.std.specs.Prelude.{ℕ, Bool, ◌≡◌, ◌⊎◌, ◌||◌, true, List, [], ◌∷◌, ◌++◌, length, take, Option, Some, Result, Ok, Err}
+use Rattle.std.specs.Prelude.{ℕ, Bool, ◌≡◌, ◌⊎◌, ◌||◌, true, List, [], ◌∷◌, ◌++◌, length, take, Option, Some, IfSome, Result, Ok, Err}
 use Rattle.std.specs.Io.KnownBytes.{Appends}
 use Rattle.portal_core.specs.Run.{unavailable}
 use Rattle.portal_frame.specs.Stream.{Asked, Opens, whole}
-use Rattle.portal_wire.specs.declared.TheConstants.{MOST_REQUESTS}
-use Rattle.portal_wire.specs.Conversation.{reply_text, Rest, more, Leads, Last, last, Ends, Requests, Exchange, asked_in, text}
+use Rattle.portal_wire.specs.Conversation.{connection_limit, reply_text, Rest, more, Leads, Last, last, Ends, Requests, Exchange, asked_in, text}
 use Rattle.portal_desk.specs.declared.served.Cause.{Cause}
 use Rattle.portal_desk.specs.declared.served.Cause.TheVariants as cause
 use Rattle.portal_desk.specs.declared.served.Served.{Served}
 use Rattle.portal_desk.specs.declared.served.ServeFault.{ServeFault}
-use Rattle.portal_desk.specs.Kept.{KeeperState, Moves}
+use Rattle.portal_core.specs.Keeping.{KeeperState}
+use Rattle.portal_desk.specs.Kept.{Kept, Moves, Worked, TakesAtMost, AtFirst, taken_limit}
 
 -- how `serve` ends: as the stream does, or stopped (cause, has the store failed, unread bytes)
 pub data Finish : Type 0 where
@@ -61,7 +61,7 @@ abbrev pub Tells : Finish → List ℕ → List Exchange → List ℕ → Type 0
 Tells (Ended ending) bytes es written =
     (closing : List ℕ) × Requests bytes (asked_in es) ending closing × (written ≡ text es ++ closing)
 Tells (Stopped why failed left) bytes es written =
-    (rest : Rest) × Leads MOST_REQUESTS bytes (asked_in es) rest × Wrote why failed es rest left written
+    (rest : Rest) × Leads connection_limit bytes (asked_in es) rest × Wrote why failed es rest left written
 
 -- a call of `serve`: the keeper before and after it, the stream, what the sink holds before and
 -- after it, if that is known, the count of requests, how the call ends, and its exchanges
@@ -83,3 +83,33 @@ pub record IsSession {K : Type 0} (state : K → KeeperState) (s : Session K) : 
   pub written : List ℕ
   pub adds : Appends s.before s.after written
   pub tells : Tells s.finish s.bytes s.exchanges written
+
+-- how many requests a desk that had failed takes: the first one ends the call
+abbrev pub TakesFirst : Result Served ServeFault → Type 0
+TakesFirst (Ok served) = served.requests ≡ 0
+TakesFirst (Err fault) = AtFirst fault.cause fault.requests
+
+-- whether a desk has failed, around a fault: one of the source leaves it so, one of the store fails it
+abbrev pub SettlesBy : Cause → Bool → Bool → Type 0
+SettlesBy cause.Read old new = new ≡ old
+SettlesBy cause.Store old new = new ≡ true
+SettlesBy _ old new = Unit {0}
+
+-- the same around a call; one that serves its stream to the end leaves it so
+abbrev pub Settles : Result Served ServeFault → Bool → Bool → Type 0
+Settles (Ok served) old new = new ≡ old
+Settles (Err fault) old new = SettlesBy fault.cause old new
+
+-- what a call of `serve` does, with this result: `source` and `left` are what the source has to give
+-- before and after it, `before` and `after` what the sink holds, where that is known
+pub record ServesOne {K : Type 0} (state : K → KeeperState) (r : Result Served ServeFault) (old new : Kept K) (source left before after : Option (List ℕ)) : Type 0 where
+  -- the desk moves, whatever is known of the bytes
+  pub worked : Worked state old new
+  -- if the bytes are known, the exchanges are those of the stream
+  pub served : IfSome source (λ bytes. (exchanges : List Exchange) × IsSession state (record { old = old.keeper; new = new.keeper; bytes = bytes; before = before; after = after; count = count_of r; finish = finish_of r new.failed left; exchanges = exchanges }))
+  -- the source gives no more than so many of the longest requests
+  pub taken : TakesAtMost taken_limit source left
+  -- a desk that had failed is as before, and ends the stream at its first request
+  pub stays : old.failed ≡ true → (new ≡ old) × TakesFirst r
+  -- a desk fails by a fault of the store alone
+  pub settles : Settles r old.failed new.failed

@@ -2,14 +2,13 @@
 
 ghost use Rattle.std.specs.Prelude.{◌≡◌, ◌≢◌, ◌||◌, true, false, MatchResult};
 ghost use Rattle.portal_frame.specs.Stream.{seen};
-ghost use Rattle.portal_core.specs.Meaning.{LeavesBy, Settles, StaysClean, reply_model, body_model};
-ghost use Rattle.portal_core.specs.Good.{Good};
-ghost use Rattle.portal_core.specs.Run.{Serves, unavailable};
-ghost use Rattle.portal_core.specs.World.{World};
+ghost use Rattle.portal_core.specs.Meaning.{reply_model, body_model};
+ghost use Rattle.portal_core.specs.Keeping.{KeepsGood};
+ghost use Rattle.portal_core.specs.Run.{unavailable};
 ghost use Rattle.portal_core.specs.Answer.{HasWholeNumbers};
 ghost use Rattle.portal_wire.specs.Conversation.{request_of};
-ghost use Rattle.portal_desk.specs.Kept.{FailsByCount, LastsOrBreaks, state_of};
-ghost use Rattle.portal_desk.specs.inner.Turns.{is_store, TurnsAway, MayLeave};
+ghost use Rattle.portal_desk.specs.Kept.{Acted, FailsByCount};
+ghost use Rattle.portal_desk.specs.inner.Turns.{is_store, TurnsAway};
 
 use crate::playing::play;
 use portal_core::{KeepFault, Keeper, Reply};
@@ -26,20 +25,20 @@ pub struct Desk<K: Keeper> {
 }
 
 impl<K: Keeper> Model for Desk<K> {
-    ghost use Rattle.portal_core.specs.Good.{Good};
+    ghost use Rattle.portal_core.specs.Keeping.{KeepsGood};
     ghost use Rattle.portal_desk.specs.Kept.{Kept};
 
     ghost Value = { Kept K };
 
     ghost view = { λ desk. record { keeper = desk.keeper; failed = desk.failed } };
 
-    ghost invariant = { λ desk. K.clean desk.keeper → Good (K.world desk.keeper) };
+    ghost invariant = { λ desk. KeepsGood (K.state desk.keeper) };
 }
 
 impl<K: Keeper> Desk<K> {
     /// Makes a desk over a keeper; the world of a clean keeper has to be good.
     pub fn new(keeper: K) -> Desk<K>
-        requires { K.clean keeper → Good (K.world keeper) }
+        requires { KeepsGood (K.state keeper) }
         ensures keeper { result.keeper ≡ keeper }
         ensures calm { result.failed ≡ false }
     {
@@ -52,7 +51,7 @@ impl<K: Keeper> Desk<K> {
     /// Returns whether the store has failed.
     pub fn failed(&self) -> bool
         ensures failed { result ≡ self.now.failed }
-        ensures good { K.clean self.now.keeper → Good (K.world self.now.keeper) }
+        ensures good { KeepsGood (K.state self.now.keeper) }
     {
         self.failed
     }
@@ -60,7 +59,7 @@ impl<K: Keeper> Desk<K> {
     /// Returns the keeper.
     pub fn into_keeper(self) -> K
         ensures same { result ≡ self.keeper }
-        ensures good { K.clean result → Good (K.world result) }
+        ensures good { KeepsGood (K.state result) }
     {
         let Desk { keeper, failed: _ } = self;
         keeper
@@ -86,31 +85,15 @@ impl<K: Keeper> Desk<K> {
     /// Acts on one request, as one step of the world. The reply is 503 if memory runs out or the
     /// store fails. Once the store has failed, every reply is 503.
     pub fn respond(&mut self, alloc: Global, request: &Request) -> Reply
-        ensures clean { K.clean self.new.keeper → K.clean self.old.keeper }
-        ensures lasts { reply_model result ≢ unavailable
-            → StaysClean (K.disk self.old.keeper) (K.disk self.new.keeper)
-            (K.clean self.old.keeper) (K.clean self.new.keeper) }
-        ensures breaks { let state = state_of K.disk K.clean K.world K.broken K.leaves in
-            LastsOrBreaks (state self.old.keeper) (state self.new.keeper) }
-        ensures broken { K.disk self.new.keeper → K.broken self.new.keeper → (w : World)
-            → Serves w (request_of request.now.close (seen request.now)) (reply_model result) w }
-        ensures settled { Settles (K.world self.old.keeper) (K.leaves self.old.keeper)
-            → K.clean self.new.keeper
-            → Settles (K.world self.new.keeper) (K.leaves self.new.keeper) }
-        ensures leaves { let state = state_of K.disk K.clean K.world K.broken K.leaves in
-            LeavesBy (K.disk self.new.keeper) (K.leaves self.old.keeper) (K.leaves self.new.keeper)
-            (MayLeave (state self.old.keeper) (state self.new.keeper)
-            (request_of request.now.close (seen request.now)) (reply_model result)) }
-        ensures serves { K.clean self.new.keeper
-            → Serves (K.world self.old.keeper) (request_of request.now.close (seen request.now))
-            (reply_model result) (K.world self.new.keeper) }
-        ensures good { K.clean self.new.keeper → Good (K.world self.new.keeper) }
-        ensures same { K.clean self.new.keeper → reply_model result ≡ unavailable
-            → K.world self.new.keeper ≡ K.world self.old.keeper }
+        ensures acted { Acted (K.state self.old.keeper) (K.state self.new.keeper)
+            (request_of request.now.close (seen request.now)) (reply_model result) }
+        ensures good { KeepsGood (K.state self.new.keeper) }
+        ensures same { (K.state self.new.keeper).clean → reply_model result ≡ unavailable
+            → (K.state self.new.keeper).world ≡ (K.state self.old.keeper).world }
         ensures stays { self.old.failed ≡ true → self.new ≡ self.old }
         ensures failed { self.new.failed ≡ true → reply_model result ≡ unavailable }
-        ensures counts { FailsByCount self.old.failed self.new.failed (K.faults self.old.keeper)
-            (K.faults self.new.keeper) }
+        ensures counts { FailsByCount self.old.failed self.new.failed
+            (K.state self.old.keeper).faults (K.state self.new.keeper).faults }
         ensures whole { HasWholeNumbers (body_model result.body) }
     {
         if self.failed {

@@ -12,7 +12,6 @@ ghost use Rattle.portal_desk.specs.Headline.{IsServed, MainPromise, Visit, AreVi
 ghost use Rattle.portal_desk.specs.Headline.{exchanges_of, worlds_of, Hears, replies_in};
 ghost use Rattle.portal_desk.specs.Headline.{AlikeTexts, AreServed, AllTellOf};
 ghost use Rattle.portal_desk.specs.Session.{Session};
-ghost use Rattle.portal_desk.specs.Kept.{state_of};
 
 use portal_core::Keeper;
 use portal_core::laws::{published_best, run_good};
@@ -38,10 +37,10 @@ pub fn same_bytes()
 /// Law: visits describe successive calls of `serve` if each call leaves its keeper clean.
 pub fn served_is_visit<K: Keeper>()
     ensures { (k : K) (sessions : List (Session K))
-        → AreServed (state_of K.disk K.clean K.world K.broken K.leaves) k sessions
+        → AreServed K.state k sessions
         → (visits : List Visit)
-        × AllTellOf (state_of K.disk K.clean K.world K.broken K.leaves) sessions visits
-        × AreVisits (K.world k) visits }
+        × AllTellOf K.state sessions visits
+        × AreVisits (K.state k).world visits }
 {}
 
 /// Law: visits describe what two desks write, over keepers of any kind that stay clean. Suppose no
@@ -49,16 +48,16 @@ pub fn served_is_visit<K: Keeper>()
 /// replies to that caller are equal byte for byte.
 pub fn equal_byte_for_byte<K: Keeper, L: Keeper>()
     ensures { (c : Key) (k : K) (l : L) (sessions : List (Session K)) (others : List (Session L))
-        → AreServed (state_of K.disk K.clean K.world K.broken K.leaves) k sessions
-        → AreServed (state_of L.disk L.clean L.world L.broken L.leaves) l others
-        → view (K.world k) c ≡ view (L.world l) c
+        → AreServed K.state k sessions
+        → AreServed L.state l others
+        → view (K.state k).world c ≡ view (L.state l).world c
         → (first second : List Visit)
-        × AllTellOf (state_of K.disk K.clean K.world K.broken K.leaves) sessions first
-        × AreVisits (K.world k) first
-        × AllTellOf (state_of L.disk L.clean L.world L.broken L.leaves) others second
-        × AreVisits (L.world l) second
+        × AllTellOf K.state sessions first
+        × AreVisits (K.state k).world first
+        × AllTellOf L.state others second
+        × AreVisits (L.state l).world second
         × ((items : List HeardItem) → AreAnswered first → AreAnswered second
-        → Hears c (K.world k) first items → Hears c (L.world l) second items
+        → Hears c (K.state k).world first items → Hears c (L.state l).world second items
         → replies_in c first ≡ replies_in c second) }
 {}
 
@@ -73,10 +72,10 @@ pub fn equal_byte_for_byte<K: Keeper, L: Keeper>()
 /// lists. Then the replies to that caller are equal byte for byte, and so is the last view.
 pub fn headline<K: Keeper, L: Keeper>()
     ensures { (k : K) (l : L) (sessions : List (Session K)) (others : List (Session L))
-        → IsServed (state_of K.disk K.clean K.world K.broken K.leaves) k sessions
-        → IsServed (state_of L.disk L.clean L.world L.broken L.leaves) l others
-        → MainPromise (state_of K.disk K.clean K.world K.broken K.leaves)
-        (state_of L.disk L.clean L.world L.broken L.leaves) (K.world k) (L.world l) sessions others }
+        → IsServed K.state k sessions
+        → IsServed L.state l others
+        → MainPromise K.state
+        L.state (K.state k).world (L.state l).world sessions others }
 {
     run_good();
     published_best();

@@ -14,5 +14,5 @@ pub use crate::desk::Desk;
 pub use crate::devices::{Counted, Failed, Sink, Source, read_again, write_again};
 pub use crate::playing::play;
 pub use crate::served::{Cause, ServeFault, Served};
-pub use crate::serving::{MOST_BYTES, pipe, serve_streams};
+pub use crate::serving::{pipe, serve_streams};
 pub use portal_wire::Ending;

@@ -4,7 +4,7 @@ ghost use Rattle.std.specs.Prelude.{◌≡◌, IfOk, OnOk, OnErr, IfErr};
 ghost use Rattle.spa_model.specs.Spa.{IsMatching};
 ghost use Rattle.portal_core.specs.Answer as answer;
 ghost use Rattle.portal_core.specs.Answer.{Answer, Publish, HasWholeNumbers};
-ghost use Rattle.portal_core.specs.Meaning.{Breaks, CountsFaults, LeavesBy, Settles, StaysClean};
+ghost use Rattle.portal_core.specs.Keeping.{Changes, CountsFaults, IsAlive, IsSettled, KeepsGood, Looks, Uses};
 ghost use Rattle.portal_core.specs.Meaning.{call_model, decision_model};
 ghost use Rattle.portal_core.specs.Meaning.{act_model, reply_model, body_model};
 ghost use Rattle.portal_core.specs.Good.{Good, CanPublish};
@@ -77,20 +77,12 @@ fn ask<K: Keeper>(
     code: &[u8],
     call: &Call,
 ) -> Result<Decision, KeepFault>
-    ensures clean { K.clean keeper.new → K.clean keeper.old }
-    ensures lasts { OnOk result (StaysClean (K.disk keeper.old) (K.disk keeper.new)
-        (K.clean keeper.old) (K.clean keeper.new)) }
-    ensures breaks { Breaks result (K.disk keeper.old) (K.disk keeper.new) (K.clean keeper.old)
-        (K.clean keeper.new) (K.broken keeper.old) (K.broken keeper.new) }
-    ensures settled { K.clean keeper.new → Settles (K.world keeper.new) (K.leaves keeper.new) }
-    ensures leaves { LeavesBy (K.disk keeper.new) (K.leaves keeper.old) (K.leaves keeper.new)
-        (λ _. ⊥) }
-    ensures decided { IfOk result (λ d. K.clean keeper.new → Good (K.world keeper.old)
-        → decision_model d ≡ answer.decision (seen.view (K.world keeper.old) code.now)
-        (call_model call.now)) }
+    ensures looks { Looks result (K.state keeper.old) (K.state keeper.new) }
+    ensures alive { OnOk result (IsAlive (K.state keeper.new)) }
+    ensures decided { IfOk result (λ d. (K.state keeper.new).clean
+        → Good (K.state keeper.old).world → decision_model d
+        ≡ answer.decision (seen.view (K.state keeper.old).world code.now) (call_model call.now)) }
     ensures whole { IfOk result (λ d. IsTold (decision_model d).reply.body) }
-    ensures same { K.clean keeper.new → K.world keeper.new ≡ K.world keeper.old }
-    ensures counts { CountsFaults result (K.faults keeper.old) (K.faults keeper.new) }
 {
     let view = keeper.view(alloc, code)?;
     decide_whole(alloc, &view, call)
@@ -127,20 +119,10 @@ fn solved(alloc: Global, instance: &Instance) -> Result<Vec<(Key, Key)>, AllocEr
 
 /// Performs a publication: gets the keeper's instance, solves it and applies the result.
 fn publish<K: Keeper>(alloc: Global, keeper: &mut K) -> Result<(), KeepFault>
-    requires good { K.clean keeper.old → Good (K.world keeper.old) }
-    requires ready { K.clean keeper.old → CanPublish (K.world keeper.old) }
-    ensures clean { K.clean keeper.new → K.clean keeper.old }
-    ensures lasts { OnOk result (StaysClean (K.disk keeper.old) (K.disk keeper.new)
-        (K.clean keeper.old) (K.clean keeper.new)) }
-    ensures breaks { Breaks result (K.disk keeper.old) (K.disk keeper.new) (K.clean keeper.old)
-        (K.clean keeper.new) (K.broken keeper.old) (K.broken keeper.new) }
-    ensures settled { K.clean keeper.new → Settles (K.world keeper.new) (K.leaves keeper.new) }
-    ensures leaves { LeavesBy (K.disk keeper.new) (K.leaves keeper.old) (K.leaves keeper.new)
-        (λ w. K.clean keeper.old → StepLeaves (K.world keeper.old) Publish w) }
-    ensures made { OnOk result (K.clean keeper.new
-        → StepLeaves (K.world keeper.old) Publish (K.world keeper.new)) }
-    ensures same { OnErr result (K.clean keeper.new → K.world keeper.new ≡ K.world keeper.old) }
-    ensures counts { CountsFaults result (K.faults keeper.old) (K.faults keeper.new) }
+    requires good { KeepsGood (K.state keeper.old) }
+    requires ready { (K.state keeper.old).clean → CanPublish (K.state keeper.old).world }
+    ensures changes { Changes result (K.state keeper.old) (K.state keeper.new)
+        (StepLeaves (K.state keeper.old).world Publish) }
 {
     let instance = keeper.instance(alloc)?;
     match solved(alloc, &instance) {
@@ -151,22 +133,12 @@ fn publish<K: Keeper>(alloc: Global, keeper: &mut K) -> Result<(), KeepFault>
 
 /// Performs a decision's act on the keeper.
 fn perform<K: Keeper>(alloc: Global, keeper: &mut K, act: Act) -> Result<(), KeepFault>
-    requires good { K.clean keeper.old → Good (K.world keeper.old) }
-    requires can { K.clean keeper.old → CanDo (K.world keeper.old) (act_model act) }
-    requires alive { K.disk keeper.old → K.broken keeper.old → ⊥ }
-    ensures clean { K.clean keeper.new → K.clean keeper.old }
-    ensures lasts { OnOk result (StaysClean (K.disk keeper.old) (K.disk keeper.new)
-        (K.clean keeper.old) (K.clean keeper.new)) }
-    ensures breaks { Breaks result (K.disk keeper.old) (K.disk keeper.new) (K.clean keeper.old)
-        (K.clean keeper.new) (K.broken keeper.old) (K.broken keeper.new) }
-    ensures settled { Settles (K.world keeper.old) (K.leaves keeper.old) → K.clean keeper.new
-        → Settles (K.world keeper.new) (K.leaves keeper.new) }
-    ensures leaves { LeavesBy (K.disk keeper.new) (K.leaves keeper.old) (K.leaves keeper.new)
-        (λ w. K.clean keeper.old → StepLeaves (K.world keeper.old) (act_model act) w) }
-    ensures made { OnOk result (K.clean keeper.new
-        → StepLeaves (K.world keeper.old) (act_model act) (K.world keeper.new)) }
-    ensures same { OnErr result (K.clean keeper.new → K.world keeper.new ≡ K.world keeper.old) }
-    ensures counts { CountsFaults result (K.faults keeper.old) (K.faults keeper.new) }
+    requires good { KeepsGood (K.state keeper.old) }
+    requires can { (K.state keeper.old).clean → CanDo (K.state keeper.old).world (act_model act) }
+    requires alive { IsAlive (K.state keeper.old) }
+    requires settled { (K.state keeper.old).clean → IsSettled (K.state keeper.old) }
+    ensures changes { Changes result (K.state keeper.old) (K.state keeper.new)
+        (StepLeaves (K.state keeper.old).world (act_model act)) }
 {
     match act {
         Act::Nothing | Act::Render(_) => Ok(()),
@@ -182,23 +154,19 @@ pub fn play<K: Keeper>(
     code: &[u8],
     call: &Call,
 ) -> Result<Reply, KeepFault>
-    requires good { K.clean keeper.old → Good (K.world keeper.old) }
+    requires good { KeepsGood (K.state keeper.old) }
     requires form { HasForm (call_model call.now) }
-    ensures clean { K.clean keeper.new → K.clean keeper.old }
-    ensures lasts { OnOk result (StaysClean (K.disk keeper.old) (K.disk keeper.new)
-        (K.clean keeper.old) (K.clean keeper.new)) }
-    ensures breaks { Breaks result (K.disk keeper.old) (K.disk keeper.new) (K.clean keeper.old)
-        (K.clean keeper.new) (K.broken keeper.old) (K.broken keeper.new) }
-    ensures settled { K.clean keeper.new → Settles (K.world keeper.new) (K.leaves keeper.new) }
-    ensures leaves { LeavesBy (K.disk keeper.new) (K.leaves keeper.old) (K.leaves keeper.new)
-        (λ w. (K.broken keeper.old → ⊥) × (K.clean keeper.old → (reply : Answer)
-        × Step (K.world keeper.old) code.now (call_model call.now) reply w)) }
-    ensures step { IfOk result (λ r. K.clean keeper.new
-        → Step (K.world keeper.old) code.now (call_model call.now) (reply_model r)
-        (K.world keeper.new)) }
-    ensures same { OnErr result (K.clean keeper.new → K.world keeper.new ≡ K.world keeper.old) }
-    ensures counts { CountsFaults result (K.faults keeper.old) (K.faults keeper.new) }
-    ensures good { K.clean keeper.new → Good (K.world keeper.new) }
+    ensures uses { let old = K.state keeper.old in
+        Uses result old (K.state keeper.new) (λ w. (old.broken → ⊥) × (old.clean
+        → (reply : Answer) × Step old.world code.now (call_model call.now) reply w)) }
+    ensures alive { OnOk result (IsAlive (K.state keeper.new)) }
+    ensures step { IfOk result (λ r. (K.state keeper.new).clean
+        → Step (K.state keeper.old).world code.now (call_model call.now) (reply_model r)
+        (K.state keeper.new).world) }
+    ensures same { OnErr result ((K.state keeper.new).clean
+        → (K.state keeper.new).world ≡ (K.state keeper.old).world) }
+    ensures counts { CountsFaults result (K.state keeper.old).faults (K.state keeper.new).faults }
+    ensures good { KeepsGood (K.state keeper.new) }
     ensures whole { IfOk result (λ r. IsTold (body_model r.body)) }
 {
     let Decision { reply, act } = ask(alloc, keeper, code, call)?;

@@ -2,6 +2,7 @@
 
 ghost use Rattle.std.specs.Prelude.{◌≡◌, ◌⊎◌, ◌≢◌, ◌+◌, ◌-◌, ◌<◌, ◌≤◌, length, drop, IfOk};
 ghost use Rattle.std.specs.Prelude.{OnErr, IfErr, if◌then◌else◌};
+ghost use Rattle.portal_frame.specs.Stream.{request_limit};
 ghost use Rattle.portal_desk.specs.inner.Turns.{CountsFor};
 ghost use Rattle.portal_desk.specs.Kept.{TakesAtMost};
 ghost use Rattle.portal_desk.specs.inner.Reading.{ReadsMore, Follows, IsWithin, KeepsStream, NoneWhole};
@@ -15,18 +16,18 @@ use std::alloc::Global;
 
 /// Reads a stream's next bytes into the buffer, and returns whether the source has ended.
 fn read_piece<R: Source>(source: &mut R, buffer: &mut Vec<u8>) -> Result<bool, Cause>
-    requires { length buffer.old.items < LONGEST_REQUEST }
+    requires { length buffer.old.items < request_limit }
     ensures bytes { IfOk result (ReadsMore (R.remaining source.old)
         (R.remaining source.new) buffer.old.items buffer.new.items) }
     ensures more { IfOk result (λ ended. length buffer.old.items + (if ended then 0 else 1)
         ≤ length buffer.new.items) }
-    ensures held { length buffer.new.items ≤ LONGEST_REQUEST }
+    ensures held { length buffer.new.items ≤ request_limit }
     ensures none_lost { OnErr result (buffer.new.items ≡ buffer.old.items) }
     ensures causes { IfErr result (λ cause. (cause ≡ ReadFailed) ⊎ (cause ≡ OutOfMemory)) }
     ensures left { IfErr result (λ cause. cause ≡ ReadFailed
         → KeepsStream (R.remaining source.old)
         (R.remaining source.new) buffer.old.items buffer.new.items) }
-    ensures taken { OnErr result (TakesAtMost (LONGEST_REQUEST - length buffer.old.items)
+    ensures taken { OnErr result (TakesAtMost (request_limit - length buffer.old.items)
         (R.remaining source.old) (R.remaining source.new)) }
     ensures failures { CountsFor ReadFailed result (R.failed source.old) (R.failed source.new) }
     ensures same_device { R.name source.new ≡ R.name source.old }
@@ -51,18 +52,18 @@ pub(crate) fn next_frame<R: Source>(
     source: &mut R,
     buffer: &mut Vec<u8>,
 ) -> Result<Frame, Cause>
-    requires { length buffer.old.items ≤ LONGEST_REQUEST }
+    requires { length buffer.old.items ≤ request_limit }
     ensures follows { IfOk result (Follows (R.remaining source.old)
         (R.remaining source.new) buffer.old.items buffer.new.items) }
     ensures found { IfOk result (λ f. f ≢ Frame.Need) }
-    ensures held { length buffer.new.items ≤ LONGEST_REQUEST }
+    ensures held { length buffer.new.items ≤ request_limit }
     ensures within { IfOk result (IsWithin buffer.new.items) }
     ensures causes { IfErr result (λ cause. (cause ≡ ReadFailed) ⊎ (cause ≡ OutOfMemory)) }
     ensures stays { IfErr result (λ cause. cause ≡ ReadFailed
         → KeepsStream (R.remaining source.old)
         (R.remaining source.new) buffer.old.items buffer.new.items) }
     ensures none { IfErr result (λ cause. cause ≡ ReadFailed → NoneWhole buffer.new.items) }
-    ensures taken { OnErr result (TakesAtMost (LONGEST_REQUEST - length buffer.old.items)
+    ensures taken { OnErr result (TakesAtMost (request_limit - length buffer.old.items)
         (R.remaining source.old) (R.remaining source.new)) }
     ensures failures { CountsFor ReadFailed result (R.failed source.old) (R.failed source.new) }
     ensures same_device { R.name source.new ≡ R.name source.old }

@@ -1,14 +1,13 @@
 //! Serves streams of requests on a desk, from a source to a sink, or a reader to a writer.
 
-ghost use Rattle.std.specs.Prelude.{◌≡◌, ◌≢◌, ◌-◌, ◌<◌, true, false, List, map};
-ghost use Rattle.std.specs.Prelude.{IfSome, IfOk, OnOk, IfErr};
+ghost use Rattle.std.specs.Prelude.{◌≡◌, ◌≢◌, ◌-◌, ◌<◌, true, false, map, IfSome, OnOk, IfErr};
 ghost use Rattle.std.specs.Io.KnownBytes.{Appends};
 ghost use Rattle.portal_frame.specs.Stream.{seen, is_head};
-ghost use Rattle.portal_wire.specs.Conversation.{Exchange, request_of, closes_at, last, reply_text};
+ghost use Rattle.portal_wire.specs.Conversation.{connection_limit, request_of, closes_at, last};
+ghost use Rattle.portal_wire.specs.Conversation.{reply_text};
 ghost use Rattle.portal_wire.specs.inner.Calls.{last_for};
-ghost use Rattle.portal_desk.specs.Kept.{AtFirst, Blames, FailsByCount, IsMoved};
-ghost use Rattle.portal_desk.specs.Kept.{TakesAtMost, state_of};
-ghost use Rattle.portal_desk.specs.Session.{IsSession, count_of, finish_of};
+ghost use Rattle.portal_desk.specs.Kept.{Blames, FailsByCount};
+ghost use Rattle.portal_desk.specs.Session.{ServesOne};
 ghost use Rattle.portal_desk.specs.Headline.{ServesEach};
 ghost use Rattle.portal_desk.specs.inner.Turns.{Broke, CountsFor, Replied};
 ghost use Rattle.portal_desk.specs.declared.served.Cause.TheVariants.{Read as ReadFailed};
@@ -21,13 +20,10 @@ use crate::reading::{cut_front, next_frame};
 use crate::sending::{send_refusal, send_reply};
 use crate::served::{Cause, ServeFault, Served};
 use portal_core::Keeper;
-use portal_frame::{Frame, LONGEST_REQUEST, Request};
+use portal_frame::{Frame, Request};
 use portal_wire::{Ending, MOST_REQUESTS};
 use std::alloc::Global;
 use std::io::{Read, Write};
-
-/// The most bytes that one call of `Desk::serve` takes from a source.
-pub const MOST_BYTES: usize = MOST_REQUESTS as usize * LONGEST_REQUEST;
 
 impl<K: Keeper> Desk<K> {
     /// Acts on one request, and then writes the whole reply.
@@ -38,22 +34,19 @@ impl<K: Keeper> Desk<K> {
         closes: bool,
         sink: &mut W,
     ) -> Result<(), Cause>
-        ensures clean { K.clean self.new.keeper → K.clean self.old.keeper }
-        ensures ok { let state = state_of K.disk K.clean K.world K.broken K.leaves in
-            OnOk result (Replied (state self.old.keeper) (state self.new.keeper)
-            (request_of closes (seen request.now))
-            (λ reply. (self.new.failed ≡ false)
+        ensures ok { OnOk result (Replied (K.state self.old.keeper) (K.state self.new.keeper)
+            (request_of closes (seen request.now)) (λ reply. (self.new.failed ≡ false)
             × Appends (W.contents sink.old) (W.contents sink.new)
             (reply_text reply (is_head request.now.method.items) closes))) }
-        ensures err { let state = state_of K.disk K.clean K.world K.broken K.leaves in
-            IfErr result (λ cause. Replied (state self.old.keeper) (state self.new.keeper)
+        ensures err { IfErr result (λ cause.
+            Replied (K.state self.old.keeper) (K.state self.new.keeper)
             (request_of closes (seen request.now))
             (λ reply. Broke cause self.new.failed reply (is_head request.now.method.items) closes
             (W.contents sink.old) (W.contents sink.new))) }
         ensures stays { self.old.failed ≡ true → self.new ≡ self.old }
         ensures failures { CountsFor WriteFailed result (W.failed sink.old) (W.failed sink.new) }
-        ensures counts { FailsByCount self.old.failed self.new.failed (K.faults self.old.keeper)
-            (K.faults self.new.keeper) }
+        ensures counts { FailsByCount self.old.failed self.new.failed
+            (K.state self.old.keeper).faults (K.state self.new.keeper).faults }
         ensures unread { IfErr result (λ cause. cause ≢ ReadFailed) }
         ensures store { IfErr result (λ cause. cause ≡ StoreFailed → self.new.failed ≡ true) }
         ensures same_device { W.name sink.new ≡ W.name sink.old }
@@ -83,37 +76,14 @@ impl<K: Keeper> Desk<K> {
         source: &mut R,
         sink: &mut W,
     ) -> Result<Served, ServeFault>
-        ensures clean { K.clean self.new.keeper → K.clean self.old.keeper }
-        ensures moves { let state = state_of K.disk K.clean K.world K.broken K.leaves in
-            IsMoved (state self.old.keeper) (state self.new.keeper) }
-        ensures served { IfSome (R.remaining source.old) (λ bytes. (exchanges : List Exchange)
-            × IsSession (state_of K.disk K.clean K.world K.broken K.leaves) (record {
-              old = self.old.keeper;
-              new = self.new.keeper;
-              bytes = bytes;
-              before = W.contents sink.old;
-              after = W.contents sink.new;
-              count = count_of result;
-              finish = finish_of result self.new.failed (R.remaining source.new);
-              exchanges = exchanges;
-            })) }
+        ensures serves { ServesOne K.state result self.old self.new (R.remaining source.old)
+            (R.remaining source.new) (W.contents sink.old) (W.contents sink.new) }
         ensures blames { IfErr result (λ fault. Blames fault.cause (R.failed source.old)
             (R.failed source.new) (W.failed sink.old) (W.failed sink.new)) }
         ensures spared_source { IfErr result (λ fault. fault.cause ≢ ReadFailed
             → R.failed source.new ≡ R.failed source.old) }
         ensures spared_sink { IfErr result (λ fault. fault.cause ≢ WriteFailed
             → W.failed sink.new ≡ W.failed sink.old) }
-        ensures taken { TakesAtMost MOST_BYTES (R.remaining source.old) (R.remaining source.new) }
-        ensures stays { self.old.failed ≡ true → self.new ≡ self.old }
-        ensures none { IfOk result (λ served. self.old.failed ≡ true → served.requests ≡ 0) }
-        ensures first { IfErr result (λ fault. self.old.failed ≡ true
-            → AtFirst fault.cause fault.requests) }
-        ensures counts { FailsByCount self.old.failed self.new.failed (K.faults self.old.keeper)
-            (K.faults self.new.keeper) }
-        ensures calm { OnOk result (self.new.failed ≡ self.old.failed) }
-        ensures unread { IfErr result (λ fault. fault.cause ≡ ReadFailed
-            → self.new.failed ≡ self.old.failed) }
-        ensures store { IfErr result (λ fault. fault.cause ≡ StoreFailed → self.new.failed ≡ true) }
         ensures same_source { R.name source.new ≡ R.name source.old }
         ensures same_sink { W.name sink.new ≡ W.name sink.old }
     {
@@ -161,8 +131,8 @@ fn asks_head(request: &Request) -> bool
 /// Returns whether the desk stops after this request: it asks to close, or is the last that is
 /// answered. `done` requests came before it.
 fn closes_now(request: &Request, done: u32) -> bool
-    requires { done < MOST_REQUESTS }
-    ensures { result ≡ closes_at (MOST_REQUESTS - done) (seen request.now) }
+    requires { done < connection_limit }
+    ensures { result ≡ closes_at (connection_limit - done) (seen request.now) }
 {
     request.close || MOST_REQUESTS - done <= 1
 }
@@ -202,31 +172,8 @@ pub fn pipe<K: Keeper, R: Read, W: Write>(
     reader: &mut R,
     writer: &mut W,
 ) -> Result<Served, ServeFault>
-    ensures clean { K.clean desk.new.keeper → K.clean desk.old.keeper }
-    ensures moves { let state = state_of K.disk K.clean K.world K.broken K.leaves in
-        IsMoved (state desk.old.keeper) (state desk.new.keeper) }
-    ensures served { IfSome (R.remaining reader.old) (λ bytes. (exchanges : List Exchange)
-        × IsSession (state_of K.disk K.clean K.world K.broken K.leaves) (record {
-          old = desk.old.keeper;
-          new = desk.new.keeper;
-          bytes = bytes;
-          before = W.contents writer.old;
-          after = W.contents writer.new;
-          count = count_of result;
-          finish = finish_of result desk.new.failed (R.remaining reader.new);
-          exchanges = exchanges;
-        })) }
-    ensures taken { TakesAtMost MOST_BYTES (R.remaining reader.old) (R.remaining reader.new) }
-    ensures stays { desk.old.failed ≡ true → desk.new ≡ desk.old }
-    ensures none { IfOk result (λ served. desk.old.failed ≡ true → served.requests ≡ 0) }
-    ensures first { IfErr result (λ fault. desk.old.failed ≡ true
-        → AtFirst fault.cause fault.requests) }
-    ensures counts { FailsByCount desk.old.failed desk.new.failed (K.faults desk.old.keeper)
-        (K.faults desk.new.keeper) }
-    ensures calm { OnOk result (desk.new.failed ≡ desk.old.failed) }
-    ensures unread { IfErr result (λ fault. fault.cause ≡ ReadFailed
-        → desk.new.failed ≡ desk.old.failed) }
-    ensures store { IfErr result (λ fault. fault.cause ≡ StoreFailed → desk.new.failed ≡ true) }
+    ensures serves { ServesOne K.state result desk.old desk.new (R.remaining reader.old)
+        (R.remaining reader.new) (W.contents writer.old) (W.contents writer.new) }
 {
     let mut source = Borrowed::new(reader);
     let mut sink = Borrowed::new(writer);
@@ -240,8 +187,7 @@ pub fn serve_streams<K: Keeper>(
     desk: &mut Desk<K>,
     streams: &[&[u8]],
 ) -> Option<Vec<Vec<u8>>>
-    ensures served { IfSome result (λ texts. ServesEach
-        (state_of K.disk K.clean K.world K.broken K.leaves) desk.old.keeper desk.new.keeper
+    ensures served { IfSome result (λ texts. ServesEach K.state desk.old.keeper desk.new.keeper
         (map (λ stream. stream.now) streams.now) (map (λ text. text.items) texts.items)) }
 {
     let mut texts = Vec::new(alloc);

@@ -12,8 +12,7 @@ pub use Rattle.std.specs.Str.Parse.{digits_value}
 pub use Rattle.httparse.proofs.GrammarLemmas.{ReadsRequest-append, print_request-append, request_unique}
 pub use Rattle.httparse.specs.Grammar.{Field, HasNoRequest, IsField, IsRequestHead, LineEnd, RequestHead, crlf, is_uri_byte, lf, print_blank, print_end, print_section, print_version, ReadsRequest, print_field, AllPass, is_value_byte, MayBecomeRequest, NeverHasRequest, skip_ows}
 pub use Rattle.httparse.specs.Spans.{RequestOverflows, header_bytes, IsRequestAt, IsRequestWithin, name_and_value, RequestExceeds}
-pub use Rattle.portal_frame.specs.Stream.{path_of, values_of, header_lines, Asked, Opens, asked_of, bad_head, body_length, fault, fields_of, headless, is_blank, item_of, whole, is_length, has_bad_host, has_any, length_of, Refuses, bad_length, Takes, HasNoHead, over, after_lines, is_head, is_overlong, is_empty_line, lines_after, without_leading, before_empty, Item, only, closes_after, later_close, asks_close, up_to}
+pub use Rattle.portal_frame.specs.Stream.{head_limit, line_limit, body_limit, request_limit, path_of, values_of, header_lines, Asked, Opens, asked_of, bad_head, body_length, fault, fields_of, headless, is_blank, item_of, whole, is_length, has_bad_host, has_any, length_of, Refuses, bad_length, Takes, HasNoHead, over, after_lines, is_head, is_overlong, is_empty_line, lines_after, without_leading, before_empty, Item, only, closes_after, later_close, asks_close, up_to}
 pub use Rattle.portal_frame.specs.declared.counting.At.TheVariants.{Fresh, Inside, Leading, LeadingCr, FreshCr}
 pub use Rattle.portal_frame.specs.declared.types.Fault.{Fault}
-pub use Rattle.portal_frame.specs.declared.types.TheConstants.{LONGEST_BODY, LONGEST_HEAD, LONGEST_REQUEST}
 pub use Rattle.portal_frame.specs.inner.Counting.{lines_from, IsHead, step, stops, counts, IsFound}

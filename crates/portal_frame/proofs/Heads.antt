@@ -1,5 +1,5 @@
 -- Heads at the front of a stream, cut and continued.
-use Rattle.portal_frame.proofs.Base.{◌≡◌, ℕ, ◌+◌, ◌-◌, ◌<◌, ◌≤◌, inl, inr, true, false, List, [], ◌∷◌, ◌++◌, length, take, drop, refl, sym, ap, ◌∙◌, arith, rules, append_assoc, subst, ◌==◌, ◌&&◌, Ok, eqb-true, common_steps, take-append-drop, length-append, IsTrue, nat_lt, nat_le, RequestHead, IsRequestHead, HasNoRequest, print_request, LineEnd, lf, crlf, print_blank, print_version, is_token_byte, is_uri_byte, IsField, RequestOverflows, body_length, bad_head, whole, fault, asked_of, fields_of, Opens, is_blank, append-nil, min, le-leb, cases_lt, take-append-le, drop-append-le, drop-drop, length-take-le, length-take, length-map, take_all, All-cons, All-nil, ReadsRequest, ReadsRequest-append, print_request-append, Takes, HasNoHead, IsHead, IsRequestAt, IsRequestWithin, LONGEST_HEAD}
+use Rattle.portal_frame.proofs.Base.{◌≡◌, ℕ, ◌+◌, ◌-◌, ◌<◌, ◌≤◌, inl, inr, true, false, List, [], ◌∷◌, ◌++◌, length, take, drop, refl, sym, ap, ◌∙◌, arith, rules, append_assoc, subst, ◌==◌, ◌&&◌, Ok, eqb-true, common_steps, take-append-drop, length-append, IsTrue, nat_lt, nat_le, RequestHead, IsRequestHead, HasNoRequest, print_request, LineEnd, lf, crlf, print_blank, print_version, is_token_byte, is_uri_byte, IsField, RequestOverflows, body_length, bad_head, whole, fault, asked_of, fields_of, Opens, is_blank, append-nil, min, le-leb, cases_lt, take-append-le, drop-append-le, drop-drop, length-take-le, length-take, length-map, take_all, All-cons, All-nil, ReadsRequest, ReadsRequest-append, print_request-append, Takes, HasNoHead, IsHead, IsRequestAt, IsRequestWithin, head_limit}
 use Rattle.std.proofs.Math.Seq.{take-append-add}
 use Rattle.std.proofs.lemmas.Bool.{and_parts, cases_Bool, or_cases}
 use Rattle.std.specs.Char.{encode_utf8}
@@ -19,21 +19,21 @@ cut n bytes p rest e le =
     let split : n ≡ length p + (n - length p) = omega (arith, le) in
     ap (take n) e ∙ (ap (λ k. take k (p ++ rest)) split ∙ take-append-add p rest (n - length p))
 
-pub none_so_far : (bytes : List ℕ) → HasNoRequest (take LONGEST_HEAD bytes) → HasNoHead bytes
+pub none_so_far : (bytes : List ℕ) → HasNoRequest (take head_limit bytes) → HasNoHead bytes
 none_so_far bytes none h rest t =
-    none h (take (LONGEST_HEAD - length (print_request h)) rest) (t.reads.0, cut LONGEST_HEAD bytes (print_request h) rest t.reads.1 t.short)
+    none h (take (head_limit - length (print_request h)) rest) (t.reads.0, cut head_limit bytes (print_request h) rest t.reads.1 t.short)
 
-pub none_later : (bytes more : List ℕ) → HasNoRequest (take LONGEST_HEAD bytes) → LONGEST_HEAD ≤ length bytes → HasNoHead (bytes ++ more)
+pub none_later : (bytes more : List ℕ) → HasNoRequest (take head_limit bytes) → head_limit ≤ length bytes → HasNoHead (bytes ++ more)
 none_later bytes more none full =
-    none_so_far (bytes ++ more) (rw (take-append-le LONGEST_HEAD bytes more full) none)
+    none_so_far (bytes ++ more) (rw (take-append-le head_limit bytes more full) none)
 
 pub overflows_on : (bytes more : List ℕ) → RequestOverflows 32 bytes → RequestOverflows 32 (bytes ++ more)
 overflows_on bytes more overflows after h rest reads =
     overflows (more ++ after) h rest (reads.0, sym (append_assoc bytes more after) ∙ reads.1)
 
-pub overflows_all : (bytes : List ℕ) → RequestOverflows 32 (take LONGEST_HEAD bytes) → RequestOverflows 32 bytes
+pub overflows_all : (bytes : List ℕ) → RequestOverflows 32 (take head_limit bytes) → RequestOverflows 32 bytes
 overflows_all bytes overflows =
-    subst (RequestOverflows 32) (take-append-drop LONGEST_HEAD bytes) (overflows_on (take LONGEST_HEAD bytes) (drop LONGEST_HEAD bytes) overflows)
+    subst (RequestOverflows 32) (take-append-drop head_limit bytes) (overflows_on (take head_limit bytes) (drop head_limit bytes) overflows)
 
 pub none_ever : (bytes more : List ℕ) → RequestOverflows 32 bytes → HasNoHead (bytes ++ more)
 none_ever bytes more overflows h rest t =
@@ -104,9 +104,9 @@ opens_never bytes more overflows = inr (
 )
 
 -- the longest head is passed, and none stands there
-pub opens_full : (bytes more : List ℕ) → HasNoHead (bytes ++ more) → LONGEST_HEAD ≤ length bytes → Opens (bytes ++ more) (fault bad_head false)
+pub opens_full : (bytes more : List ℕ) → HasNoHead (bytes ++ more) → head_limit ≤ length bytes → Opens (bytes ++ more) (fault bad_head false)
 opens_full bytes more none full =
-    let long : nat_lt (length (bytes ++ more)) LONGEST_HEAD ≡ false = rw (length-append bytes more) (grind (arith, common_steps, full)) in
+    let long : nat_lt (length (bytes ++ more)) head_limit ≡ false = rw (length-append bytes more) (grind (arith, common_steps, full)) in
     inr (none, elim (cases_Bool (is_blank (bytes ++ more))) [ inl blank ↦ rw (blank, long) | inr other ↦ rw other ])
 
 -- ---- after a head
@@ -132,7 +132,7 @@ reads_whole bytes front back len h e fits reads =
     subst (λ b. ReadsRequest b h (drop len b)) e longer
 
 pub head_of : (bytes front back : List ℕ) (headers : List HeaderSpan) (spans : RequestSpans) (h : RequestHead)
-    → front ++ back ≡ bytes → length front ≤ LONGEST_HEAD → length headers ≤ 32
+    → front ++ back ≡ bytes → length front ≤ head_limit → length headers ≤ 32
     → IsRequestAt front headers spans h → IsRequestWithin front headers spans
     → IsHead bytes front spans (take spans.headers headers) h
 head_of bytes front back headers spans h e short few at within =
@@ -159,14 +159,14 @@ head_of bytes front back headers spans h e short few at within =
           ((w.0.0, omega (arith, fits, w.0.1)), (w.1.0, omega (arith, fits, w.1.1)));
     }
 
-pub front_is : (n : ℕ) (bytes : List ℕ) → n ≡ min (length bytes) LONGEST_HEAD → take n bytes ≡ take LONGEST_HEAD bytes
-front_is n bytes e = elim (cases_lt (length bytes) LONGEST_HEAD) [
-  | inl small ↦ take_all n bytes (omega (arith, e, small)) ∙ sym (take_all LONGEST_HEAD bytes (omega (arith, small)))
-  | inr large ↦ let same : n ≡ LONGEST_HEAD = omega (arith, e, large) in ap (λ k. take k bytes) same
+pub front_is : (n : ℕ) (bytes : List ℕ) → n ≡ min (length bytes) head_limit → take n bytes ≡ take head_limit bytes
+front_is n bytes e = elim (cases_lt (length bytes) head_limit) [
+  | inl small ↦ take_all n bytes (omega (arith, e, small)) ∙ sym (take_all head_limit bytes (omega (arith, small)))
+  | inr large ↦ let same : n ≡ head_limit = omega (arith, e, large) in ap (λ k. take k bytes) same
 ]
 
-pub length_front : (n : ℕ) (bytes : List ℕ) → n ≡ min (length bytes) LONGEST_HEAD → length (take n bytes) ≤ LONGEST_HEAD
+pub length_front : (n : ℕ) (bytes : List ℕ) → n ≡ min (length bytes) head_limit → length (take n bytes) ≤ head_limit
 length_front n bytes e = rw (length-take n bytes) (omega (arith, e))
 
-pub front_all : (n : ℕ) (bytes : List ℕ) → n ≡ min (length bytes) LONGEST_HEAD → length bytes < LONGEST_HEAD → take n bytes ≡ bytes
+pub front_all : (n : ℕ) (bytes : List ℕ) → n ≡ min (length bytes) head_limit → length bytes < head_limit → take n bytes ≡ bytes
 front_all n bytes e short = take_all n bytes (omega (arith, e, short))

@@ -1,25 +1,25 @@
 -- How long what is waited for can be.
-use Rattle.portal_frame.proofs.Base.{◌≡◌, ℕ, ◌+◌, ◌<◌, ◌≤◌, Bool, true, false, List, [], ◌∷◌, length, refl, arith, Result, Ok, if◌then◌else◌, nat_lt, codes, digits_value, length-append, RequestHead, print_request, Fault, values_of, body_length, fields_of, Err, ltb-false, is_length, has_bad_host, has_any, length_of, LONGEST_BODY, LONGEST_HEAD, LONGEST_REQUEST}
+use Rattle.portal_frame.proofs.Base.{◌≡◌, ℕ, ◌+◌, ◌<◌, ◌≤◌, Bool, true, false, List, [], ◌∷◌, length, refl, arith, Result, Ok, if◌then◌else◌, nat_lt, codes, digits_value, length-append, RequestHead, print_request, Fault, values_of, body_length, fields_of, Err, ltb-false, is_length, has_bad_host, has_any, length_of, body_limit, head_limit, request_limit}
 use Rattle.portal_frame.specs.declared.types.Fault.TheVariants as faults
 
-pick : (is_len over : Bool) (d n : ℕ) → nat_lt LONGEST_BODY d ≡ over
-    → ◌≡◌ {A = Result ℕ Fault} (if is_len then (if over then Err faults.TooLarge else Ok d) else Err faults.BadLength) (Ok n) → n ≤ LONGEST_BODY
+pick : (is_len over : Bool) (d n : ℕ) → nat_lt body_limit d ≡ over
+    → ◌≡◌ {A = Result ℕ Fault} (if is_len then (if over then Err faults.TooLarge else Ok d) else Err faults.BadLength) (Ok n) → n ≤ body_limit
 pick true true d n o e = absurd (cc)
-pick true false d n o e = let same : d ≡ n = cc in omega (arith, same, ltb-false LONGEST_BODY d o)
+pick true false d n o e = let same : d ≡ n = cc in omega (arith, same, ltb-false body_limit d o)
 pick false over d n o e = absurd (cc)
 
-length_of-le : (values : List (List ℕ)) (n : ℕ) → length_of values ≡ Ok n → n ≤ LONGEST_BODY
+length_of-le : (values : List (List ℕ)) (n : ℕ) → length_of values ≡ Ok n → n ≤ body_limit
 length_of-le [] n e = let same : 0 ≡ n = cc in omega (arith, same)
-length_of-le (value ∷ []) n e = pick (is_length value) (nat_lt LONGEST_BODY (digits_value 10 value)) (digits_value 10 value) n refl e
+length_of-le (value ∷ []) n e = pick (is_length value) (nat_lt body_limit (digits_value 10 value)) (digits_value 10 value) n refl e
 length_of-le (value ∷ other ∷ values) n e = absurd (cc)
 
 after_host : (bad coded : Bool) (values : List (List ℕ)) (n : ℕ)
-    → (if bad then Err faults.BadHost else (if coded then Err faults.CodedBody else length_of values)) ≡ Ok n → n ≤ LONGEST_BODY
+    → (if bad then Err faults.BadHost else (if coded then Err faults.CodedBody else length_of values)) ≡ Ok n → n ≤ body_limit
 after_host true coded values n e = absurd (cc)
 after_host false true values n e = absurd (cc)
 after_host false false values n e = length_of-le values n e
 
-pub body_length-le : (minor : ℕ) (lines : List (List ℕ × List ℕ)) (n : ℕ) → body_length minor lines ≡ Ok n → n ≤ LONGEST_BODY
+pub body_length-le : (minor : ℕ) (lines : List (List ℕ × List ℕ)) (n : ℕ) → body_length minor lines ≡ Ok n → n ≤ body_limit
 body_length-le minor lines n e =
     after_host (has_bad_host minor (values_of (codes "host") lines)) (has_any (values_of (codes "transfer-encoding") lines)) (values_of (codes "content-length") lines) n e
 
@@ -28,8 +28,8 @@ unfolding print_request
 head-some h = simp length-append (omega arith)
 
 -- what a request takes
-pub whole-within : (h : RequestHead) (len n : ℕ) → len ≡ length (print_request h) → length (print_request h) ≤ LONGEST_HEAD
-    → body_length h.minor (fields_of h) ≡ Ok n → (0 < len + n) × (len + n ≤ LONGEST_REQUEST)
+pub whole-within : (h : RequestHead) (len n : ℕ) → len ≡ length (print_request h) → length (print_request h) ≤ head_limit
+    → body_length h.minor (fields_of h) ≡ Ok n → (0 < len + n) × (len + n ≤ request_limit)
 whole-within h len n same short sized =
     let some = head-some h in
     let most = body_length-le h.minor (fields_of h) n sized in

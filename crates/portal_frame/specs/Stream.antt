@@ -6,13 +6,26 @@ use Rattle.std.specs.Str.{bytes_eq}
 use Rattle.httparse.specs.Grammar.{skip_ows, RequestHead, ReadsRequest, MayBecomeRequest, NeverHasRequest, print_request}
 use Rattle.std.specs.Str.Parse.{digits_value}
 use Rattle.httparse.specs.Spans.{RequestExceeds, name_and_value}
-use Rattle.portal_frame.specs.declared.types.TheConstants.{LONGEST_BODY, LONGEST_HEAD, LONGEST_REQUEST}
 use Rattle.portal_frame.specs.declared.types.Request.{Request}
 use Rattle.portal_frame.specs.declared.types.Refusal.{Refusal}
 use Rattle.portal_frame.specs.declared.types.Fault.{Fault}
 use Rattle.portal_frame.specs.declared.types.Fault.TheVariants.{BadHead, BadHost, CodedBody, BadLength, TooLarge}
 use Rattle.portal_frame.specs.declared.types.Frame.{Frame}
 use Rattle.portal_frame.specs.declared.types.Frame.TheVariants as frame
+
+-- the most bytes of a head, with the empty lines before it, and the most header lines
+abbrev pub head_limit : ℕ
+head_limit = 16384
+
+abbrev pub line_limit : ℕ
+line_limit = 32
+
+-- the most bytes of a body, and of a whole request
+abbrev pub body_limit : ℕ
+body_limit = 1048576
+
+abbrev pub request_limit : ℕ
+request_limit = 1064960
 
 -- the names are equal, ignoring the case of ASCII letters
 abbrev pub same_name : List ℕ → List ℕ → Bool
@@ -158,7 +171,7 @@ told TooLarge = too_large
 abbrev pub length_of : List (List ℕ) → Result ℕ Fault
 length_of [] = Ok 0
 length_of (value ∷ []) =
-    if is_length value then (if nat_lt LONGEST_BODY (digits_value 10 value) then Err TooLarge else Ok (digits_value 10 value))
+    if is_length value then (if nat_lt body_limit (digits_value 10 value) then Err TooLarge else Ok (digits_value 10 value))
     else Err BadLength
 length_of (value ∷ other ∷ values) = Err BadLength
 
@@ -172,8 +185,8 @@ body_length minor lines =
 -- the bytes begin with this head, which is within the limits
 pub record Takes (bytes : List ℕ) (h : RequestHead) (rest : List ℕ) : Type 0 where
   pub reads : ReadsRequest bytes h rest
-  pub few : length h.fields ≤ 32
-  pub short : length (print_request h) ≤ LONGEST_HEAD
+  pub few : length h.fields ≤ line_limit
+  pub short : length (print_request h) ≤ head_limit
 
 -- the bytes begin with no head within the limits
 abbrev pub HasNoHead : List ℕ → Type 0
@@ -222,7 +235,7 @@ is_blank (b ∷ c ∷ bytes) = if b == 10 then is_blank (c ∷ bytes) else (b ==
 
 -- the item of a stream without a head at its front
 abbrev pub headless : List ℕ → Item
-headless bytes = if is_blank bytes && nat_lt (length bytes) LONGEST_HEAD then over else fault bad_head false
+headless bytes = if is_blank bytes && nat_lt (length bytes) head_limit then over else fault bad_head false
 
 -- a complete rest of a stream begins with this item
 abbrev pub Opens : List ℕ → Item → Type 0
@@ -233,8 +246,8 @@ Opens bytes item =
 -- no head is there yet, the parser does not rule one out, and no limit is passed
 pub record WaitsForHead (bytes : List ℕ) : Type 0 where
   pub none : HasNoHead bytes
-  pub may : MayBecomeRequest bytes ⊎ RequestExceeds 32 bytes
-  pub short : length bytes < LONGEST_HEAD
+  pub may : MayBecomeRequest bytes ⊎ RequestExceeds line_limit bytes
+  pub short : length bytes < head_limit
   pub lines : is_overlong bytes ≡ false
 
 -- a head is there, but its body is not complete yet
@@ -256,14 +269,14 @@ Framed bytes ended (frame.Bad refusal head_only) =
 abbrev pub IsDue : List ℕ → Bool → Frame → Type 0
 IsDue bytes ended (frame.Bad refusal head_only) =
     ((h : RequestHead) × (rest : List ℕ) × Takes bytes h rest)
-    ⊎ (IsTrue ended ⊎ ((LONGEST_HEAD ≤ length bytes) ⊎ ((is_overlong bytes ≡ true) ⊎ NeverHasRequest (take LONGEST_HEAD bytes))))
+    ⊎ (IsTrue ended ⊎ ((head_limit ≤ length bytes) ⊎ ((is_overlong bytes ≡ true) ⊎ NeverHasRequest (take head_limit bytes))))
 IsDue bytes ended frame.Need = Unit {0}
 IsDue bytes ended frame.End = Unit {0}
 IsDue bytes ended (frame.Request request used) = Unit {0}
 
--- unfinished bytes and a request fit the longest head and body, 16,384 and 1,048,576 bytes
+-- unfinished bytes and a request fit the limits
 abbrev pub IsWithinLimits : List ℕ → Frame → Type 0
-IsWithinLimits bytes frame.Need = length bytes < LONGEST_REQUEST
-IsWithinLimits bytes (frame.Request request used) = (0 < used) × (used ≤ length bytes) × (used ≤ LONGEST_REQUEST)
-IsWithinLimits bytes frame.End = length bytes < LONGEST_HEAD
+IsWithinLimits bytes frame.Need = length bytes < request_limit
+IsWithinLimits bytes (frame.Request request used) = (0 < used) × (used ≤ length bytes) × (used ≤ request_limit)
+IsWithinLimits bytes frame.End = length bytes < head_limit
 IsWithinLimits bytes (frame.Bad refusal head_only) = Unit {0}

@@ -2,10 +2,18 @@
 
 ghost use Rattle.std.specs.Prelude.{◌≡◌, ℕ, List};
 ghost use Rattle.portal_frame.specs.Stream.{Item, Opens};
+ghost use Rattle.portal_frame.specs.Stream.{body_limit, head_limit, request_limit};
 
-use crate::types::LONGEST_HEAD;
+use crate::types::{LONGEST_BODY, LONGEST_HEAD, LONGEST_REQUEST};
 use httparse::Status;
 use httparse::spans::{EMPTY_HEADER_SPAN, parse_request};
+
+/// Law: the limits of the code are those of the definitions.
+pub fn limits_are()
+    ensures head { LONGEST_HEAD ≡ head_limit }
+    ensures body { LONGEST_BODY ≡ body_limit }
+    ensures request { LONGEST_REQUEST ≡ request_limit }
+{}
 
 /// Law: the rest of a stream begins with at most one item: a request, a fault or the end.
 pub fn opens_once()

@@ -30,7 +30,7 @@ pub use Rattle.portal_core.specs.declared.phase.Round.{Round}
 pub use Rattle.portal_core.specs.declared.phase.Round.TheVariants.{First, Second}
 pub use Rattle.portal_core.specs.declared.rows.LecturerRow.{LecturerRow}
 pub use Rattle.portal_core.specs.declared.rows.ProjectRow.{ProjectRow}
-pub use Rattle.portal_core.specs.inner.Alone.{alone_lecturer, alone_student, alone}
+pub use Rattle.portal_core.specs.Alone.{alone_lecturer, alone_student, alone}
 pub use Rattle.portal_list.specs.Rows.{AllEntries, HasEntries, entries_in, choices_in, earlier_choices_in, rankings_with, RowsOfWorld, world_rows}
 pub use Rattle.portal_list.specs.inner.ApplicantIndex.{IsIndexOf, is_among, is_noted, is_noted_in, passes_at}
 pub use Rattle.portal_list.specs.inner.Fill.{filled, missing, with_missing, unless_empty, fill_missing}

@@ -242,18 +242,15 @@ impl ListKeeper {
 }
 
 impl Keeper for ListKeeper {
-    ghost world = { λ keeper. keeper };
-
-    ghost clean = { λ _. Unit {0} };
-
-    ghost disk = { λ _. Unit {0} };
-
     // There is no disk that could fail, and a process that stops leaves nothing.
-    ghost broken = { λ _. ⊥ };
-
-    ghost leaves = { λ _ _. ⊥ };
-
-    ghost faults = { λ _. 0 };
+    ghost state = { λ keeper. record {
+      world = keeper;
+      clean = Unit {0};
+      disk = Unit {0};
+      broken = ⊥;
+      leaves = λ _. ⊥;
+      faults = 0;
+    } };
 
     fn view(&mut self, alloc: Global, code: &[u8]) -> Result<View, KeepFault>
         ensures shown { IfOk result (λ view. view ≡ seen.view self.old code.now) }

@@ -4,7 +4,7 @@ ghost use Rattle.std.specs.Prelude.{◌≡◌, IfOk, map, filter};
 ghost use Rattle.std.specs.List.{list_any, filter_map};
 ghost use Rattle.portal_core.specs.Words.{equals};
 ghost use Rattle.portal_core.specs.World.{is_left, pairs_with};
-ghost use Rattle.portal_core.specs.inner.Alone.{alone_student};
+ghost use Rattle.portal_core.specs.Alone.{alone_student};
 ghost use Rattle.portal_list.specs.inner.Played as meant;
 ghost use Rattle.portal_list.specs.inner.Played.{lecturer_played, project_played, all_played};
 

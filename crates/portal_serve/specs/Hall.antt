@@ -1,13 +1,13 @@
 -- The outcomes of the accepted connections, in order, and the report to the office.
-use Rattle.std.specs.Prelude.{Bool, true, false, not, Result, Ok, Err, ◌≡◌, List, [], ◌∷◌, ◌++◌, length, count_by, All, Option, Some, IfSome, ℕ, if◌then◌else◌}
+use Rattle.std.specs.Prelude.{Bool, true, false, not, Result, Ok, Err, ◌≡◌, ◌≢◌, ◌≤◌, List, [], ◌∷◌, ◌++◌, length, count_by, All, Option, Some, IfSome, ℕ, if◌then◌else◌}
 use Rattle.portal_desk.specs.declared.served.Cause.{Cause}
-use Rattle.portal_desk.specs.declared.served.Cause.TheVariants.{Read, Store}
+use Rattle.portal_desk.specs.declared.served.Cause.TheVariants.{Store}
 use Rattle.portal_desk.specs.declared.served.Served.{Served}
 use Rattle.portal_desk.specs.declared.served.ServeFault.{ServeFault}
 use Rattle.portal_serve.specs.declared.server.Outcome.{Outcome}
 use Rattle.portal_serve.specs.declared.server.Hall.{Hall}
 use Rattle.portal_serve.specs.declared.server.Ended.{Ended}
-use Rattle.portal_serve.specs.declared.server.Ended.TheVariants.{StoreFault}
+use Rattle.portal_serve.specs.declared.server.Ended.TheVariants.{Full, StoreFault}
 use Rattle.portal_core.specs.Sight.{OfficeSees}
 use Rattle.portal_core.specs.World.{has_result}
 use Rattle.portal_core.specs.Bodies.{report_text, line_feed}
@@ -15,8 +15,8 @@ use Rattle.portal_core.specs.declared.view.View.{View as Sight}
 use Rattle.portal_core.specs.declared.view.View.TheVariants.{Nobody, Office, Lecturer, Student}
 use Rattle.portal_reports.specs.Status.{status_text}
 use Rattle.portal_wire.specs.Conversation.{Exchange}
-use Rattle.portal_desk.specs.Kept.{KeeperState, Moves}
-pub use Rattle.portal_desk.specs.Kept.{IsMoved}
+use Rattle.portal_core.specs.Keeping.{KeeperState}
+use Rattle.portal_desk.specs.Kept.{Kept, Moves, Worked}
 
 -- some requests of which this holds were served, whatever is known of their bytes
 abbrev pub IsMovedBy : (List Exchange → Type 0) → KeeperState → KeeperState → Type 0
@@ -39,17 +39,6 @@ is_store_fault (Err fault) = is_store fault.cause
 abbrev pub Adds : Option (List Outcome) → Option (List Outcome) → List Outcome → Type 0
 Adds old new more = IfSome old (λ outcomes. new ≡ Some (outcomes ++ more))
 
--- the desk's failure flag around a fault: a read fault keeps it, a fault of the store sets it
-abbrev pub SettlesBy : Cause → Bool → Bool → Type 0
-SettlesBy Read old new = new ≡ old
-SettlesBy Store old new = new ≡ true
-SettlesBy _ old new = Unit {0}
-
--- the same for either end of a connection
-abbrev pub Settles : Result Served ServeFault → Bool → Bool → Type 0
-Settles (Ok served) old new = new ≡ old
-Settles (Err fault) old new = SettlesBy fault.cause old new
-
 -- the connection ended by a fault of its own
 abbrev pub is_faulty : Outcome → Bool
 is_faulty outcome = is_own_fault outcome.ended
@@ -70,6 +59,22 @@ pub record Tells (hall : Hall) (outcomes : List Outcome) : Type 0 where
   pub accepted : hall.accepted ≡ length outcomes
   pub faults : hall.faults ≡ count_by is_faulty outcomes
   pub ends : EndsBy hall.ended outcomes
+
+-- what serving up to `most` connections on a desk did, with this result
+pub record ServesHall {K : Type 0} (state : K → KeeperState) (hall : Hall) (most : ℕ) (old new : Kept K) : Type 0 where
+  pub worked : Worked state old new
+  -- as many connections are faulty as were accepted, or fewer
+  pub faults : hall.faults ≤ hall.accepted
+  -- and no more were accepted than were asked for
+  pub accepted : hall.accepted ≤ most
+  -- `Full` means all of them
+  pub full : hall.ended ≡ Full → hall.accepted ≡ most
+  -- `StoreFault` means that the desk has failed
+  pub store : hall.ended ≡ StoreFault → new.failed ≡ true
+  -- any other end leaves it as it was
+  pub calm : hall.ended ≢ StoreFault → new.failed ≡ old.failed
+  -- and a desk that had failed takes no connection then
+  pub shut : hall.ended ≢ StoreFault → new.failed ≡ true → hall.accepted ≡ 0
 
 -- the report: the state of the round and, once there is a result, an empty line and the result
 abbrev pub told_of : OfficeSees → List ℕ

@@ -1,11 +1,12 @@
 //! `serve_stream` serves one stream within timeouts; `serve_on` serves a listener's connections.
 
-ghost use Rattle.std.specs.Prelude.{◌≡◌, ◌≢◌, ◌≤◌, true, List, IfOk, IfErr};
-ghost use Rattle.portal_desk.specs.Kept.{AtFirst, FailsByCount, IsMoved, state_of};
-ghost use Rattle.portal_serve.specs.Hall.{Settles, Tells};
+ghost use Rattle.std.specs.Prelude.{◌≡◌, true, List};
+ghost use Rattle.portal_desk.specs.Kept.{Worked};
+ghost use Rattle.portal_desk.specs.Session.{Settles, TakesFirst};
+ghost use Rattle.portal_serve.specs.Hall.{ServesHall, Tells};
 ghost use Rattle.portal_serve.specs.declared.server.Outcome.{Outcome};
 
-use crate::server::{Connections, Ended, Hall, Outcome, has_own_fault, serve_each};
+use crate::server::{Connections, Hall, Outcome, has_own_fault, serve_each};
 use crate::timeouts::{Connection, ConnectionReader, ConnectionWriter, TimedStream};
 use portal_core::Keeper;
 use portal_desk::{Desk, ServeFault, Served, pipe};
@@ -25,15 +26,8 @@ pub fn serve_stream<T: Clock + AllocGlobal, S: TimedStream, K: Keeper>(
     stream: &S,
     desk: &mut Desk<K>,
 ) -> Result<Served, ServeFault>
-    ensures clean { K.clean desk.new.keeper → K.clean desk.old.keeper }
-    ensures moves { let state = state_of K.disk K.clean K.world K.broken K.leaves in
-        IsMoved (state desk.old.keeper) (state desk.new.keeper) }
-    ensures stays { desk.old.failed ≡ true → desk.new ≡ desk.old }
-    ensures none { IfOk result (λ served. desk.old.failed ≡ true → served.requests ≡ 0) }
-    ensures first { IfErr result (λ fault. desk.old.failed ≡ true
-        → AtFirst fault.cause fault.requests) }
-    ensures counts { FailsByCount desk.old.failed desk.new.failed (K.faults desk.old.keeper)
-        (K.faults desk.new.keeper) }
+    ensures worked { Worked K.state desk.old desk.new }
+    ensures stays { desk.old.failed ≡ true → (desk.new ≡ desk.old) × TakesFirst result }
     ensures settles { Settles result desk.old.failed desk.new.failed }
 {
     let connection = Connection::new(rt, stream);
@@ -78,17 +72,7 @@ pub fn serve_on<T: Clock + AllocGlobal, K: Keeper>(
     desk: &mut Desk<K>,
 ) -> Hall
     ensures told { (outcomes : List Outcome) × Tells result outcomes }
-    ensures clean { K.clean desk.new.keeper → K.clean desk.old.keeper }
-    ensures moves { let state = state_of K.disk K.clean K.world K.broken K.leaves in
-        IsMoved (state desk.old.keeper) (state desk.new.keeper) }
-    ensures faults { result.faults ≤ result.accepted }
-    ensures accepted { result.accepted ≤ connections }
-    ensures full { result.ended ≡ Ended.Full → result.accepted ≡ connections }
-    ensures store { result.ended ≡ Ended.StoreFault → desk.new.failed ≡ true }
-    ensures calm { result.ended ≢ Ended.StoreFault → desk.new.failed ≡ desk.old.failed }
-    ensures shut { result.ended ≢ Ended.StoreFault → desk.new.failed ≡ true → result.accepted ≡ 0 }
-    ensures counts { FailsByCount desk.old.failed desk.new.failed (K.faults desk.old.keeper)
-        (K.faults desk.new.keeper) }
+    ensures serves { ServesHall K.state result connections desk.old desk.new }
 {
     let mut listening = Listening { rt, listener };
     serve_each(&mut listening, connections, desk)

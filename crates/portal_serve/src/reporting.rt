@@ -2,7 +2,7 @@
 
 ghost use Rattle.std.specs.Prelude.{◌≡◌, ◌+◌, Err, IfOk, OnOk};
 ghost use Rattle.portal_core.specs.Good.{Good};
-ghost use Rattle.portal_core.specs.Meaning.{Breaks, LeavesBy, Settles, StaysClean};
+ghost use Rattle.portal_core.specs.Keeping.{IsAlive, Uses};
 ghost use Rattle.portal_core.specs.View.{office_sees};
 ghost use Rattle.portal_serve.specs.Hall.{told_of, IsOfficeReport, IsOther};
 
@@ -41,20 +41,16 @@ fn told(alloc: Global, view: &View) -> Result<Vec<u8>, KeepFault>
 ///
 /// The keeper failed, or memory ran out. A code that is not the office's is a fault of the store.
 pub fn report<K: Keeper>(alloc: Global, keeper: &mut K, office: &Code) -> Result<Vec<u8>, KeepFault>
-    ensures clean { K.clean keeper.new → K.clean keeper.old }
-    ensures lasts { OnOk result (StaysClean (K.disk keeper.old) (K.disk keeper.new)
-        (K.clean keeper.old) (K.clean keeper.new)) }
-    ensures breaks { Breaks result (K.disk keeper.old) (K.disk keeper.new) (K.clean keeper.old)
-        (K.clean keeper.new) (K.broken keeper.old) (K.broken keeper.new) }
-    ensures settled { K.clean keeper.new → Settles (K.world keeper.new) (K.leaves keeper.new) }
-    ensures leaves { LeavesBy (K.disk keeper.new) (K.leaves keeper.old) (K.leaves keeper.new)
-        (λ _. ⊥) }
-    ensures same { K.clean keeper.new → K.world keeper.new ≡ K.world keeper.old }
-    ensures text { IfOk result (λ text. K.clean keeper.new → Good (K.world keeper.old)
-        → text.items ≡ told_of (office_sees (K.world keeper.old))) }
-    ensures store { result ≡ Err KeepFault.Store → K.clean keeper.new → Good (K.world keeper.old)
-        → (K.world keeper.old).office ≡ office.now
-        → K.faults keeper.new ≡ K.faults keeper.old + 1 }
+    ensures uses { Uses result (K.state keeper.old) (K.state keeper.new) (λ _. ⊥) }
+    ensures alive { OnOk result (IsAlive (K.state keeper.new)) }
+    ensures same { (K.state keeper.new).clean
+        → (K.state keeper.new).world ≡ (K.state keeper.old).world }
+    ensures text { IfOk result (λ text. (K.state keeper.new).clean
+        → Good (K.state keeper.old).world
+        → text.items ≡ told_of (office_sees (K.state keeper.old).world)) }
+    ensures store { result ≡ Err KeepFault.Store → (K.state keeper.new).clean
+        → Good (K.state keeper.old).world → (K.state keeper.old).world.office ≡ office.now
+        → (K.state keeper.new).faults ≡ (K.state keeper.old).faults + 1 }
 {
     let view = keeper.view(alloc, office.as_bytes())?;
     told(alloc, &view)

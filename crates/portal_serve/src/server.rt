@@ -1,11 +1,12 @@
 //! The server loop: serves one connection after another, and counts faults other than store faults.
 
-ghost use Rattle.std.specs.Prelude.{◌≡◌, ◌≢◌, ◌+◌, ◌-◌, ◌^◌, ◌<◌, ◌≤◌, true, if◌then◌else◌, List};
+ghost use Rattle.std.specs.Prelude.{◌≡◌, ◌+◌, ◌-◌, ◌^◌, ◌<◌, if◌then◌else◌, List};
 ghost use Rattle.std.specs.Prelude.{Option, None, IfSome};
 ghost use Rattle.std.specs.Option.{option_to_list};
 ghost use Rattle.portal_wire.specs.Conversation.{Exchange};
-ghost use Rattle.portal_desk.specs.Kept.{FailsByCount, IsMoved, state_of};
-ghost use Rattle.portal_serve.specs.Hall.{is_own_fault, Adds, IsMovedBy, Settles, Tells};
+ghost use Rattle.portal_desk.specs.Kept.{Worked};
+ghost use Rattle.portal_desk.specs.Session.{Settles};
+ghost use Rattle.portal_serve.specs.Hall.{is_own_fault, Adds, IsMovedBy, ServesHall, Tells};
 ghost use Rattle.portal_serve.specs.declared.server.Outcome.{Outcome};
 
 use portal_core::Keeper;
@@ -51,15 +52,11 @@ pub trait Connections {
 
     /// Serves the next connection and returns its outcome, or `None` if none can be accepted.
     fn serve_next<K: Keeper>(&mut self, desk: &mut Desk<K>) -> Option<Outcome>
-        ensures clean { K.clean desk.new.keeper → K.clean desk.old.keeper }
-        ensures moves { let state = state_of K.disk K.clean K.world K.broken K.leaves in
-            IsMoved (state desk.old.keeper) (state desk.new.keeper) }
+        ensures worked { Worked K.state desk.old desk.new }
         ensures adds { Adds (outcomes self.old) (outcomes self.new) (option_to_list result) }
         ensures failed { IfSome result (λ outcome. outcome.failed ≡ desk.new.failed) }
         ensures settles { IfSome result (λ outcome.
             Settles outcome.ended desk.old.failed desk.new.failed) }
-        ensures counts { FailsByCount desk.old.failed desk.new.failed (K.faults desk.old.keeper)
-            (K.faults desk.new.keeper) }
         ensures none { result ≡ None → desk.new ≡ desk.old }
         ensures over { result ≡ None → over self.new };
 }
@@ -71,9 +68,8 @@ pub trait Service {
 
     /// Serves the requests, and keeps how that ended.
     fn serve<K: Keeper>(&mut self, desk: &mut Desk<K>)
-        ensures clean { K.clean desk.new.keeper → K.clean desk.old.keeper }
-        ensures moves { let state = state_of K.disk K.clean K.world K.broken K.leaves in
-            IsMovedBy (told self.old self.new) (state desk.old.keeper) (state desk.new.keeper) };
+        ensures moves { IsMovedBy (told self.old self.new)
+            (K.state desk.old.keeper) (K.state desk.new.keeper) };
 }
 
 /// Returns whether a connection ended with a fault of its own, not of the store. Its own faults are
@@ -112,18 +108,8 @@ pub fn serve_each<C: Connections, K: Keeper>(
     ensures told { (outcomes : List Outcome)
         × Adds (C.outcomes connections.old) (C.outcomes connections.new) outcomes
         × Tells result outcomes }
-    ensures clean { K.clean desk.new.keeper → K.clean desk.old.keeper }
-    ensures moves { let state = state_of K.disk K.clean K.world K.broken K.leaves in
-        IsMoved (state desk.old.keeper) (state desk.new.keeper) }
-    ensures faults { result.faults ≤ result.accepted }
-    ensures accepted { result.accepted ≤ most }
-    ensures full { result.ended ≡ Ended.Full → result.accepted ≡ most }
+    ensures serves { ServesHall K.state result most desk.old desk.new }
     ensures listen { result.ended ≡ Ended.ListenFault → C.over connections.new }
-    ensures store { result.ended ≡ Ended.StoreFault → desk.new.failed ≡ true }
-    ensures calm { result.ended ≢ Ended.StoreFault → desk.new.failed ≡ desk.old.failed }
-    ensures shut { result.ended ≢ Ended.StoreFault → desk.new.failed ≡ true → result.accepted ≡ 0 }
-    ensures counts { FailsByCount desk.old.failed desk.new.failed (K.faults desk.old.keeper)
-        (K.faults desk.new.keeper) }
 {
     let mut faults = 0u32;
     for accepted in 0..most {

@@ -19,7 +19,7 @@ reopens left found current sound stands_there same is =
     let stands : HasGoodWorld found.trees = subst HasGoodWorld (sym same) stands_there in
     record { current = own_again IsCurrentSchema left found sound is same current; stands = stands; faults = only_store found.trees stands }
 
-holds_again : (left found : Database) → IsConsistent left → Good (world_of left.trees) → found.trees ≡ left.trees → IsDatabase found → Reopens found
+pub holds_again : (left found : Database) → IsConsistent left → Good (world_of left.trees) → found.trees ≡ left.trees → IsDatabase found → Reopens found
 holds_again left found holds good =
     let h = holds.1 in
     reopens left found h.current h.sound
@@ -34,13 +34,12 @@ opens_again change old found holds good leaves (inr turned) is =
 pub opens_fresh : OpensFresh
 opens_fresh office made found form fresh same is = (holds_again made found (first_holds office made fresh) (first_is_good office made fresh form) same is, ap world_of same ∙ first_is office made fresh)
 
-none_but_store : (db : Trees) → HasGoodFirst first_version db → (fault : UpgradeFault) → Bars fault db → (fault ≡ upgrading.Store) ⊎ (fault ≡ upgrading.Memory)
-none_but_store db stands upgrading.NotPortal none = absurd (let e = sym stands.office.is ∙ none in cc)
-none_but_store db stands upgrading.OtherVersion not_so = absurd (not_so.other _ stands.office.is refl)
-none_but_store db stands upgrading.Damaged not_so = absurd (not_so.1 stands)
-none_but_store db stands upgrading.Store told = inl refl
-none_but_store db stands upgrading.Memory told = inr refl
-none_but_store db stands upgrading.Exists taken = absurd taken
+pub none_but_store : (db : Trees) → HasGoodFirst first_version db → (fault : UpgradeFault) → Bars fault db → (fault ≡ upgrading.Store) ⊎ (fault ≡ upgrading.Memory)
+none_but_store db stands fault (opening.NotPortal, is, none) = absurd (let e = sym stands.office.is ∙ none in cc)
+none_but_store db stands fault (opening.OtherVersion, is, not_so) = absurd (not_so.other _ stands.office.is refl)
+none_but_store db stands fault (opening.Damaged, is, not_so) = absurd (not_so.1 stands)
+none_but_store db stands fault (opening.Store, is, told) = inl is
+none_but_store db stands fault (opening.Memory, is, told) = inr is
 
 pub upgrades_again : UpgradesAgain
 upgrades_again old found first sound stands is = (

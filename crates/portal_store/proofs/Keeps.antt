@@ -1,7 +1,7 @@
 -- What a call that read, or made a change, is to the store.
-use Rattle.portal_store.proofs.Base.{inl, inr, ◌≡◌, ℕ, Bool, IsTrue, Ok, Err, Result, IfOk, OnOk, OnErr, true, false, refl, sym, ap, subst, ◌∙◌, arith, cases_Bool, on_ok_weaker, Database, HasCleanDisk, IsUnchanged, Survives, Trees, Ghosts, Held, state, Change, changed, Second, World, Good, Sound, IsCurrentSchema, clean_if_open, looks_by, Reading, Anyhow, Commits, Stays, IsAfter, world_of, IsConsistent, HasChanged, IsTransition, Seen, IsCleanStore, kept_world, IsKept, CommitsChange, ◌↔◌, HasDisk, DiskInMemory, KeepsClean, Lasts, LastsInMemory, IsLeft, IsToldAs, ◌⊎◌, IsBrokenStore, LeavesWorld, UnbrokenInMemory, AreConsistent, LeavesMade}
+use Rattle.portal_store.proofs.Base.{inl, inr, ◌≡◌, ℕ, Bool, IsTrue, Ok, Err, Result, IfOk, OnOk, OnErr, true, false, refl, sym, ap, subst, ◌∙◌, arith, cases_Bool, on_ok_weaker, Database, HasCleanDisk, IsUnchanged, Survives, Trees, Ghosts, Held, state, Change, changed, Second, World, Good, Sound, IsCurrentSchema, clean_if_open, looks_by, Reading, Anyhow, Commits, Stays, IsAfter, world_of, IsConsistent, HasChanged, IsTransition, Seen, IsCleanStore, kept_world, kept_state, IsKept, CommitsChange, DiskInMemory, KeepsClean, Lasts, LastsInMemory, IsLeft, IsToldAs, ◌⊎◌, IsBrokenStore, UnbrokenInMemory, AreConsistent, LeavesMade}
 use Rattle.std.specs.Prelude.{◌≤◌}
-use Rattle.portal_core.specs.Meaning.{Breaks, LeavesBy, Settles}
+use Rattle.portal_core.specs.Keeping.{IsAlive, IsSettled, Uses}
 use Rattle.portal_core.specs.declared.keeper.KeepFault.{KeepFault}
 use Rattle.portal_store.proofs.Ended.{told_if}
 
@@ -23,7 +23,7 @@ not_both b up down = let e : true ≡ false = sym up ∙ down in absurd (cc)
 
 -- a stop of a clean store leaves its world
 pub rests_by : {S : Type 0} (g : Ghosts S) (h : Held S) (own : Bool) (few : ℕ) → ((db : Trees) → IsTrue (state g h).is_open → (state g h).may_leave db → db ≡ (state g h).committed.trees)
-    → IsKept g h own → IsCleanStore g (record { conn = h; own = own; faults = few }) → Settles (world_of (state g h).now.trees) (LeavesWorld g (record { conn = h; own = own; faults = few }))
+    → IsKept g h own → IsCleanStore g (record { conn = h; own = own; faults = few }) → IsSettled (kept_state g (record { conn = h; own = own; faults = few }))
 rests_by g h own few settled kept on w l =
     l.world ∙ ap world_of (settled l.db on.1 l.left) ∙ ap (λ (d : Database). world_of d.trees) (kept.ready on.0 on.1).settled
 
@@ -34,12 +34,9 @@ leaves_shown g h settled is holds on db may = ((state g h).now, settled db on ma
 
 -- what each call says of the store before and after it; `made` is the world that a stop may leave
 pub record Call {S V E : Type 0} (g : Ghosts S) (r : Result V E) (made : Seen S → World → Type 0) (later before : Seen S) : Type 0 where
-  pub clean : IsCleanStore g later → IsCleanStore g before
   pub stays_open : Lasts g before later
-  pub lasts : OnOk r (KeepsClean g before later)
-  pub breaks : Breaks r (HasDisk g before) (HasDisk g later) (IsCleanStore g before) (IsCleanStore g later) (IsBrokenStore g before) (IsBrokenStore g later)
-  pub settled : IsCleanStore g later → Settles (kept_world g later) (LeavesWorld g later)
-  pub leaves : LeavesBy (HasDisk g later) (LeavesWorld g before) (LeavesWorld g later) (made before)
+  pub uses : Uses r (kept_state g before) (kept_state g later) (made before)
+  pub alive : OnOk r (IsAlive (kept_state g later))
 
 -- `old` is the connection at the start of the call and `before` the store, as its caller sees it
 module _
@@ -75,26 +72,28 @@ module _
     lasts_by (Ok v) up = λ clean. (omega (arith, clean, s.clean), λ on. (on.0, up clean on.0))
     lasts_by (Err e) up = tt
 
-    unbroken : (r : Result V E) → (IsTrue own → OnOk r (IsTrue (state g new).is_open)) → OnOk r (IsBrokenStore g last → ⊥)
-    unbroken (Ok v) up = λ bad. not_both (state g new).is_open (up bad.own) bad.shut
+    unbroken : (r : Result V E) → (HasCleanDisk (state g new) → IsTrue own → OnOk r (IsTrue (state g new).is_open)) → OnOk r (IsAlive (kept_state g last))
+    unbroken (Ok v) up = λ clean bad. not_both (state g new).is_open (up clean bad.own) bad.shut
     unbroken (Err e) up = tt
 
     called : (r : Result V E) → (HasCleanDisk (state g new) → IsTrue own → OnOk r (IsTrue (state g new).is_open)) → (before : Seen S) → ◌≡◌ {A = Seen S} first before → Call g r made last before
     called r up before is = subst (λ b. Call g r made last b) is (record {
-      clean = λ on. (on.0, back on.0 on.1);
       stays_open = λ clean on. elim (s.closes clean on.1) [ inl live ↦ inl (on.0, live) | inr more ↦ inr more ];
-      lasts = lasts_by r up;
-      breaks = λ clean. (
-        omega (arith, clean, s.clean),
-        stays_or_breaks clean,
-        λ bad. record { own = bad.own; shut = shut_still bad; failed = omega (arith, s.counts, bad.failed) },
-        unbroken r (up clean),
-      );
-      settled = rests_by g new own many settled kept;
-      leaves = λ clean w l. elim (s.crash clean l.db l.left) [
-        | inl earlier ↦ inl (record { own = l.own; db = l.db; left = earlier; world = l.world })
-        | inr later ↦ inr (subst (made first) (sym l.world) (left l.own clean l.db later))
-      ];
+      uses = record {
+        clean = λ on. (on.0, back on.0 on.1);
+        lasts = lasts_by r up;
+        breaks = λ clean. (
+          omega (arith, clean, s.clean),
+          stays_or_breaks clean,
+          λ bad. record { own = bad.own; shut = shut_still bad; failed = omega (arith, s.counts, bad.failed) },
+        );
+        settled = rests_by g new own many settled kept;
+        leaves = λ clean w l. elim (s.crash clean l.db l.left) [
+          | inl earlier ↦ inl (record { own = l.own; db = l.db; left = earlier; world = l.world })
+          | inr later ↦ inr (subst (made first) (sym l.world) (left l.own clean l.db later))
+        ];
+      };
+      alive = unbroken r up;
     })
 
 -- a call that makes a change, or changes nothing
@@ -259,14 +258,6 @@ lasts_in_memory old new lasts clean = elim (lasts (clean_if_open true true (λ n
 
 pub disk_in_memory : DiskInMemory
 disk_in_memory s = clean_if_open true true (λ no. absurd (cc)) refl
-
--- a store that is opened over the connection of a clean one
-pub opened_again : {S : Type 0} (g : Ghosts S) (old : Seen S) (conn : Held S) → conn ≡ old.conn → (IsCleanStore g old → IsConsistent (state g conn).now) → (new : Seen S) → (IsTrue new.own ↔ IsCurrentSchema conn.schema)
-    → (IsCurrentSchema conn.schema → HasCleanDisk (state g new.conn) → IsUnchanged (state g conn) (state g new.conn)) → HasDisk g new → IsCleanStore g old → IsCleanStore g new × (kept_world g new ≡ kept_world g old)
-opened_again g old conn is kept new own same disk on =
-    let current = (kept on).1.current in
-    let shown = (same current disk).0 in
-    ((own.1 current, shown.is_open), ap (λ (d : Database). world_of d.trees) shown.now_is ∙ ap (λ h. world_of (state g h).now.trees) is)
 
 pub unbroken_in_memory : UnbrokenInMemory
 unbroken_in_memory s bad = absurd (omega (arith, bad.failed))

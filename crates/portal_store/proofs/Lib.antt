@@ -4,6 +4,7 @@ pub mod Adding
 pub mod Again
 pub mod Applying
 pub mod Asked
+pub mod Calls
 pub mod CatalogueLeft
 pub mod ChoiceTurns
 pub mod FillTurns

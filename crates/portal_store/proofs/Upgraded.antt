@@ -1,11 +1,13 @@
 -- Tables of version 1 that were upgraded stand for the world that they stood for.
-use Rattle.portal_store.proofs.Base.{◌≡◌, pos, Bool, false, ◌||◌, IsTrue, List, [], ◌∷◌, slice_index_or, refl, sym, ap, subst, ◌∙◌, AllByRecursion, list_any, column, bytes, Database, Ghosts, Held, state, number_in, with_tree, First, Good, portal_tree, first_trees, version, first_version, IsFirstSchema, Upgrades, has_names, OfSecond, HasOffice, number_of_phase, portal_row, Commits, apart_one, current_own, world_in, world_of, phase_numbered, IsConsistentIn, IsUnopened, HasGoodWorld, HasGoodFirst, IsKept, AdmitsAs, AllZip, first_schema, SameTable, HasFirstSchema, take, length, Upgraded, has_name, is_named_table, is_named_view, HasCleanDisk, IsConsistent, LeavesOnly, State, Survives, IsAfter, clean_before, survives_then, IsUpgradedFrom, LeavesUpgraded}
+use Rattle.portal_store.proofs.Base.{◌≡◌, pos, Bool, false, ◌||◌, IsTrue, List, [], ◌∷◌, slice_index_or, refl, sym, ap, subst, ◌∙◌, AllByRecursion, list_any, column, bytes, Database, Ghosts, Held, state, number_in, with_tree, First, Good, portal_tree, first_trees, version, first_version, IsFirstSchema, Upgrades, has_names, OfSecond, HasOffice, number_of_phase, portal_row, apart_one, current_own, world_in, world_of, phase_numbered, IsConsistentIn, IsUnopened, HasGoodWorld, HasGoodFirst, IsKept, AdmitsAs, AllZip, first_schema, SameTable, HasFirstSchema, take, length, Upgraded, has_name, is_named_table, is_named_view, HasCleanDisk, IsConsistent, State, Survives, IsAfter, clean_before, survives_then, IsUpgradedFrom, LeavesUpgraded, HasEntries}
 use Rattle.sqlite_trees.specs.Tree.{Trees}
 use Rattle.sqlite.specs.Table.{Table}
 use Rattle.sqlite.specs.Schema.{Schema}
 use Rattle.sqlite_tied.specs.Compute.{everything}
 use Rattle.portal_tables.specs.Tables.{SameSchema}
 use Rattle.portal_tables.specs.declared.names.Names.{Names}
+use Rattle.portal_list.specs.Rows.{AllEntries}
+use Rattle.portal_store.specs.inner.Upgrading.{UpgradesTables}
 use Rattle.portal_store.proofs.Asked.{apart_all}
 use Rattle.portal_store.proofs.Rounds.{world_told}
 use Rattle.portal_store.proofs.Still.{apart_among, one_among, whole_first, world_first}
@@ -117,28 +119,35 @@ module _
     {S : Type 0}
     (g : Ghosts S)
     (own : Bool)
+    (entries : AllEntries)
     (old new : Held S)
     (is_first : IsTrue own → IsFirstSchema old.schema)
-    (done : IsTrue own → HasCleanDisk (state g new) → Commits Upgrades (state g old) (state g new) × AdmitsAs first_version (state g old).now.trees) where
+    (up : UpgradesTables g entries old new) where
   made : (mine : IsTrue own) (clean : HasCleanDisk (state g new))
-      → Upgraded (pos (number_of_phase (done mine clean).1.stands.office.phase)) (done mine clean).1.stands.office.office (state g old).now (state g new).now
-  made mine clean = let d = done mine clean in d.0.changed (is_first mine) _ _ d.1.stands.office.is
+      → Upgraded (pos (number_of_phase (up.admitted (is_first mine) clean).stands.office.phase))
+      (up.admitted (is_first mine) clean).stands.office.office (state g old).now (state g new).now
+  made mine clean = let first = is_first mine in (up.commits first clean).changed first _ _ (up.admitted first clean).stands.office.is
 
   holds : IsTrue own → HasCleanDisk (state g new) → IsConsistent (state g new).now
-  holds mine clean = let d = done mine clean in (First, upgraded_holds (state g old).now (state g new).now d.1.stands.office (made mine clean) d.1)
+  holds mine clean =
+      let was = up.admitted (is_first mine) clean in
+      (First, upgraded_holds (state g old).now (state g new).now was.stands.office (made mine clean) was)
 
-  pub upgraded_kept : new.in_transaction ≡ false → (IsTrue (state g new).is_open → HasCleanDisk (state g new)) → (HasCleanDisk (state g new) → LeavesOnly (state g new)) → IsKept g new own
-  upgraded_kept idle shut only = record {
-    idle = idle;
-    ready = λ mine on. record { settled = (done mine (shut on)).0.settled; holds = holds mine (shut on) };
-    left = λ mine clean db may. ((state g new).now, only clean db may, holds mine clean);
+  pub upgraded_kept : (IsTrue (state g new).is_open → HasCleanDisk (state g new)) → IsKept g new own
+  upgraded_kept shut = record {
+    idle = up.idle;
+    ready = λ mine on. record { settled = (up.commits (is_first mine) (shut on)).settled; holds = holds mine (shut on) };
+    left = λ mine clean db may. ((state g new).now, up.durable clean db may, holds mine clean);
   }
 
   pub same_world : IsTrue own → HasCleanDisk (state g new) → world_of (state g new).now.trees ≡ world_in First (state g old).now.trees
   same_world mine clean =
-      let office = (done mine clean).1.stands.office in
+      let office = (up.admitted (is_first mine) clean).stands.office in
       world_told First (state g new).now.trees (second (state g old).now (state g new).now office (made mine clean))
       ∙ upgraded_world (state g old).now (state g new).now office (made mine clean)
 
   pub still_good : IsTrue own → HasCleanDisk (state g new) → Good (world_of (state g new).now.trees)
-  still_good mine clean = subst Good (sym (same_world mine clean)) (done mine clean).1.stands.good
+  still_good mine clean = subst Good (sym (same_world mine clean)) (up.admitted (is_first mine) clean).stands.good
+
+  pub still_entered : IsTrue own → HasCleanDisk (state g new) → HasEntries entries (world_of (state g new).now.trees)
+  still_entered mine clean = subst (HasEntries entries) (sym (same_world mine clean)) (up.entered (is_first mine) clean)

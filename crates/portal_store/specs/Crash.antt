@@ -45,14 +45,17 @@ RefusalSays opening.Memory of so db = Unit {0}
 abbrev pub Refutes : OpenFault → Trees → Type 0
 Refutes fault db = RefusalSays fault version (HasGoodWorld db) db
 
--- the same of an upgrade, by the rules of version 1; its tables alone give no cause for `Exists`
+-- a fault of opening tables of version 1, as a fault of upgrading them
+abbrev pub as_upgrading : OpenFault → UpgradeFault
+as_upgrading opening.NotPortal = upgrading.NotPortal
+as_upgrading opening.OtherVersion = upgrading.OtherVersion
+as_upgrading opening.Damaged = upgrading.Damaged
+as_upgrading opening.Store = upgrading.Store
+as_upgrading opening.Memory = upgrading.Memory
+
+-- the same of an upgrade, by the rules of version 1; the tables alone give no cause for `Exists`
 abbrev pub Bars : UpgradeFault → Trees → Type 0
-Bars upgrading.NotPortal db = db portal_tree ≡ []
-Bars upgrading.OtherVersion db = HasOther first_version db
-Bars upgrading.Damaged db = HasVersion first_version db × (HasGoodFirst first_version db → ⊥)
-Bars upgrading.Store db = Unit {0}
-Bars upgrading.Memory db = Unit {0}
-Bars upgrading.Exists db = ⊥
+Bars fault db = (found : OpenFault) × (fault ≡ as_upgrading found) × RefusalSays found first_version (HasGoodFirst first_version db) db
 
 -- what a crash may leave: the tables before the change, or those of the changed world
 abbrev pub IsLeft : Change → Database → Trees → Type 0

@@ -7,7 +7,7 @@ use Rattle.sqlite.specs.Store.{Ghosts}
 use Rattle.sqlite.specs.Held.{Held, state}
 use Rattle.sqlite.specs.Steps.{over_memory}
 use Rattle.sqlite_trees.specs.declared.memory.MemStore.{MemStore}
-use Rattle.portal_core.specs.Meaning.{StaysClean}
+use Rattle.portal_core.specs.Keeping.{KeeperState}
 use Rattle.portal_store.specs.World.{world_in, world_of, is_ranked, phase_in}
 
 -- in a round no list has a gap, and a lecturer without a ranking has no rows of one
@@ -119,7 +119,7 @@ HasDisk g s = HasCleanDisk (state g s.conn)
 
 -- if the disk is clean after a call, it was before, and then a clean store stayed clean
 abbrev pub KeepsClean : {S : Type 0} → Ghosts S → Seen S → Seen S → Type 0
-KeepsClean g old new = StaysClean (HasDisk g old) (HasDisk g new) (IsCleanStore g old) (IsCleanStore g new)
+KeepsClean g old new = HasDisk g new → HasDisk g old × (IsCleanStore g old → IsCleanStore g new)
 
 -- the disk of a store in memory is always clean, since there is none
 abbrev pub DiskInMemory : Type 0
@@ -145,6 +145,17 @@ pub record LeavesWorld {S : Type 0} (g : Ghosts S) (s : Seen S) (w : World) : Ty
   pub db : Trees
   pub left : (state g s.conn).may_leave db
   pub world : w ≡ world_of db
+
+-- what contracts of keepers say of a store
+abbrev pub kept_state : {S : Type 0} → Ghosts S → Seen S → KeeperState
+kept_state g s = record {
+  world = kept_world g s;
+  clean = IsCleanStore g s;
+  disk = HasDisk g s;
+  broken = IsBrokenStore g s;
+  leaves = LeavesWorld g s;
+  faults = s.faults;
+}
 
 -- a store in memory never breaks, since there is no disk that could fail
 abbrev pub UnbrokenInMemory : Type 0

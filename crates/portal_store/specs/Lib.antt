@@ -1,4 +1,5 @@
 pub mod Base
+pub mod Calls
 pub mod Crash
 pub mod Kept
 pub mod World

@@ -8,3 +8,4 @@ pub mod Placing
 pub mod Putting
 pub mod Reading
 pub mod Queried
+pub mod Upgrading

@@ -1,17 +1,14 @@
 //! Converts faults of tables, rows and queries into a store's faults; counts the store's faults.
 
 ghost use Rattle.std.specs.Prelude.{◌≡◌, ◌≢◌, ◌↔◌, ◌+◌, ◌-◌, ◌^◌, Err};
-ghost use Rattle.sqlite.specs.Tree.{Trees};
 ghost use Rattle.sqlite.specs.State.{store_error};
 ghost use Rattle.sqlite_trees.specs.declared.error.StoreError.{StoreError};
 ghost use Rattle.sqlite_resolve.specs.declared.error.CompileError.{CompileError};
 ghost use Rattle.portal_tables.specs.inner.Base.{SqliteFailure, OutOfMemory};
 ghost use Rattle.portal_tables.specs.declared.fault.TableFault.TheVariants as tables;
-ghost use Rattle.portal_tables.specs.Tables.{first_version};
-ghost use Rattle.portal_store.specs.Kept.{HasGoodFirst};
-ghost use Rattle.portal_store.specs.Crash.{RefusalSays, Bars};
+ghost use Rattle.portal_store.specs.Crash.{as_upgrading};
 ghost use Rattle.portal_store.specs.declared.store.OpenFault.TheVariants as opening;
-ghost use Rattle.portal_core.specs.Meaning.{CountsFaults};
+ghost use Rattle.portal_core.specs.Keeping.{CountsFaults};
 ghost use Rattle.portal_store.specs.inner.Asked.{SaysNothing};
 ghost use Rattle.portal_store.specs.inner.Reading.{IsToldAs};
 
@@ -101,11 +98,7 @@ impl From<TableFault> for OpenFault {
 
 /// Converts a fault of opening tables of version 1 into the same fault of upgrading.
 pub(crate) fn upgrade_fault_of(fault: OpenFault) -> UpgradeFault
-    ensures bars { (db : Trees) → RefusalSays fault first_version (HasGoodFirst first_version db) db
-        → Bars result db }
-    ensures exists { result ≢ UpgradeFault.Exists }
-    ensures damaged { (result ≡ UpgradeFault.Damaged) ↔ (fault ≡ OpenFault.Damaged) }
-    ensures memory { (result ≡ UpgradeFault.Memory) ↔ (fault ≡ OpenFault.Memory) }
+    ensures { result ≡ as_upgrading fault }
 {
     match fault {
         OpenFault::NotPortal => UpgradeFault::NotPortal,

@@ -1,22 +1,20 @@
 //! Opens a store over tables. The file `checks` checks the first round's tables; this file checks
 //! the second round's tables, and the whole world.
 
-ghost use Rattle.std.specs.Prelude.{◌≡◌, ◌↔◌, false, [], IfOk, IfErr, OnOk, IsTrue};
+ghost use Rattle.std.specs.Prelude.{◌≡◌, false, [], IfOk, IfErr, OnOk, IsTrue};
 ghost use Rattle.sqlite.specs.Effect.{IsDatabase};
-ghost use Rattle.sqlite.specs.State.{HasCleanDisk, IsUnchanged, Survives};
+ghost use Rattle.sqlite.specs.State.{HasCleanDisk};
 ghost use Rattle.sqlite.specs.Held.{state};
-ghost use Rattle.portal_core.specs.Good.{Good};
-ghost use Rattle.portal_core.specs.Meaning.{Settles};
 ghost use Rattle.portal_core.specs.declared.phase.Round.TheVariants.{First, Second};
 ghost use Rattle.portal_core.specs.declared.phase.Phase.TheVariants.{Published};
-ghost use Rattle.portal_tables.specs.Tables.{HasFirstSchema, IsCurrentSchema, version};
+ghost use Rattle.portal_tables.specs.Tables.{HasFirstSchema, version};
 ghost use Rattle.portal_tables.specs.inner.Queries.{round_asked};
-ghost use Rattle.portal_tables.specs.Steps.{Reads, Gives, IsSettled, OnlyLooks, Stays};
+ghost use Rattle.portal_tables.specs.Steps.{Reads, Gives, IsSettled, OnlyLooks};
 ghost use Rattle.portal_tables.specs.inner.Reads.{Always, Answers};
 ghost use Rattle.portal_list.specs.Rows.{HasEntries};
 ghost use Rattle.portal_store.specs.Kept.{AreEmpty, HasSecond, HasGoodWorld, HasGoodWorldIn};
-ghost use Rattle.portal_store.specs.Kept.{IsCleanStore, LeavesWorld, kept_world};
 ghost use Rattle.portal_store.specs.World.{phase_in, round_in, world_of};
+ghost use Rattle.portal_store.specs.Calls.{OpensStore, RefusesToOpen};
 ghost use Rattle.portal_store.specs.Crash.{HasVersion, Refutes, ShowsVersion};
 ghost use Rattle.portal_store.specs.inner.Asked.{NumbersDiffer, Denies, IsJudged, SaysNothing};
 ghost use Rattle.portal_store.specs.inner.Asked.{Admits};
@@ -171,40 +169,8 @@ impl<S: Alter> Store<S> {
     /// three.
     pub fn open(alloc: Global, mut conn: Connection<S>) -> Result<Store<S>, NotOpened<OpenFault, S>>
         requires idle { conn.in_transaction ≡ false }
-        ensures own { IfOk result (λ s. IsTrue s.own ↔ IsCurrentSchema conn.schema) }
-        ensures counted { IfOk result (λ s. s.faults ≡ 0) }
-        ensures shows { IfOk result (λ s. HasCleanDisk (state S.Store s.conn)
-            → ShowsVersion version (state S.Store s.conn)) }
-        ensures version { IfOk result (λ s. HasFirstSchema conn.schema
-            → HasCleanDisk (state S.Store s.conn)
-            → HasVersion version (state S.Store conn).now.trees) }
-        ensures stays { IfOk result (λ s. HasCleanDisk (state S.Store s.conn)
-            → IsTrue (state S.Store s.conn).is_open
-            → Stays (state S.Store conn) (state S.Store s.conn)) }
-        ensures same { IfOk result (λ s. IsCurrentSchema conn.schema
-            → HasCleanDisk (state S.Store s.conn)
-            → IsUnchanged (state S.Store conn) (state S.Store s.conn)) }
-        ensures stands { IfOk result (λ s. IsCurrentSchema conn.schema
-            → HasCleanDisk (state S.Store s.conn)
-            → HasGoodWorld (state S.Store s.conn).now.trees) }
-        ensures good { IfOk result (λ s. IsCleanStore S.Store s → Good (kept_world S.Store s)) }
-        ensures settled { IfOk result (λ s. IsCleanStore S.Store s
-            → Settles (kept_world S.Store s) (LeavesWorld S.Store s)) }
-        ensures refused { IfErr result (λ e. IsCurrentSchema conn.schema
-            → HasCleanDisk (state S.Store e.connection)
-            → Refutes e.fault (state S.Store conn).now.trees) }
-        ensures err { IfErr result (λ e. HasCleanDisk (state S.Store e.connection)
-            → IsTrue (state S.Store e.connection).is_open
-            → Stays (state S.Store conn) (state S.Store e.connection)) }
-        ensures disk { IfOk result (λ s. HasCleanDisk (state S.Store s.conn)
-            → HasCleanDisk (state S.Store conn)) }
-        ensures disk_err { IfErr result (λ e. HasCleanDisk (state S.Store e.connection)
-            → HasCleanDisk (state S.Store conn)) }
-        ensures idle { IfErr result (λ e. e.connection.in_transaction ≡ false) }
-        ensures crash_ok { IfOk result (λ s.
-            Survives (state S.Store conn) (state S.Store s.conn) (λ _. ⊥)) }
-        ensures crash_err { IfErr result (λ e.
-            Survives (state S.Store conn) (state S.Store e.connection) (λ _. ⊥)) }
+        ensures opens { IfOk result (OpensStore S.Store conn) }
+        ensures refuses { IfErr result (λ e. RefusesToOpen S.Store e.fault conn e.connection) }
     {
         settled(&conn);
         let pattern = match PortalSchema::new(alloc) {

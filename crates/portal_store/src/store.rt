@@ -1,19 +1,13 @@
-//! Declares the type `Store` with its faults, and the functions that close and reopen a store.
+//! Declares the type `Store` with its faults, and the function that closes a store.
 
-ghost use Rattle.std.specs.Prelude.{◌≡◌, false, IfOk, IfErr, IsTrue};
+ghost use Rattle.std.specs.Prelude.{◌≡◌, false};
 ghost use Rattle.sqlite.specs.Held.{state};
-ghost use Rattle.sqlite.specs.State.{HasCleanDisk, Survives};
-ghost use Rattle.portal_tables.specs.Steps.{Stays};
-ghost use Rattle.portal_tables.specs.Tables.{IsCurrentSchema};
-ghost use Rattle.portal_store.specs.Crash.{Refutes};
-ghost use Rattle.portal_store.specs.Kept.{HasDisk, IsCleanStore, IsConsistent, LeavesConsistent};
-ghost use Rattle.portal_store.specs.Kept.{kept_world};
+ghost use Rattle.portal_store.specs.Kept.{IsCleanStore, IsConsistent, LeavesConsistent};
 
 use portal_core::ViewCache;
 use portal_list::Entries;
 use portal_tables::PortalSchema;
 use sqlite::{Alter, Connection};
-use std::alloc::Global;
 use std::marker::Model;
 
 /// The portal in a database.
@@ -105,27 +99,5 @@ impl<S: Alter> Store<S> {
     {
         let Store { conn, .. } = self;
         conn
-    }
-
-    /// Closes the store and opens it again over its connection. If the disk is then clean, it was
-    /// clean before, and a clean store is clean again with the same world. The errors are those of
-    /// `open`.
-    pub fn reopen(self, alloc: Global) -> Result<Store<S>, NotOpened<OpenFault, S>>
-        ensures disk { IfOk result (λ s. HasDisk S.Store s → HasDisk S.Store self) }
-        ensures lasts { IfOk result (λ s. HasDisk S.Store s → IsCleanStore S.Store self
-            → IsCleanStore S.Store s) }
-        ensures same { IfOk result (λ s. HasDisk S.Store s → IsCleanStore S.Store self
-            → kept_world S.Store s ≡ kept_world S.Store self) }
-        ensures refused { IfErr result (λ e. IsCurrentSchema self.conn.schema
-            → HasCleanDisk (state S.Store e.connection)
-            → Refutes e.fault (state S.Store self.conn).now.trees) }
-        ensures err { IfErr result (λ e. HasCleanDisk (state S.Store e.connection)
-            → IsTrue (state S.Store e.connection).is_open
-            → Stays (state S.Store self.conn) (state S.Store e.connection)) }
-        ensures idle { IfErr result (λ e. e.connection.in_transaction ≡ false) }
-        ensures crash_err { IfErr result (λ e.
-            Survives (state S.Store self.conn) (state S.Store e.connection) (λ _. ⊥)) }
-    {
-        Store::open(alloc, self.into_connection())
     }
 }

@@ -1,24 +1,22 @@
 //! Upgrades tables of version 1, and makes a store of them.
 
-ghost use Rattle.std.specs.Prelude.{◌≡◌, ◌↔◌, ◌⊎◌, false, Err, IfOk, IfErr, OnOk, OnErr, IsTrue};
-ghost use Rattle.sqlite.specs.State.{HasCleanDisk, IsLive, Survives};
+ghost use Rattle.std.specs.Prelude.{◌≡◌, ◌↔◌, false, IfOk, IfErr, OnOk, IsTrue};
+ghost use Rattle.sqlite.specs.State.{HasCleanDisk};
 ghost use Rattle.sqlite.specs.Held.{state};
-ghost use Rattle.portal_core.specs.Good.{Good};
-ghost use Rattle.portal_core.specs.Meaning.{Settles};
 ghost use Rattle.portal_core.specs.declared.phase.Round.TheVariants.{First};
-ghost use Rattle.portal_tables.specs.Tables.{first_version, IsFirstSchema, HasFirstSchema};
-ghost use Rattle.portal_tables.specs.Making.{Upgrades, has_names};
+ghost use Rattle.portal_tables.specs.Tables.{first_version, IsFirstSchema};
+ghost use Rattle.portal_tables.specs.Making.{has_names};
 ghost use Rattle.portal_tables.specs.declared.names.Names.TheVariants.{OfSecond};
-ghost use Rattle.portal_tables.specs.Steps.{Reads, Commits, IsSettled, LeavesOnly, OnlyLooks};
-ghost use Rattle.portal_tables.specs.Steps.{Stays};
+ghost use Rattle.portal_tables.specs.Steps.{Reads, IsSettled, OnlyLooks};
 ghost use Rattle.portal_tables.specs.inner.Reads.{Answers};
 ghost use Rattle.portal_list.specs.Rows.{HasEntries};
-ghost use Rattle.portal_store.specs.Kept.{HasGoodFirst, IsCleanStore, LeavesWorld, kept_world};
+ghost use Rattle.portal_store.specs.Calls.{RefusesToUpgrade, UpgradesStore};
+ghost use Rattle.portal_store.specs.Kept.{HasGoodFirst};
 ghost use Rattle.portal_store.specs.World.{world_in};
-ghost use Rattle.portal_store.specs.Crash.{Bars, IsUpgradedFrom, LeavesUpgraded, RefusalSays};
-ghost use Rattle.portal_store.specs.Crash.{ShowsVersion};
+ghost use Rattle.portal_store.specs.Crash.{RefusalSays, ShowsVersion};
 ghost use Rattle.portal_store.specs.inner.Asked.{AdmitsAs};
 ghost use Rattle.portal_store.specs.inner.Reading.{IsSoundIfOpen, OverLive};
+ghost use Rattle.portal_store.specs.inner.Upgrading.{UpgradesTables};
 
 use crate::checks::{judge_first, see_first};
 use crate::fault::upgrade_fault_of;
@@ -63,33 +61,10 @@ fn upgraded<S: Alter>(
     requires idle { conn.old.in_transaction ≡ false }
     requires first { IsTrue own ↔ IsFirstSchema conn.old.schema }
     requires taken { is_taken ≡ has_names OfSecond conn.old.schema }
-    ensures idle { conn.new.in_transaction ≡ false }
-    ensures made { IsTrue own → HasFirstSchema conn.old.schema
-        → HasCleanDisk (state S.Store conn.new)
-        → OnOk result (Commits Upgrades (state S.Store conn.old) (state S.Store conn.new)) }
-    ensures stands { IsTrue own → OverLive First S.Store conn.old conn.new
-        (IfOk result (λ e. AdmitsAs first_version (state S.Store conn.old).now.trees
-        × HasEntries e (world_in First (state S.Store conn.old).now.trees))) }
-    ensures refused { IsTrue own → OverLive First S.Store conn.old conn.new
-        (IfErr result (λ fault. (fault ≡ UpgradeFault.Exists)
-        ⊎ Bars fault (state S.Store conn.old).now.trees)) }
-    ensures exists { result ≡ Err UpgradeFault.Exists
-        → IsTrue (has_names OfSecond conn.old.schema) }
-    ensures order { result ≡ Err UpgradeFault.Exists → HasCleanDisk (state S.Store conn.new)
-        → ShowsVersion first_version (state S.Store conn.new) }
-    ensures judged { result ≡ Err UpgradeFault.Exists → OverLive First S.Store conn.old conn.new
-        (HasGoodFirst first_version (state S.Store conn.old).now.trees) }
-    ensures free { OnOk result (has_names OfSecond conn.old.schema ≡ false) }
-    ensures err { HasCleanDisk (state S.Store conn.new)
-        → IsTrue (state S.Store conn.new).is_open
-        → OnErr result (Stays (state S.Store conn.old) (state S.Store conn.new)) }
-    ensures durable { HasCleanDisk (state S.Store conn.new)
-        → OnOk result (LeavesOnly (state S.Store conn.new)) }
-    ensures crash { Survives (state S.Store conn.old) (state S.Store conn.new)
-        (LeavesUpgraded (state S.Store conn.old)) }
-    ensures left { IsTrue own → HasFirstSchema conn.old.schema → IsLive (state S.Store conn.old)
-        → Survives (state S.Store conn.old) (state S.Store conn.new)
-        (IsUpgradedFrom (state S.Store conn.old).now.trees) }
+    ensures upgrades { IfOk result (λ entries.
+        UpgradesTables S.Store entries conn.old conn.new) }
+    ensures refuses { IfErr result (λ fault.
+        RefusesToUpgrade S.Store fault conn.old conn.new) }
 {
     settled(conn);
     let entries = match examine_first(alloc, conn, own) {
@@ -121,49 +96,8 @@ impl<S: Alter> Store<S> {
         mut conn: Connection<S>,
     ) -> Result<Store<S>, NotOpened<UpgradeFault, S>>
         requires idle { conn.in_transaction ≡ false }
-        ensures own { IfOk result (λ s. IsTrue s.own ↔ IsFirstSchema conn.schema) }
-        ensures counted { IfOk result (λ s. s.faults ≡ 0) }
-        ensures made { IfOk result (λ s. IsFirstSchema conn.schema
-            → HasCleanDisk (state S.Store s.conn)
-            → Commits Upgrades (state S.Store conn) (state S.Store s.conn)) }
-        ensures stands { IfOk result (λ s. IsFirstSchema conn.schema
-            → HasCleanDisk (state S.Store s.conn)
-            → HasGoodFirst first_version (state S.Store conn).now.trees) }
-        ensures world { IfOk result (λ s. IsCleanStore S.Store s
-            → kept_world S.Store s ≡ world_in First (state S.Store conn).now.trees) }
-        ensures good { IfOk result (λ s. IsCleanStore S.Store s → Good (kept_world S.Store s)) }
-        ensures settled { IfOk result (λ s. IsCleanStore S.Store s
-            → Settles (kept_world S.Store s) (LeavesWorld S.Store s)) }
-        ensures durable { IfOk result (λ s. HasCleanDisk (state S.Store s.conn)
-            → LeavesOnly (state S.Store s.conn)) }
-        ensures refused { IfErr result (λ e. IsFirstSchema conn.schema
-            → HasCleanDisk (state S.Store e.connection)
-            → Bars e.fault (state S.Store conn).now.trees) }
-        ensures exists { IfErr result (λ e. e.fault ≡ UpgradeFault.Exists
-            → IsTrue (has_names OfSecond conn.schema)) }
-        ensures order { IfErr result (λ e. e.fault ≡ UpgradeFault.Exists
-            → HasCleanDisk (state S.Store e.connection)
-            → ShowsVersion first_version (state S.Store e.connection)) }
-        ensures judged { IfErr result (λ e. e.fault ≡ UpgradeFault.Exists
-            → HasFirstSchema conn.schema → HasCleanDisk (state S.Store e.connection)
-            → HasGoodFirst first_version (state S.Store conn).now.trees) }
-        ensures free { IfOk result (λ _. has_names OfSecond conn.schema ≡ false) }
-        ensures err { IfErr result (λ e. HasCleanDisk (state S.Store e.connection)
-            → IsTrue (state S.Store e.connection).is_open
-            → Stays (state S.Store conn) (state S.Store e.connection)) }
-        ensures disk_err { IfErr result (λ e. HasCleanDisk (state S.Store e.connection)
-            → HasCleanDisk (state S.Store conn)) }
-        ensures idle { IfErr result (λ e. e.connection.in_transaction ≡ false) }
-        ensures crash_ok { IfOk result (λ s. Survives (state S.Store conn) (state S.Store s.conn)
-            (LeavesUpgraded (state S.Store conn))) }
-        ensures crash_err { IfErr result (λ e. Survives (state S.Store conn)
-            (state S.Store e.connection) (LeavesUpgraded (state S.Store conn))) }
-        ensures left_ok { IfOk result (λ s. IsFirstSchema conn.schema
-            → Survives (state S.Store conn) (state S.Store s.conn)
-            (IsUpgradedFrom (state S.Store conn).now.trees)) }
-        ensures left_err { IfErr result (λ e. IsFirstSchema conn.schema
-            → Survives (state S.Store conn) (state S.Store e.connection)
-            (IsUpgradedFrom (state S.Store conn).now.trees)) }
+        ensures upgrades { IfOk result (UpgradesStore S.Store conn) }
+        ensures refuses { IfErr result (λ e. RefusesToUpgrade S.Store e.fault conn e.connection) }
     {
         settled(&conn);
         let pattern = match PortalSchema::new(alloc) {

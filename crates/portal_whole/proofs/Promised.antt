@@ -6,7 +6,7 @@ use Rattle.portal_core.specs.World.{World}
 use Rattle.portal_core.specs.Good.{Good}
 use Rattle.portal_core.specs.Run.{AllAnswered}
 use Rattle.portal_wire.specs.Conversation.{Exchange, told_in}
-use Rattle.portal_desk.specs.Kept.{KeeperState}
+use Rattle.portal_core.specs.Keeping.{KeeperState}
 use Rattle.std.specs.Io.KnownBytes.{Appends}
 use Rattle.portal_desk.specs.Session.{Finish, Ended, Stopped, Tells, Session}
 use Rattle.portal_desk.specs.Headline.{Visit, AllTellOf, AreServed, AreServedOn, exchanges_in, IsEnded, AreOf, ServesEach}

@@ -5,7 +5,7 @@ use Rattle.portal_core.specs.World.{World}
 use Rattle.portal_core.specs.Run.{AllAnswered}
 use Rattle.portal_wire.specs.Conversation.{Last, Exchange, told_in}
 use Rattle.portal_desk.specs.Session.{Ended, Tells}
-use Rattle.portal_desk.specs.Headline.{Visit, AreVisits, AreAnswered, IsUpheld, AreEqual}
+use Rattle.portal_desk.specs.Headline.{Visit, IsLikeAll, IsUpheld}
 
 -- the requests are those of the stream, and the text is their replies and the closing text
 abbrev pub IsTold : List ℕ → List Exchange → List ℕ → Type 0
@@ -23,14 +23,6 @@ AreTheVisits [] [] [] [] = Unit {0}
 AreTheVisits (v ∷ vs) (x ∷ streams) (es ∷ told) (t ∷ texts) =
     (v.bytes ≡ x) × (v.exchanges ≡ es) × (v.written ≡ t) × AreTheVisits vs streams told texts
 AreTheVisits _ _ _ _ = ⊥
-
--- any other visits without a 503 give a caller who starts alike and hears the same the same replies
-abbrev pub IsLikeAll : World → List Visit → Type 0
-IsLikeAll w visits = (v : World) (others : List Visit) → AreVisits v others → AreAnswered others → AreEqual w v visits others
-
--- the main promise holds of these visits, compared with any other visits without a 503
-abbrev pub HasPromise : World → List Visit → Type 0
-HasPromise w visits = IsUpheld w visits × IsLikeAll w visits
 
 -- the texts reply to the streams, and visits describe them, where a 503 leaves the world; without a
 -- 503 the visits have the whole main promise

@@ -6,10 +6,13 @@ use Rattle.std.specs.Bool.{MatchBool}
 use Rattle.portal_core.specs.World.{World}
 use Rattle.portal_core.specs.Run.{Request, Run, end_of}
 use Rattle.portal_frame.specs.Stream.{Asked, Refuses, whole, fault, over, Opens, is_head}
-use Rattle.portal_wire.specs.declared.TheConstants.{MOST_REQUESTS}
 use Rattle.portal_wire.specs.declared.Ending.{Ending}
 use Rattle.portal_wire.specs.declared.Ending.TheVariants as ending
 use Rattle.portal_wire.specs.Wish.{answer_to, wish_of}
+
+-- the most requests of a connection
+abbrev pub connection_limit : ℕ
+connection_limit = 256
 
 -- the reason phrase of a status; any status that is not here has that of 503
 abbrev pub phrase_of : ℕ → List ℕ
@@ -89,7 +92,7 @@ Leads left bytes (r ∷ rs) rest =
     (a : Asked) × (after : List ℕ) × Opens bytes (whole a after) × (r ≡ request_of (closes_at left a) a)
     × MatchBool (closes_at left a) ((rs ≡ []) × (rest ≡ shut a.close)) (Leads (left - 1) after rs rest)
 
--- how the requests of a stream end; `Refused` has the error word, `Limit` is after MOST_REQUESTS
+-- how the requests of a stream end; `Refused` has the error word, `Limit` is after the most requests
 pub data Last : Type 0 where
   End : Last
   Closed : Last
@@ -114,7 +117,7 @@ Ends _ _ closing = ⊥
 
 -- the requests of a whole stream, its ending and its closing text
 abbrev pub Requests : List ℕ → List Request → Last → List ℕ → Type 0
-Requests bytes rs end closing = (rest : Rest) × Leads MOST_REQUESTS bytes rs rest × Ends rest end closing
+Requests bytes rs end closing = (rest : Rest) × Leads connection_limit bytes rs rest × Ends rest end closing
 
 -- a request and its reply
 pub record Exchange : Type 0 where

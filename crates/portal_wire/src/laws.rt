@@ -2,9 +2,15 @@
 
 ghost use Rattle.std.specs.Prelude.{◌≡◌, ℕ, List};
 ghost use Rattle.portal_core.specs.Run.{Request};
-ghost use Rattle.portal_wire.specs.Conversation.{Last, Requests};
+ghost use Rattle.portal_wire.specs.Conversation.{Last, Requests, connection_limit};
 
+use crate::MOST_REQUESTS;
 use portal_frame::laws::opens_some;
+
+/// Law: the code's most requests of a connection are those of the definitions.
+pub fn limit_is()
+    ensures { MOST_REQUESTS ≡ connection_limit }
+{}
 
 /// Law: a stream has at most one list of requests, one ending and one closing text.
 pub fn stream_once()

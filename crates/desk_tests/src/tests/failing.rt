@@ -1,7 +1,7 @@
 //! Tests a desk over a keeper that fails.
 
 ghost use Rattle.std.specs.Prelude.{Err};
-ghost use Rattle.portal_core.specs.Meaning.{CountsFaults};
+ghost use Rattle.portal_core.specs.Keeping.{CountsFaults};
 
 use crate::tests::conversation::put;
 use crate::tests::devices::{is_text, served_by, stopped};
@@ -46,17 +46,14 @@ impl Failing {
 }
 
 impl Keeper for Failing {
-    ghost world = { λ failing. failing.kept };
-
-    ghost clean = { λ failing. ⊥ };
-
-    ghost disk = { λ failing. Unit {0} };
-
-    ghost broken = { λ failing. ⊥ };
-
-    ghost leaves = { λ failing _. ⊥ };
-
-    ghost faults = { λ failing. failing.faults };
+    ghost state = { λ failing. record {
+      world = failing.kept;
+      clean = ⊥;
+      disk = Unit {0};
+      broken = ⊥;
+      leaves = λ _. ⊥;
+      faults = failing.faults;
+    } };
 
     fn view(&mut self, alloc: Global, code: &[u8]) -> Result<View, KeepFault> {
         if self.left == 0 {

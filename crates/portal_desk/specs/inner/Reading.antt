@@ -2,8 +2,7 @@
 use Rattle.std.specs.Prelude.{◌≡◌, ℕ, ◌≤◌, Bool, IsTrue, List, [], ◌++◌, length, drop, Option, Some, IfSome}
 use Rattle.portal_frame.specs.declared.types.Frame.{Frame}
 use Rattle.portal_frame.specs.declared.types.Frame.TheVariants as frame
-use Rattle.portal_frame.specs.Stream.{Asked, Opens, whole, fault, over, seen, refused}
-use Rattle.portal_frame.specs.declared.types.TheConstants.{LONGEST_REQUEST}
+use Rattle.portal_frame.specs.Stream.{Asked, Opens, whole, fault, over, seen, refused, request_limit}
 
 -- the buffer and what the source has left are still the stream; at the end nothing is left
 abbrev pub ReadsMore : Option (List ℕ) → Option (List ℕ) → List ℕ → List ℕ → Bool → Type 0
@@ -28,7 +27,7 @@ pub record Follows (old new : Option (List ℕ)) (before after : List ℕ) (foun
 
 -- a request's bytes are in the buffer, and no more than the longest request
 abbrev pub IsWithin : List ℕ → Frame → Type 0
-IsWithin buffer (frame.Request request used) = (used ≤ length buffer) × (used ≤ LONGEST_REQUEST)
+IsWithin buffer (frame.Request request used) = (used ≤ length buffer) × (used ≤ request_limit)
 IsWithin buffer found = Unit {0}
 
 -- no request stands whole there

@@ -1,14 +1,13 @@
 -- What a desk did for one request.
 use Rattle.std.specs.Prelude.{◌≡◌, ◌≢◌, ℕ, Bool, true, ◌||◌, List, [], take, Option, ◌⊎◌, false, Result, Ok, Err}
 use Rattle.std.specs.Io.KnownBytes.{Appends}
-use Rattle.portal_core.specs.Meaning.{StaysClean, LeavesBy}
-use Rattle.portal_core.specs.World.{World}
+use Rattle.portal_core.specs.Keeping.{KeeperState}
 use Rattle.portal_core.specs.Answer.{Answer}
-use Rattle.portal_core.specs.Run.{Request, Serves, unavailable}
+use Rattle.portal_core.specs.Run.{Request, unavailable}
 use Rattle.portal_desk.specs.declared.served.Cause.{Cause}
 use Rattle.portal_desk.specs.declared.served.Cause.TheVariants as cause
 use Rattle.portal_wire.specs.Conversation.{reply_text}
-use Rattle.portal_desk.specs.Kept.{KeeperState, LastsOrBreaks, IsSettled, FailsAfter}
+use Rattle.portal_desk.specs.Kept.{Acted, FailsAfter}
 use Rattle.portal_core.specs.declared.decision.Reply.{Reply}
 use Rattle.portal_core.specs.declared.keeper.KeepFault.{KeepFault}
 use Rattle.portal_core.specs.declared.keeper.KeepFault.TheVariants.{Memory, Store}
@@ -26,23 +25,6 @@ Partly _ before after text = ⊥
 abbrev pub CountsFor : {A : Type 0} → Cause → Result A Cause → ℕ → ℕ → Type 0
 CountsFor own (Ok x) old new = new ≡ old
 CountsFor own (Err why) old new = (why ≡ own → FailsAfter old new) × (why ≢ own → new ≡ old)
-
--- a stop may leave the world after this request, of a keeper that was not broken; if it is now, the
--- reply is 503
-pub record MayLeave (old new : KeeperState) (r : Request) (reply : Answer) (w : World) : Type 0 where
-  pub alive : old.broken → ⊥
-  pub untold : new.broken → reply ≡ unavailable
-  pub turned : old.clean → (other : Answer) × Serves old.world r other w
-
--- one reply: the step of the run, where the keeper is clean; what keeps it clean, where the reply is
--- not 503; that a broken keeper leaves each world as it is; and what a stop may leave
-pub record Acted (old new : KeeperState) (r : Request) (reply : Answer) : Type 0 where
-  pub serves : new.clean → Serves old.world r reply new.world
-  pub lasts : reply ≢ unavailable → StaysClean old.disk new.disk old.clean new.clean
-  pub breaks : LastsOrBreaks old new
-  pub broken : new.disk → new.broken → (w : World) → Serves w r reply w
-  pub settled : IsSettled old → new.clean → IsSettled new
-  pub leaves : LeavesBy new.disk old.leaves new.leaves (MayLeave old new r reply)
 
 -- some reply, with a fact
 abbrev pub Replied : KeeperState → KeeperState → Request → (Answer → Type 0) → Type 0

@@ -1,7 +1,6 @@
 use Rattle.sqlite.specs.Steps.{over_memory}
-use Rattle.portal_store.specs.Kept.{HasDisk, IsBrokenStore, IsCleanStore, LeavesWorld, kept_world}
+use Rattle.portal_store.specs.Kept.{kept_state}
 use Rattle.portal_store.specs.World.{first_world}
-use Rattle.portal_desk.specs.Kept.{state_of}
 use Rattle.portal_whole.proofs.Promised.{promised, on_some}
 use Rattle.portal_whole.proofs.replies_in_memory.Goals as goal
 
@@ -9,7 +8,7 @@ pub returns : goal.returns
 returns c = record {
   promised = on_some c.serve_streams.result _ _ (λ texts each.
       promised c.run_good.ensures c.published_best.ensures.step c.published_best.ensures.run
-      (state_of (HasDisk over_memory) (IsCleanStore over_memory) (kept_world over_memory) (IsBrokenStore over_memory) (LeavesWorld over_memory))
+      (kept_state over_memory)
       c.new-desk.result.keeper c.serve_streams.new.desk.keeper (first_world c.args.office) _ _ each
       (rw c.new-desk.ensures.keeper c.in-Ok.ensures.clean) (rw c.new-desk.ensures.keeper c.in-Ok.ensures.good) c.disk_in_memory.ensures c.unbroken_in_memory.ensures
       (rw c.new-desk.ensures.keeper c.in-Ok.ensures.world)) c.serve_streams.ensures.served;

@@ -1,4 +1,4 @@
-use Rattle.portal_desk.proofs.Base.{rules, arith, ◌≡◌, ℕ, ◌+◌, ◌-◌, ◌<◌, ◌≤◌, Bool, true, false, subst, sym, if◌then◌else◌, NoneWhole, LONGEST_REQUEST}
+use Rattle.portal_desk.proofs.Base.{rules, arith, ◌≡◌, ℕ, ◌+◌, ◌-◌, ◌<◌, ◌≤◌, Bool, true, false, subst, sym, if◌then◌else◌, NoneWhole, request_limit}
 use Rattle.portal_desk.proofs.Framing.{follows, within, none_whole, none_err}
 use Rattle.portal_desk.proofs.Taking.{reads_taken, more_taken, at_err}
 use Rattle.portal_desk.proofs.reading.next_frame.Goals as goal
@@ -7,8 +7,8 @@ pub returns-in_default-found-clause-follows : goal.returns-in_default-found-clau
 returns-in_default-found-clause-follows g c =
     follows _ _ _ _ c.loop-found.ended c.in-Ok.found c.loop-found.invariant.reads (rw c.as_slice.ensures.value at c.in-Ok.ensures.framed) c.in_default-found.not-Need
 
-smaller : (old new : ℕ) (before after : Bool) → old < LONGEST_REQUEST → before ≡ false → old + (if after then 0 else 1) ≤ new
-    → LONGEST_REQUEST - new + (if after then 0 else 1) < LONGEST_REQUEST - old + (if before then 0 else 1)
+smaller : (old new : ℕ) (before after : Bool) → old < request_limit → before ≡ false → old + (if after then 0 else 1) ≤ new
+    → request_limit - new + (if after then 0 else 1) < request_limit - old + (if before then 0 else 1)
 smaller old new true after short on more = absurd (cc)
 smaller old new false true short on more = omega (arith, short, more)
 smaller old new false false short on more = omega (arith, short, more)
@@ -30,9 +30,9 @@ returns-in_err-ended-clause-none g c =
 pub returns-in_default-clause-taken : goal.returns-in_default-clause-taken
 returns-in_default-clause-taken g c =
     let x = c.loop-found.invariant in
-    reads_taken LONGEST_REQUEST _ _ _ _ c.loop-found.ended x.reads x.held
+    reads_taken request_limit _ _ _ _ c.loop-found.ended x.reads x.held
 
 pub returns-in_err-ended-clause-taken : goal.returns-in_err-ended-clause-taken
 returns-in_err-ended-clause-taken g c =
     let x = c.loop-found.invariant in
-    at_err _ (more_taken LONGEST_REQUEST _ _ _ _ _ c.loop-found.ended x.reads x.held c.in_err-ended.ensures.taken)
+    at_err _ (more_taken request_limit _ _ _ _ _ c.loop-found.ended x.reads x.held c.in_err-ended.ensures.taken)

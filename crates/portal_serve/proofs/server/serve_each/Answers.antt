@@ -1,6 +1,6 @@
 use Rattle.portal_serve.proofs.Base.{◌∙◌, ◌+◌, rules, subst, sym}
 use Rattle.portal_serve.proofs.Outcomes.{Passed, passed_few, passed_more, told_failed}
-use Rattle.portal_desk.proofs.Moving.{moves_then, no_moves}
+use Rattle.portal_desk.proofs.Moving.{worked_then, worked_none}
 use Rattle.portal_serve.proofs.server.serve_each.Goals as goal
 
 pub returns-then-outcome-clause-told : goal.returns-then-outcome-clause-told
@@ -15,25 +15,29 @@ loop-accepted-preserved g c =
     (passed_more _ _ _ c.in-Some.outcome _ _ c.loop-accepted.accepted c.loop-accepted.faults c.loop-accepted.invariant.told c.in-Some.ensures.adds c.in-Some.ensures.settles
     c.in-Some.ensures.failed c.if-outcome.false) in
     record {
-      clean = search rules;
-      moves = moves_then _ _ _ c.loop-accepted.invariant.moves c.serve_next.ensures.moves c.serve_next.ensures.clean;
+      worked = worked_then _ _ _ _ c.loop-accepted.invariant.worked c.serve_next.ensures.worked;
       few = passed_few _ _ _ _ more;
       told = more;
-      counts = search rules;
       shut = search rules;
       calm = search rules;
     }
 
-pub returns-then-outcome-clause-moves : goal.returns-then-outcome-clause-moves
-returns-then-outcome-clause-moves g c = moves_then _ _ _ c.loop-accepted.invariant.moves c.serve_next.ensures.moves c.serve_next.ensures.clean
+pub returns-then-outcome-clause-serves : goal.returns-then-outcome-clause-serves
+returns-then-outcome-clause-serves g c = record {
+  worked = worked_then _ _ _ _ c.loop-accepted.invariant.worked c.serve_next.ensures.worked;
+  faults = search rules;
+  accepted = search rules;
+  full = search rules;
+  store = search rules;
+  calm = search rules;
+  shut = search rules;
+}
 
 pub loop-accepted-init : goal.loop-accepted-init
 loop-accepted-init g c = record {
-  clean = λ on. on;
-  moves = no_moves _;
+  worked = worked_none _ _;
   few = search rules;
   told = search rules;
-  counts = search rules;
   shut = search rules;
   calm = search rules;
 }

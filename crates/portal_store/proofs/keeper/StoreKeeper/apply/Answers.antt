@@ -42,19 +42,19 @@ returns g c =
     let call = change_call change new is kept own dirty good leaves c.counted-made.new.faults (g.met.S.Store.settled new.store) made ends keeps in
     let here : IsTrue c.args.self.now.own → IsCurrentSchema old.schema = λ mine. subst (λ (s : Seen _). IsCurrentSchema s.conn.schema) (sym is) (own mine) in
     record {
-      clean = call.clean;
-      made = change_made change new is kept own dirty good leaves made ends;
-      same = change_same change new is kept own dirty good leaves made ends;
-      own = search rules;
-      stays_open = call.stays_open;
-      lasts = call.lasts;
-      breaks = call.breaks;
-      settled = call.settled;
-      leaves = call.leaves;
-      counts = search rules;
-      commits = λ mine. subst (λ (s : Seen _). HasCleanDisk (state g.S.Store new) → OnOk made (Commits (IsTransition change) (state g.S.Store s.conn) (state g.S.Store new))) is (ends.ok (here mine));
-      durable = λ mine. ends.durable (here mine);
-      crash = λ mine. subst (λ (s : Seen _). Survives (state g.S.Store s.conn) (state g.S.Store new) (IsAfter (IsTransition change) (state g.S.Store s.conn))) is
-          (survives_weaker (state g.S.Store old) (state g.S.Store new) _ _ (λ clean db left. left (here mine)) ends.crash);
-      left = change_left change new is kept own dirty good leaves (g.met.S.Store.settled old.store) ends.crash;
+      changes = record {
+        uses = call.uses;
+        alive = call.alive;
+        made = change_made change new is kept own dirty good leaves made ends;
+        same = change_same change new is kept own dirty good leaves made ends;
+        counts = search rules;
+      };
+      store = record { own = search rules; lasts = call.stays_open };
+      tables = record {
+        commits = λ mine. subst (λ (s : Seen _). HasCleanDisk (state g.S.Store new) → OnOk made (Commits (IsTransition change) (state g.S.Store s.conn) (state g.S.Store new))) is (ends.ok (here mine));
+        durable = λ mine. ends.durable (here mine);
+        crash = λ mine. subst (λ (s : Seen _). Survives (state g.S.Store s.conn) (state g.S.Store new) (IsAfter (IsTransition change) (state g.S.Store s.conn))) is
+            (survives_weaker (state g.S.Store old) (state g.S.Store new) _ _ (λ clean db left. left (here mine)) ends.crash);
+        left = change_left change new is kept own dirty good leaves (g.met.S.Store.settled old.store) ends.crash;
+      };
     }

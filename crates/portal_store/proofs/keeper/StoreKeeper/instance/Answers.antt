@@ -22,17 +22,10 @@ returns-in-None g c =
     let read = read_by new is c.self.invariant.kept c.in_default.ensures (g.met.S.Store.shut_if_dirty new.store) c.instance_in.ensures in
     let call = read.call c.counted-in-None.new.faults (g.met.S.Store.settled new.store) c.counted-in-None.result told in
     record {
-      clean = call.clean;
+      looks = record { uses = call.uses; same = read.same; counts = search rules };
       instance = told_if _ built c.counted-in-None.result told (when_ok _ _ _ built (read.told (λ holds was. holds.1.sound))
-          (λ i meant on. meant on (subst (λ s. Good (kept_world g.S.Store s)) (sym is) (c.requires.good (call.clean on))).sound ∙ ap (λ s. instance (kept_world g.S.Store s)) is));
-      same = read.same;
-      own = search rules;
-      stays_open = call.stays_open;
-      lasts = call.lasts;
-      breaks = λ now. let all = call.breaks now in (all.0, all.1, all.2);
-      settled = call.settled;
-      leaves = call.leaves;
-      counts = search rules;
+          (λ i meant on. meant on (subst (λ s. Good (kept_world g.S.Store s)) (sym is) (c.requires.good (call.uses.clean on))).sound ∙ ap (λ s. instance (kept_world g.S.Store s)) is));
+      store = record { own = search rules; lasts = call.stays_open };
     }
 
 -- of the entries that are remembered

@@ -21,15 +21,9 @@ returns g c =
     let read = read_by new c.self.view_is c.self.invariant.kept c.in_default.ensures (g.met.S.Store.shut_if_dirty new.store) (reads_both c.office_code-code.ensures) in
     let call = read.call c.counted.new.faults (g.met.S.Store.settled new.store) c.counted.result told in
     record {
-      clean = call.clean;
+      looks = record { uses = call.uses; same = read.same; counts = search rules };
+      alive = call.alive;
       code = λ on. told_if _ code c.counted.result told
           (IfOk-weaker code _ _ (λ code is_code. is_code ∙ ap (λ s. (kept_world g.S.Store s).office) c.self.view_is) (read.told (λ holds was. holds.1.sound) on));
-      same = read.same;
-      own = search rules;
-      stays_open = call.stays_open;
-      lasts = call.lasts;
-      breaks = call.breaks;
-      settled = call.settled;
-      leaves = call.leaves;
-      counts = search rules;
+      store = record { own = search rules; lasts = call.stays_open };
     }

@@ -1,90 +1,46 @@
-use Rattle.portal_store.proofs.Base.{inl, inr, Err, sym, ap, subst, ◌∙◌, HasEntries, has_names, OfSecond, clean_before, clean_if_open}
-use Rattle.portal_store.proofs.Keeps.{not_both, rests_by}
-use Rattle.portal_store.proofs.Upgraded.{first_untaken, upgraded_kept, same_world, still_good}
+use Rattle.portal_store.proofs.Base.{ap, ◌∙◌, has_names, OfSecond, clean_if_open, state, survives_weaker}
+use Rattle.portal_tables.proofs.Runs.{survives_same}
+use Rattle.portal_store.proofs.Asked.{blames_none}
+use Rattle.portal_store.proofs.Calls.{not_upgraded, untouched, upgraded}
+use Rattle.portal_store.proofs.Upgraded.{still_entered, upgraded_kept}
 use Rattle.portal_store.proofs.store.Store.upgrade.Goals as goal
 
 pub invariant_of-result : goal.invariant_of-result
 invariant_of-result g c =
+    let old = c.args.conn in
     let new = c.upgraded.new.conn in
     let own = c.fits_first-own in
-    let up = c.in-Ok-upgraded.ensures in
+    let first = own.ensures.first.0 in
+    let entries = c.in-Ok-upgraded.entries in
+    let up = c.in-Ok-upgraded.ensures.upgrades in
+    let shut = clean_if_open _ _ (g.met.S.Store.shut_if_dirty new.store) in
     record {
-      kept = upgraded_kept g.S.Store own.result c.args.conn new own.ensures.first.0
-          (λ mine clean. (up.made mine (own.ensures.own mine) clean, (up.stands mine (own.ensures.own mine) c.settled.ensures.live clean).0)) c.upgraded.ensures.idle (clean_if_open _ _ (g.met.S.Store.shut_if_dirty new.store)) up.durable;
+      kept = upgraded_kept g.S.Store own.result entries old new first up shut;
       shown = λ on. c.nothing.ensures _;
-      entered = λ on.
-          subst (HasEntries c.in-Ok-upgraded.entries)
-          (sym (same_world g.S.Store own.result c.args.conn new own.ensures.first.0
-          (λ mine clean. (up.made mine (own.ensures.own mine) clean, (up.stands mine (own.ensures.own mine) c.settled.ensures.live clean).0)) on.0 (clean_if_open _ _ (g.met.S.Store.shut_if_dirty new.store) on.1)))
-          (up.stands on.0 (own.ensures.own on.0) c.settled.ensures.live (clean_if_open _ _ (g.met.S.Store.shut_if_dirty new.store) on.1)).1;
+      entered = λ on. still_entered g.S.Store own.result entries old new first up on.0 (shut on.1);
     }
 
-pub returns-clause-world : goal.returns-clause-world
-returns-clause-world g c on =
+pub returns-clause-upgrades : goal.returns-clause-upgrades
+returns-clause-upgrades g c =
     let new = c.upgraded.new.conn in
     let own = c.fits_first-own in
-    let up = c.in-Ok-upgraded.ensures in
-    same_world g.S.Store own.result c.args.conn new own.ensures.first.0
-    (λ mine clean. (up.made mine (own.ensures.own mine) clean, (up.stands mine (own.ensures.own mine) c.settled.ensures.live clean).0)) on.0 (clean_if_open _ _ (g.met.S.Store.shut_if_dirty new.store) on.1)
+    let up = c.in-Ok-upgraded in
+    let shut = clean_if_open _ _ (g.met.S.Store.shut_if_dirty new.store) in
+    upgraded g.S.Store own.result c.args.conn new shut (g.met.S.Store.settled new.store) up.entries own.ensures.first up.ensures.upgrades
 
-pub returns-clause-good : goal.returns-clause-good
-returns-clause-good g c on =
-    let new = c.upgraded.new.conn in
-    let own = c.fits_first-own in
-    let up = c.in-Ok-upgraded.ensures in
-    still_good g.S.Store own.result c.args.conn new own.ensures.first.0
-    (λ mine clean. (up.made mine (own.ensures.own mine) clean, (up.stands mine (own.ensures.own mine) c.settled.ensures.live clean).0)) on.0 (clean_if_open _ _ (g.met.S.Store.shut_if_dirty new.store) on.1)
+pub returns-in-Err-upgraded-clause-refuses : goal.returns-in-Err-upgraded-clause-refuses
+returns-in-Err-upgraded-clause-refuses g c = c.in-Err-upgraded.ensures.refuses
 
--- that a name is taken is not told of tables of version 1 alone
-pub returns-in-Err-upgraded-clause-refused : goal.returns-in-Err-upgraded-clause-refused
-returns-in-Err-upgraded-clause-refused g c first clean =
-    let mine = c.fits_first-own.ensures.first.1 first in
-    elim (c.in-Err-upgraded.ensures.refused mine (c.fits_first-own.ensures.own mine) c.settled.ensures.live clean) [
-      | inl is ↦ absurd (not_both _ (c.in-Err-upgraded.ensures.exists (ap Err is)) (first_untaken c.args.conn.schema first))
-      | inr bars ↦ bars
-    ]
-
-pub returns-clause-made : goal.returns-clause-made
-returns-clause-made g c first clean =
-    let mine = c.fits_first-own.ensures.first.1 first in
-    c.in-Ok-upgraded.ensures.made mine (c.fits_first-own.ensures.own mine) clean
-
-pub returns-clause-stands : goal.returns-clause-stands
-returns-clause-stands g c first clean =
-    let mine = c.fits_first-own.ensures.first.1 first in
-    (c.in-Ok-upgraded.ensures.stands mine (c.fits_first-own.ensures.own mine) c.settled.ensures.live clean).0.stands
-
-pub returns-clause-settled : goal.returns-clause-settled
-returns-clause-settled g c =
-    let new = c.upgraded.new.conn in
-    let own = c.fits_first-own in
-    let up = c.in-Ok-upgraded.ensures in
-    rests_by g.S.Store new own.result 0 (g.met.S.Store.settled new.store) (upgraded_kept g.S.Store own.result c.args.conn new own.ensures.first.0
-    (λ mine clean. (up.made mine (own.ensures.own mine) clean, (up.stands mine (own.ensures.own mine) c.settled.ensures.live clean).0)) c.upgraded.ensures.idle (clean_if_open _ _ (g.met.S.Store.shut_if_dirty new.store)) up.durable)
-
-pub returns-clause-crash_ok : goal.returns-clause-crash_ok
-returns-clause-crash_ok g c = c.upgraded.ensures.crash
-
-pub returns-in-Err-upgraded-clause-err : goal.returns-in-Err-upgraded-clause-err
-returns-in-Err-upgraded-clause-err g c clean on = c.in-Err-upgraded.ensures.err clean on
-
-pub returns-in-Err-upgraded-clause-disk_err : goal.returns-in-Err-upgraded-clause-disk_err
-returns-in-Err-upgraded-clause-disk_err g c = clean_before _ _ _ c.upgraded.ensures.crash
-
-pub returns-in-Err-upgraded-clause-crash_err : goal.returns-in-Err-upgraded-clause-crash_err
-returns-in-Err-upgraded-clause-crash_err g c = c.upgraded.ensures.crash
-
-pub returns-in-Err-upgraded-clause-order : goal.returns-in-Err-upgraded-clause-order
-returns-in-Err-upgraded-clause-order g c is clean = c.in-Err-upgraded.ensures.order (ap Err is) clean
-
-pub returns-in-Err-upgraded-clause-judged : goal.returns-in-Err-upgraded-clause-judged
-returns-in-Err-upgraded-clause-judged g c is first clean = c.in-Err-upgraded.ensures.judged (ap Err is) first c.settled.ensures.live clean
-
-pub returns-clause-left_ok : goal.returns-clause-left_ok
-returns-clause-left_ok g c first = let mine = c.fits_first-own.ensures.first.1 first in c.upgraded.ensures.left mine (c.fits_first-own.ensures.own mine) c.settled.ensures.live
-
-pub returns-in-Err-upgraded-clause-left_err : goal.returns-in-Err-upgraded-clause-left_err
-returns-in-Err-upgraded-clause-left_err g c first = let mine = c.fits_first-own.ensures.first.1 first in c.upgraded.ensures.left mine (c.fits_first-own.ensures.own mine) c.settled.ensures.live
+pub returns-in-Err-clause-refuses : goal.returns-in-Err-clause-refuses
+returns-in-Err-clause-refuses g c =
+    let conn = c.args.conn in
+    let s = state g.S.Store conn in
+    not_upgraded g.S.Store _ c.from.result conn conn c.upgrade_fault_of.ensures (untouched g.S.Store _ conn c.requires.idle)
+    (λ first clean. blames_none _ _ _ _ c.from.ensures.0) (λ first. survives_weaker s s _ _ (λ clean db no. absurd no) (survives_same s))
 
 pub upgraded-requires : goal.upgraded-requires
-upgraded-requires g c = record { idle = c.requires.idle; first = c.fits_first-own.ensures.first; taken = c.is_there-is_taken.ensures ∙ ap (has_names OfSecond) c.schema.ensures.value }
+upgraded-requires g c = record {
+  idle = c.requires.idle;
+  first = c.fits_first-own.ensures.first;
+  taken = c.is_there-is_taken.ensures ∙ ap (has_names OfSecond) c.schema.ensures.value;
+}

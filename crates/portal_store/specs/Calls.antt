@@ -1,0 +1,132 @@
+-- What the calls of a store promise: those that make one, those that refuse to, and those of a keeper.
+use Rattle.std.specs.Prelude.{◌≡◌, ◌↔◌, Result, false, OnOk, IsTrue}
+use Rattle.sqlite.specs.Held.{Held, state}
+use Rattle.sqlite.specs.State.{HasCleanDisk, IsUnchanged, Survives}
+use Rattle.sqlite.specs.Store.{Ghosts}
+use Rattle.sqlite.specs.Tree.{Trees}
+use Rattle.portal_core.specs.Words.{Key}
+use Rattle.portal_core.specs.World.{Change}
+use Rattle.portal_core.specs.Keeping.{IsSettled, KeepsGood}
+use Rattle.portal_core.specs.declared.phase.Round.TheVariants.{First}
+use Rattle.portal_tables.specs.Tables.{HasFirstSchema, IsCurrentSchema, IsFirstSchema, first_version, no_schema, version}
+use Rattle.portal_tables.specs.Making.{Creates, Upgrades, has_names}
+use Rattle.portal_tables.specs.declared.names.Names.TheVariants.{All, OfSecond}
+use Rattle.portal_tables.specs.Steps.{Commits, IsAfter, LeavesOnly, Stays}
+use Rattle.portal_store.specs.World.{first_world, world_in}
+use Rattle.portal_store.specs.Kept.{HasDisk, HasGoodFirst, HasGoodWorld, IsCleanStore, IsTransition, Lasts, Seen, kept_state, kept_world}
+use Rattle.portal_store.specs.Crash.{Bars, HasVersion, IsLeft, IsUpgradedFrom, LeavesUpgraded, Refutes, ShowsVersion}
+use Rattle.portal_store.specs.declared.store.CreateFault.{CreateFault}
+use Rattle.portal_store.specs.declared.store.CreateFault.TheVariants as creating
+use Rattle.portal_store.specs.declared.store.OpenFault.{OpenFault}
+use Rattle.portal_store.specs.declared.store.UpgradeFault.{UpgradeFault}
+use Rattle.portal_store.specs.declared.store.UpgradeFault.TheVariants as upgrading
+
+-- a store was made of the connection; `Own` says that its schema was as expected
+pub record MakesStore {S : Type 0} (g : Ghosts S) (Own : Type 0) (After : Trees → Type 0) (old : Held S) (s : Seen S) : Type 0 where
+  -- the tables are the portal's own exactly in that case
+  pub own : IsTrue s.own ↔ Own
+  -- no fault is counted yet
+  pub counted : s.faults ≡ 0
+  -- if the store is clean, its world is good
+  pub good : KeepsGood (kept_state g s)
+  -- and a stop leaves only this world
+  pub settled : IsCleanStore g s → IsSettled (kept_state g s)
+  -- a crash leaves what one before the call left, or such tables
+  pub crash : Survives (state g old) (state g s.conn) After
+
+-- no store was made, and the connection is handed back
+pub record HandsBack {S : Type 0} (g : Ghosts S) (After : Trees → Type 0) (old new : Held S) : Type 0 where
+  -- it is in no transaction
+  pub idle : new.in_transaction ≡ false
+  -- if it is open, over a clean disk, its tables are as they were
+  pub stays : HasCleanDisk (state g new) → IsTrue (state g new).is_open → Stays (state g old) (state g new)
+  -- a crash leaves what one before the call left, or such tables
+  pub crash : Survives (state g old) (state g new) After
+
+-- the portal's tables were made, with this office code
+pub record CreatesStore {S : Type 0} (g : Ghosts S) (office : Key) (old : Held S) (s : Seen S) : Type 0 where
+  pub makes : MakesStore g (old.schema ≡ no_schema) (IsAfter (Creates office) (state g old)) old s
+  -- no table had one of the eleven names
+  pub free : has_names All old.schema ≡ false
+  -- in an empty schema, the tables were made in one commit
+  pub commits : HasDisk g s → Commits (Creates office) (state g old) (state g s.conn)
+  -- own tables stand for the empty world in setup
+  pub world : IsCleanStore g s → kept_world g s ≡ first_world office
+  -- a crash leaves only what was committed
+  pub durable : HasDisk g s → LeavesOnly (state g s.conn)
+
+-- they were not, for this fault
+pub record RefusesToCreate {S : Type 0} (g : Ghosts S) (office : Key) (fault : CreateFault) (old new : Held S) : Type 0 where
+  pub back : HandsBack g (IsAfter (Creates office) (state g old)) old new
+  -- `Exists` means that a table or view has one of the eleven names
+  pub exists : IsTrue (has_names All old.schema) ↔ (fault ≡ creating.Exists)
+  -- and the connection is untouched then
+  pub untouched : fault ≡ creating.Exists → new ≡ old
+
+-- the portal's tables were opened
+pub record OpensStore {S : Type 0} (g : Ghosts S) (old : Held S) (s : Seen S) : Type 0 where
+  pub makes : MakesStore g (IsCurrentSchema old.schema) (λ _. ⊥) old s
+  -- no tables were changed
+  pub stays : HasDisk g s → IsTrue (state g s.conn).is_open → Stays (state g old) (state g s.conn)
+  -- nor was a connection to own tables
+  pub same : IsCurrentSchema old.schema → HasDisk g s → IsUnchanged (state g old) (state g s.conn)
+  -- the first row of `portal` has version 2
+  pub shows : HasDisk g s → ShowsVersion version (state g s.conn)
+  -- if the first six tables are the portal's, they have this version
+  pub version : HasFirstSchema old.schema → HasDisk g s → HasVersion version (state g old).now.trees
+  -- own tables stand for a good world
+  pub stands : IsCurrentSchema old.schema → HasDisk g s → HasGoodWorld (state g s.conn).now.trees
+
+-- they were not, for this fault
+pub record RefusesToOpen {S : Type 0} (g : Ghosts S) (fault : OpenFault) (old new : Held S) : Type 0 where
+  pub back : HandsBack g (λ _. ⊥) old new
+  -- the fault tells why own tables were refused
+  pub refuted : IsCurrentSchema old.schema → HasCleanDisk (state g new) → Refutes fault (state g old).now.trees
+
+-- tables of version 1 were upgraded to version 2
+pub record UpgradesStore {S : Type 0} (g : Ghosts S) (old : Held S) (s : Seen S) : Type 0 where
+  pub makes : MakesStore g (IsFirstSchema old.schema) (LeavesUpgraded (state g old)) old s
+  -- no table had one of the five new names
+  pub free : has_names OfSecond old.schema ≡ false
+  -- own tables stood for a good world
+  pub stands : IsFirstSchema old.schema → HasDisk g s → HasGoodFirst first_version (state g old).now.trees
+  -- they were upgraded in one commit
+  pub commits : IsFirstSchema old.schema → HasDisk g s → Commits Upgrades (state g old) (state g s.conn)
+  -- and stand for the same world
+  pub world : IsCleanStore g s → kept_world g s ≡ world_in First (state g old).now.trees
+  -- a crash leaves only what was committed
+  pub durable : HasDisk g s → LeavesOnly (state g s.conn)
+  -- of own tables, whatever it leaves has the same world
+  pub left : IsFirstSchema old.schema → Survives (state g old) (state g s.conn) (IsUpgradedFrom (state g old).now.trees)
+
+-- they were not, for this fault
+pub record RefusesToUpgrade {S : Type 0} (g : Ghosts S) (fault : UpgradeFault) (old new : Held S) : Type 0 where
+  pub back : HandsBack g (LeavesUpgraded (state g old)) old new
+  -- the fault tells why own tables were refused
+  pub barred : IsFirstSchema old.schema → HasCleanDisk (state g new) → Bars fault (state g old).now.trees
+  -- `Exists` means that a table or view has one of the five new names
+  pub taken : fault ≡ upgrading.Exists → IsTrue (has_names OfSecond old.schema)
+  -- and that the first row of `portal` has version 1
+  pub order : fault ≡ upgrading.Exists → HasCleanDisk (state g new) → ShowsVersion first_version (state g new)
+  -- and that the first six tables, if they are the portal's, stand for a good world
+  pub judged : fault ≡ upgrading.Exists → HasFirstSchema old.schema → HasCleanDisk (state g new) → HasGoodFirst first_version (state g old).now.trees
+  -- of own tables, whatever a crash leaves has the same world
+  pub left : IsFirstSchema old.schema → Survives (state g old) (state g new) (IsUpgradedFrom (state g old).now.trees)
+
+-- what every call of a keeper leaves of a store
+pub record StaysStore {S : Type 0} (g : Ghosts S) (old new : Seen S) : Type 0 where
+  -- whether its tables were own when it was made
+  pub own : new.own ≡ old.own
+  -- a clean store stays clean unless the disk fails
+  pub lasts : Lasts g old new
+
+-- what a change does to own tables
+pub record ChangesTables {S V E : Type 0} (g : Ghosts S) (change : Change) (r : Result V E) (old new : Seen S) : Type 0 where
+  -- if it succeeds, it is made in one commit
+  pub commits : IsTrue old.own → HasDisk g new → OnOk r (Commits (IsTransition change) (state g old.conn) (state g new.conn))
+  -- and a crash leaves only what was committed
+  pub durable : IsTrue old.own → HasDisk g new → OnOk r (LeavesOnly (state g new.conn))
+  -- a crash leaves what one before the call left, or the changed tables
+  pub crash : IsTrue old.own → Survives (state g old.conn) (state g new.conn) (IsAfter (IsTransition change) (state g old.conn))
+  -- of a clean store it leaves the tables before the change, or those of the changed world
+  pub left : IsCleanStore g old → HasDisk g new → (db : Trees) → (state g new.conn).may_leave db → IsLeft change (state g old.conn).now db
