@@ -14,13 +14,13 @@ use Rattle.portal_desk.proofs.Promised.{RunsGood, StepsBest, RunsBest, are_unsee
 use Rattle.portal_desk.proofs.Heeding.{same_bytes}
 use Rattle.portal_file.specs.Tables.{Stream, TellsIn}
 use Rattle.portal_file.specs.Files.{HoldsWorld}
-use Rattle.portal_file.specs.Chain.{Process, IsProcess, AreProcesses, left_after, exchanges_by, MayStandFor, IsKeptRun, KeptOverFiles, AllTellOfProcesses, PromisedOverFiles}
+use Rattle.portal_file.specs.Chain.{Process, IsProcess, AreProcesses, left_after, exchanges_by, MayStandFor, IsKeptRun, KeptOverFiles, AllTellOfProcesses, IsKnown, PromisedOverFiles}
 
 end_more : (w : World) (us vs : List World) → end_of (end_of w us) vs ≡ end_of w (us ++ vs)
 end_more w [] vs = refl
 end_more w (u ∷ us) vs = end_more u us vs
 
--- processes whose bytes are known
+-- processes whose bytes are known, or which have no requests
 
 never : IsSome {T = Stream} None → ⊥
 never there = cc
@@ -37,28 +37,56 @@ visit_of p (Some s) there is process worlds = (
 )
 visit_of p None there is process worlds = absurd (never there)
 
-are_visits : (w : World) (image : Image) (ps : List Process) → HoldsWorld image w → AreProcesses image ps → AllByRecursion (λ p. IsSome p.stream) ps
-    → AllAnswered (told_in (exchanges_by ps))
-    → (vs : List Visit) × AllTellOfProcesses ps vs × AreVisits w vs × HoldsWorld (left_after image ps) (end_of w (worlds_of vs))
-are_visits w image [] holds are known all = ([], tt, tt, holds)
-are_visits w image (p ∷ ps) holds (is, process, later) known all =
-    let apart = answered_apart p.exchanges (exchanges_by ps) all in
-    let turn = process.turns w (subst (λ i. HoldsWorld i w) (sym is) holds) apart.0 in
-    let v = visit_of p p.stream known.0 refl process turn.0 in
+-- a process without requests leaves the world
+stays : (w : World) (worlds : List World) → Run w [] [] worlds → end_of w worlds ≡ w
+stays w [] run = refl
+stays w (u ∷ worlds) run = absurd run
+
+quiet : (w : World) (p : Process) → IsProcess p → HoldsWorld p.found w → p.exchanges ≡ [] → HoldsWorld p.left w
+quiet w p process holds none =
+    let turn = process.turns w holds (subst (λ es. AllAnswered (told_in es)) (sym none) tt) in
+    subst (HoldsWorld p.left) (stays w turn.0 (subst (λ es. Run w (asked_in es) (told_in es) turn.0) none turn.1)) turn.2
+
+abbrev AreTold : World → Image → List Process → Type 0
+AreTold w image ps = (vs : List Visit) × AllTellOfProcesses ps vs × AreVisits w vs × HoldsWorld (left_after image ps) (end_of w (worlds_of vs))
+
+-- a process that has requests is a visit, and then the others are
+one_more : (w : World) (image : Image) (p : Process) (ps : List Process) → IsProcess p → HoldsWorld p.found w → IsSome p.stream → AllAnswered (told_in p.exchanges)
+    → ((v : World) → HoldsWorld p.left v → AreTold v p.left ps) → AreTold w image (p ∷ ps)
+one_more w image p ps process holds known answered others =
+    let turn = process.turns w holds answered in
+    let v = visit_of p p.stream known refl process turn.0 in
     let e = ap (end_of w) (sym v.3) in
-    let more = are_visits (end_of w v.0.worlds) p.left ps (subst (HoldsWorld p.left) e turn.2) later known.1 apart.1 in (
+    let more = others (end_of w v.0.worlds) (subst (HoldsWorld p.left) e turn.2) in (
       v.0 ∷ more.0,
-      (record { stream = v.1; exchanges = v.2 }, more.1),
+      inr (v.0, more.0, refl, record { stream = v.1; exchanges = v.2 }, more.1),
       (v.4 w turn.1, more.2),
       subst (HoldsWorld (left_after p.left ps)) (end_more w v.0.worlds (worlds_of more.0)) more.3,
     )
 
+-- one that has none is none
+no_more : (w : World) (image : Image) (p : Process) (ps : List Process) → IsProcess p → HoldsWorld p.found w → p.exchanges ≡ []
+    → ((v : World) → HoldsWorld p.left v → AreTold v p.left ps) → AreTold w image (p ∷ ps)
+no_more w image p ps process holds none others =
+    let more = others w (quiet w p process holds none) in (more.0, inl (none, more.1), more.2, more.3)
+
+are_visits : (w : World) (image : Image) (ps : List Process) → HoldsWorld image w → AreProcesses image ps → AllByRecursion IsKnown ps
+    → AllAnswered (told_in (exchanges_by ps)) → AreTold w image ps
+are_visits w image [] holds are known all = ([], refl, tt, holds)
+are_visits w image (p ∷ ps) holds (is, process, later) known all =
+    let apart = answered_apart p.exchanges (exchanges_by ps) all in
+    let first = subst (λ i. HoldsWorld i w) (sym is) holds in
+    let others : (v : World) → HoldsWorld p.left v → AreTold v p.left ps = λ v there. are_visits v p.left ps there later known.1 apart.1 in
+    elim known.0 [
+      | inl told ↦ one_more w image p ps process first told apart.0 others
+      | inr none ↦ no_more w image p ps process first none others
+    ]
+
 same_exchanges : (ps : List Process) (vs : List Visit) → AllTellOfProcesses ps vs → exchanges_by ps ≡ exchanges_of vs
-same_exchanges [] [] tell = refl
-same_exchanges [] (v ∷ vs) tell = absurd tell
-same_exchanges (p ∷ ps) [] tell = absurd tell
-same_exchanges (p ∷ ps) (v ∷ vs) tell =
-    ap (λ es. es ++ exchanges_by ps) (sym tell.0.exchanges) ∙ ap (λ es. v.exchanges ++ es) (same_exchanges ps vs tell.1)
+same_exchanges [] vs none = ap exchanges_of (sym none)
+same_exchanges (p ∷ ps) vs (inl quiet_one) = ap (λ es. es ++ exchanges_by ps) quiet_one.0 ∙ same_exchanges ps vs quiet_one.1
+same_exchanges (p ∷ ps) vs (inr (v, rest, is, tell, tells)) =
+    ap (λ es. es ++ exchanges_by ps) (sym tell.exchanges) ∙ ap (λ es. v.exchanges ++ es) (same_exchanges ps rest tells) ∙ ap exchanges_of (sym is)
 
 pub promised : RunsGood → StepsBest → RunsBest → PromisedOverFiles
 promised run_good step_best run_best w image ps good holds are known all =

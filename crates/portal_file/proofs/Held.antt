@@ -22,7 +22,8 @@ use Rattle.sqlite_catalog.specs.Listing.{Lists}
 use Rattle.sqlite_catalog.proofs.ReadLemmas.{lists_once}
 use Rattle.portal_tables.specs.Tables.{no_schema}
 use Rattle.portal_tables.proofs.Owned.{one_schema}
-use Rattle.portal_file.specs.Tables.{StandsCurrent, StandsFirst, StandsFor, AllAre, AllStandCurrent, ServesTables, Shows, ShowsFirst, ShowsWorld, Stream, TellsIn}
+use Rattle.portal_file.specs.Tables.{StandsCurrent, StandsFirst, StandsFor, AllAre, AllStandCurrent, ServesTables}
+use Rattle.portal_file.specs.Tables.{Shows, ShowsCurrent, ShowsFirst, ShowsWorld, Stream, TellsIn}
 use Rattle.portal_file.specs.Files.{HoldsBy, HoldsCurrent, HoldsFirst, HoldsWorld, HoldsLeft, ComesOf, OpensOver}
 use Rattle.portal_file.specs.Chain.{Turns}
 
@@ -50,6 +51,9 @@ module _ (found : Image) (s : State) (opens : Opens s) (live : IsLive s) (finds 
 
   pub found_world : (w : World) → HoldsWorld found w → ShowsWorld s w
   found_world = found_as StandsFor stands_sound
+
+  pub found_current : (w : World) → HoldsCurrent found w → ShowsCurrent s w
+  found_current = found_as StandsCurrent current_sound
 
   pub found_first : (w : World) → HoldsFirst found w → ShowsFirst s w
   found_first = found_as StandsFirst (λ db w first. first.sound)
@@ -86,12 +90,16 @@ turn found left conn last es stream Clean Leaves opened serves tells comes hones
       tells = tells;
     }
 
--- what a report is of
-pub told : {D : Type 0} {g : Ghosts D} (found : Image) (conn last : Held (FileStore D g)) (w : World) → OpensOver found conn → ServesTables (file_state conn) (file_state last) [] → HasCleanDisk (file_state last)
-    → HoldsWorld found w → ShowsWorld (file_state conn) w
-told found conn last w opened serves clean holds =
-    let first = opened (serves.clean clean) in
-    found_world found (file_state conn) first.0.0 first.0.1 first.1 w holds
+-- what a connection shows of the files, if the disk is clean
+module _ {D : Type 0} {g : Ghosts D} (found : Image) (conn : Held (FileStore D g)) (w : World) (opened : OpensOver found conn) (clean : HasCleanDisk (file_state conn)) where
+  pub shows_world : HoldsWorld found w → ShowsWorld (file_state conn) w
+  shows_world = let first = opened clean in found_world found (file_state conn) first.0.0 first.0.1 first.1 w
+
+  pub shows_current : HoldsCurrent found w → ShowsCurrent (file_state conn) w
+  shows_current = let first = opened clean in found_current found (file_state conn) first.0.0 first.0.1 first.1 w
+
+  pub shows_first : HoldsFirst found w → ShowsFirst (file_state conn) w
+  shows_first = let first = opened clean in found_first found (file_state conn) first.0.0 first.0.1 first.1 w
 
 -- nothing is listed by no schema but the empty one
 none_listed : Lists [] no_schema
@@ -109,14 +117,16 @@ module _ (found : Image) (s : State) (opens : Opens s) (live : IsLive s) (finds 
   pub found_none : s.now.schema ≡ no_schema
   found_none = lists_once [] s.now.schema no_schema (subst (λ (l : List Row). Lists l s.now.schema) nothing (live opens.is_open).0.lists) none_listed
 
+-- over a missing or an empty file, it shows no table
+pub shows_none : {D : Type 0} {g : Ghosts D} (found : Image) (conn : Held (FileStore D g)) → OpensOver found conn → HasCleanDisk (file_state conn) → found.db ≡ [] → conn.schema ≡ no_schema
+shows_none found conn opened clean none = let first = opened clean in found_none found (file_state conn) first.0.0 first.0.1 first.1 none
+
 -- tables that were made where there were none
-pub made_world : {D : Type 0} {g : Ghosts D} (found left : Image) (conn last : Held (FileStore D g)) (w : World) (Clean : Type 0) (Leaves : Image → Type 0) → OpensOver found conn → found.db ≡ []
-    → (HasCleanDisk (file_state last) → HasCleanDisk (file_state conn)) → (HasCleanDisk (file_state last) → conn.schema ≡ no_schema → Good w × AllStandCurrent (file_state last).may_leave (λ v. v ≡ w))
+pub made_world : {D : Type 0} {g : Ghosts D} (left : Image) (last : Held (FileStore D g)) (w : World) (Clean : Type 0) (Leaves : Image → Type 0)
+    → (HasCleanDisk (file_state last) → Good w × AllStandCurrent (file_state last).may_leave (λ v. v ≡ w))
     → ComesOf (file_state last) Clean Leaves → Clean → Leaves left → Good w × HoldsCurrent left w
-made_world found left conn last w Clean Leaves opened none disk made comes honest may =
-    let clean = comes.clean honest in
-    let first = opened (disk clean) in
-    let stands = made clean (found_none found (file_state conn) first.0.0 first.0.1 first.1 none) in
+made_world left last w Clean Leaves made comes honest may =
+    let stands = made (comes.clean honest) in
     (stands.0, held_one StandsCurrent (file_state last) left w stands.1 (comes.holds honest left may))
 
 -- tables of version 1 that were upgraded

@@ -1,5 +1,5 @@
 -- What making and upgrading the tables leaves.
-use Rattle.std.proofs.Common.{◌≡◌, true, List, IsTrue, ◌↔◌, ◌⊎◌, inl, inr, refl, sym, ap, subst, ◌∙◌}
+use Rattle.std.proofs.Common.{◌≡◌, true, false, List, IsTrue, ◌↔◌, ◌⊎◌, inl, inr, refl, sym, ap, subst, ◌∙◌}
 use Rattle.std.proofs.lemmas.Bool.{both_ways}
 use Rattle.std.proofs.Math.Logic.{∥∥₁_elim}
 use Rattle.sqlite.specs.Store.{Ghosts}
@@ -18,32 +18,31 @@ use Rattle.portal_tables.proofs.Base.{everything}
 use Rattle.portal_store.specs.Crash.{IsUpgradedFrom, LeavesUpgraded}
 use Rattle.portal_store.specs.Kept.{Seen, IsCleanStore, kept_world}
 use Rattle.portal_store.specs.World.{first_world, world_in, world_of}
+use Rattle.portal_store.specs.Calls.{CreatesStore, UpgradesStore}
 use Rattle.portal_store.proofs.Upgraded.{named_as}
-use Rattle.portal_file.specs.Tables.{AllStandCurrent, AreOf, ClosesAs, ShowsFirst, StandsFor}
+use Rattle.sqlite.specs.Schema.{Schema}
+use Rattle.sqlite.specs.Effect.{Database}
+use Rattle.portal_file.specs.Tables.{AllStandCurrent, AreOf, ClosesAs, Shows, ShowsCurrent, ShowsFirst, ShowsWorld, StandsFor}
 use Rattle.portal_file.proofs.Served.{closed_world}
 
 -- tables of version 1 that were upgraded
-pub same_world : {S : Type 0} (g : Ghosts S) (old new : Held S) (made : Seen S) → ClosesAs g made new → IsTrue made.own ↔ IsFirstSchema old.schema
-    → (IsFirstSchema old.schema → HasCleanDisk (state g made.conn) → Commits Upgrades (state g old) (state g made.conn))
-    → (IsCleanStore g made → kept_world g made ≡ world_in First (state g old).now.trees) → (IsCleanStore g made → Good (kept_world g made))
+pub same_world : {S : Type 0} (g : Ghosts S) (old new : Held S) (made : Seen S) → ClosesAs g made new → UpgradesStore g old made
     → (w : World) → HasCleanDisk (state g new) → ShowsFirst (state g old) w → AllStandCurrent (state g new).may_leave (λ v. v ≡ w)
-same_world g old new made closes own commits world good w clean shows db may =
+same_world g old new made closes is w clean shows db may =
     ∥∥₁_elim shows.stands squash₁ (λ first.
-    let done = commits first.schema (subst (λ h. HasCleanDisk (state g h)) closes.same clean) in
-    let on : IsCleanStore g made = (own.1 first.schema, done.is_open) in
-    let same : kept_world g made ≡ w = world on ∙ first.world in
-    closed_world g made new closes on w same (subst Good same (good on)) db may)
+    let done = is.commits first.schema (subst (λ h. HasCleanDisk (state g h)) closes.same clean) in
+    let on : IsCleanStore g made = (is.makes.own.1 first.schema, done.is_open) in
+    let same : kept_world g made ≡ w = is.world on ∙ first.world in
+    closed_world g made new closes on w same (subst Good same (is.makes.good on)) db may)
 
 -- tables that were made where there were none
-pub fresh_world : {S : Type 0} (g : Ghosts S) (old new : Held S) (made : Seen S) (office : List _) → ClosesAs g made new → IsTrue made.own ↔ (old.schema ≡ no_schema)
-    → (HasCleanDisk (state g made.conn) → Commits (Creates office) (state g old) (state g made.conn))
-    → (IsCleanStore g made → kept_world g made ≡ first_world office) → (IsCleanStore g made → Good (kept_world g made))
-    → HasCleanDisk (state g new) → old.schema ≡ no_schema → Good (first_world office) × AllStandCurrent (state g new).may_leave (λ v. v ≡ first_world office)
-fresh_world g old new made office closes own commits world good clean none =
-    let done = commits (subst (λ h. HasCleanDisk (state g h)) closes.same clean) in
-    let on : IsCleanStore g made = (own.1 none, done.is_open) in
-    let fine = subst Good (world on) (good on) in
-    (fine, closed_world g made new closes on (first_world office) (world on) fine)
+pub fresh_world : {S : Type 0} (g : Ghosts S) (old new : Held S) (made : Seen S) (office : List _) → ClosesAs g made new → CreatesStore g office old made
+    → old.schema ≡ no_schema → HasCleanDisk (state g new) → Good (first_world office) × AllStandCurrent (state g new).may_leave (λ v. v ≡ first_world office)
+fresh_world g old new made office closes is none clean =
+    let done = is.commits (subst (λ h. HasCleanDisk (state g h)) closes.same clean) in
+    let on : IsCleanStore g made = (is.makes.own.1 none, done.is_open) in
+    let fine = subst Good (is.world on) (is.makes.good on) in
+    (fine, closed_world g made new closes on (first_world office) (is.world on) fine)
 
 -- which names are taken in the portal's own tables
 
@@ -56,10 +55,33 @@ first_named : has_names All first_schema ≡ true
 unfolding everything
 first_named = refl
 
+none_named : has_names All no_schema ≡ false
+unfolding everything
+none_named = refl
+
+-- no name is taken in an empty schema
+pub none_taken : (s : Schema) → s ≡ no_schema → IsTrue (has_names All s) → ⊥
+none_taken s none taken = both_ways _ (ap (has_names All) none ∙ none_named) taken
+
 -- over them no tables are made
+none_free_in : (db : Database) (w : World) → StandsFor db w → IsTrue (has_names All db.schema)
+none_free_in db w (inl current) = named_as All db.schema portal_schema current.consistent.1.current ∙ current_named All
+none_free_in db w (inr first) = named_as All db.schema first_schema first.schema ∙ first_named
+
 pub none_free : {S : Type 0} (g : Ghosts S) (old : Held S) (w : World) → StandsFor (state g old).now w → IsTrue (has_names All old.schema)
-none_free g old w (inl current) = named_as All old.schema portal_schema current.consistent.1.current ∙ current_named All
-none_free g old w (inr first) = named_as All old.schema first_schema first.schema ∙ first_named
+none_free g old w = none_free_in (state g old).now w
+
+no_proof : (x y : ⊥) → x ≡ y
+no_proof x y = absurd x
+
+-- an empty schema shows no world
+pub shows_none : (s : State) (w : World) → s.now.schema ≡ no_schema → ShowsWorld s w → ⊥
+shows_none s w none shows = ∥∥₁_elim shows.stands no_proof (λ stands. none_taken s.now.schema none (none_free_in s.now w stands))
+
+-- tables of version 2 have the names that an upgrade needs
+pub current_taken : {S : Type 0} (g : Ghosts S) (old : Held S) (w : World) → has_names OfSecond old.schema ≡ false → ShowsCurrent (state g old) w → ⊥
+current_taken g old w free shows =
+    ∥∥₁_elim shows.stands no_proof (λ stands. both_ways _ free (named_as OfSecond old.schema portal_schema stands.consistent.1.current ∙ current_named OfSecond))
 
 -- an upgrade leaves those of version 2 as they are, and those of version 1 with the same world
 pub upgrade_leaves : (old new : State) → Survives old new (LeavesUpgraded old) → (IsFirstSchema old.now.schema → Survives old new (IsUpgradedFrom old.now.trees))

@@ -7,12 +7,15 @@ use denote.Struct.Props.{props}
 use Rattle.std.specs.List.{AllByRecursion}
 use Rattle.portal_core.specs.World.{World}
 use Rattle.portal_core.specs.Good.{Good}
-use Rattle.portal_core.specs.Meaning.{LeavesBy}
+use Rattle.portal_core.specs.Keeping.{KeeperState, IsSettled, LastsOrBreaks, Uses}
+use Rattle.std.specs.Prelude.{Result}
 use Rattle.portal_core.specs.View.{office_sees}
 use Rattle.portal_core.specs.Run.{AllAnswered, Run, end_of}
 use Rattle.portal_wire.specs.Conversation.{Exchange, Reaches, asked_in, told_in}
-use Rattle.portal_desk.specs.Kept.{KeeperState, IsMoved, IsSettled, LastsOrBreaks, MayReach, Moves, state_of}
-use Rattle.portal_desk.specs.Session.{Finish, IsSession}
+use Rattle.portal_desk.specs.Kept.{IsMoved, MayReach, Moves}
+use Rattle.portal_desk.specs.Session.{IsSession, count_of, finish_of}
+use Rattle.portal_desk.specs.declared.served.Served.{Served}
+use Rattle.portal_desk.specs.declared.served.ServeFault.{ServeFault}
 use Rattle.portal_desk.proofs.Promised.{RunsGood}
 use Rattle.portal_serve.specs.Hall.{IsMovedBy, told_of}
 use Rattle.sqlite.specs.Tree.{Trees}
@@ -21,10 +24,18 @@ use Rattle.sqlite.specs.Store.{Ghosts}
 use Rattle.sqlite.specs.Held.{Held, state}
 use Rattle.sqlite.specs.State.{State, HasCleanDisk}
 use Rattle.sqlite_trees.specs.Objects.{number_in}
-use Rattle.portal_store.specs.Kept.{Seen, IsBrokenStore, IsCleanStore, HasDisk, KeepsClean, LeavesWorld, kept_world}
+use Rattle.portal_store.specs.Kept.{Seen, IsCleanStore, HasDisk, KeepsClean, LeavesWorld, kept_state, kept_world}
 use Rattle.portal_store.specs.World.{world_of}
+use Rattle.portal_store.specs.Calls.{OpensStore, RefusesToOpen, RefusesToUpgrade}
+use Rattle.portal_store.specs.declared.store.OpenFault.{OpenFault}
+use Rattle.portal_store.specs.declared.store.OpenFault.TheVariants as opening
+use Rattle.portal_store.specs.declared.store.UpgradeFault.{UpgradeFault}
+use Rattle.portal_store.specs.declared.store.UpgradeFault.TheVariants as upgrading
+use Rattle.portal_store.proofs.Again.{holds_again, none_but_store}
 use Rattle.portal_store.proofs.Upgraded.{first_own}
-use Rattle.portal_file.specs.Tables.{AllStand, AllStandCurrent, AreOf, ClosesAs, IsOf, OpensAs, ServesStream, ServesTables, ShowsWorld, StandsCurrent, StandsFirst, StandsFor}
+use Rattle.portal_tables.proofs.InTurn.{clean_before}
+use Rattle.portal_file.specs.Tables.{AllStand, AllStandCurrent, AreOf, ClosesAs, Denies, DeniesFirst, IsOfStore, ReportsStream}
+use Rattle.portal_file.specs.Tables.{ServesStream, ServesTables, ShowsWorld, StandsCurrent, StandsFirst, StandsFor}
 use Rattle.portal_file.proofs.Sets.{World-set}
 
 pub good_end : (w : World) (worlds : List World) → Good w → AllByRecursion Good worlds → Good (end_of w worlds)
@@ -102,12 +113,15 @@ closed_world g s new closes on w same good db may =
     let is : (v : World) × (v ≡ w) × AreOf StandsCurrent db v = (w, refl, ((state g new).now, sym (closes.only live db may), stands)) in
     ∣ is ∣₁
 
-module _ {S : Type 0} (g : Ghosts S) (old new : Held S) (opened served : Seen S) (run_good : RunsGood) (opens : OpensAs g old opened) (closes : ClosesAs g served new) where
+module _ {S : Type 0} (g : Ghosts S) (old new : Held S) (opened served : Seen S) (run_good : RunsGood) (opens : OpensStore g old opened) (closes : ClosesAs g served new) where
   abbrev keeper : Seen S → KeeperState
-  keeper = state_of (HasDisk g) (IsCleanStore g) (kept_world g) (IsBrokenStore g) (LeavesWorld g)
+  keeper = kept_state g
 
   disk_at : HasCleanDisk (state g new) → HasDisk g served
   disk_at clean = subst (λ h. HasCleanDisk (state g h)) closes.same clean
+
+  disk_first : HasDisk g opened → HasCleanDisk (state g old)
+  disk_first clean = clean_before (state g old) (state g opened.conn) _ opens.makes.crash clean
 
   -- tables of version 1 are not opened
   not_first : (w : World) → StandsFirst (state g old).now w → HasDisk g opened → ⊥
@@ -122,8 +136,8 @@ module _ {S : Type 0} (g : Ghosts S) (old new : Held S) (opened served : Seen S)
   at_first : (w : World) → ShowsWorld (state g old) w → HasDisk g opened → IsCleanStore g opened × (kept_world g opened ≡ w)
   at_first w shows disk =
       let current = shown w shows disk in
-      let mine : IsTrue opened.own = ∥∥₁_elim current (hlevel props) (λ stands. opens.own.1 stands.consistent.1.current) in
-      let same = opens.same (opens.own.0 mine) disk in
+      let mine : IsTrue opened.own = ∥∥₁_elim current (hlevel props) (λ stands. opens.makes.own.1 stands.consistent.1.current) in
+      let same = opens.same (opens.makes.own.0 mine) disk in
       ((mine, same.0.is_open), ap (λ (d : Database). world_of d.trees) same.0.now_is ∙ ∥∥₁_elim current (World-set (world_of (state g old).now.trees) w) (λ stands. stands.world))
 
   stopped : (es : List Exchange) → LastsOrBreaks (keeper opened) (keeper served)
@@ -134,11 +148,11 @@ module _ {S : Type 0} (g : Ghosts S) (old new : Held S) (opened served : Seen S)
       let first = at_first w shows broke.0 in
       let own : IsTrue served.own = elim (broke.1 first.0) [ inl up ↦ up.0 | inr down ↦ down.own ] in
       let last = subst (λ h. (state g h).may_leave db) closes.same may in
-      let reach = leaves (opens.rests first.0) first.0 (disk_at clean) (world_of db) (record { own = own; db = db; left = last; world = refl }) in
+      let reach = leaves (opens.makes.settled first.0) first.0 (disk_at clean) (world_of db) (record { own = own; db = db; left = last; world = refl }) in
       let d = closes.left own (disk_at clean) db last in
       let stands : StandsCurrent d.0 (world_of db) = record {
         consistent = d.2;
-        good = good_reach run_good (kept_world g opened) (world_of db) es (opens.good first.0) reach;
+        good = good_reach run_good (kept_world g opened) (world_of db) es (opens.makes.good first.0) reach;
         world = ap world_of (sym d.1);
       } in
       let is : (v : World) × MayReach w es v × AreOf StandsFor db v = (world_of db, subst (λ u. MayReach u es (world_of db)) first.1 reach, (d.0, sym d.1, inl stands)) in
@@ -152,13 +166,13 @@ module _ {S : Type 0} (g : Ghosts S) (old new : Held S) (opened served : Seen S)
       let last : IsCleanStore g served = lasts.1 first.0 in
       let r = moves.reaches last in
       let run = subst (λ u. Run u (asked_in es) (told_in es) r.0) first.1 r.1 in
-      let good : Good (end_of w r.0) = let start = subst Good first.1 (opens.good first.0) in good_end w r.0 start (run_good w (asked_in es) (told_in es) r.0 start run) in
+      let good : Good (end_of w r.0) = let start = subst Good first.1 (opens.makes.good first.0) in good_end w r.0 start (run_good w (asked_in es) (told_in es) r.0 start run) in
       let world : kept_world g served ≡ end_of w r.0 = r.2 ∙ ap (λ u. end_of u r.0) first.1 in
       (r.0, run, all_stand (state g new).may_leave (λ v. v ≡ end_of w r.0) (closed_world g served new closes last (end_of w r.0) world good))
 
   pub serves : (es : List Exchange) → Moves (keeper opened) (keeper served) es → ServesTables (state g old) (state g new) es
   serves es moves = record {
-    clean = λ clean. opens.disk (moves.breaks (disk_at clean)).0;
+    clean = λ clean. disk_first (moves.breaks (disk_at clean)).0;
     stops = stopped es moves.breaks moves.leaves;
     turns = turned es moves;
   }
@@ -167,10 +181,10 @@ module _ {S : Type 0} (g : Ghosts S) (old new : Held S) (opened served : Seen S)
   serves_some Told (es, moves, told_of_them) = (es, serves es moves, told_of_them)
 
   -- a call that only reads
-  pub serves_none : LastsOrBreaks (keeper opened) (keeper served) → LeavesBy (HasDisk g served) (LeavesWorld g opened) (LeavesWorld g served) (λ _. ⊥) → ServesTables (state g old) (state g new) []
-  serves_none breaks leaves =
-      none_served (state g old) (state g new) (λ clean. opens.disk (breaks (disk_at clean)).0)
-      (stopped [] breaks (λ settled on disk v left. none_reached (kept_world g opened) v (elim (leaves disk v left) [ inl was ↦ settled v was | inr never ↦ absurd never ])))
+  pub serves_none : {A E : Type 0} {r : Result A E} → Uses r (keeper opened) (keeper served) (λ _. ⊥) → ServesTables (state g old) (state g new) []
+  serves_none uses =
+      none_served (state g old) (state g new) (λ clean. disk_first (uses.breaks (disk_at clean)).0)
+      (stopped [] uses.breaks (λ settled on disk v left. none_reached (kept_world g opened) v (elim (uses.leaves disk v left) [ inl was ↦ settled v was | inr never ↦ absurd never ])))
 
   -- the report is of the world that the connection showed
   pub reported : KeepsClean g opened served → (text : List ℕ) → (IsCleanStore g served → Good (kept_world g opened) → text ≡ told_of (office_sees (kept_world g opened)))
@@ -178,17 +192,61 @@ module _ {S : Type 0} (g : Ghosts S) (old new : Held S) (opened served : Seen S)
   reported lasts text is w clean shows =
       let kept = lasts (disk_at clean) in
       let first = at_first w shows kept.0 in
-      is (kept.1 first.0) (opens.good first.0) ∙ ap (λ u. told_of (office_sees u)) first.1
+      is (kept.1 first.0) (opens.makes.good first.0) ∙ ap (λ u. told_of (office_sees u)) first.1
 
   -- what a call of `pipe` did, however it ended
-  pub serves_stream : (finish : Finish) (count : ℕ) (remaining contents_old contents_new : Option (List ℕ)) → IsMoved (keeper opened) (keeper served)
-      → IfSome remaining (λ bytes. (es : List Exchange) × IsSession keeper (record { old = opened; new = served; bytes = bytes; before = contents_old; after = contents_new; count = count; finish = finish; exchanges = es }))
-      → ServesStream (state g old) (state g new) (λ stream. IsOf stream remaining contents_old contents_new)
-  serves_stream finish count (Some bytes) contents_old contents_new moved (es, session) = (
+  pub serves_stream : (r : Result Served ServeFault) (failed : Bool) (remaining left before after : Option (List ℕ)) → IsMoved (keeper opened) (keeper served)
+      → IfSome remaining (λ bytes. (es : List Exchange)
+      × IsSession keeper (record { old = opened; new = served; bytes = bytes; before = before; after = after; count = count_of r; finish = finish_of r failed left; exchanges = es }))
+      → ServesStream (state g old) (state g new) (ReportsStream r (record { remaining = remaining; left = left; before = before; after = after }))
+  serves_stream r failed (Some bytes) left before after moved (es, session) = (
     es,
-    Some (record { bytes = bytes; written = session.written; finish = finish }),
+    Some (record { bytes = bytes; written = session.written; finish = finish_of r failed left }),
     serves es session.moves,
     session.tells,
-    λ b x y is was now. (some_same bytes b is, added contents_old contents_new session.written x y session.adds was now),
+    record {
+      known = λ b x y is was now. (some_same bytes b is, added before after session.written x y session.adds was now);
+      counted = session.counted;
+      ended = (failed, refl);
+    },
   )
-  serves_stream finish count None contents_old contents_new (es, moves) session = (es, None, serves es moves, tt, λ b x y is was now. absurd (none_some b is))
+  serves_stream r failed None left before after (es, moves) session = (
+    es,
+    None,
+    serves es moves,
+    tt,
+    record { known = λ b x y is was now. absurd (none_some b is); counted = tt; ended = tt },
+  )
+
+-- a refusal that is not of the store or of memory is of what the tables hold
+
+no_proof : (x y : ⊥) → x ≡ y
+no_proof x y = absurd x
+
+of_store : (fault : OpenFault) → ∥ IsOfStore fault ∥₁ → IsOfStore fault
+of_store opening.NotPortal told = absurd (∥∥₁_elim told no_proof (λ t. elim t [ inl e ↦ absurd (cc) | inr e ↦ absurd (cc) ]))
+of_store opening.OtherVersion told = absurd (∥∥₁_elim told no_proof (λ t. elim t [ inl e ↦ absurd (cc) | inr e ↦ absurd (cc) ]))
+of_store opening.Damaged told = absurd (∥∥₁_elim told no_proof (λ t. elim t [ inl e ↦ absurd (cc) | inr e ↦ absurd (cc) ]))
+of_store opening.Store told = inl refl
+of_store opening.Memory told = inr refl
+
+pub denied : {S : Type 0} (g : Ghosts S) (old new : Held S) (fault : OpenFault) → RefusesToOpen g fault old new → Denies (state g old) (state g new) fault
+denied g old new fault refuses w clean shows =
+    of_store fault (∥∥₁_map shows.stands (λ stands.
+    let again = holds_again (state g old).now (state g old).now stands.consistent (subst Good (sym stands.world) stands.good) refl stands.consistent.1.sound in
+    again.faults fault (refuses.refuted stands.consistent.1.current clean)))
+
+abbrev IsOfStoreToo : UpgradeFault → Type 0
+IsOfStoreToo fault = (fault ≡ upgrading.Store) ⊎ (fault ≡ upgrading.Memory)
+
+of_store_too : (fault : UpgradeFault) → ∥ IsOfStoreToo fault ∥₁ → IsOfStoreToo fault
+of_store_too upgrading.NotPortal told = absurd (∥∥₁_elim told no_proof (λ t. elim t [ inl e ↦ absurd (cc) | inr e ↦ absurd (cc) ]))
+of_store_too upgrading.OtherVersion told = absurd (∥∥₁_elim told no_proof (λ t. elim t [ inl e ↦ absurd (cc) | inr e ↦ absurd (cc) ]))
+of_store_too upgrading.Damaged told = absurd (∥∥₁_elim told no_proof (λ t. elim t [ inl e ↦ absurd (cc) | inr e ↦ absurd (cc) ]))
+of_store_too upgrading.Exists told = absurd (∥∥₁_elim told no_proof (λ t. elim t [ inl e ↦ absurd (cc) | inr e ↦ absurd (cc) ]))
+of_store_too upgrading.Store told = inl refl
+of_store_too upgrading.Memory told = inr refl
+
+pub denied_first : {S : Type 0} (g : Ghosts S) (old new : Held S) (fault : UpgradeFault) → RefusesToUpgrade g fault old new → DeniesFirst (state g old) (state g new) fault
+denied_first g old new fault refuses w clean shows =
+    of_store_too fault (∥∥₁_map shows.stands (λ stands. none_but_store (state g old).now.trees stands.stands fault (refuses.barred stands.schema clean)))

@@ -10,8 +10,7 @@ use Rattle.portal_core.specs.Honest.{ShowsBest}
 use Rattle.portal_core.specs.Run.{Run, AllAnswered, end_of, unavailable}
 use Rattle.portal_wire.specs.Conversation.{Exchange, asked_in, told_in}
 use Rattle.portal_desk.specs.Kept.{MayReach}
-use Rattle.portal_desk.specs.Headline.{Visit, AreVisits, worlds_of, AreUnseen, PublishesBest}
-use Rattle.portal_whole.specs.Whole.{HasPromise}
+use Rattle.portal_desk.specs.Headline.{Visit, AreVisits, worlds_of, AreUnseen, HasPromise, PublishesBest}
 use Rattle.portal_file.specs.Tables.{Stream, TellsIn}
 use Rattle.portal_file.specs.Files.{HoldsWorld, HoldsSome}
 
@@ -68,24 +67,30 @@ KeptOverFiles =
     → ∥ ((es : List Exchange) × MayStandFor (exchanges_by ps) es × (worlds : List World) × IsKeptRun w es worlds
     × HoldsWorld (left_after image ps) (end_of w worlds)) ∥₁
 
--- processes whose bytes are known
+-- processes whose bytes are known, or which have no requests
 
 -- the visit describes the process
 pub record TellsOfProcess (p : Process) (v : Visit) : Type 0 where
   pub stream : p.stream ≡ Some (record { bytes = v.bytes; written = v.written; finish = v.finish })
   pub exchanges : v.exchanges ≡ p.exchanges
 
+-- the visits describe, in this order, the processes that have requests
 abbrev pub AllTellOfProcesses : List Process → List Visit → Type 0
-AllTellOfProcesses [] [] = Unit {0}
-AllTellOfProcesses (p ∷ ps) (v ∷ vs) = TellsOfProcess p v × AllTellOfProcesses ps vs
-AllTellOfProcesses _ _ = ⊥
+AllTellOfProcesses [] vs = vs ≡ []
+AllTellOfProcesses (p ∷ ps) vs =
+    ((p.exchanges ≡ []) × AllTellOfProcesses ps vs)
+    ⊎ ((v : Visit) × (rest : List Visit) × (vs ≡ v ∷ rest) × TellsOfProcess p v × AllTellOfProcesses ps rest)
+
+-- the bytes of the process are known, or it has no requests
+abbrev pub IsKnown : Process → Type 0
+IsKnown p = IsSome p.stream ⊎ (p.exchanges ≡ [])
 
 -- if no reply is 503, then visits with the main promise describe the processes, and the files hold
 -- the last world
 abbrev pub PromisedOverFiles : Type 0
 PromisedOverFiles =
     (w : World) (image : Image) (ps : List Process) → Good w → HoldsWorld image w → AreProcesses image ps
-    → AllByRecursion (λ p. IsSome p.stream) ps → AllAnswered (told_in (exchanges_by ps))
+    → AllByRecursion IsKnown ps → AllAnswered (told_in (exchanges_by ps))
     → (visits : List Visit) × AllTellOfProcesses ps visits × AreVisits w visits × HasPromise w visits
     × HoldsWorld (left_after image ps) (end_of w (worlds_of visits))
 
@@ -104,5 +109,5 @@ abbrev pub TurnsByNone : Image → Image → Type 0
 TurnsByNone found left = Turns found left [] None
 
 -- the requests of a stream
-abbrev pub TurnsByStream : Image → Image → (Option Stream → Type 0) → Type 0
-TurnsByStream found left Known = (es : List Exchange) × (stream : Option Stream) × Turns found left es stream × Known stream
+abbrev pub TurnsByStream : Image → Image → (List Exchange → Option Stream → Type 0) → Type 0
+TurnsByStream found left Known = (es : List Exchange) × (stream : Option Stream) × Turns found left es stream × Known es stream

@@ -1,4 +1,3 @@
 pub mod Tables
 pub mod Files
 pub mod Chain
-pub mod Upgrading

@@ -15,10 +15,10 @@ use sqlite::{Connection, FileStore, Files};
 use sqlite_disk::Disk;
 use sqlite_trees::store::Store as Tables;
 
-/// Copies the log of a store into the database file, and gives the files back; an error gives them
-/// back too. The files of a broken store are given back as they are. After `Ok`, a crash leaves
-/// only what it could leave before.
-fn close_store<D: Disk + Drop>(mut store: FileStore<D>) -> Result<Files<D>, Files<D>>
+/// Copies the log of a store into the database file if `copies` says so, and gives the files back;
+/// an error gives them back too. The files of a broken store are given back as they are. After
+/// `Ok`, a crash leaves only what it could leave before.
+fn close_store<D: Disk + Drop>(mut store: FileStore<D>, copies: bool) -> Result<Files<D>, Files<D>>
     ensures clean { IfOk result (λ files. AreClean D.Disk files.log files.db
         → IsClean (view store)) }
     ensures left { IfOk result (λ files. AreClean D.Disk files.log files.db
@@ -26,7 +26,7 @@ fn close_store<D: Disk + Drop>(mut store: FileStore<D>) -> Result<Files<D>, File
         → (image : Image) → outcomes D.Disk files.log files.db image
         → ∥ ((db : Trees) × recovers store db × HoldsDatabase image db) ∥₁) }
 {
-    if store.is_broken() {
+    if store.is_broken() || !copies {
         return Ok(store.close());
     }
     match store.checkpoint() {
@@ -47,11 +47,14 @@ pub fn rest<D: Disk + Drop>(conn: Connection<FileStore<D>>) -> FileStore<D>
     conn.into_store()
 }
 
-/// Closes the files of a connection, and gives them back. It is `Ok` unless copying the log into
-/// the database file failed.
-pub fn close_files<D: Disk + Drop>(conn: Connection<FileStore<D>>) -> Result<Files<D>, Files<D>>
+/// Closes the files of a connection, and gives them back. If `copies` says so, the log is copied
+/// into the database file first, and the result is `Ok` unless that failed.
+pub fn close_files<D: Disk + Drop>(
+    conn: Connection<FileStore<D>>,
+    copies: bool,
+) -> Result<Files<D>, Files<D>>
     ensures comes { IfOk result (λ files. ComesOf (file_state conn)
         (AreClean D.Disk files.log files.db) (outcomes D.Disk files.log files.db)) }
 {
-    close_store(rest(conn))
+    close_store(rest(conn), copies)
 }

@@ -1,18 +1,19 @@
 //! Serves a reader and a writer over a database file.
 
-ghost use Rattle.std.specs.Prelude.{◌≡◌, false, IfOk, OnOk};
+ghost use Rattle.std.specs.Prelude.{◌≡◌, false, IfOk, IfErr};
 ghost use Rattle.sqlite_wal.specs.Files.{image_at, outcomes};
 ghost use Rattle.sqlite_wal.specs.Reads.{AreClean};
 ghost use Rattle.sqlite_wal.specs.Recovery.{Image};
-ghost use Rattle.portal_desk.specs.Kept.{TakesAtMost};
-ghost use Rattle.portal_file.specs.Tables.{IsOf};
-ghost use Rattle.portal_file.specs.Files.{OpensOver};
+ghost use Rattle.portal_desk.specs.Kept.{TakesAtMost, taken_limit};
+ghost use Rattle.portal_core.specs.World.{World};
+ghost use Rattle.portal_file.specs.Tables.{IsOfStore, IsPiped};
+ghost use Rattle.portal_file.specs.Files.{HoldsCurrent, OpensOver};
 ghost use Rattle.portal_file.specs.Chain.{TurnsByStream};
 
 use crate::closing::close_files;
 use crate::opening::open_file;
 use crate::tables::pipe_tables;
-use portal_desk::{MOST_BYTES, ServeFault, Served};
+use portal_desk::{ServeFault, Served};
 use portal_store::OpenFault;
 use sqlite::{Connection, Error, FileFrom, FileStore, Files, Start};
 use sqlite_disk::Disk;
@@ -31,14 +32,22 @@ fn pipe_closing<D: Disk + Drop, R: Read, W: Write>(
     Result<Files<D>, Files<D>>,
 )
     requires idle { conn.in_transaction ≡ false }
-    ensures taken { TakesAtMost MOST_BYTES (R.remaining reader.old) (R.remaining reader.new) }
+    ensures taken { TakesAtMost taken_limit (R.remaining reader.old) (R.remaining reader.new) }
     ensures process { IfOk result.1 (λ files. (found left : Image) → OpensOver found conn
         → AreClean D.Disk files.log files.db → outcomes D.Disk files.log files.db left
-        → TurnsByStream found left (λ stream. OnOk result.0 (IsOf stream (R.remaining reader.old)
-        (W.contents writer.old) (W.contents writer.new)))) }
+        → TurnsByStream found left (IsPiped result.0 (record {
+          remaining = R.remaining reader.old;
+          left = R.remaining reader.new;
+          before = W.contents writer.old;
+          after = W.contents writer.new;
+        }))) }
+    ensures refused { IfErr result.0 (λ fault. IfOk result.1 (λ files. (found : Image) (w : World)
+        → OpensOver found conn → AreClean D.Disk files.log files.db → HoldsCurrent found w
+        → IsOfStore fault)) }
 {
     let (ended, conn) = pipe_tables(alloc, conn, reader, writer);
-    (ended, close_files(conn))
+    let opened = ended.is_ok();
+    (ended, close_files(conn, opened))
 }
 
 /// Serves a reader and a writer as one connection, over a database file, and closes the file. `S`
@@ -59,12 +68,19 @@ pub fn pipe_file<S: Start, R: Read, W: Write>(
     ),
     Error,
 >
-    ensures taken { TakesAtMost MOST_BYTES (R.remaining reader.old) (R.remaining reader.new) }
+    ensures taken { TakesAtMost taken_limit (R.remaining reader.old) (R.remaining reader.new) }
     ensures process { IfOk result (λ r. IfOk r.1 (λ files. (left : Image)
         → AreClean ⟦<FileFrom<S> as Disk>⟧ files.log files.db
         → outcomes ⟦<FileFrom<S> as Disk>⟧ files.log files.db left
-        → TurnsByStream (image_at S.Start) left (λ stream. OnOk r.0 (IsOf stream
-        (R.remaining reader.old) (W.contents writer.old) (W.contents writer.new))))) }
+        → TurnsByStream (image_at S.Start) left (IsPiped r.0 (record {
+          remaining = R.remaining reader.old;
+          left = R.remaining reader.new;
+          before = W.contents writer.old;
+          after = W.contents writer.new;
+        })))) }
+    ensures refused { IfOk result (λ r. IfErr r.0 (λ fault. IfOk r.1 (λ files. (w : World)
+        → AreClean ⟦<FileFrom<S> as Disk>⟧ files.log files.db → HoldsCurrent (image_at S.Start) w
+        → IsOfStore fault))) }
 {
     match open_file(rt, path, start) {
         Ok(conn) => Ok(pipe_closing(rt.alloc(), conn, reader, writer)),

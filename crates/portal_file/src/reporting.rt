@@ -1,13 +1,14 @@
 //! Returns the office's report on the world that a database file holds.
 
-ghost use Rattle.std.specs.Prelude.{◌≡◌, false, IfOk};
+ghost use Rattle.std.specs.Prelude.{◌≡◌, false, IfOk, IfErr};
 ghost use Rattle.sqlite_wal.specs.Files.{image_at, outcomes};
 ghost use Rattle.sqlite_wal.specs.Reads.{AreClean};
 ghost use Rattle.sqlite_wal.specs.Recovery.{Image};
 ghost use Rattle.portal_core.specs.World.{World};
 ghost use Rattle.portal_core.specs.View.{office_sees};
 ghost use Rattle.portal_serve.specs.Hall.{told_of};
-ghost use Rattle.portal_file.specs.Files.{HoldsWorld, OpensOver};
+ghost use Rattle.portal_file.specs.Tables.{IsOfStore};
+ghost use Rattle.portal_file.specs.Files.{HoldsCurrent, HoldsWorld, OpensOver};
 ghost use Rattle.portal_file.specs.Chain.{TurnsByNone};
 
 use crate::closing::close_files;
@@ -34,9 +35,13 @@ fn report_closing<D: Disk + Drop>(
     ensures text { IfOk result.1 (λ files. IfOk result.0 (λ told. IfOk told (λ text.
         (found : Image) (w : World) → OpensOver found conn → AreClean D.Disk files.log files.db
         → HoldsWorld found w → text.items ≡ told_of (office_sees w)))) }
+    ensures refused { IfErr result.0 (λ fault. IfOk result.1 (λ files. (found : Image) (w : World)
+        → OpensOver found conn → AreClean D.Disk files.log files.db → HoldsCurrent found w
+        → IsOfStore fault)) }
 {
     let (told, conn) = report_tables(alloc, conn);
-    (told, close_files(conn))
+    let opened = told.is_ok();
+    (told, close_files(conn, opened))
 }
 
 /// Returns the office's report on the world that a database file holds, and closes the file. `S`
@@ -61,6 +66,9 @@ pub fn report_file<S: Start>(
     ensures text { IfOk result (λ r. IfOk r.1 (λ files. IfOk r.0 (λ told. IfOk told (λ text.
         (w : World) → AreClean ⟦<FileFrom<S> as Disk>⟧ files.log files.db
         → HoldsWorld (image_at S.Start) w → text.items ≡ told_of (office_sees w))))) }
+    ensures refused { IfOk result (λ r. IfErr r.0 (λ fault. IfOk r.1 (λ files. (w : World)
+        → AreClean ⟦<FileFrom<S> as Disk>⟧ files.log files.db → HoldsCurrent (image_at S.Start) w
+        → IsOfStore fault))) }
 {
     match open_file(rt, path, start) {
         Ok(conn) => Ok(report_closing(rt.alloc(), conn)),

@@ -1,10 +1,12 @@
 //! Lets a service, such as a listener, serve requests over a database file.
 
-ghost use Rattle.std.specs.Prelude.{◌≡◌, false, IfOk, OnOk};
+ghost use Rattle.std.specs.Prelude.{◌≡◌, [], false, IfOk, IfErr, MatchResult};
 ghost use Rattle.sqlite_wal.specs.Files.{image_at, outcomes};
 ghost use Rattle.sqlite_wal.specs.Reads.{AreClean};
 ghost use Rattle.sqlite_wal.specs.Recovery.{Image};
-ghost use Rattle.portal_file.specs.Files.{OpensOver};
+ghost use Rattle.portal_core.specs.World.{World};
+ghost use Rattle.portal_file.specs.Tables.{IsOfStore};
+ghost use Rattle.portal_file.specs.Files.{HoldsCurrent, OpensOver};
 ghost use Rattle.portal_file.specs.Chain.{TurnsBySome};
 
 use crate::closing::close_files;
@@ -25,10 +27,15 @@ fn serve_closing<D: Disk + Drop, L: Service>(
     requires idle { conn.in_transaction ≡ false }
     ensures process { IfOk result.1 (λ files. (found left : Image) → OpensOver found conn
         → AreClean D.Disk files.log files.db → outcomes D.Disk files.log files.db left
-        → TurnsBySome found left (λ es. OnOk result.0 (L.told service.old service.new es))) }
+        → TurnsBySome found left (λ es. MatchResult result.0
+        (λ _. L.told service.old service.new es) (λ _. es ≡ []))) }
+    ensures refused { IfErr result.0 (λ fault. IfOk result.1 (λ files. (found : Image) (w : World)
+        → OpensOver found conn → AreClean D.Disk files.log files.db → HoldsCurrent found w
+        → IsOfStore fault)) }
 {
     let (opened, conn) = serve_tables(alloc, conn, service);
-    (opened, close_files(conn))
+    let copies = opened.is_ok();
+    (opened, close_files(conn, copies))
 }
 
 /// Lets a service serve requests over a database file, and closes the file. `S` stands for what the
@@ -49,8 +56,11 @@ pub fn serve_file<S: Start, L: Service>(
     ensures process { IfOk result (λ r. IfOk r.1 (λ files. (left : Image)
         → AreClean ⟦<FileFrom<S> as Disk>⟧ files.log files.db
         → outcomes ⟦<FileFrom<S> as Disk>⟧ files.log files.db left
-        → TurnsBySome (image_at S.Start) left
-        (λ es. OnOk r.0 (L.told service.old service.new es)))) }
+        → TurnsBySome (image_at S.Start) left (λ es. MatchResult r.0
+        (λ _. L.told service.old service.new es) (λ _. es ≡ [])))) }
+    ensures refused { IfOk result (λ r. IfErr r.0 (λ fault. IfOk r.1 (λ files. (w : World)
+        → AreClean ⟦<FileFrom<S> as Disk>⟧ files.log files.db → HoldsCurrent (image_at S.Start) w
+        → IsOfStore fault))) }
 {
     match open_file(rt, path, start) {
         Ok(conn) => Ok(serve_closing(rt.alloc(), conn, service)),

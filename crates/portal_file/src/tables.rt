@@ -1,23 +1,23 @@
 //! Does the work of a command over the tables of a connection.
 
-ghost use Rattle.std.specs.Prelude.{◌≡◌, [], List, false, IsTrue, IfOk, IfErr, OnOk};
+ghost use Rattle.std.specs.Prelude.{◌≡◌, [], List, false, IfOk, IfErr, MatchResult};
 ghost use Rattle.sqlite.specs.Held.{state};
 ghost use Rattle.sqlite.specs.State.{HasCleanDisk};
 ghost use Rattle.portal_core.specs.World.{World};
 ghost use Rattle.portal_core.specs.View.{office_sees};
 ghost use Rattle.portal_wire.specs.Conversation.{Exchange};
-ghost use Rattle.portal_desk.specs.Kept.{TakesAtMost};
+ghost use Rattle.portal_desk.specs.Kept.{TakesAtMost, taken_limit};
 ghost use Rattle.portal_core.specs.Good.{Good};
 ghost use Rattle.portal_serve.specs.Hall.{told_of};
-ghost use Rattle.portal_core.specs.Meaning.{KeepsOrBreaks, LeavesBy};
-ghost use Rattle.portal_store.specs.Kept.{HasDisk, IsBrokenStore, IsCleanStore, KeepsClean};
-ghost use Rattle.portal_store.specs.Kept.{LeavesWorld, kept_world};
-ghost use Rattle.portal_file.specs.Tables.{ClosesAs, IsOf, OpensAs, ServesStream, ServesTables};
+ghost use Rattle.portal_core.specs.Keeping.{Uses};
+ghost use Rattle.portal_store.specs.Kept.{IsCleanStore, kept_state, kept_world};
+ghost use Rattle.portal_store.specs.Calls.{OpensStore};
+ghost use Rattle.portal_file.specs.Tables.{ClosesAs, Denies, IsPiped, ServesStream, ServesTables};
 ghost use Rattle.portal_file.specs.Tables.{ShowsWorld};
 
 use portal_core::KeepFault;
 use portal_core::laws::run_good;
-use portal_desk::{Desk, MOST_BYTES, ServeFault, Served, pipe};
+use portal_desk::{Desk, ServeFault, Served, pipe};
 use portal_serve::{Service, report};
 use portal_store::{NotOpened, OpenFault, Store};
 use portal_tables::settled;
@@ -31,8 +31,9 @@ fn open_tables<S: Alter>(
     conn: Connection<S>,
 ) -> Result<Store<S>, (OpenFault, Connection<S>)>
     requires idle { conn.in_transaction ≡ false }
-    ensures opens { IfOk result (OpensAs S.Store conn) }
-    ensures refused { IfErr result (λ e. ServesTables (state S.Store conn) (state S.Store e.1) []) }
+    ensures opens { IfOk result (OpensStore S.Store conn) }
+    ensures serves { IfErr result (λ e. ServesTables (state S.Store conn) (state S.Store e.1) []) }
+    ensures refused { IfErr result (λ e. Denies (state S.Store conn) (state S.Store e.1) e.0) }
     ensures idle { IfErr result (λ e. e.1.in_transaction ≡ false) }
 {
     settled(&conn);
@@ -63,10 +64,15 @@ pub fn pipe_tables<S: Alter, R: Read, W: Write>(
 ) -> (Result<Result<Served, ServeFault>, OpenFault>, Connection<S>)
     requires idle { conn.in_transaction ≡ false }
     ensures idle { result.1.in_transaction ≡ false }
-    ensures taken { TakesAtMost MOST_BYTES (R.remaining reader.old) (R.remaining reader.new) }
+    ensures taken { TakesAtMost taken_limit (R.remaining reader.old) (R.remaining reader.new) }
     ensures serves { ServesStream (state S.Store conn) (state S.Store result.1)
-        (λ stream. OnOk result.0 (IsOf stream (R.remaining reader.old) (W.contents writer.old)
-        (W.contents writer.new))) }
+        (IsPiped result.0 (record {
+          remaining = R.remaining reader.old;
+          left = R.remaining reader.new;
+          before = W.contents writer.old;
+          after = W.contents writer.new;
+        })) }
+    ensures refused { IfErr result.0 (Denies (state S.Store conn) (state S.Store result.1)) }
 {
     run_good();
     match open_tables(alloc, conn) {
@@ -89,7 +95,8 @@ pub fn serve_tables<S: Alter, L: Service>(
     ensures idle { result.1.in_transaction ≡ false }
     ensures serves { (es : List Exchange)
         × ServesTables (state S.Store conn) (state S.Store result.1) es
-        × OnOk result.0 (L.told service.old service.new es) }
+        × MatchResult result.0 (λ _. L.told service.old service.new es) (λ _. es ≡ []) }
+    ensures refused { IfErr result.0 (Denies (state S.Store conn) (state S.Store result.1)) }
 {
     run_good();
     match open_tables(alloc, conn) {
@@ -104,12 +111,8 @@ pub fn serve_tables<S: Alter, L: Service>(
 
 /// Gets the office's code from the store, and returns the office's report.
 fn report_of<S: Alter>(alloc: Global, store: &mut Store<S>) -> Result<Vec<u8>, KeepFault>
-    ensures lasts { OnOk result (KeepsClean S.Store store.old store.new) }
-    ensures breaks { KeepsOrBreaks (HasDisk S.Store store.old) (HasDisk S.Store store.new)
-        (IsCleanStore S.Store store.old) (IsCleanStore S.Store store.new)
-        (IsBrokenStore S.Store store.old) (IsBrokenStore S.Store store.new) }
-    ensures leaves { LeavesBy (HasDisk S.Store store.new) (LeavesWorld S.Store store.old)
-        (LeavesWorld S.Store store.new) (λ _. ⊥) }
+    ensures uses { Uses result (kept_state S.Store store.old) (kept_state S.Store store.new)
+        (λ _. ⊥) }
     ensures same { IsCleanStore S.Store store.new
         → kept_world S.Store store.new ≡ kept_world S.Store store.old }
     ensures text { IfOk result (λ text. IsCleanStore S.Store store.new
@@ -130,6 +133,7 @@ pub fn report_tables<S: Alter>(
     requires idle { conn.in_transaction ≡ false }
     ensures idle { result.1.in_transaction ≡ false }
     ensures serves { ServesTables (state S.Store conn) (state S.Store result.1) [] }
+    ensures refused { IfErr result.0 (Denies (state S.Store conn) (state S.Store result.1)) }
     ensures text { IfOk result.0 (λ told. IfOk told (λ text. (w : World)
         → HasCleanDisk (state S.Store result.1) → ShowsWorld (state S.Store conn) w
         → text.items ≡ told_of (office_sees w))) }

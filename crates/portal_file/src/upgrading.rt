@@ -1,16 +1,16 @@
 //! Upgrades the portal's tables in a database file from version 1 to version 2.
 
-ghost use Rattle.std.specs.Prelude.{◌≡◌, [], false, IfNone, IfOk};
+ghost use Rattle.std.specs.Prelude.{◌≡◌, ◌⊎◌, [], false, IfNone, IfOk, IfSome};
 ghost use Rattle.sqlite.specs.Held.{state};
 ghost use Rattle.sqlite.specs.State.{HasCleanDisk};
 ghost use Rattle.sqlite_wal.specs.Files.{image_at, outcomes};
 ghost use Rattle.sqlite_wal.specs.Reads.{AreClean};
 ghost use Rattle.sqlite_wal.specs.Recovery.{Image};
 ghost use Rattle.portal_core.specs.World.{World};
-ghost use Rattle.portal_file.specs.Tables.{AllStandCurrent, ServesTables, ShowsFirst};
+ghost use Rattle.portal_file.specs.Tables.{AllStandCurrent, DeniesFirst, ServesTables};
+ghost use Rattle.portal_file.specs.Tables.{ShowsCurrent, ShowsFirst};
 ghost use Rattle.portal_file.specs.Files.{HoldsCurrent, HoldsFirst, OpensOver};
 ghost use Rattle.portal_file.specs.Chain.{TurnsByNone};
-ghost use Rattle.portal_file.specs.Upgrading.{Answers, AnswersSome};
 
 use crate::closing::close_files;
 use crate::opening::open_file;
@@ -19,7 +19,6 @@ use portal_store::{NotOpened, Store, UpgradeFault};
 use portal_tables::settled;
 use sqlite::{Alter, Connection, Error, FileFrom, FileStore, Files, Start};
 use sqlite_disk::Disk;
-use sqlite_trees::store::Store as Trees;
 use std::alloc::Global;
 
 /// Upgrades the database of a connection from version 1 to version 2. Returns the fault, if there
@@ -30,7 +29,9 @@ pub fn upgrade_tables<S: Alter>(
 ) -> (Option<UpgradeFault>, Connection<S>)
     requires idle { conn.in_transaction ≡ false }
     ensures idle { result.1.in_transaction ≡ false }
-    ensures answers { Answers S.Store result.0 conn result.1 }
+    ensures refused { IfSome result.0 (DeniesFirst (state S.Store conn) (state S.Store result.1)) }
+    ensures none { IfNone result.0 ((w : World) → HasCleanDisk (state S.Store result.1)
+        → ShowsCurrent (state S.Store conn) w → ⊥) }
     ensures upgraded { IfNone result.0 ((w : World) → HasCleanDisk (state S.Store result.1)
         → ShowsFirst (state S.Store conn) w
         → AllStandCurrent (state S.Store result.1).may_leave (λ v. v ≡ w)) }
@@ -49,7 +50,11 @@ fn upgrade_closing<D: Disk + Drop>(
     conn: Connection<FileStore<D>>,
 ) -> (Option<UpgradeFault>, Result<Files<D>, Files<D>>)
     requires idle { conn.in_transaction ≡ false }
-    ensures answers { AnswersSome ⟦<FileStore<D> as Trees>⟧ result.0 }
+    ensures refused { IfSome result.0 (λ fault. IfOk result.1 (λ files. (found : Image) (w : World)
+        → OpensOver found conn → AreClean D.Disk files.log files.db → HoldsFirst found w
+        → (fault ≡ UpgradeFault.Store) ⊎ (fault ≡ UpgradeFault.Memory))) }
+    ensures none { IfNone result.0 (IfOk result.1 (λ files. (found : Image) (w : World)
+        → OpensOver found conn → AreClean D.Disk files.log files.db → HoldsCurrent found w → ⊥)) }
     ensures upgraded { IfNone result.0 (IfOk result.1 (λ files. (found left : Image) (w : World)
         → OpensOver found conn
         → AreClean D.Disk files.log files.db → outcomes D.Disk files.log files.db left
@@ -59,7 +64,8 @@ fn upgrade_closing<D: Disk + Drop>(
         → TurnsByNone found left) }
 {
     let (refused, conn) = upgrade_tables(alloc, conn);
-    (refused, close_files(conn))
+    let copies = refused.is_none();
+    (refused, close_files(conn, copies))
 }
 
 /// Upgrades the portal's tables in a database file from version 1 to version 2, and closes the
@@ -78,7 +84,12 @@ pub fn upgrade_file<S: Start>(
     ),
     Error,
 >
-    ensures answers { IfOk result (λ r. AnswersSome ⟦<FileStore<FileFrom<S>> as Trees>⟧ r.0) }
+    ensures refused { IfOk result (λ r. IfSome r.0 (λ fault. IfOk r.1 (λ files. (w : World)
+        → AreClean ⟦<FileFrom<S> as Disk>⟧ files.log files.db → HoldsFirst (image_at S.Start) w
+        → (fault ≡ UpgradeFault.Store) ⊎ (fault ≡ UpgradeFault.Memory)))) }
+    ensures none { IfOk result (λ r. IfNone r.0 (IfOk r.1 (λ files. (w : World)
+        → AreClean ⟦<FileFrom<S> as Disk>⟧ files.log files.db
+        → HoldsCurrent (image_at S.Start) w → ⊥))) }
     ensures upgraded { IfOk result (λ r. IfNone r.0 (IfOk r.1 (λ files. (left : Image) (w : World)
         → AreClean ⟦<FileFrom<S> as Disk>⟧ files.log files.db
         → outcomes ⟦<FileFrom<S> as Disk>⟧ files.log files.db left

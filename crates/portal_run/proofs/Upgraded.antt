@@ -1,22 +1,17 @@
--- What is said where no file was opened.
-use Rattle.portal_run.proofs.Base.{◌≡◌, ◌<◌, ℕ, Option, refl, inl, arith, Text, SaysUpgrade, Says, refusal_line, refusal_status}
-use Rattle.sqlite.specs.Store.{Ghosts}
+-- What is said of an upgrade.
+use Rattle.portal_run.proofs.Base.{◌≡◌, ◌<◌, ℕ, Option, Some, None, Result, Ok, Err, IfOk, IfErr, Text, SaysUpgrade, Says, refusal_line, refusal_status}
 use Rattle.sqlite.specs.declared.error.Error.{Error}
-use Rattle.sqlite.specs.declared.error.Error.TheVariants.{SqliteFailure}
-use Rattle.sqlite.specs.declared.error.ErrorCode.TheVariants.{OutOfMemory}
 use Rattle.portal_run.proofs.Known.{said_status}
+use Rattle.portal_run.specs.Run.{upgrade_line, upgrade_status}
 use Rattle.portal_run.specs.inner.Lines.{connect_refusal}
-use Rattle.portal_store.specs.declared.store.UpgradeFault.TheVariants.{NotPortal}
+use Rattle.portal_store.specs.declared.store.UpgradeFault.{UpgradeFault}
 
--- no file was there
-pub missing : {S : Type 0} (g : Ghosts S) (status : ℕ) (old new : Option Text) → Says (refusal_line NotPortal) (refusal_status NotPortal) status old new → status < 3 → SaysUpgrade g status old new
-missing g status old new says small = inl (said_status status 2 says.given small, says.written small)
+-- a refusal
+pub refused : (why : UpgradeFault) (status : ℕ) (old new : Option Text) → Says (refusal_line why) (refusal_status why) status old new → status < 3 → SaysUpgrade status old new
+refused why status old new says small = (Some why, said_status status (refusal_status why) says.given small, says.written small)
 
-connect_status : (e : Error) → refusal_status (connect_refusal e) ≡ 3
-connect_status (SqliteFailure OutOfMemory) = refl
-connect_status _ = refl
-
--- its connection failed, which is said with the status 3
-pub unconnected : {S : Type 0} (g : Ghosts S) (e : Error) (status : ℕ) (old new : Option Text) → Says (refusal_line (connect_refusal e)) (refusal_status (connect_refusal e)) status old new → status < 3
-    → SaysUpgrade g status old new
-unconnected g e status old new says small = absurd (omega (arith, connect_status e, said_status status (refusal_status (connect_refusal e)) says.given small))
+-- what an upgrade returned
+pub answered : {F : Type 0} (done : Result (Option UpgradeFault × F) Error) (status : ℕ) (old new : Option Text) → IfOk done (λ r. Says (upgrade_line r.0) (upgrade_status r.0) status old new)
+    → IfErr done (λ e. Says (refusal_line (connect_refusal e)) (refusal_status (connect_refusal e)) status old new) → status < 3 → SaysUpgrade status old new
+answered (Ok r) status old new says closed small = (r.0, said_status status (upgrade_status r.0) says.given small, says.written small)
+answered (Err e) status old new says closed small = refused (connect_refusal e) status old new closed small

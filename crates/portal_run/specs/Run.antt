@@ -6,8 +6,6 @@ use Rattle.portal_answer.specs.declared.answer.Task.{Task}
 use Rattle.portal_answer.specs.declared.answer.Task.TheVariants as task
 use Rattle.portal_words.specs.declared.command.Command.{Command}
 use Rattle.portal_words.specs.declared.command.Command.TheVariants as command
-use Rattle.sqlite.specs.Store.{Ghosts}
-use Rattle.portal_file.specs.Upgrading.{AnswersSome as AnswersForSome}
 use Rattle.portal_store.specs.declared.store.UpgradeFault.{UpgradeFault}
 use Rattle.portal_store.specs.declared.store.UpgradeFault.TheVariants.{NotPortal, OtherVersion, Damaged, Exists, Store, Memory}
 
@@ -64,12 +62,6 @@ abbrev pub upgrade_status : Option UpgradeFault → ℕ
 upgrade_status None = 0
 upgrade_status (Some fault) = refusal_status fault
 
-module _ {S : Type 0} (g : Ghosts S) where
-  -- line and status report the store's answer for a connection
-  abbrev pub SaysAnswer : ℕ → Option Text → Option Text → Type 0
-  SaysAnswer status old new =
-      (answer : Option UpgradeFault) × AnswersForSome g answer × (status ≡ upgrade_status answer) × Appends old new (upgrade_line answer)
-
-  -- line and status report the store's answer for a connection, or that there is no file
-  abbrev pub SaysUpgrade : ℕ → Option Text → Option Text → Type 0
-  SaysUpgrade status old new = ((status ≡ 2) × Appends old new (codes "refused not_portal\n")) ⊎ SaysAnswer status old new
+-- line and status report the success of an upgrade, or a refusal; a missing file is `NotPortal`
+abbrev pub SaysUpgrade : ℕ → Option Text → Option Text → Type 0
+SaysUpgrade status old new = (answer : Option UpgradeFault) × (status ≡ upgrade_status answer) × Appends old new (upgrade_line answer)

@@ -6,17 +6,14 @@ ghost use Rattle.clap.specs.Words.{Text};
 ghost use Rattle.portal_words.specs.Line.{is_file_word};
 ghost use Rattle.portal_run.specs.Run.{WritesAnswer, AnswersSome, IsOfFile, IsUpgrade, task_of};
 ghost use Rattle.portal_run.specs.Run.{ConsumesAtMost, SaysUpgrade};
-ghost use Rattle.portal_desk.specs.Kept.{TakesAtMost};
+ghost use Rattle.portal_desk.specs.Kept.{TakesAtMost, taken_limit};
 
 use crate::database::{Job, do_job};
 use crate::init::init;
 use crate::input::{InputFault, bytes_of};
 use crate::output::{say, say_memory, say_read};
 use portal_answer::{Task, answer_to};
-use portal_desk::MOST_BYTES;
 use portal_words::{Asked, Command, command_of};
-use sqlite::{File, FileStore};
-use sqlite_trees::store::Store as Tables;
 use std::alloc::Global;
 use std::convert::AsStr;
 use std::io::{Read, Write};
@@ -100,7 +97,7 @@ pub fn perform<R: Read, W: Write>(
     writer: &mut W,
 ) -> u8
     ensures bound { result ≤ 3 }
-    ensures takes { TakesAtMost MOST_BYTES (R.remaining reader.old) (R.remaining reader.new) }
+    ensures takes { TakesAtMost taken_limit (R.remaining reader.old) (R.remaining reader.new) }
     ensures files { IsOfFile command.entry
         → ConsumesAtMost 4194305 (R.remaining reader.old) (R.remaining reader.new) }
     ensures check { command.entry ≡ Command.Check None → result < 3
@@ -113,8 +110,7 @@ pub fn perform<R: Read, W: Write>(
         → WritesAnswer Task.Solve (R.remaining reader.old) result (W.contents writer.old)
         (W.contents writer.new) }
     ensures upgrade { IsUpgrade command.entry → result < 3
-        → SaysUpgrade ⟦<FileStore<File> as Tables>⟧ result (W.contents writer.old)
-        (W.contents writer.new) }
+        → SaysUpgrade result (W.contents writer.old) (W.contents writer.new) }
 {
     match command {
         Command::Check(file) => answer_file(rt, Task::Check, file, reader, writer),
@@ -149,7 +145,7 @@ pub fn run<S: AsStr, R: Read, W: Write>(
     writer: &mut W,
 ) -> u8
     ensures bound { result ≤ 3 }
-    ensures takes { TakesAtMost MOST_BYTES (R.remaining reader.old) (R.remaining reader.new) }
+    ensures takes { TakesAtMost taken_limit (R.remaining reader.old) (R.remaining reader.new) }
     ensures files { (drop 1 (map S.text words.entry.now) ≡ codes "check" ∷ [])
         ⊎ (drop 1 (map S.text words.entry.now) ≡ codes "solve" ∷ [])
         → ConsumesAtMost 4194305 (R.remaining reader.old) (R.remaining reader.new) }

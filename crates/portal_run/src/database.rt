@@ -1,19 +1,17 @@
 //! Runs a command over an existing database file, and converts what it returns.
 
 ghost use Rattle.std.specs.Prelude.{◌≡◌, ◌<◌, ◌≤◌, Ok, Err, IfOk, IfErr};
-ghost use Rattle.portal_desk.specs.Kept.{TakesAtMost};
+ghost use Rattle.portal_desk.specs.Kept.{TakesAtMost, taken_limit};
 ghost use Rattle.portal_run.specs.Run.{SaysUpgrade};
 ghost use Rattle.portal_run.specs.inner.Lines.{connect_refusal, open_refusal, create_refusal};
 
 use crate::init::upgrade_over;
 use crate::output::{Refusal, not_connected, not_made, not_opened, refuse};
+use crate::place::{Place, place_of};
 use crate::serve::{pipe_over, report_over, serve_over};
-use portal_desk::MOST_BYTES;
 use portal_store::{CreateFault, OpenFault};
-use sqlite::{Error, File, FileStore};
-use sqlite_trees::store::Store as Tables;
-use std::fs;
-use std::io::{ErrorKind, Read, Write};
+use sqlite::Error;
+use std::io::{Read, Write};
 
 /// Returns what a command did over its database, or why the database was refused. The files are let
 /// go: committed changes last even if closing failed.
@@ -43,14 +41,6 @@ pub(crate) fn made<F: Drop>(
     }
 }
 
-/// Returns whether a file does not exist.
-pub(crate) fn is_missing(rt: &HostRuntime, path: &str) -> bool {
-    match fs::metadata(rt, path) {
-        Ok(_) => false,
-        Err(error) => error.kind() == ErrorKind::NotFound,
-    }
-}
-
 /// What a command does with an existing database.
 #[derive(Clone, Copy, Drop)]
 pub(crate) enum Job {
@@ -64,8 +54,9 @@ pub(crate) enum Job {
     Upgrade,
 }
 
-/// Does the job with the database in an existing file. A missing file is refused as `NotPortal`,
-/// not created. Returns the exit status.
+/// Does the job with the database in an existing file. A missing or an empty file is refused as
+/// `NotPortal`, and one that is no database as a fault of the store; neither is touched. Returns
+/// the exit status.
 #[tactic(auto, using(crate::proofs::Taken::same_left))]
 pub(crate) fn do_job<R: Read, W: Write>(
     rt: &HostRuntime,
@@ -75,13 +66,14 @@ pub(crate) fn do_job<R: Read, W: Write>(
     writer: &mut W,
 ) -> u8
     ensures bound { result ≤ 3 }
-    ensures takes { TakesAtMost MOST_BYTES (R.remaining reader.old) (R.remaining reader.new) }
+    ensures takes { TakesAtMost taken_limit (R.remaining reader.old) (R.remaining reader.new) }
     ensures says { job ≡ Job.Upgrade → result < 3
-        → SaysUpgrade ⟦<FileStore<File> as Tables>⟧ result (W.contents writer.old)
-        (W.contents writer.new) }
+        → SaysUpgrade result (W.contents writer.old) (W.contents writer.new) }
 {
-    if is_missing(rt, path) {
-        return refuse(writer, Refusal::NotPortal);
+    match place_of(rt, path) {
+        Place::Missing | Place::Empty => return refuse(writer, Refusal::NotPortal),
+        Place::Other => return refuse(writer, Refusal::Store),
+        Place::Database => {}
     }
     match job {
         Job::Serve { port, connections } => serve_over(rt, path, port, connections, writer),

@@ -1,15 +1,19 @@
 //! Creates a database for `init`; upgrades one for `upgrade`.
 
-ghost use Rattle.std.specs.Prelude.{◌<◌, ◌≤◌};
-ghost use Rattle.portal_run.specs.Run.{ConsumesAtMost, SaysUpgrade};
+ghost use Rattle.std.specs.Prelude.{◌<◌, ◌≤◌, IfErr, IfOk};
+ghost use Rattle.portal_run.specs.Run.{ConsumesAtMost, SaysUpgrade, refusal_line};
+ghost use Rattle.portal_run.specs.Run.{refusal_status, upgrade_line, upgrade_status};
+ghost use Rattle.portal_run.specs.inner.Lines.{Says, connect_refusal};
 
 use crate::database::made;
 use crate::input::{InputFault, first_bytes};
-use crate::output::{not_connected, refuse, say, say_done, say_memory, say_read, say_upgrade};
+use crate::output::{
+    Refusal, not_connected, refuse, say, say_done, say_memory, say_read, say_store, say_upgrade,
+};
+use crate::place::{Place, place_of};
 use portal_core::{Code, CodeFault};
 use portal_file::{make_file, upgrade_file};
-use sqlite::{File, FileStore, Unknown};
-use sqlite_trees::store::Store as Tables;
+use sqlite::{Error, Unknown};
 use std::alloc::Global;
 use std::io::{Read, Write};
 
@@ -60,7 +64,8 @@ fn code_of<R: Read>(alloc: Global, reader: &mut R) -> Result<Code, NoCode>
 }
 
 /// Creates the database in a file; the office's code is the first line of the input. A bad code is
-/// refused before the file is opened. Returns the exit status.
+/// refused before anything else. A file that is no database is a fault of the store, and is not
+/// touched. Returns the exit status.
 pub(crate) fn init<R: Read, W: Write>(
     rt: &HostRuntime,
     path: &str,
@@ -72,6 +77,9 @@ pub(crate) fn init<R: Read, W: Write>(
 {
     match code_of(rt.alloc(), reader) {
         Ok(office) => {
+            if place_of(rt, path) == Place::Other {
+                return say_store(writer);
+            }
             let done = made(make_file(rt, path, Unknown, office));
             say_done(writer, done, b"made\n")
         }
@@ -81,15 +89,26 @@ pub(crate) fn init<R: Read, W: Write>(
     }
 }
 
+/// Reports what an upgrade returned, and returns the exit status.
+fn say_upgraded<F: Drop, W: Write>(writer: &mut W, done: Result<(Option<Refusal>, F), Error>) -> u8
+    ensures answered { IfOk done (λ r. Says (upgrade_line r.0) (upgrade_status r.0) result
+        (W.contents writer.old) (W.contents writer.new)) }
+    ensures closed { IfErr done (λ error. Says (refusal_line (connect_refusal error))
+        (refusal_status (connect_refusal error)) result (W.contents writer.old)
+        (W.contents writer.new)) }
+{
+    match done {
+        Ok((refused, _files)) => say_upgrade(writer, refused),
+        Err(error) => refuse(writer, not_connected(error)),
+    }
+}
+
 /// Upgrades the database in a file from version 1 to version 2, and reports the outcome. Returns
 /// the exit status.
 pub(crate) fn upgrade_over<W: Write>(rt: &HostRuntime, path: &str, writer: &mut W) -> u8
     ensures bound { result ≤ 3 }
-    ensures says { result < 3 → SaysUpgrade ⟦<FileStore<File> as Tables>⟧ result
-        (W.contents writer.old) (W.contents writer.new) }
+    ensures says { result < 3
+        → SaysUpgrade result (W.contents writer.old) (W.contents writer.new) }
 {
-    match upgrade_file(rt, path, Unknown) {
-        Ok((refused, _files)) => say_upgrade(writer, refused),
-        Err(error) => refuse(writer, not_connected(error)),
-    }
+    say_upgraded(writer, upgrade_file(rt, path, Unknown))
 }

@@ -6,6 +6,7 @@ mod database;
 mod init;
 mod input;
 mod output;
+mod place;
 mod serve;
 
 pub use commands::{perform, run};

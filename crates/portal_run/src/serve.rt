@@ -1,13 +1,13 @@
 //! Runs `serve`, `pipe` and `report` over a database file.
 
-ghost use Rattle.std.specs.Prelude.{◌≤◌};
-ghost use Rattle.portal_desk.specs.Kept.{IsMoved, TakesAtMost, state_of};
-ghost use Rattle.portal_run.specs.inner.Lines.{SaysHall};
+ghost use Rattle.std.specs.Prelude.{◌≡◌, ◌≤◌, IfErr, IfOk};
+ghost use Rattle.portal_desk.specs.Kept.{TakesAtMost, Worked, taken_limit};
+ghost use Rattle.portal_run.specs.inner.Lines.{Says, SaysHall};
 
 use crate::database::opened;
 use crate::output::{refuse, say, say_memory, say_read, say_store, say_write};
 use portal_core::{KeepFault, Keeper};
-use portal_desk::{Cause, Desk, MOST_BYTES, ServeFault, Served};
+use portal_desk::{Cause, Desk, ServeFault, Served};
 use portal_file::{pipe_file, report_file, serve_file};
 use portal_serve::{Ended, Hall, Service, serve_on};
 use sqlite::Unknown;
@@ -50,9 +50,7 @@ fn listen<K: Keeper, W: Write>(
     writer: &mut W,
 ) -> u8
     ensures bound { result ≤ 3 }
-    ensures clean { K.clean desk.new.keeper → K.clean desk.old.keeper }
-    ensures moves { let state = state_of K.disk K.clean K.world K.broken K.leaves in
-        IsMoved (state desk.old.keeper) (state desk.new.keeper) }
+    ensures worked { Worked K.state desk.old desk.new }
 {
     let address = SocketAddr::V4(SocketAddrV4::new(Ipv4Addr::new(127, 0, 0, 1), port));
     let Ok(listener) = TcpListener::bind(rt, address) else {
@@ -113,7 +111,7 @@ pub(crate) fn serve_over<W: Write>(
 
 /// Reports why a connection ended early.
 fn say_cause<W: Write>(writer: &mut W, cause: Cause) -> u8
-    ensures { result ≤ 3 }
+    ensures { result ≡ 3 }
 {
     match cause {
         Cause::Read => say_read(writer),
@@ -135,7 +133,8 @@ fn flush<W: Write>(writer: &mut W) -> u8
 
 /// Flushes the output, or reports why the connection ended early. Returns the exit status.
 fn say_ended<W: Write>(writer: &mut W, ended: Result<Served, ServeFault>) -> u8
-    ensures { result ≤ 3 }
+    ensures bound { result ≤ 3 }
+    ensures fault { IfErr ended (λ _. result ≡ 3) }
 {
     match ended {
         Ok(_) => flush(writer),
@@ -153,7 +152,7 @@ pub(crate) fn pipe_over<R: Read, W: Write>(
     writer: &mut W,
 ) -> u8
     ensures bound { result ≤ 3 }
-    ensures takes { TakesAtMost MOST_BYTES (R.remaining reader.old) (R.remaining reader.new) }
+    ensures takes { TakesAtMost taken_limit (R.remaining reader.old) (R.remaining reader.new) }
 {
     match opened(pipe_file(rt, path, Unknown, reader, writer)) {
         Ok(ended) => say_ended(writer, ended),
@@ -163,7 +162,9 @@ pub(crate) fn pipe_over<R: Read, W: Write>(
 
 /// Prints the office's report, or reports why there is none. Returns the exit status.
 fn say_report<W: Write>(writer: &mut W, told: Result<Vec<u8>, KeepFault>) -> u8
-    ensures { result ≤ 3 }
+    ensures text { IfOk told (λ text. Says text.items 0 result (W.contents writer.old)
+        (W.contents writer.new)) }
+    ensures fault { IfErr told (λ _. result ≡ 3) }
 {
     match told {
         Ok(text) => say(writer, text.as_slice(), 0),

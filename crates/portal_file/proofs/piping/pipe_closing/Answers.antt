@@ -1,5 +1,5 @@
-use Rattle.portal_file.proofs.Base.{if_ok}
-use Rattle.portal_file.proofs.Held.{turn}
+use Rattle.portal_file.proofs.Base.{if_ok, if_err}
+use Rattle.portal_file.proofs.Held.{shows_current, turn}
 use Rattle.portal_file.proofs.piping.pipe_closing.Goals as goal
 
 pub returns-clause-process : goal.returns-clause-process
@@ -12,3 +12,12 @@ returns-clause-process g c =
       turn found left c.args.conn c.pipe_tables-conn.result.1 served.0 served.1 _ _ opened served.2 served.3 comes honest may,
       served.4,
     )) c.close_files.ensures.comes
+
+pub returns-clause-refused : goal.returns-clause-refused
+returns-clause-refused g c =
+    let did = c.pipe_tables-conn.ensures in
+    if_err c.pipe_tables-conn.result.0 _ _
+    (λ fault denies. if_ok c.close_files.result _ _
+    (λ files comes found w opened honest holds.
+    let clean = comes.clean honest in
+    denies w clean (shows_current found c.args.conn w opened (did.serves.2.clean clean) holds)) c.close_files.ensures.comes) did.refused

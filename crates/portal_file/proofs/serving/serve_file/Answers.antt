@@ -1,8 +1,12 @@
 use Rattle.sqlite_wal.specs.Files.{image_at}
-use Rattle.portal_file.proofs.Base.{if_ok}
+use Rattle.portal_file.proofs.Base.{if_ok, if_err}
 use Rattle.portal_file.proofs.serving.serve_file.Goals as goal
 
-pub returns-in-Ok : goal.returns-in-Ok
-returns-in-Ok g c = record {
-  process = if_ok c.serve_closing.result.1 _ _ (λ files did left honest may. did (image_at g.S.Start) left c.in-Ok.ensures.found honest may) c.serve_closing.ensures.process;
-}
+pub returns-in-Ok-clause-process : goal.returns-in-Ok-clause-process
+returns-in-Ok-clause-process g c =
+    if_ok c.serve_closing.result.1 _ _ (λ files did left honest may. did (image_at g.S.Start) left c.in-Ok.ensures.found honest may) c.serve_closing.ensures.process
+
+pub returns-in-Ok-clause-refused : goal.returns-in-Ok-clause-refused
+returns-in-Ok-clause-refused g c =
+    if_err c.serve_closing.result.0 _ _
+    (λ fault did. if_ok c.serve_closing.result.1 _ _ (λ files denies w honest holds. denies (image_at g.S.Start) w c.in-Ok.ensures.found honest holds) did) c.serve_closing.ensures.refused

@@ -1,5 +1,6 @@
-use Rattle.portal_run.proofs.Upgraded.{missing}
+use Rattle.portal_store.specs.declared.store.UpgradeFault.TheVariants.{NotPortal}
+use Rattle.portal_run.proofs.Upgraded.{refused}
 use Rattle.portal_run.proofs.database.do_job.Goals as goal
 
-pub returns-then-is_missing-clause-says : goal.returns-then-is_missing-clause-says
-returns-then-is_missing-clause-says g c upgrades small = missing _ _ _ _ c.refuse.ensures small
+pub returns-in-Missing-clause-says : goal.returns-in-Missing-clause-says
+returns-in-Missing-clause-says g c upgrades small = refused NotPortal _ _ _ c.refuse.ensures small

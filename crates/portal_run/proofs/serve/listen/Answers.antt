@@ -1,8 +1,8 @@
-use Rattle.portal_desk.proofs.Moving.{no_moves}
+use Rattle.portal_desk.proofs.Moving.{worked_none}
 use Rattle.portal_run.proofs.serve.listen.Goals as goal
 
-pub returns-in_default-clause-moves : goal.returns-in_default-clause-moves
-returns-in_default-clause-moves g c = no_moves _
+pub returns-in_default-clause-worked : goal.returns-in_default-clause-worked
+returns-in_default-clause-worked g c = worked_none _ _
 
-pub returns-then-said-ne0-clause-moves : goal.returns-then-said-ne0-clause-moves
-returns-then-said-ne0-clause-moves g c = no_moves _
+pub returns-then-said-ne0-clause-worked : goal.returns-then-said-ne0-clause-worked
+returns-then-said-ne0-clause-worked g c = worked_none _ _
