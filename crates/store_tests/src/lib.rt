@@ -1,4 +1,4 @@
-//! Tests the tables, the store in both rounds, and the commands.
+//! Tests the tables, and the store in both rounds.
 #![tactic(auto)]
 
 #[cfg(test)]

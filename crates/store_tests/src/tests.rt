@@ -1,6 +1,5 @@
-//! Tests the tables, a desk over a database in memory or on a disk that fails, and the commands.
+//! Tests the tables, and a desk over a database in memory or on a disk that fails.
 
-mod commands;
 mod crowds;
 mod damages;
 mod failed_reads;

@@ -1,7 +1,6 @@
 //! Tests `init`, `pipe`, `report` and `upgrade` on database files.
 
 use super::ran;
-use crate::tests::steps::run_all;
 use portal_fixtures::{Line, lines, version1, worked};
 use sqlite::{Alter, Connection, Error};
 use std::alloc::AllocError;
@@ -48,7 +47,10 @@ fn is_played(rt: &HostRuntime, path: &str, scripts: &[&str]) -> Result<bool, All
 
 /// Runs SQL texts over a connection. Generic, because proofs over files are slow.
 fn run_over<S: Alter + Drop>(mut conn: Connection<S>, texts: &[&str]) -> Result<(), Error> {
-    run_all(&mut conn, texts)
+    for text in texts {
+        conn.execute_batch(text)?;
+    }
+    Ok(())
 }
 
 /// Runs SQL texts over a database file, which is made if it does not exist.

@@ -1,0 +1,5 @@
+//! Tests the commands.
+#![tactic(auto)]
+
+#[cfg(test)]
+mod tests;
