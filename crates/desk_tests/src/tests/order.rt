@@ -29,17 +29,14 @@ struct Noting<'a> {
 }
 
 impl<'a> Keeper for Noting<'a> {
-    ghost world = { λ noting. noting.kept };
-
-    ghost clean = { λ noting. Unit {0} };
-
-    ghost disk = { λ noting. Unit {0} };
-
-    ghost broken = { λ noting. ⊥ };
-
-    ghost leaves = { λ noting _. ⊥ };
-
-    ghost faults = { λ noting. 0 };
+    ghost state = { λ noting. record {
+      world = noting.kept;
+      clean = Unit {0};
+      disk = Unit {0};
+      broken = ⊥;
+      leaves = λ _. ⊥;
+      faults = 0;
+    } };
 
     fn view(&mut self, alloc: Global, code: &[u8]) -> Result<View, KeepFault> {
         self.done.views.set(self.done.views.get().saturating_add(1));
