@@ -1,11 +1,12 @@
 """What every test of the page has: a door, a browser, and at the end a look at what the browser and the door have written."""
 
 import json
+import os
 import re
 import unittest
 
 from browser import Browser
-from door import OFFICE, TOP, Door
+from door import OFFICE, TOP, Door, DoorWithoutCaddy
 
 YEAR = TOP / "examples/year"
 ADA, BEN, CLEO, DORA, EMIL = (f"student-{name}-1" for name in ("ada", "ben", "cleo", "dora", "emil"))
@@ -17,8 +18,10 @@ OF_A_STATUS = re.compile(r"Failed to load resource: the server responded with a 
 
 
 class PageCase(unittest.TestCase):
+    kind_of_door = DoorWithoutCaddy if os.environ.get("PORTAL_STAND_IN") else Door
+
     def setUp(self):
-        self.door = Door()
+        self.door = self.kind_of_door()
         self.addCleanup(self.door.stop)
         self.downloads = self.door.path / "downloads"
         self.downloads.mkdir()

@@ -17,8 +17,9 @@ WEB = Path(__file__).resolve().parent.parent
 TOP = WEB.parent
 OFFICE = "office-of-2026"
 
-sys.path.append(str(TOP / "examples"))
+sys.path += [str(TOP / "examples"), str(TOP / "deploy")]
 from large import Large, STEPS  # noqa: E402
+from standin import StandIn  # noqa: E402
 
 # The databases of the large department, by the step to which each was played: once for all tests of a run.
 PLAYED = Path(tempfile.mkdtemp(prefix="portal-played-"))
@@ -62,7 +63,6 @@ class Door:
         self.folder = tempfile.TemporaryDirectory(prefix="portal-page-")
         self.path = Path(self.folder.name)
         self.portal_port, self.port = free_port(), free_port()
-        self.address = f"https://localhost:{self.port}"
         self.notice = self.path / "notice"
         site = self.path / "site"
         for folder in (site, self.notice):
@@ -99,6 +99,7 @@ class Door:
         self.portal.wait()
 
     def start_door(self):
+        self.address = f"https://localhost:{self.port}"
         subprocess.run(CERTIFICATE.split(), cwd=self.path, check=True, stderr=subprocess.DEVNULL)
         sites = self.path / "localhost.caddy"
         sites.write_text(SITE.format(port=self.port, portal_port=self.portal_port, folder=self.path))
@@ -109,10 +110,13 @@ class Door:
             self.door = subprocess.Popen(words, stdout=log, stderr=log, env={**os.environ, **own})
         wait_for(self.port)
 
+    def stop_door(self):
+        self.door.terminate()
+        self.door.wait()
+
     def stop(self):
-        for process in (self.portal, self.door):
-            process.terminate()
-            process.wait()
+        self.stop_portal()
+        self.stop_door()
         self.folder.cleanup()
 
     def ask(self, code, method, path, body=None):
@@ -161,3 +165,18 @@ class Door:
 
     def log(self):
         return (self.path / "door.log").read_text()
+
+
+class DoorWithoutCaddy(Door):
+    """The stand-in that deploy/local takes where there is no Caddy."""
+
+    def start_door(self):
+        self.address = f"http://localhost:{self.port}"
+        self.door = StandIn(self.port, self.portal_port, self.path / "site", self.notice)
+
+    def stop_door(self):
+        self.door.shutdown()
+        self.door.server_close()
+
+    def log(self):
+        return ""
