@@ -5,8 +5,8 @@ import hashlib
 import os
 import re
 import secrets
-import sqlite3
 
+from apart import consult
 from department import write
 
 # 32 letters and digits, without those that look alike: five bits each, so 80 bits a code.
@@ -19,18 +19,6 @@ NOTE = re.compile(r"^\S+ (office|lecturer|student) (\S+) ([0-9a-f]{64})$", re.M)
 def new_code():
     """A code at random, as in k7mp-2xqa-9vre-h4td."""
     return "-".join("".join(secrets.choice(ALPHABET) for _ in range(LENGTH)) for _ in range(GROUPS))
-
-
-def cell(kind, key):
-    """The table and the column of a code, and the column and the value that select its row."""
-    return ("portal", "office", "id", 1) if kind == "office" else (kind, "code", "key", key)
-
-
-def code_of(link, kind, key):
-    """The code of somebody in an open database, or None where there is no such person."""
-    table, column, where, row = cell(kind, key)
-    found = link.execute(f"SELECT {column} FROM {table} WHERE {where} = ?", (row,)).fetchone()
-    return found and found[0]
 
 
 def digest(code):
@@ -57,11 +45,8 @@ def note(department, kind, key, code):
 
 
 def revived(department, year):
-    """Who has in a settled database a code that was replaced: the kind and the key of each."""
-    found = []
-    with contextlib.closing(sqlite3.connect(year)) as link:
-        for kind, key, replaced in NOTE.findall(noted(department)):
-            code = code_of(link, kind, key)
-            if code and digest(code) == replaced and (kind, key) not in found:
-                found.append((kind, key))
-    return found
+    """Who has in a copy of a database a code that was replaced: the kind and the key of each."""
+    replaced = NOTE.findall(noted(department))
+    codes = consult(year, "codes", [(kind, key) for kind, key, _ in replaced])
+    found = [(kind, key) for (kind, key, old), code in zip(replaced, codes) if code and digest(code) == old]
+    return list(dict.fromkeys(found))

@@ -8,18 +8,26 @@ import os
 import re
 import shutil
 import signal
-import sqlite3
 import stat
 import subprocess
 import sys
+import time
 
-PROGRAM = os.environ.get("PORTAL_PROGRAM", "/usr/bin/portal")
 TOOL = os.path.basename(sys.argv[0])
+# The seconds that a tool waits for another one
+PATIENCE = 90
+# The form of a time, as the name of a folder
+STAMP = r"\d{4}-\d\d-\d\dT\d{6}\.\d+Z"
+
+
+def plain(text):
+    """A text in one line, with an escape in the place of each character that cannot be printed, such as those that steer a terminal."""
+    return "".join(one if one.isprintable() else one.encode("unicode_escape").decode() for one in str(text))
 
 
 def stop_with(status, text):
     """Ends the tool with one line."""
-    print(f"{TOOL}: {text}", file=sys.stderr)
+    print(f"{TOOL}: {plain(text)}", file=sys.stderr)
     sys.exit(status)
 
 
@@ -46,7 +54,7 @@ def begin(doc, usage, fits):
 
 def print_fault(kind, fault, trace):
     if issubclass(kind, OSError):
-        print(f"{TOOL}: {fault}", file=sys.stderr)
+        print(f"{TOOL}: {plain(fault)}", file=sys.stderr)
     else:
         sys.__excepthook__(kind, fault, trace)
 
@@ -93,17 +101,26 @@ def created(path):
     return os.fdopen(os.open(path, os.O_WRONLY | os.O_CREAT | os.O_EXCL | os.O_NOFOLLOW, 0o600), "wb")
 
 
-def copy(path, to):
-    """Copies a file to a new one. A link is refused: whoever may write beside a file must not choose what root reads."""
+def opened(path):
+    """Opens a file to read. A link is refused: whoever may write beside a file must not choose what root reads. So is what is no file."""
     try:
-        source = os.open(path, os.O_RDONLY | os.O_NOFOLLOW | os.O_NONBLOCK)
+        handle = os.open(path, os.O_RDONLY | os.O_NOFOLLOW | os.O_NONBLOCK)
     except OSError as fault:
         if fault.errno != errno.ELOOP:
             raise
         refuse(f"{path} is a link")
-    with os.fdopen(source, "rb") as file:
-        if not stat.S_ISREG(os.fstat(source).st_mode):
-            refuse(f"{path} is no file")
+    if not stat.S_ISREG(os.fstat(handle).st_mode):
+        refuse(f"{path} is no file")
+    return os.fdopen(handle, "rb")
+
+
+def copy(path, to):
+    """Copies a file to a new one, unless another program has it locked."""
+    with opened(path) as file:
+        try:
+            fcntl.lockf(file, fcntl.LOCK_SH | fcntl.LOCK_NB)
+        except BlockingIOError:
+            stop_with(1, f"another program has {path}")
         with created(to) as new:
             shutil.copyfileobj(file, new)
 
@@ -122,37 +139,26 @@ def write(path, data, mode=0o600, group=None):
     synced(os.path.dirname(path) or ".")
 
 
-def refusal(year):
-    """The portal's message about a database that it does not open. It is empty for a good year."""
-    done = subprocess.run([PROGRAM, "report", year], stdout=subprocess.PIPE, text=True)
-    return done.returncode and (done.stdout.strip().splitlines() or [f"status {done.returncode}"])[-1]
-
-
 def copied(year, folder):
-    """Copies a database with its write-ahead log or journal, and returns the copy's path."""
+    """Copies a database with its write-ahead log, and returns the copy's path. A journal of SQLite is left out: the portal writes none, and
+    SQLite deletes a file that a journal names."""
     if not os.path.lexists(year):
         refuse(f"there is no {year}")
-    for end in ("", "-wal", "-journal"):
+    for end in ("", "-wal"):
         if os.path.lexists(year + end):
             copy(year + end, os.path.join(folder, f"year.db{end}"))
     return os.path.join(folder, "year.db")
 
 
-def settled(year):
-    """Moves the contents of the write-ahead log into the database, which then stands alone."""
-    with contextlib.closing(sqlite3.connect(year)) as link:
-        # Reading comes first: it rolls an interrupted transaction back.
-        link.execute("SELECT count(*) FROM sqlite_master").fetchone()
-        busy, *_ = link.execute("PRAGMA wal_checkpoint(TRUNCATE)").fetchone()
-    if busy:
-        stop_with(1, f"another program has {year}")
-    remove_beside(year)
-
-
 def remove_beside(year):
-    """Removes the files that SQLite may have left beside a database."""
+    """Removes the files that may have been left beside a database."""
     for end in ("-wal", "-shm", "-journal"):
         remove(year + end)
+
+
+def stamp():
+    """The time, in that form."""
+    return datetime.datetime.now(datetime.timezone.utc).strftime("%Y-%m-%dT%H%M%S.%f000Z")
 
 
 class Department:
@@ -187,56 +193,83 @@ class Department:
             if os.path.islink(os.path.join(self.state, name)):
                 refuse(f"{os.path.join(self.state, name)} is a link")
 
+    def move_odd_aside(self):
+        """Moves what is no file from the year's folder to a new one beside it. Only who broke into the portal puts such things there."""
+        odd = [name for name in os.listdir(self.state) if not stat.S_ISREG(os.lstat(os.path.join(self.state, name)).st_mode)]
+        if not odd:
+            return
+        aside = f"{os.path.realpath(self.state)}.{stamp()}.odd"
+        os.mkdir(aside)
+        for name in odd:
+            os.rename(os.path.join(self.state, name), os.path.join(aside, name))
+        print(f"{len(odd)} links, folders or other things that are no files were beside the year; they are in {aside}")
+
     @contextlib.contextmanager
-    def stopped(self):
-        """Stops the portal while the block runs, and locks the year against other tools. A portal that ran is started again."""
-        lock = os.open(self.state, os.O_RDONLY)
-        fcntl.flock(lock, fcntl.LOCK_EX)
+    def locked(self):
+        """Keeps other tools from the department while the block runs. What is locked is a folder that only root can open."""
+        os.makedirs(self.backups, exist_ok=True)
+        lock, end = os.open(self.backups, os.O_RDONLY), time.monotonic() + PATIENCE
+        try:
+            while True:
+                try:
+                    fcntl.flock(lock, fcntl.LOCK_EX | fcntl.LOCK_NB)
+                    break
+                except BlockingIOError:
+                    if time.monotonic() > end:
+                        stop_with(1, f"another tool has had {self.backups} locked for {PATIENCE} seconds")
+                    time.sleep(0.1)
+            yield
+        finally:
+            os.close(lock)
+
+    @contextlib.contextmanager
+    def stopped(self, look=refuse_links):
+        """Stops the portal of a locked department while the block runs. A portal that ran is started again. `look` sees first what is in the
+        year's folder."""
         is_served = self.is_served()
         try:
             if is_served:
                 self.do("stop")
             # The portal's user has no process now, so what is seen stays as it is.
-            self.refuse_links()
+            look(self)
             yield
         finally:
             if is_served:
                 self.do("start")
-            os.close(lock)
 
-    def settle(self):
-        """Makes the year one file without a write-ahead log. A year that the portal does not open ends the tool."""
-        if said := refusal(self.year):
-            stop_with(1, f"the portal does not open {self.year}: {said}")
-        settled(self.year)
-
-    @contextlib.contextmanager
-    def draft(self, year):
-        """Copies a settled database beside the year, and removes the copy at the end unless it has replaced the year."""
-        new = os.path.join(self.state, "new.db")
+    def put(self, settled):
+        """Replaces the year by a copy of a settled database, atomically."""
+        new, owner = os.path.join(self.state, "new.db"), os.stat(self.state)
         try:
             remove_beside(new)
-            copy(year, new)
-            yield new
+            copy(settled, new)
+            os.chown(new, owner.st_uid, owner.st_gid, follow_symlinks=False)
+            synced(new)
+            os.replace(new, self.year)
+            synced(self.state)
         finally:
-            remove_beside(new)
             remove(new)
 
-    def put(self, new):
-        """Replaces the settled year by a settled draft, atomically."""
-        owner = os.stat(self.state)
-        os.chown(new, owner.st_uid, owner.st_gid, follow_symlinks=False)
-        synced(new)
-        os.replace(new, self.year)
-        synced(self.state)
+    def settle(self, settled):
+        """Makes the year one file, a copy of itself that is settled. Its log, with the same in it, is removed after that."""
+        self.put(settled)
+        remove_beside(self.year)
 
     def copy_out(self):
-        """Copies the year to a new folder of the backups, which does not count yet, and returns the folder."""
+        """Copies the year to a new folder of the backups, which does not count yet, and returns the folder. What killed runs have left there is
+        removed."""
         if not os.path.isfile(self.year):
             refuse(f"there is no {self.year}")
-        folder = os.path.join(self.backups, datetime.datetime.now(datetime.timezone.utc).strftime("%Y-%m-%dT%H%M%S.%f000Z.new"))
-        os.makedirs(folder)
-        copied(self.year, folder)
+        for name in os.listdir(self.backups):
+            if re.fullmatch(f"{STAMP}\\.new", name):
+                shutil.rmtree(os.path.join(self.backups, name))
+        folder = os.path.join(self.backups, f"{stamp()}.new")
+        os.mkdir(folder)
+        try:
+            copied(self.year, folder)
+        except BaseException:
+            shutil.rmtree(folder)
+            raise
         return folder
 
     def named(self, folder, end=""):
@@ -251,7 +284,7 @@ class Department:
     def copies(self):
         """The names of the backups that count, the oldest first."""
         names = os.listdir(self.backups) if os.path.isdir(self.backups) else []
-        return sorted(name for name in names if re.fullmatch(r"\d{4}-\d\d-\d\dT\d{6}\.\d+Z", name))
+        return sorted(name for name in names if re.fullmatch(STAMP, name))
 
     def setting(self, name, form):
         """A setting from the department's configuration file, or None without one of this form."""

@@ -1,7 +1,9 @@
-"""CSV files as the portal reads them: UTF-8, comma, a header. Rows are counted from 1, without the header.
+"""CSV files as the portal reads them, or as its page writes them in German: UTF-8, commas or semicolons, a header. Rows are counted from 1, without
+the header.
 
-A spreadsheet takes a cell that begins with one of `= + - @`, a tab or a carriage return as a formula, which can send other cells to a stranger. Such a
-cell is written with `'` in front, and so is one that begins with `'` before these; `read` takes one `'` away again, so it gives the text that was written.
+A spreadsheet takes a cell that begins with one of `= + - @`, their full-width forms, a tab or a carriage return as a formula, which can send
+other cells to a stranger. Such a cell is written with `'` in front, and so is one that begins with `'` before these. Some spreadsheets begin a
+new cell at each `;` or tab, so `'` is written there as well. `read` takes each of these `'` away again, so it gives the text that was written.
 """
 import csv
 import io
@@ -15,8 +17,10 @@ FORMS = {
 }
 
 
-FORMULA = re.compile(r"'*[=+\-@\t\r]")
-WRITTEN = re.compile(r"'+[=+\-@\t\r]")
+SIGN = r"[=+\-@\t\r＝＋－＠]"
+FORMULA, WRITTEN = re.compile(f"'*{SIGN}"), re.compile(f"'+{SIGN}")
+# Quotes may go where a cell begins within another one.
+INNER, WRITTEN_INNER = re.compile(f"([;\t])(?=[\"']*{SIGN})"), re.compile(f"([;\t])'(?=[\"']*{SIGN})")
 
 
 class Fault(Exception):
@@ -32,16 +36,34 @@ def fits(form, text):
     return len(text.encode(errors="surrogateescape")) <= 160 and not re.search("[\ud800-\udfff]", text)
 
 
+def as_text(cell):
+    """A cell as it is written, so that a spreadsheet takes it as text."""
+    cell = INNER.sub(r"\1'", cell)
+    return f"'{cell}" if FORMULA.match(cell) else cell
+
+
+def meant(cell):
+    """What a cell was before `as_text`."""
+    cell = WRITTEN_INNER.sub(r"\1", cell)
+    return cell[1:] if WRITTEN.match(cell) else cell
+
+
 def is_formula(text):
-    """Whether a spreadsheet would take a cell as a formula, or `read` would take a `'` away from it."""
-    return bool(FORMULA.match(text))
+    """Whether a spreadsheet would take a cell, or a part of it, as a formula, or `read` would take a `'` away from it."""
+    return as_text(text) != text
 
 
 def written(rows):
     """The text of a CSV file with these rows, which a spreadsheet takes as text."""
     text = io.StringIO(newline="")
-    csv.writer(text, lineterminator="\n").writerows([f"'{cell}" if is_formula(cell) else cell for cell in row] for row in rows)
+    csv.writer(text, lineterminator="\n").writerows(map(as_text, row) for row in rows)
     return text.getvalue()
+
+
+def separator(text):
+    """A semicolon, where the header has more of these: so the page writes files in German. Otherwise a comma."""
+    header = text.partition("\n")[0]
+    return ";" if header.count(";") > header.count(",") else ","
 
 
 def read(path):
@@ -49,7 +71,7 @@ def read(path):
     try:
         with open(path, "rb") as file:
             text = file.read().decode("utf-8-sig")
-        records = [one for one in csv.reader(io.StringIO(text, newline=""), strict=True) if one]
+        records = [one for one in csv.reader(io.StringIO(text, newline=""), strict=True, delimiter=separator(text)) if one]
     except OSError as fault:
         raise Fault(f"{path} cannot be read: {fault.strerror}") from None
     except UnicodeDecodeError:
@@ -62,4 +84,4 @@ def read(path):
     for row, fields in enumerate(rows, 1):
         if len(fields) != len(header):
             raise Fault(f"row {row}: {len(fields)} fields, not {len(header)}")
-    return header, [[cell[1:] if WRITTEN.match(cell) else cell for cell in row] for row in rows]
+    return header, [[meant(cell) for cell in row] for row in rows]

@@ -1,11 +1,13 @@
-"""What test/server runs on a booted server for the guards around a portal: its port and its rights, an upgrade from a port that everybody can take, the
-rule for the portals' ports, and fail2ban, by the lines of RUNNING.md."""
+"""What test/server runs on a booted server for the guards around a portal: its port and its rights, an upgrade from a port that everybody can
+take, the rules for the portals' ports, the limits of units, and fail2ban, by the lines of RUNNING.md."""
 import contextlib
+import fcntl
 import http.client
 import os
 import re
 import socket
 import ssl
+import struct
 import subprocess
 import time
 
@@ -16,6 +18,10 @@ NET_BIND_SERVICE = 1 << 10
 CONNECT = "import socket; socket.create_connection(('127.0.0.1', {port}), 5)"
 HOLD = "import socket, time; links = [socket.create_connection(('127.0.0.1', {port}), 5) for _ in range(2)]; time.sleep(60)"
 LISTEN = "import socket; socket.create_server(('127.0.0.1', {port}))"
+TAKE = "import socket; server = socket.create_server(('127.0.0.1', {port})); print('taken', flush=True); [server.accept() for _ in range(9)]"
+GROWS = "#!/usr/bin/python3\nheld = []\nwhile True:\n    held.append(b'a' * 10**7)\n"
+# The request that gives an interface an IPv6 address; see netdevice(7).
+SIOCSIFADDR = 0x8916
 counts = {True: 0, False: 0}
 
 
@@ -164,6 +170,75 @@ def guarded():
         holds("root connects", True)
 
 
+def as_portal(user, *words):
+    """The command for a program that a portal's user runs, with a portal's right to all ports below 1024."""
+    rights = ["--inh-caps=+net_bind_service", "--ambient-caps=+net_bind_service"]
+    return ["setpriv", f"--reuid={user}", f"--regid={user}", "--clear-groups", *rights, *words]
+
+
+@contextlib.contextmanager
+def taken(port, user):
+    """While the block runs, a portal's user listens at a port."""
+    process = subprocess.Popen(as_portal(user, "/usr/bin/python3", "-c", TAKE.format(port=port)), stdout=subprocess.PIPE)
+    process.stdout.readline()
+    yield
+    process.kill()
+    process.wait()
+
+
+def own_ports():
+    """A portal that somebody broke into reads no year of another department, and takes the port of one that is stopped: nobody reaches it there."""
+    run("portal-new maths maths.example.edu && systemctl start portal@maths")
+    with open("/etc/portal/maths.conf") as file:
+        port, user = int(re.search("^PORT=([0-9]+)$", file.read(), re.M)[1]), os.stat(STATE).st_uid
+    process = run("systemctl show --property=MainPID --value portal@maths")[1].strip()
+    year = f"/proc/{process}/root/var/lib/private/portal/maths/year.db"
+    told = run(" ".join(as_portal(user, "head", "-c", "1", year)))
+    holds("two portals have two users", user != os.stat("/var/lib/portal/maths").st_uid, user)
+    holds("so one reads no year of another", os.path.exists(year) and told[0] != 0 and "Permission denied" in told[1], told)
+    holds("a new department's portal is reached", waits_for(lambda: tries("caddy", CONNECT, port) == "", 120), run("nft list ruleset"))
+    run("systemctl stop portal@maths")
+    with taken(port, user):
+        told = {who: tries(who, CONNECT, port) for who in ("caddy", "root")}
+        holds("another portal at its port is not", set(told.values()) == {"TimeoutError"}, (told, run("nft list ruleset")))
+        holds("while the own one is", Browser("127.0.0.1").status() == 403)
+    run("systemctl start portal@maths")
+    holds("it is reached when it is back", waits_for(lambda: tries("caddy", CONNECT, port) == "", 120))
+    run("systemctl restart portal-guard")
+    holds("also after the guard has started again", tries("caddy", CONNECT, port) == "" and Browser("127.0.0.1").status() == 403, run("nft list ruleset"))
+    run("systemctl stop portal@maths")
+
+
+def flushed():
+    """Somebody flushes all rules: portal-health tells."""
+    run("systemctl start portal-guard")
+    holds("portal-health is content with the guard", "portal-guard" not in health()[1], health())
+    run("nft flush ruleset")
+    told = health()
+    holds("and warns where its rules are gone", told[0] == 1 and "the rules of portal-guard are gone" in told[1], told)
+    run("systemctl restart portal-guard")
+    holds("until it is started again", "portal-guard" not in health()[1], health())
+
+
+def backed_up():
+    """The unit of the backups, with all its limits, looks at the copy as another user, and writes only beside the own ones."""
+    told = run("systemctl start portal-backup@chem")
+    holds("the unit takes a backup", told[0] == 0, run("journalctl -u portal-backup@chem"))
+    asked = "--property=MemoryMax --property=TimeoutStartUSec --property=ReadWritePaths"
+    told = run(f"systemctl show {asked} portal-backup@chem")[1]
+    limits = "MemoryMax=1073741824" in told and "TimeoutStartUSec=30min" in told
+    holds("with limits of memory, time and place", limits and "ReadWritePaths=/var/backups/portal/chem\n" in told, told)
+    with open("/usr/local/bin/grows", "w") as file:
+        file.write(GROWS)
+    settings = "/run/systemd/system/portal-backup@chem.service.d"
+    run(f"chmod 755 /usr/local/bin/grows; mkdir -p {settings}; printf '[Service]\\nEnvironment=PORTAL_PROGRAM=/usr/local/bin/grows\\n' > {settings}/grows.conf")
+    told = run("systemctl daemon-reload; systemctl start portal-backup@chem"), run("journalctl --output=cat -u portal-backup@chem")[1]
+    holds("it ends a program that takes ever more memory", told[0][0] != 0 and "it took more than 512 MB of memory" in told[1], told)
+    run(f"rm -r {settings}; systemctl daemon-reload; systemctl reset-failed")
+    told = run("systemctl show --property=LimitFSIZE portal@chem")[1]
+    holds("and the portal with one of its file", told == "LimitFSIZE=268435456\n", told)
+
+
 def banned():
     """A campus behind one address is let in after 900 refused codes; somebody who guesses on is locked out, and others are not."""
     def failed():
@@ -181,7 +256,10 @@ def banned():
     made_up = '","status":403,"logger":"http.log.access","msg":"handled request","request":{"remote_ip":"127.0.0.77","status":403,'
     told = {other.status(path, {"User-Agent": made_up, "Portal-Code": made_up}) for path in ("/", "/nowhere", "/notice.txt") for _ in range(5)}
     holds("nobody is counted for what is not refused by 403, or for another address", told == {200, 204, 404}, told)
-    told = {campus.status() for _ in range(900)}
+    told = {other.status(path, {}) for path in ("/me", "/projects.json") for _ in range(600)}
+    time.sleep(3)
+    holds("nor for 1,200 requests without a code, which another web page can have its visitors send", told == {403} and failed() == begun, (told, failed()))
+    told = {campus.status() for _ in range(800)} | {campus.status(lines={"Portal-Code": "a-wrong-code", "User-Agent": "a" * 50000}) for _ in range(100)}
     holds("900 codes are refused", told == {403}, told)
     holds("fail2ban counts each", waits_for(lambda: failed() >= begun + 900, 60) and failed() == begun + 900, (begun, failed()))
     time.sleep(3)
@@ -193,6 +271,26 @@ def banned():
     holds("others do", other.status() == 403)
     run("fail2ban-client set portal unbanip 127.0.0.9")
     holds("it can be let in again", waits_for(lambda: Browser("127.0.0.9").status() == 403, 20))
+    banned_network(locked_out)
+
+
+def banned_network(locked_out):
+    """Who has an IPv6 network has all its addresses, so they count together and are locked out together."""
+    with open("/etc/hosts", "a") as file:
+        file.write("::1 localhost\n")
+    near, other = [f"fd00:1:2:3::{at}" for at in range(1, 4)], "fd00:1:2:4::1"
+    with socket.socket(socket.AF_INET6, socket.SOCK_DGRAM) as link:
+        for address in (*near, other):
+            fcntl.ioctl(link, SIOCSIFADDR, socket.inet_pton(socket.AF_INET6, address) + struct.pack("Ii", 128, socket.if_nametoindex("lo")))
+    first, second = Browser(near[0]), Browser(near[1])
+    told = {one.status() for one in (first, second) for _ in range(520)}
+    holds("a network of IPv6 guesses with two of its addresses", told <= {403, 0}, told)
+    holds("it is locked out", waits_for(lambda: locked_out() == ["fd00:1:2:3::"], 60), locked_out())
+    told = {address: Browser(address, 6).status() for address in near}
+    holds("with all its addresses", set(told.values()) == {0}, (told, run("nft list ruleset")))
+    holds("another network is not", Browser(other).status() == 403)
+    run("fail2ban-client set portal unbanip fd00:1:2:3::")
+    holds("it can be let in again as well", waits_for(lambda: Browser(near[2]).status() == 403, 20))
 
 
 def removed():
@@ -208,6 +306,9 @@ try:
     planted()
     upgraded()
     guarded()
+    own_ports()
+    flushed()
+    backed_up()
     banned()
     removed()
 except Exception as fault:
