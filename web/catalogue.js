@@ -1,5 +1,6 @@
 // The catalogue: a row for each project, with its description where there is one, and with what stands on the own list.
 
+import { descriptionOf } from './described.js';
 import { button, given, isUsable, make, part, setUsable, skipLink } from './dom.js';
 import { SearchTable } from './table.js';
 import { words } from './words.js';
@@ -45,7 +46,7 @@ export class Catalogue {
     const none = make('p', { text: isSecond ? words.noProjectsSecond : words.noProjects });
     const skips = making?.aims.map(({ text, aim }) => skipLink(text, aim)) ?? [];
     const shown = make('div', { class: 'catalogue' }, projects.length === 0 ? [none] : [...skips, this.#table.element]);
-    this.element = part(words.catalogue, [isFolded ? make('details', {}, [make('summary', { text: words.showProjects(projects.length) }), shown]) : shown]);
+    this.element = part(words.catalogue, [isFolded ? make('details', {}, [make('summary', { text: words.showProjects(projects.length) }), shown]) : shown], { class: 'projects' });
   }
 
   /**
@@ -57,6 +58,14 @@ export class Catalogue {
     const places = new Map(keys.map((key, at) => [key, at + 1]));
     for (const [key, adder] of this.#adders) adder(places.get(key), isFull);
     this.#listed = new Set(keys);
+  }
+
+  /**
+   * Brings the row of a project into sight, where nobody searches for others.
+   * @param {string} key
+   */
+  look(key) {
+    this.#table.look(key);
   }
 
   /**
@@ -102,29 +111,36 @@ export class Catalogue {
   }
 
   /**
-   * A project that is on the list tells its position there instead of the button.
+   * The button of a row puts the project on the list and takes it off again; a project on the list tells its position there.
    * @param {Project} project
    * @param {Making} making
    */
   #adder({ id, title }, making) {
-    const place = make('span', { class: 'on-list', tabindex: '-1', hidden: true });
-    const adder = button(words.add, () => {
-      if (!isUsable(adder)) return;
-      making.add(id);
-      place.after(...this.#skips);
-      place.focus();
-    }, { name: words.addKey(words.named(title, id)) });
+    const place = make('span', { class: 'on-list', hidden: true });
+    const name = words.named(title, id);
     /** @type {number | undefined} */
     let shown;
+    const adder = button(words.add, () => {
+      if (!isUsable(adder)) return making.full();
+      if (shown === undefined) making.add(id);
+      else making.take(id);
+      adder.after(...this.#skips);
+    }, { name: words.addKey(name) });
     this.#adders.set(id, (at, isFull) => {
-      if (isUsable(adder) === isFull) setUsable(adder, !isFull);
+      const isUsed = at !== undefined || !isFull;
+      if (isUsable(adder) !== isUsed) setUsable(adder, isUsed);
       if (at === shown) return;
+      if ((at === undefined) !== (shown === undefined)) {
+        const called = at === undefined ? words.addKey(name) : words.takeKey(name);
+        adder.textContent = at === undefined ? words.add : words.take;
+        adder.setAttribute('aria-label', called);
+        adder.title = called;
+      }
       shown = at;
-      adder.hidden = at !== undefined;
       place.hidden = at === undefined;
       place.textContent = at === undefined ? '' : words.onList(at);
     });
-    return make('span', { class: 'adder' }, [adder, place]);
+    return make('span', { class: 'adder' }, [place, adder]);
   }
 }
 
@@ -155,13 +171,4 @@ function titleOf(title, described) {
 function descriptionRow(row, described) {
   const columns = [...row.cells].filter((cell) => cell.offsetWidth > 0).length;
   return make('tr', { class: 'description' }, [make('td', { colspan: columns }, descriptionOf(described))]);
-}
-
-/**
- * What the department says of a project, as plain text, and a link to more.
- * @param {{ description: string, link: string }} described
- */
-export function descriptionOf({ description, link }) {
-  const texts = description === '' ? [] : [make('p', { class: 'described', text: description, dir: 'auto' })];
-  return [...texts, ...(link === '' ? [] : [make('a', { href: link, target: '_blank', rel: 'noopener noreferrer', text: words.more })])];
 }

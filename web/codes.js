@@ -1,8 +1,6 @@
-// Codes: their form, new ones by chance, and slips to cut and hand out.
+// Codes: their form, and new ones by chance.
 
 import { longestCode, shortestCode } from './config.js';
-import { given, make } from './dom.js';
-import { words } from './words.js';
 
 const CODE = new RegExp(`^[A-Za-z0-9-]{${shortestCode},${longestCode}}$`);
 
@@ -45,25 +43,4 @@ export function madeCodeOf(text) {
   const signs = text.replaceAll('-', '').toLowerCase();
   const isOne = signs.length === GROUPS * GROUP && [...signs].every((sign) => SIGNS.includes(sign));
   return isOne ? grouped(signs) : null;
-}
-
-/** @type {Partial<Record<Roll, Role>>} */
-const ROLES = { lecturers: 'lecturer', students: 'student' };
-
-/**
- * Slips with name, role, code and the page's address. They are seen in print alone.
- * @param {Roll} roll
- * @param {Entry[]} entries with a code each
- */
-export function slipsOf(roll, entries) {
-  const role = words.roles[ROLES[roll] ?? 'student'];
-  return make('ul', { class: 'slips' }, entries.map(({ name = '', code }) =>
-    make('li', {}, [
-      make('p', { class: 'slip-name' }, [given(name)]),
-      make('p', { text: `${document.title}: ${role}` }),
-      make('p', { text: `${words.slipCode}:` }),
-      make('p', { class: 'slip-code', text: code }),
-      make('p', { text: `${words.slipAddress}: ${location.origin}` }),
-      make('p', { text: words.slipSecret }),
-    ])));
 }

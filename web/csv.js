@@ -97,28 +97,37 @@ function separated(text) {
 }
 
 /**
- * Rows as text: commas, quotes where they are needed, lines ended by LF.
+ * Rows as text: a separator between fields, quotes where they are needed, lines ended by LF.
  * @param {string[][]} rows
  */
-export function written(rows) {
-  return rows.map((fields) => `${fields.map(quoted).join(',')}\n`).join('');
+export function written(rows, separator = ',') {
+  return rows.map((fields) => `${fields.map((field) => quoted(field, separator)).join(separator)}\n`).join('');
 }
 
-/** @param {string} field */
-const quoted = (field) => (/[",\r\n]/.test(field) ? `"${field.replaceAll('"', '""')}"` : field);
+/** @param {string} field @param {string} separator */
+const quoted = (field, separator) => (field.includes(separator) || /["\r\n]/.test(field) ? `"${field.replaceAll('"', '""')}"` : field);
+
+// What a formula begins with. Some spreadsheets begin a new cell at each semicolon or tab.
+const SIGN = '[=+\\-@\\t\\r＝＋－＠]';
+const INNER = new RegExp(`([;\\t])(?=["']*${SIGN})`, 'g');
+const WRITTEN_INNER = new RegExp(`([;\\t])'(?=["']*${SIGN})`, 'g');
 
 /**
  * Rows as text for a spreadsheet, which would take a cell that begins with one of these signs for a formula: it gets an apostrophe in front.
  * `table` takes that away again.
  * @param {string[][]} rows
+ * @param {string} [separator] that spreadsheets of the reader's language read without being asked
  */
-export const writtenForSpreadsheets = (rows) => written(rows.map((fields) => fields.map((field) => (/^'*[=+\-@\t\r]/.test(field) ? `'${field}` : field))));
+export const writtenForSpreadsheets = (rows, separator) => written(rows.map((fields) => fields.map(asText)), separator);
 
 /** @param {string} field */
-const meant = (field) => (/^'+[=+\-@\t\r]/.test(field) ? field.slice(1) : field);
+const asText = (field) => field.replace(INNER, "$1'").replace(new RegExp(`^(?='*${SIGN})`), "'");
+
+/** @param {string} field */
+const meant = (field) => field.replace(WRITTEN_INNER, '$1').replace(new RegExp(`^'(?='*${SIGN})`), '');
 
 /**
- * A spreadsheet takes the text for a formula, where it stands in a cell as it is.
+ * A spreadsheet takes the text, or a part of it, for a formula, where it stands in a cell as it is.
  * @param {string} text
  */
-export const isLikeFormula = (text) => /^[=+\-@\t\r]/.test(text);
+export const isLikeFormula = (text) => new RegExp(`(^|[;\\t]"*)${SIGN}`).test(text);

@@ -1,5 +1,5 @@
-// What the department tells everybody, in files beside the page: a notice, notice.txt or one for each stage, plain text; and
-// department.json, its name and perhaps a contact, links, languages and until when each stage lasts.
+// What the department tells everybody, in files beside the page: a notice, notice.txt or one for each stage, plain text, each perhaps in
+// several languages; and department.json, its name and perhaps a contact, links, languages and until when each stage lasts.
 
 import { make } from './dom.js';
 import { words } from './words.js';
@@ -31,16 +31,25 @@ async function read(name, type) {
   }
 }
 
+/**
+ * A notice in the language of the page, or else the one for all languages.
+ * @param {string} name
+ */
+async function notice(name) {
+  const [own, common] = await Promise.all([read(`${name}.${words.language}.txt`, 'text/plain'), read(`${name}.txt`, 'text/plain')]);
+  return own === '' ? common : own;
+}
+
 /** The notice: that of the stage where somebody is signed in and the stage has one, else the general one. */
 export class Notice {
-  #general = read('notice.txt', 'text/plain');
+  #general = notice('notice');
   #asked = 0;
   element = make('p', { class: 'notice', dir: 'auto', hidden: true });
 
   /** @param {Step | null} step where the year stands; null where nobody is signed in */
   async show(step) {
     const turn = ++this.#asked;
-    const own = step === null ? '' : await read(`notice-${stageOf(step)}.txt`, 'text/plain');
+    const own = step === null ? '' : await notice(`notice-${stageOf(step)}`);
     const text = own === '' ? await this.#general : own;
     if (turn !== this.#asked) return;
     this.element.textContent = text;
@@ -63,11 +72,29 @@ export function departmentOf(text) {
   } catch {
     // there is none
   }
-  if (typeof of?.name !== 'string') return { name: '' };
-  const languages = Array.isArray(of.languages) ? { languages: of.languages } : {};
+  const names = namesOf(of?.name);
+  if (names === null) return { name: '' };
+  const languages = Array.isArray(of.languages) ? { languages: of.languages.filter((/** @type {unknown} */ one) => typeof one === 'string') } : {};
   const links = LINKS.map((name) => [name, addressOf(of[name])]).filter(([, address]) => address !== '');
-  return { name: of.name, ...languages, ...untilOf(of.until), ...Object.fromEntries(links) };
+  return { ...names, ...languages, ...untilOf(of.until), ...Object.fromEntries(links) };
 }
+
+/**
+ * One name, or one for each language, of which the first one is that of all others.
+ * @param {any} name
+ * @returns {Pick<Department, 'name' | 'names'> | null}
+ */
+function namesOf(name) {
+  if (typeof name === 'string') return { name };
+  const names = Object.entries(name ?? {}).filter(([, one]) => typeof one === 'string');
+  return names.length === 0 || Array.isArray(name) ? null : { name: names[0][1], names: Object.fromEntries(names) };
+}
+
+/**
+ * What the department is called in the language of the page.
+ * @param {Department} of
+ */
+export const nameOf = ({ name, names = {} }) => names[words.language] ?? name;
 
 /**
  * A link leads to a page by https, or to a mail address.
@@ -84,12 +111,19 @@ const MOMENT = /^\d{4}-\d\d-\d\dT\d\d:\d\d(:\d\d)?(Z|[+-]\d\d:\d\d)$/;
 
 /** @param {any} until */
 function untilOf(until) {
-  const ends = WITH_END.map((stage) => /** @type {[string, Date]} */ ([stage, momentOf(until?.[stage])])).filter(([, end]) => !Number.isNaN(end.getTime()));
+  const ends = WITH_END.map((stage) => /** @type {[string, End]} */ ([stage, endOf(until?.[stage])])).filter(([, { at }]) => !Number.isNaN(at.getTime()));
   return ends.length === 0 ? {} : { until: Object.fromEntries(ends) };
 }
 
-/** @param {unknown} text */
-const momentOf = (text) => new Date(typeof text === 'string' && MOMENT.test(text) ? text : NaN);
+/**
+ * @param {unknown} text
+ * @returns {End}
+ */
+function endOf(text) {
+  const [whole = '', , zone = ''] = (typeof text === 'string' && MOMENT.exec(text)) || [];
+  const [, sign, hours, minutes] = /([+-])(\d\d):(\d\d)/.exec(zone) ?? ['', '+', '0', '0'];
+  return { at: new Date(whole === '' ? NaN : whole), offset: Number(`${sign}1`) * (Number(hours) * 60 + Number(minutes)) };
+}
 
 /**
  * The links, for the foot of the page.

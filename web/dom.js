@@ -41,6 +41,12 @@ export function given(text, has = {}) {
 }
 
 /**
+ * A sentence with names in it, each as an element of its own.
+ * @param {string} text that has them between the signs that set them apart
+ */
+export const withNames = (text) => text.split(/[\u2068\u2069]/).map((piece, at) => (at % 2 === 1 ? given(piece) : document.createTextNode(piece)));
+
+/**
  * A title with its key, or another text, in small letters under it, and what else is said of it.
  * @param {string} title
  * @param {string} key

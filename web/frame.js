@@ -1,8 +1,11 @@
-// The frame around each page: the header with the language, the foot with the department; messages, and questions.
+// The frame around each page: the header with the menu, the foot with the department; messages, and questions.
 
-import { Notice, departmentLinks } from './department.js';
+import { Notice, departmentLinks, nameOf } from './department.js';
 import { button, given, labelled, make, measure, skipLink } from './dom.js';
 import { LANGUAGES, words } from './words.js';
+
+/** What the page is called, with its department; the tab's title tells the stage as well. */
+export let pageTitle = '';
 
 /**
  * Puts the frame into the document.
@@ -13,8 +16,10 @@ import { LANGUAGES, words } from './words.js';
  * @param {() => void} of.signOut
  */
 export function frame({ department, languages, chosen, signOut }) {
-  const who = make('p', { class: 'who' });
+  // whose page it is stands in the line, and in the menu as well, since a narrow line has room for the name alone
+  const who = [make('p', { class: 'who' }), make('p', { class: 'who' })];
   const out = button(words.signOut, signOut, { hidden: true });
+  const top = header({ department, languages, chosen, who, out });
   const place = make('div');
   const dock = make('div', { class: 'dock' });
   const skips = make('div');
@@ -22,8 +27,9 @@ export function frame({ department, languages, chosen, signOut }) {
   // they stand where the focus is when a page is shown, so that the first Tab leads to them
   const main = make('main', { tabindex: '-1' }, [skips, place, dock]);
   document.documentElement.lang = words.language;
-  document.title = department.name === '' ? words.title : `${words.title} – ${department.name}`;
-  document.body.replaceChildren(header({ department, languages, chosen, who, out }), notice.element, main, ...foot(department));
+  const own = nameOf(department);
+  pageTitle = own === '' ? words.title : `${words.title} – ${own}`;
+  document.body.replaceChildren(top, notice.element, main, ...foot(department));
   measure(dock, '--dock');
   new ResizeObserver(() => uncover(dock)).observe(dock);
   return {
@@ -35,10 +41,15 @@ export function frame({ department, languages, chosen, signOut }) {
      * @param {Me | null} me
      */
     showWho(me) {
+      document.title = me === null ? pageTitle : `${words.phases[me.phase]} – ${pageTitle}`;
       notice.show(me);
       out.hidden = me === null;
-      const name = me?.name === undefined ? [] : [given(me.name), make('span', { class: 'key', text: me.key })];
-      who.replaceChildren(...(me === null ? [] : [make('span', { text: words.roles[me.role] }), ...name]));
+      top.classList.toggle('in', me !== null);
+      /** @type {any} */ (top.lastElementChild).hidePopover?.();
+      for (const line of who) {
+        const name = me?.name === undefined ? [] : [given(me.name), make('span', { class: 'key', text: me.key })];
+        line.replaceChildren(...(me === null ? [] : [make('span', { text: words.roles[me.role] }), ...name]));
+      }
     },
     /** @param {Aim[]} aims of the skip links before the page */
     setAims(aims) {
@@ -52,11 +63,11 @@ export function frame({ department, languages, chosen, signOut }) {
  * @param {Department} of.department
  * @param {string[]} of.languages
  * @param {(language: string) => Promise<void>} of.chosen
- * @param {HTMLElement} of.who
+ * @param {HTMLElement[]} of.who
  * @param {HTMLElement} of.out
  */
 function header({ department, languages, chosen, who, out }) {
-  const name = department.name === '' ? [] : [make('p', { class: 'department' }, [given(department.name)])];
+  const name = nameOf(department) === '' ? [] : [make('p', { class: 'department' }, [given(nameOf(department))])];
   const options = languages.map((language) => make('option', { value: language, text: LANGUAGES[language].name, lang: language }));
   const select = make('select', { class: 'language' }, options);
   select.value = words.language;
@@ -65,13 +76,16 @@ function header({ department, languages, chosen, who, out }) {
     select.value = words.language;
   });
   const control = languages.length > 1 ? [labelled(words.languageLabel, select)] : [];
-  return make('header', {}, [make('div', { class: 'titles' }, [make('h1', { text: words.title }), ...name]), who, ...control, out]);
+  // a narrow line has a button that shows the rest of it; a wide one has it all
+  const menu = button('☰', () => {}, { name: words.menu, class: 'menu', popovertarget: 'menu' });
+  const rest = make('div', { class: 'rest', id: 'menu', popover: 'auto' }, [who[1], ...control, out]);
+  return make('header', {}, [make('div', { class: 'titles' }, [make('h1', { text: words.title }), ...name]), who[0], menu, rest]);
 }
 
 /** @param {Department} department */
 function foot(department) {
   const links = departmentLinks(department);
-  return links.length === 0 ? [] : [make('footer', {}, [make('span', {}, [given(department.name)]), ...links])];
+  return links.length === 0 ? [] : [make('footer', {}, [make('span', {}, [given(nameOf(department))]), ...links])];
 }
 
 /**
@@ -92,7 +106,7 @@ const SHOWN = 5_000;
 
 /**
  * What was done, and what went wrong, said once: `say` tells an outcome, in one line that goes by itself; `warn` a refusal, which stays
- * until it is closed or something else is done. Each takes the place of what stood there before. `announce` speaks to screen readers alone.
+ * until it is closed or something else is begun, whatever is said meanwhile. `announce` speaks to screen readers alone.
  */
 export class Messages {
   #status = make('p', { role: 'status', class: 'says' });
@@ -122,8 +136,8 @@ export class Messages {
 
   /** @param {string} text */
   say(text) {
-    this.#show([], text);
-    if (text !== '') this.#goes = setTimeout(() => this.clear(), SHOWN);
+    this.#tell(text);
+    if (text !== '') this.#goes = setTimeout(() => this.#tell(''), SHOWN);
   }
 
   /** @param {string} text */
@@ -132,18 +146,19 @@ export class Messages {
   }
 
   clear() {
-    this.#show([], '');
+    this.#tell('');
+    this.#show([]);
   }
 
   /** Says that a moment is needed, if it comes to that, until the function is called that is answered here. */
   waiting() {
     const timer = setTimeout(() => {
-      this.#show([], words.loading);
+      this.#tell(words.loading);
       this.#status.classList.add('waits');
     }, SLOW);
     return () => {
       clearTimeout(timer);
-      if (this.#status.textContent === words.loading) this.clear();
+      if (this.#status.textContent === words.loading) this.#tell('');
     };
   }
 
@@ -156,19 +171,22 @@ export class Messages {
     const parts = [make('p', { text })];
     if (line !== undefined) parts.push(make('p', { text: lead }), make('pre', { class: 'line', text: line, dir: 'auto' }));
     if (again !== undefined) parts.push(button(again, press));
-    this.#show(parts, '');
+    // what is still waited for goes on
+    if (this.#status.textContent !== words.loading) this.#tell('');
+    this.#show(parts);
   }
 
-  /**
-   * @param {Node[]} alert
-   * @param {string} status
-   */
-  #show(alert, status) {
+  /** @param {string} text */
+  #tell(text) {
     clearTimeout(this.#goes);
+    this.#status.textContent = text;
+    this.#status.classList.remove('waits');
+  }
+
+  /** @param {Node[]} alert */
+  #show(alert) {
     if (!this.element.contains(document.activeElement)) this.#from = document.activeElement;
     this.#alert.replaceChildren(...alert);
-    this.#status.textContent = status;
-    this.#status.classList.remove('waits');
     this.#close.hidden = alert.length === 0;
   }
 
@@ -208,7 +226,9 @@ export function choose(question, said, answers) {
     ]);
     document.body.append(dialog);
     dialog.showModal();
-    buttons.at(-1)?.focus();
+    // a long question is read from its beginning
+    buttons.at(-1)?.focus({ preventScroll: true });
+    dialog.scrollTop = 0;
   });
 }
 

@@ -1,10 +1,12 @@
 // A lecturer's page: the own projects, one ranking of everybody who chose one of them, and in the end who has which project.
 
-import { descriptionOf } from './catalogue.js';
+import { descriptionOf } from './described.js';
 import { make, part, titled } from './dom.js';
-import { fixedList, unsavedPart } from './list.js';
+import { savedLines, unsavedPart } from './list.js';
+import { fixedList } from './ordered.js';
+import { receiptButton } from './paper.js';
 import { RankingMaking, everybody, filledHint, forgetRanked, shownApplicant } from './ranking.js';
-import { receiptButton, tableButtons } from './table.js';
+import { tableButtons } from './sheet.js';
 import { words } from './words.js';
 import { hasResult, roundOf } from './year.js';
 
@@ -88,7 +90,7 @@ function savedPart(of, { saved, placed }, { people, tools }) {
     make('p', { text: roundOf(me) === 2 ? words.whyNotHereSecond : words.whyNotHere }),
     ...filledHint(me, saved),
     fixedList(label, keys.map(entry)),
-    make('div', { class: 'buttons' }, [receiptButton({ title: label, me, entries: () => keys.map((key) => shownApplicant(nameOf(key), known)) }), tools]),
+    make('div', { class: 'buttons' }, [receiptButton({ title: label, me, entries: () => keys.map(entry), lines: () => savedLines(me, keys) }), tools]),
   ]);
   return make('div', {}, [...unsavedPart(of, saved, { show: (key) => shownApplicant(nameOf(key), known), name: (key) => nameOf(key).name }), own]);
 }

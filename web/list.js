@@ -1,12 +1,12 @@
-// The own list or ranking of a person, best first: put in order by buttons, by keys, by the number of a position and by dragging; taken
-// back, saved, and printed as it is saved. What is not saved stays in this tab when the page is loaded anew. Where somebody saved another
-// one meanwhile, in another tab or on another device, the person is asked which one stays.
+// The own list or ranking of a person: changed, taken back, saved, and printed as it is saved. What is not saved stays in this tab when the
+// page is loaded anew. Where somebody saved another one meanwhile, in another tab or on another device, the person is asked which one stays.
 
 import { button, isUsable, make, part, setUsable } from './dom.js';
 import { choose } from './frame.js';
+import { OrderedList, fixedList, isSame } from './ordered.js';
 import { Refused, told } from './requests.js';
+import { receiptButton } from './paper.js';
 import { draftOf, forgetDraft, keepDraft } from './store.js';
-import { receiptButton } from './table.js';
 import { words } from './words.js';
 import { isSameStep, roundOf } from './year.js';
 
@@ -16,6 +16,23 @@ const STEPS = 200;
 /** @param {Me} me */
 const draftName = (me) => `${me.role} ${me.key} ${roundOf(me)}`;
 
+// When this tab has saved a list is kept beside the list: where it is another one by now, nothing is said.
+/** @param {Me} me */
+const savingName = (me) => `${draftName(me)} saved`;
+
+/**
+ * When this tab has saved the list: a text, or none.
+ * @param {Me} me
+ * @param {string[]} keys of the list as it is saved
+ */
+export function savedLines(me, keys) {
+  const last = /** @type {{ keys: string[], at: number } | null} */ (draftOf(savingName(me)));
+  if (last === null || !isSame(last.keys, keys)) return [];
+  const at = new Date(last.at);
+  const isToday = at.toDateString() === new Date().toDateString();
+  return [words.savedAt(at.toLocaleString(words.dates, { dateStyle: isToday ? undefined : 'medium', timeStyle: 'short' }))];
+}
+
 export class ListEditor {
   #of;
   /** @type {string[] | null} */
@@ -24,19 +41,19 @@ export class ListEditor {
   /** @type {string[]} */
   #base;
   #isSaving = false;
-  #savedAt = '';
   #list;
   /** @type {string[][]} */
   #earlier = [];
   #state = make('span', { class: 'state' });
   #count = make('span', { class: 'count' });
   #save;
-  #undo = button(words.undo, () => isUsable(this.#undo) && this.#takeBack());
+  #undo = button(words.undo, () => isUsable(this.#undo) && this.#takeBack(), { class: 'undo' });
   #back = button(words.backToSaved, () => isUsable(this.#back) && this.#goBackToSaved());
   #receipt;
-  /** The row that saves the list. It stays in view. */
+  #how = make('details', {}, [make('summary', { text: words.orderHow }), make('p', { class: 'quiet', text: words.orderHint })]);
+  /** The row that saves the list, and takes changes back. It stays in view. */
   bar;
-  /** The buttons that stand with the list. */
+  /** What stands with the list. */
   tools;
 
   /** @param {EditorOf} of */
@@ -57,10 +74,10 @@ export class ListEditor {
     if (draft !== null && this.isChanged()) page.messages.say(words.draftBack);
     else this.#begin(of.saved ?? []);
     this.#save = button(texts.save, () => isUsable(this.#save) && this.#press(), { class: 'main' });
-    this.#receipt = receiptButton({ title: texts.label, me: page.me, entries: () => (this.#saved ?? []).map(of.show) });
+    this.#receipt = receiptButton({ title: texts.label, me: page.me, entries: () => (this.#saved ?? []).map(of.show), lines: () => this.#savedLines() });
     const show = button(texts.show, () => this.#look(), { class: 'show' });
-    this.bar = make('div', { class: 'save-row' }, [this.#save, this.#state, this.#count, show]);
-    this.tools = make('div', { class: 'buttons' }, [this.#undo, this.#back, this.#receipt]);
+    this.bar = make('div', { class: 'save-row' }, [this.#save, this.#undo, this.#state, this.#count, show]);
+    this.tools = make('div', { class: 'tools' }, [make('div', { class: 'buttons' }, [this.#back, this.#receipt]), this.#how]);
   }
 
   get list() {
@@ -90,6 +107,8 @@ export class ListEditor {
     this.bar.classList.toggle('unsaved', !isSaved);
     setUsable(this.#undo, this.#earlier.length > 0);
     setUsable(this.#back, this.isChanged());
+    this.#back.hidden = this.keys.length === 0 && !this.isChanged();
+    this.#how.hidden = this.keys.length < 2;
     this.#receipt.hidden = (this.#saved ?? []).length === 0;
     this.#of.changed(this.keys);
   }
@@ -98,8 +117,11 @@ export class ListEditor {
   #stateText(isSaved, left) {
     if (this.#isSaving) return words.saving;
     if (!isSaved) return left > 0 ? this.#of.texts.missing(left) : words.isChanged;
-    if (this.#savedAt !== '') return words.savedAt(this.#savedAt);
-    return (this.keys.length === 0 ? this.#of.texts.none : undefined) ?? words.isSaved;
+    return this.#savedLines()[0] ?? (this.keys.length === 0 ? this.#of.texts.none : undefined) ?? words.isSaved;
+  }
+
+  #savedLines() {
+    return savedLines(this.#of.page.me, this.#saved ?? []);
   }
 
   /** Saves what is on the page, as the button does. */
@@ -126,16 +148,19 @@ export class ListEditor {
   }
 
   #takeBack() {
-    const keys = this.#earlier.at(-1) ?? [];
+    const [keys, now] = [this.#earlier.at(-1) ?? [], this.keys];
     const rest = this.#earlier.slice(0, -1);
     this.#list.set(keys);
     this.#earlier = rest;
     this.update();
     this.#of.page.messages.announce(words.undone);
+    const toggled = [...keys, ...now].filter((key) => keys.includes(key) !== now.includes(key));
+    if (toggled.length === 1) this.#of.look?.(toggled[0]);
   }
 
   #goBackToSaved() {
     this.#list.set(this.#saved ?? []);
+    if (this.#back.hidden) this.#list.element.focus({ preventScroll: true });
     this.#of.page.messages.say(words.isBackToSaved);
   }
 
@@ -152,7 +177,7 @@ export class ListEditor {
     await this.#whileSaving(async () => {
       if (!(await attempt(async () => { other = await this.#savedElsewhere(keys); }, how))) return;
       if (other !== null && !(await this.#isMineKept(keys, other))) return;
-      await attempt(() => this.#store(keys), how);
+      await attempt(() => this.#store(keys), { ...how, goesOn: true });
     });
   }
 
@@ -205,7 +230,7 @@ export class ListEditor {
     const { path, member, texts, page, stored } = this.#of;
     const hadFocus = document.activeElement === this.#save;
     this.#isNow((await page.portal.put(path, { [member]: keys }))[member]);
-    this.#savedAt = new Date().toLocaleTimeString(words.dates, { timeStyle: 'short' });
+    keepDraft(savingName(page.me), { keys: this.#saved, at: Date.now() });
     stored?.();
     this.#isSaving = false;
     this.update();
@@ -252,276 +277,4 @@ export function unsavedPart({ me, messages }, saved, { show, name }) {
   const buttons = make('div', { class: 'buttons' }, [button(words.copyUnsaved, copy), button(words.dropUnsaved, drop)]);
   const element = part(words.unsaved, [make('p', { text: words.unsavedList }), list, buttons], { class: 'unsaved-list' });
   return [element];
-}
-
-// Lists of keys, best first. Each function answers a new list.
-
-/** @param {string[]} keys @param {string} key */
-export const added = (keys, key) => (keys.includes(key) ? keys : [...keys, key]);
-
-/** @param {string[]} keys @param {string} key */
-export const removed = (keys, key) => keys.filter((other) => other !== key);
-
-/**
- * The list with `key` moved to the position `to`, counted from 0; a position outside is the first or the last.
- * @param {string[]} keys
- * @param {string} key
- * @param {number} to
- */
-export function moved(keys, key, to) {
-  if (!keys.includes(key)) return keys;
-  const others = removed(keys, key);
-  const at = Math.max(0, Math.min(to, others.length));
-  return [...others.slice(0, at), key, ...others.slice(at)];
-}
-
-/** @param {string[]} a @param {string[]} b */
-export const isSame = (a, b) => a.length === b.length && a.every((key, place) => key === b[place]);
-
-/** @type {{ [key: string]: (at: number) => number }} */
-const KEYS = { ArrowUp: (at) => at - 1, ArrowDown: (at) => at + 1, Home: () => 0, End: () => Infinity };
-// In the field of a position these keys move within its number.
-const OF_FIELD = ['Home', 'End'];
-
-export class OrderedList {
-  /** @type {string[]} */
-  #keys = [];
-  /** @type {Map<string, HTMLElement>} */
-  #entries = new Map();
-  #of;
-  element;
-
-  /** @param {ListOf} of */
-  constructor(of) {
-    this.#of = of;
-    this.element = make('ol', { class: 'ordered', role: 'list', tabindex: '-1', 'aria-label': of.label });
-    this.#show(of.keys);
-  }
-
-  get keys() {
-    return this.#keys;
-  }
-
-  /** @param {string} key */
-  add(key) {
-    if (this.#keys.includes(key)) return;
-    this.set(added(this.#keys, key));
-    this.#sayPlace(key);
-  }
-
-  /** @param {string} key @param {number} to */
-  move(key, to) {
-    this.set(moved(this.#keys, key, to));
-    this.#sayPlace(key);
-  }
-
-  /** @param {string} key */
-  remove(key) {
-    const entry = this.#entries.get(key);
-    const neighbour = entry?.nextElementSibling ?? entry?.previousElementSibling;
-    this.set(removed(this.#keys, key));
-    (/** @type {HTMLElement | null | undefined} */ (neighbour?.querySelector('.remove')) ?? this.element).focus();
-    this.#of.announce(words.isGone(this.#of.name(key), this.#keys.length));
-  }
-
-  /**
-   * Puts another list in the place of this one.
-   * @param {string[]} keys
-   */
-  set(keys) {
-    const before = this.#keys;
-    if (isSame(before, keys)) return;
-    this.#show(keys);
-    this.#of.changed(before);
-  }
-
-  /**
-   * Brings an entry into view.
-   * @param {string} key
-   */
-  look(key) {
-    this.#entries.get(key)?.scrollIntoView({ block: 'center' });
-  }
-
-  /** @param {string} key */
-  #sayPlace(key) {
-    this.#of.announce(words.isAt(this.#of.name(key), this.#keys.indexOf(key) + 1, this.#keys.length));
-  }
-
-  // Only entries that are not at their position already are touched. One that has the focus keeps it.
-  /** @param {string[]} keys */
-  #show(keys) {
-    const focused = document.activeElement;
-    const wanted = new Set(keys);
-    for (const key of this.#keys) if (!wanted.has(key)) this.#takeOut(key);
-    let next = this.element.firstElementChild;
-    for (const key of keys) {
-      const entry = this.#entryOf(key);
-      if (entry === next) next = next.nextElementSibling;
-      else this.element.insertBefore(entry, next);
-    }
-    this.#keys = [...keys];
-    this.#number();
-    if (!(focused instanceof HTMLElement) || !this.element.contains(focused)) return;
-    focused.focus();
-    focused.scrollIntoView({ block: 'nearest' });
-  }
-
-  /** @param {string} key */
-  #takeOut(key) {
-    this.#entries.get(key)?.remove();
-    this.#entries.delete(key);
-  }
-
-  /** @param {string} key */
-  #entryOf(key) {
-    const entry = this.#entries.get(key) ?? this.#entry(key);
-    this.#entries.set(key, entry);
-    return entry;
-  }
-
-  // The first entry cannot go up, the last one not down.
-  #number() {
-    const last = this.#keys.length - 1;
-    [...this.element.children].forEach((entry, at) => {
-      const [field] = entry.getElementsByTagName('input');
-      const [up, down] = entry.getElementsByTagName('button');
-      field.value = `${at + 1}`;
-      field.max = `${last + 1}`;
-      setUsable(up, at > 0);
-      setUsable(down, at < last);
-    });
-  }
-
-  /** @param {string} key */
-  #entry(key) {
-    const name = words.named(this.#of.name(key), key);
-    /** @param {number} by */
-    const press = (by) => (/** @type {MouseEvent} */ event) => {
-      if (isUsable(/** @type {Element} */ (event.currentTarget))) this.move(key, this.#keys.indexOf(key) + by);
-    };
-    const place = make('input', { type: 'number', class: 'place', min: '1', 'aria-label': words.moveTo(name), title: words.moveTo(name) });
-    place.addEventListener('change', () => this.#moveTo(key, place));
-    place.addEventListener('wheel', () => place.blur());
-    const entry = make('li', {}, [
-      make('span', { class: 'handle', 'aria-hidden': 'true', text: '⠿' }),
-      place,
-      this.#of.show(key),
-      make('span', { class: 'buttons' }, [
-        button('↑', press(-1), { name: words.moveUp(name), class: 'up' }),
-        button('↓', press(1), { name: words.moveDown(name), class: 'down' }),
-        button('✕', () => this.remove(key), { name: words.remove(name), class: 'remove' }),
-      ]),
-    ]);
-    entry.dataset.key = key;
-    entry.addEventListener('keydown', (event) => this.#byKey(event, key));
-    entry.addEventListener('pointerdown', (event) => this.#drag(event, key, entry));
-    return entry;
-  }
-
-  /** @param {string} key @param {HTMLInputElement} field */
-  #moveTo(key, field) {
-    const place = Number.parseInt(field.value, 10);
-    if (place >= 1) this.move(key, place - 1);
-    this.#number();
-  }
-
-  /** @param {KeyboardEvent} event @param {string} key */
-  #byKey(event, key) {
-    const to = KEYS[event.key];
-    const isField = event.target instanceof HTMLInputElement && OF_FIELD.includes(event.key);
-    if (to === undefined || isField || event.altKey || event.ctrlKey || event.metaKey) return;
-    event.preventDefault();
-    this.move(key, to(this.#keys.indexOf(key)));
-  }
-
-  // With a finger an entry is taken at its handle, so that the page can still be scrolled.
-  /** @param {PointerEvent} down @param {string} key @param {HTMLElement} entry */
-  #drag(down, key, entry) {
-    const pressed = /** @type {Element} */ (down.target);
-    const isHandle = pressed.classList.contains('handle');
-    if (down.button !== 0 || pressed.closest('button, input') || (down.pointerType === 'touch' && !isHandle)) return;
-    const before = this.#keys;
-    follow(down, {
-      moved: (y) => {
-        entry.classList.add('dragged');
-        this.#show(moved(this.#keys, key, this.#placeAt(y, entry)));
-      },
-      done: () => {
-        entry.classList.remove('dragged');
-        if (isSame(before, this.#keys)) return;
-        this.#of.changed(before);
-        this.#sayPlace(key);
-      },
-    });
-  }
-
-  // How many of the other entries stand above this height.
-  /** @param {number} y @param {HTMLElement} entry */
-  #placeAt(y, entry) {
-    const others = [...this.element.children].filter((other) => other !== entry);
-    return others.filter((other) => {
-      const { top, height } = other.getBoundingClientRect();
-      return top + height / 2 < y;
-    }).length;
-  }
-}
-
-/**
- * The same list to look at.
- * @param {string} label
- * @param {Node[]} nodes
- */
-export function fixedList(label, nodes) {
-  return make('ol', { class: 'ordered fixed', role: 'list', 'aria-label': label }, nodes.map((node) => make('li', {}, [node])));
-}
-
-// An entry follows the pointer; near the edge of the window the page scrolls: so near to it, in pixels, and by this part of how far the
-// pointer is past that line, in each picture.
-const EDGE = 80;
-const PART = 0.25;
-
-/**
- * How far the page scrolls while the pointer, which began at `from`, is at the height `y` of a window that ends at `bottom`.
- * @param {number} y
- * @param {number} bottom
- * @param {number} from
- */
-export function step(y, bottom, from) {
-  if (y < EDGE && y < from) return Math.floor((y - EDGE) * PART);
-  return y > bottom - EDGE && y > from ? Math.ceil((y - bottom + EDGE) * PART) : 0;
-}
-
-/**
- * Follows the pointer from when it is pressed until it is let go.
- * @param {PointerEvent} down
- * @param {{ moved: (y: number) => void, done: () => void }} how `moved` is handed the pointer's height in the window, `done` is called at the end
- */
-function follow(down, how) {
-  let y = down.clientY;
-  let picture = 0;
-  const dock = /** @type {HTMLElement | null} */ (document.querySelector('.dock'));
-  const bottom = () => innerHeight - (dock?.offsetHeight ?? 0);
-  const scroll = () => {
-    const before = scrollY;
-    scrollBy(0, step(y, bottom(), down.clientY));
-    if (scrollY !== before) how.moved(y);
-    picture = requestAnimationFrame(scroll);
-  };
-  /** @param {PointerEvent} event */
-  const move = (event) => {
-    y = event.clientY;
-    how.moved(y);
-    if (picture === 0) picture = requestAnimationFrame(scroll);
-  };
-  const end = () => {
-    cancelAnimationFrame(picture);
-    document.removeEventListener('pointermove', move);
-    document.removeEventListener('pointerup', end);
-    document.removeEventListener('pointercancel', end);
-    how.done();
-  };
-  document.addEventListener('pointermove', move);
-  document.addEventListener('pointerup', end);
-  document.addEventListener('pointercancel', end);
 }

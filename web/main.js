@@ -3,18 +3,24 @@
 import { asCode, isCode, madeCodeOf } from './codes.js';
 import { department } from './department.js';
 import { make } from './dom.js';
-import { Messages, ask, dismiss, frame } from './frame.js';
+import { Messages, ask, choose, dismiss, frame } from './frame.js';
 import { knownProjects } from './known.js';
-import { lecturerPage } from './lecturer.js';
-import { officePage } from './office.js';
 import { Lost, Portal, Refused, attempts, told } from './requests.js';
 import { forgetCode, forgetIdle, keepCode, keptCode, signInForm, watch } from './signin.js';
 import { forgetDrafts } from './store.js';
-import { studentPage } from './student.js';
 import { chooseLanguage, firstLanguage, offeredLanguages, speak, words } from './words.js';
 import { yearPart } from './year.js';
 
-const PAGES = { student: studentPage, lecturer: lecturerPage, office: officePage };
+/** The page of each role: what no other role needs is loaded for it alone. */
+const PAGES = {
+  student: async () => (await import('./student.js')).studentPage,
+  lecturer: async () => (await import('./lecturer.js')).lecturerPage,
+  office: async () => {
+    const [page, isSpoken] = await Promise.all([import('./office.js'), speak(words.language, true)]);
+    if (!isSpoken) throw new Error('no texts');
+    return page.officePage;
+  },
+};
 
 /** @type {Department} */
 let own;
@@ -30,12 +36,14 @@ let shown = 0;
 async function start() {
   own = await department();
   const offered = offeredLanguages(own.languages);
-  // where the files of one language do not come, another one is spoken
-  for (const language of [firstLanguage(offered, navigator.languages), ...offered]) if (await speak(language)) break;
+  // where the files of one language do not come, another one is spoken; where none come, what stands in index.html is left there
+  let isSpoken = false;
+  for (const language of [firstLanguage(offered, navigator.languages), ...offered]) isSpoken ||= await speak(language);
+  if (!isSpoken) return document.body.classList.add('failed');
   // a file that is dropped beside its field is not opened in place of the page
   for (const name of ['dragover', 'drop']) addEventListener(name, (event) => /** @type {DragEvent} */ (event).dataTransfer?.types.includes('Files') && event.preventDefault());
   addEventListener('beforeunload', (event) => isChanged() && event.preventDefault());
-  tellOtherTabs = watch({ elsewhere: () => leave(words.signedOutElsewhere), idle: () => signIn({ message: words.signedOutIdle }) });
+  tellOtherTabs = watch({ elsewhere: () => leave(words.signedOutElsewhere), idle: () => signIn({ message: words.signedOutIdle }), soon: askWhoIsThere });
   show(forgetIdle() ? words.signedOutIdle : '');
 }
 
@@ -101,6 +109,12 @@ async function tryCode(code) {
   }
 }
 
+/** Asks before an idle tab signs out. */
+async function askWhoIsThere() {
+  const answers = [{ name: words.signOut, value: true }, { name: words.stay, value: false, isMain: true }];
+  if (await choose(words.idleSoon, [make('p', { text: words.idleMeans })], answers)) await signOut();
+}
+
 async function signOut() {
   if (!(await mayLeave())) return;
   tellOtherTabs();
@@ -133,12 +147,24 @@ async function open(portal, { me = null, tell = () => {} } = {}) {
     if (!isCurrent()) return;
     page.showWho(caller);
     const known = await knownProjects(portal);
-    const content = await PAGES[caller.role]({ portal, me: caller, messages, attempt, reload, known });
+    const content = await (await pageOf(caller.role))({ portal, me: caller, messages, attempt, reload, known, until: own.until ?? {} });
     if (!isCurrent()) return;
     showContent(caller, content, messages);
     tell(messages, caller);
   }, { isLoading: true });
   if (isCurrent()) page.place.querySelector(':scope > .loading')?.remove();
+}
+
+/**
+ * A file that did not come once may not be asked for again before the whole page is.
+ * @param {Role} role
+ */
+async function pageOf(role) {
+  try {
+    return await PAGES[role]();
+  } catch {
+    throw new Lost('no module', () => location.reload());
+  }
 }
 
 /**

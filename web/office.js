@@ -1,14 +1,18 @@
 // The office's page: how far the year is, the next step and what stands in its way, people and projects, in the end who has what, and the
 // names in this browser.
 
-import { bar, button, given, make, part } from './dom.js';
+import { bar, button, make, part, withNames } from './dom.js';
 import { ask } from './frame.js';
-import { Names, thereOf } from './known.js';
+import { Names, thereOf } from './names.js';
 import { told } from './requests.js';
 import { DataPart, loadResult, resultPart } from './result.js';
 import { Rolls } from './rolls.js';
+import { forget, keep, kept } from './store.js';
 import { words } from './words.js';
-import { canOpenSecond, countOfChoosers, hasResult, isSameStep, placeOf, roundOf, secondRound, takesRolls } from './year.js';
+import { canOpenSecond, countOfChoosers, endOf, hasResult, isSameStep, placeOf, roundOf, secondRound, takesRolls } from './year.js';
+
+// The lecturers whose rankings were filled in from this browser, each with the round.
+const FILLED = 'portal-filled';
 
 /**
  * @param {PageOf} of
@@ -30,7 +34,7 @@ class OfficePage {
   #loaded = null;
   #rolls;
   #state = make('div');
-  #steps = make('div');
+  #steps = make('div', { class: 'columns' });
   /** @type {Map<string, HTMLElement>} */
   #buttons = new Map();
   #data = new DataPart();
@@ -70,6 +74,7 @@ class OfficePage {
     this.#projects = (await portal.get('/catalogue')).projects;
     known.learn(this.#projects, me);
     if (roundOf(me) === 1) this.#names.forgetOtherYear(this.#status, this.#projects);
+    if (takesRolls(me)) forget(FILLED);
     if (hasResult(me)) await this.#loadResult();
     this.#rolls.show(this.#status, this.#there());
     this.#show();
@@ -97,15 +102,28 @@ class OfficePage {
     return this.#names.nameOf('lecturers', lecturer);
   }
 
+  get #end() {
+    return endOf(this.#of.me, this.#of.until);
+  }
+
   get #used() {
     return this.#loaded?.used ?? [];
+  }
+
+  /** What each lecturer takes: in the second round what the first one has left of it. */
+  #takers() {
+    const { lecturers } = this.#there();
+    if (roundOf(this.#status) === 1) return lecturers;
+    const taken = (/** @type {string} */ key) => this.#loaded?.rows.filter(({ lecturer }) => lecturer === key).length ?? 0;
+    return new Map([...lecturers].map(([key, { capacity }]) => [key, { capacity: capacity && `${Number(capacity) - taken(key)}` }]));
   }
 
   #show() {
     const [status, names, projects] = [this.#status, this.#names, this.#projects];
     const refresh = () => this.#of.attempt(() => this.#refresh());
-    this.#state.replaceChildren(statePart({ status, names, messages: this.#of.messages, refresh }));
-    this.#steps.replaceChildren(this.#stepsPart());
+    const most = placesFor(projects, this.#takers());
+    this.#state.replaceChildren(statePart({ status, most, end: this.#end, refresh }));
+    this.#steps.replaceChildren(this.#stepsPart(), ...missingPart(status, names, this.#of.messages));
     this.#data.show({ status, names, projects, there: this.#there(), used: this.#used });
     this.#kept.replaceChildren(...this.#keptPart());
   }
@@ -156,10 +174,9 @@ class OfficePage {
     this.#buttons.set(name, go);
     const said = (end ? [] : lacks).filter(({ isAskedOnly }) => !isAskedOnly).map(({ text, isRisk }) => make('p', { text, class: isRisk && 'doubt' }));
     const file = lacks.some(({ needsLecturers }) => needsLecturers) ? [this.#rolls.lecturersField(() => this.#buttons.get(name)?.focus())] : [];
-    const names = end?.names ? [make('p', { text: end.names })] : [];
     return make('div', { class: 'step' }, [
       make('div', { class: 'buttons' }, [go, ...(end ? [make('p', { id: reason, text: end.text, class: 'doubt reason' })] : []), ...file]),
-      make('div', { id: meaning }, [...names, ...said, make('p', { text: `${words.does[name]} ${words.forGoodOf(name)}` })]),
+      make('div', { id: meaning }, [...said, make('p', { text: `${words.does[name]} ${words.forGoodOf(name)}`, class: 'means' })]),
     ]);
   }
 
@@ -171,7 +188,9 @@ class OfficePage {
     const toRank = this.#status.still_to_rank.map((key) => words.person(key, this.#nameOf(key)));
     const { lecturers } = this.#there();
     const nameOf = (/** @type {string} */ key) => this.#nameOf(key);
-    return lacksOf(name, { status: this.#status, projects: this.#projects, toRank, lecturers, nameOf, used: this.#used });
+    const end = this.#end === null ? '' : words.early(words.phases[this.#status.phase], this.#end.when, this.#end.away);
+    const filled = filledHere(this.#status).map((key) => words.person(key, this.#nameOf(key)));
+    return lacksOf(name, { status: this.#status, projects: this.#projects, toRank, lecturers, nameOf, used: this.#used, end, filled });
   }
 
   /**
@@ -200,8 +219,8 @@ class OfficePage {
     const forGood = words.forGoodOf(name);
     return ask({
       title: words.ask[name],
-      risk: risks.length > 0 ? risks.join(' ') : forGood,
-      lines: [words.does[name], ...others, risks.length > 0 ? forGood : ''],
+      risk: risks.length > 0 ? risks.join('\n') : forGood,
+      lines: [...others, words.does[name], risks.length > 0 ? forGood : ''],
       verb: words[name],
       stay: words.notNow,
     });
@@ -224,31 +243,50 @@ class OfficePage {
   async #fill() {
     const { filled } = /** @type {{ filled: string[] }} */ (await this.#of.portal.post('/ranking/fill', {}));
     const names = filled.map((key) => words.person(key, this.#nameOf(key)));
+    keep(FILLED, [...new Set([...kept(FILLED, []), ...filled.map((key) => `${roundOf(this.#status)} ${key}`)])]);
     await this.#of.reload((next) => next.say(words.filled(names)));
   }
 }
 
-// A longer list of names is folded, so that the next step is in sight.
-const UNFOLDED = 40;
+// A longer list of names is folded.
+const UNFOLDED = 20;
 
 /**
+ * The lecturers whose rankings of this round were filled in from this browser.
+ * @param {Step} step
+ * @returns {string[]}
+ */
+const filledHere = (step) => kept(FILLED, []).filter((/** @type {string} */ one) => one.startsWith(`${roundOf(step)} `)).map((/** @type {string} */ one) => one.slice(2));
+
+/**
+ * How far the year is, in figures.
  * @param {object} of
  * @param {Status} of.status
- * @param {Names} of.names of keys, as far as they are known
- * @param {Messages} of.messages
+ * @param {{ count: number, isSure: boolean }} of.most how many students can have a project
+ * @param {{ when: string, away: string } | null} of.end of the stage
  * @param {() => unknown} of.refresh
  */
-function statePart({ status, names, messages, refresh }) {
-  const lines = bars(status).map(({ text, part: count, whole, note }) => {
+function statePart({ status, most, end, refresh }) {
+  const facts = bars(status).map(({ text, part: count, whole, note, isEnd = false }) => {
+    const lacking = count < whole && !isEnd ? [make('p', { class: 'quiet lacking', text: words.lacking(whole - count) })] : [];
     const said = note === undefined ? [] : [make('p', { class: 'quiet', text: note })];
-    return make('div', { class: 'measure' }, [make('p', { text }), bar(count, whole), ...said]);
+    return make('div', { class: 'fact measure' }, [figure(text), bar(count, whole), ...lacking, ...said]);
   });
+  if (['choosing', 'ranking'].includes(status.phase)) facts.push(make('div', { class: 'fact' }, [figure(words.placesAre(most.count, countOfChoosers(status), most.isSure))]));
+  if (end !== null) facts.push(make('div', { class: 'fact' }, [figure(words.ends(words.phases[status.phase], end.away, end.when))]));
   return part(words.state, [
-    ...(status.phase === 'setup' ? [checklist(status)] : [make('p', { text: words.counts(status) })]),
-    ...lines,
-    ...missingPart(status, names),
-    make('div', { class: 'buttons' }, [...copyButtons(status, names, messages), button(words.refresh, refresh, { class: 'refresh' })]),
+    ...(status.phase === 'setup' ? [checklist(status)] : [make('div', { class: 'facts' }, facts)]),
+    make('div', { class: 'buttons' }, [...(status.phase === 'setup' ? [] : [make('span', { text: words.counts(status) })]), button(words.refresh, refresh, { class: 'refresh' })]),
   ]);
+}
+
+/**
+ * A fact whose number is seen from afar: what it counts stands above it.
+ * @param {string} text with a colon before the number, and perhaps more after it
+ */
+function figure(text) {
+  const [, label, count, rest] = /** @type {string[]} */ (text.match(/^(.+?:) (.+?(?= – )|\S+)(.*)$/) ?? ['', '', text, '']);
+  return make('p', {}, [make('span', { class: 'label', text: label }), document.createTextNode(' '), make('span', { class: 'figure', text: count }), document.createTextNode(rest)]);
 }
 
 /**
@@ -264,20 +302,22 @@ function checklist(status) {
 }
 
 /**
+ * Who is missing, beside the next step.
  * @param {Status} status
  * @param {Names} names
+ * @param {Messages} messages
  */
-function missingPart(status, names) {
+function missingPart(status, names, messages) {
   const who = missing(status);
   if (who === null) return [];
-  if (who.keys.length === 0) return [make('h3', { text: who.title }), make('p', { text: words.nobody })];
-  const list = make('ul', { class: 'names', 'aria-label': who.title }, called(who, names).map((text) => make('li', {}, [given(text)])));
+  if (who.keys.length === 0) return [part(who.title, [make('p', { text: words.nobody })], { class: 'aside' })];
+  const list = make('ul', { class: 'names', 'aria-label': who.title }, called(who, names).map((text) => make('li', {}, withNames(text))));
   const isUnnamed = who.keys.some((key) => names.nameOf(who.roll, key) === undefined);
-  return [
-    make('h3', { text: `${who.title} (${who.keys.length.toLocaleString(words.language)})` }),
-    ...(isUnnamed ? [make('p', { class: 'quiet', text: words.keysAlone })] : []),
+  return [part(`${who.title} (${who.keys.length.toLocaleString(words.language)})`, [
     who.keys.length <= UNFOLDED ? list : make('details', {}, [make('summary', { text: words.allNames(who.keys.length) }), list]),
-  ];
+    make('div', { class: 'buttons' }, copyButtons(status, names, messages)),
+    ...(isUnnamed ? [make('p', { class: 'quiet', text: words.keysAlone })] : []),
+  ], { class: 'aside' })];
 }
 
 /**
@@ -296,7 +336,8 @@ function copyButtons(status, names, messages) {
   if (who === null || who.keys.length === 0) return [];
   const copy = async (/** @type {string[]} */ lines, /** @type {string} */ said) => {
     try {
-      await navigator.clipboard.writeText(lines.join('\n'));
+      // the signs that set names apart are for sentences
+      await navigator.clipboard.writeText(lines.join('\n').replace(/[\u2068\u2069]/g, ''));
       messages.say(said);
     } catch {
       messages.warn(words.notCopied);
@@ -322,9 +363,9 @@ export const stepsFrom = (me) => STEPS[me.phase].filter(({ name }) => name !== '
 /** @type {Record<StepName, (of: Standing) => Lack[]>} */
 const LACKS = {
   openChoosing: (of) => [...empty(of), ...places(of), ...idle(of)],
-  openRanking: (of) => [...lists(of), ...(roundOf(of.status) === 1 ? [...places(of), ...idle(of)] : [])],
-  fill: ({ toRank }) => [toRank.length === 0 ? { text: words.filled([]), ends: true } : { text: words.fillWith(words.listed(toRank)), isAskedOnly: true }],
-  publish: ({ toRank }) => (toRank.length === 0 ? [] : [{ text: words.publishMissing(toRank.length), names: words.listed(toRank), ends: true }]),
+  openRanking: (of) => [...early(of), ...lists(of), ...(roundOf(of.status) === 1 ? [...places(of), ...idle(of)] : [])],
+  fill: (of) => (of.toRank.length === 0 ? [{ text: words.filled([]), ends: true }] : [...early(of), { text: words.fillWith(words.listed(of.toRank)), isAskedOnly: true }]),
+  publish: (of) => (of.toRank.length === 0 ? [...early(of), ...unranked(of)] : [{ text: words.publishMissing(of.toRank.length), ends: true }]),
   openSecond: (of) => left(of),
 };
 
@@ -334,6 +375,27 @@ const LACKS = {
  * @param {Standing} of
  */
 export const lacksOf = (name, of) => LACKS[name](of);
+
+/**
+ * Whoever goes by what was announced would be late.
+ * @param {Standing} of
+ * @returns {Lack[]}
+ */
+const early = ({ end = '' }) => (end === '' ? [] : [{ text: end, isRisk: true, isAskedOnly: true }]);
+
+/**
+ * What is published without somebody's own word: rankings that were filled in, and students without a list.
+ * @param {Standing} of
+ * @returns {Lack[]}
+ */
+function unranked({ status, filled = [] }) {
+  const count = status.without_list.length;
+  return [
+    ...(filled.length === 0 ? [] : [{ text: words.filledHere(filled.length, words.listed(filled)) }]),
+    ...(count === 0 ? [] : [{ text: words.noListNoProject(count) }]),
+    { text: words.filledElsewhere, isAskedOnly: true },
+  ];
+}
 
 /**
  * @param {Standing} of
@@ -444,9 +506,10 @@ function room(byLecturer, lecturers) {
 }
 
 /**
- * What there is to be seen of a phase: a text, the part and the whole of its bar, which the text tells too, and perhaps a note.
+ * What there is to be seen of a phase: a text, the part and the whole of its bar, which the text tells too, perhaps a note, and whether nobody
+ * is waited for any more.
  * @param {Status} status
- * @returns {{ text: string, part: number, whole: number, note?: string }[]}
+ * @returns {{ text: string, part: number, whole: number, note?: string, isEnd?: boolean }[]}
  */
 export function bars(status) {
   const { phase, lecturers, students, assigned } = status;
@@ -460,7 +523,7 @@ export function bars(status) {
     const done = lecturers - status.still_to_rank.length;
     all.push({ text: words.ranked(done, lecturers), part: done, whole: lecturers, note: words.rankedMeans });
   }
-  if (hasResult(status)) all.push({ text: words.assigned(assigned, students), part: assigned, whole: students });
+  if (hasResult(status)) all.push({ text: words.assigned(assigned, students), part: assigned, whole: students, isEnd: true });
   return all;
 }
 

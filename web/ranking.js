@@ -1,10 +1,11 @@
 // One ranking of everybody who chose a project of a lecturer: who is not ranked yet stands beside it, until it is saved.
 
-import { table } from './csv.js';
 import { button, given, labelled, make, measure, part } from './dom.js';
+import { compare, isFound } from './found.js';
+import { ask } from './frame.js';
 import { ListEditor } from './list.js';
+import { orderOf } from './orderfile.js';
 import { forget, keep, kept } from './store.js';
-import { compare, isFound } from './table.js';
 import { words } from './words.js';
 import { roundOf } from './year.js';
 
@@ -41,22 +42,8 @@ export function shownApplicant({ key, name, projects }, known, more = []) {
   return make('span', { class: 'titled' }, [given(name), chosen, ...more]);
 }
 
-/**
- * The order that a text or a file tells: the keys of a column `id`, or those at the beginning of each line.
- * @param {Uint8Array} bytes
- * @param {(key: string) => boolean} isApplicant
- * @returns {{ keys: string[], others: string[] }} the applicants, each once, and what else stands there
- */
-export function orderOf(bytes, isApplicant) {
-  const found = table(bytes);
-  const rows = 'rows' in found ? found.rows : [];
-  const lines = rows.map(({ fields }) => fields.map((field) => field.trim()));
-  const heads = lines[0]?.map((field) => field.toLowerCase()) ?? [];
-  const column = heads.indexOf('id');
-  const told = column < 0 ? lines.map(([first]) => first) : lines.slice(1).map((fields) => fields[column] ?? '');
-  const all = [...new Set(told.filter((key) => key !== ''))];
-  return { keys: all.filter(isApplicant), others: all.filter((key) => !isApplicant(key)) };
-}
+// From so many applicants on they are better put in order in a spreadsheet.
+const MANY = 20;
 
 // Which rankings this browser has saved, by lecturer and round.
 const RANKED = 'portal-ranked';
@@ -92,14 +79,15 @@ export class RankingMaking {
   #none = make('p', { class: 'quiet', text: words.noneMissing });
   #noMatch = make('p', { class: 'quiet', text: words.noApplicantMatches });
   #empty = make('p', { class: 'quiet', text: words.rankingEmpty });
-  // What helps to add applicants, as long as one is missing.
-  #adding = make('div');
+  // What helps to add applicants, and what adds all at once, as long as one is missing.
+  #adding = make('div', { class: 'adding' });
+  #rest = make('div', { class: 'last-resort' });
   /** What the page shows. */
   content;
 
   /**
    * @param {PageOf} of
-   * @param {{ people: Map<string, Applicant>, saved: string[] | null, places: string, tools: Node }} what `places` is what the lecturer may
+   * @param {{ people: Map<string, Applicant>, saved: string[] | null, places: string, tools: Element }} what `places` is what the lecturer may
    *   take, in words; `tools` stand with the applicants
    */
   constructor(of, { people, saved, places, tools }) {
@@ -152,7 +140,7 @@ export class RankingMaking {
    * @param {string} key
    */
   #waitingEntry(key) {
-    return make('li', {}, [this.#shown(key), button(words.add, () => this.#add(key), { name: words.addKey(words.named(this.#nameOf(key), key)) })]);
+    return make('li', {}, [this.#shown(key), button(words.addApplicant, () => this.#add(key), { name: words.addApplicantKey(words.named(this.#nameOf(key), key)) })]);
   }
 
   /** @param {string} key */
@@ -181,12 +169,37 @@ export class RankingMaking {
     await this.#editor.save();
   }
 
-  /** @param {Node} tools */
+  /**
+   * Many applicants are put in order elsewhere, so that this stands first; few are added one by one.
+   * @param {Element} tools
+   */
   #applicantsPart(tools) {
-    const rest = make('div', { class: 'buttons' }, [button(words.addRest, () => this.#addRest()), button(words.addRestSave, () => this.#addRestAndSave())]);
-    const hints = [words.applicantsHint, words.laterHint].map((text) => make('p', { class: 'quiet', text }));
-    this.#adding.append(...hints, rest, this.#filters(), this.#noMatch, this.#missing);
-    return part(words.applicants, [this.#none, this.#adding, this.#orderFold(), tools]);
+    const isMany = this.#people.size > MANY;
+    const hint = make('p', { class: 'quiet', text: isMany ? words.oneByOne : words.applicantsHint });
+    this.#adding.append(hint, this.#filters(), this.#noMatch, this.#missing);
+    return part(words.applicants, isMany ? [this.#elsewhere(tools), this.#none, this.#adding, tools] : [this.#none, this.#adding, this.#orderFold(words.orderTitle, words.orderOpenHow), tools]);
+  }
+
+  /**
+   * The way by a spreadsheet, step by step. It takes the first of the tools, the file of the applicants.
+   * @param {Element} tools
+   */
+  #elsewhere(tools) {
+    const { file, button: opener } = this.#orderFile();
+    const presses = [[/** @type {Element} */ (tools.firstElementChild)], [], [opener, file]];
+    const ways = words.ways.map((text, at) => make('li', {}, [make('p', { text }), make('div', { class: 'buttons' }, presses[at])]));
+    return make('div', { class: 'elsewhere' }, [
+      make('h3', { text: words.elsewhere(this.#people.size) }),
+      make('ol', { class: 'ways', role: 'list' }, ways),
+      this.#orderFold(words.orderPaste, words.orderPasteHow),
+    ]);
+  }
+
+  /** The last resort: all others behind, in the order of their keys. */
+  #restPart() {
+    const buttons = [button(words.addRest, () => this.#addRest()), button(words.addRestSave, () => this.#addRestAndSave())];
+    this.#rest.append(make('p', { class: 'quiet', text: words.laterHint }), make('div', { class: 'buttons' }, buttons));
+    return this.#rest;
   }
 
   /** A search, a choice of a project where more than one was chosen by somebody, and a choice of the order. */
@@ -198,9 +211,8 @@ export class RankingMaking {
     this.#search.addEventListener('input', () => this.#update(this.#editor.keys));
     this.#project.addEventListener('change', () => this.#update(this.#editor.keys));
     this.#sort.addEventListener('change', () => this.#arrange());
-    const fields = [labelled(words.searchApplicants, this.#search)];
-    if (keys.length > 1) fields.push(labelled(words.applicantsOf, this.#project));
-    return make('div', { class: 'filters' }, [...fields, labelled(words.sortBy, this.#sort)]);
+    const fields = keys.length > 1 ? [labelled(words.applicantsOf, this.#project)] : [];
+    return make('div', { class: 'filters' }, [labelled(words.searchApplicants, this.#search), ...fields, labelled(words.sortBy, this.#sort)]);
   }
 
   #arrange() {
@@ -212,41 +224,53 @@ export class RankingMaking {
     this.#missing.append(...people.map(({ key }) => /** @type {HTMLElement} */ (this.#waiting.get(key))));
   }
 
-  /** A field and a file for an order that was made elsewhere. */
-  #orderFold() {
-    const field = make('textarea', { rows: '6', spellcheck: 'false' });
+  /** A file with an order that was made elsewhere. */
+  #orderFile() {
     const file = make('input', { type: 'file', accept: '.csv,.txt,text/csv,text/plain', 'aria-label': words.orderFile });
     file.addEventListener('change', async () => {
       const [chosen] = file.files ?? [];
       if (chosen) this.#useOrder(new Uint8Array(await chosen.arrayBuffer()));
       file.value = '';
     });
-    const open = button(words.orderFile, () => file.click());
     file.hidden = true;
+    return { file, button: button(words.orderFile, () => file.click()) };
+  }
+
+  /**
+   * A field for such an order, folded; for few applicants with the file.
+   * @param {string} title
+   * @param {string} how
+   */
+  #orderFold(title, how) {
+    const field = make('textarea', { rows: '6', spellcheck: 'false' });
+    const { file, button: opener } = this.#orderFile();
+    const use = button(words.useOrder, () => this.#useOrder(new TextEncoder().encode(field.value)));
     return make('details', {}, [
-      make('summary', { text: words.orderTitle }),
-      make('p', { class: 'quiet', text: words.orderHow }),
+      make('summary', { text: title }),
+      make('p', { class: 'quiet', text: how }),
       make('label', { class: 'field' }, [make('span', { text: words.orderField }), field]),
-      make('div', { class: 'buttons' }, [button(words.useOrder, () => this.#useOrder(new TextEncoder().encode(field.value))), open, file]),
+      make('div', { class: 'buttons' }, this.#people.size > MANY ? [use] : [use, opener, file]),
     ]);
   }
 
   /** @param {Uint8Array} bytes */
-  #useOrder(bytes) {
-    const { keys, others } = orderOf(bytes, (key) => this.#people.has(key));
+  async #useOrder(bytes) {
+    const { keys, others } = orderOf(bytes, this.#people);
     if (keys.length === 0) {
       this.#messages.warn(words.orderEmpty);
       return;
     }
+    const gone = this.#editor.keys.filter((key) => !keys.includes(key)).length;
+    if (gone > 0 && !(await ask({ title: words.orderShorter, risk: words.orderLoses(gone), lines: [others.length > 0 ? words.orderOthers(words.listed(others)) : ''], verb: words.useOrder, stay: words.orderKeep }))) return;
     this.#editor.list.set(keys);
-    if (others.length > 0) this.#messages.warn(words.orderOthers(keys.length, words.listed(others)));
+    if (others.length > 0) this.#messages.warn(`${words.orderUsed(keys.length)} ${words.orderOthers(words.listed(others))}`);
     else this.#messages.say(words.orderUsed(keys.length));
   }
 
   /** @param {string} places @param {Node} hint */
   #rankingPart(places, hint) {
     const { list, tools } = this.#editor;
-    const parts = [make('p', { text: places }), make('p', { class: 'quiet', text: words.rankingHint }), hint, this.#empty, list.element, tools, make('p', { class: 'quiet', text: words.orderHint })];
+    const parts = [make('p', { text: places }), make('p', { class: 'quiet', text: words.rankingHint }), hint, this.#empty, list.element, tools, this.#restPart()];
     const own = part(words.ofRanking.label, parts, { class: 'own', tabindex: '-1' });
     measure(own, '--own');
     return own;
@@ -267,6 +291,7 @@ export class RankingMaking {
     this.#none.hidden = !isWhole;
     this.#none.closest('section')?.classList.toggle('whole', isWhole);
     this.#adding.hidden = isWhole;
+    this.#rest.hidden = isWhole;
     this.#noMatch.hidden = shown > 0;
     this.#empty.hidden = ranked.size > 0;
   }

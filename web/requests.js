@@ -26,7 +26,16 @@ export class Refused extends Error {
 }
 
 /** No answer came, or none of the portal's. Of a POST we do not know whether it was done. */
-export class Lost extends Error {}
+export class Lost extends Error {
+  /**
+   * @param {string} message
+   * @param {() => void} [again] what trying again is, where it is not the same once more
+   */
+  constructor(message, again) {
+    super(message);
+    this.again = again;
+  }
+}
 
 /** @param {number} milliseconds */
 const sleep = (milliseconds) => new Promise((resolve) => setTimeout(resolve, milliseconds));
@@ -211,20 +220,6 @@ function ofList({ at = 0, fault = '' }, names) {
 }
 
 /**
- * A refusal of a roll: what is said, and the row that is at fault, where there is one. Its code is not shown.
- * @param {Refused} refused
- * @param {Roll} roll
- * @param {Entry} [entry]
- */
-export function toldOfRoll(refused, roll, entry) {
-  const name = words.roll[roll];
-  if (entry === undefined) return { text: `${name}: ${told(refused)}` };
-  const { row, code, ...fields } = entry;
-  const text = refused.word === 'roll_conflict' ? words.rollConflict(name, row) : words.badRow(name, row, entry.lecturer);
-  return { text, lead: words.row(row), line: Object.values(fields).join(', ') };
-}
-
-/**
  * Gives the function that does what a person asked for; it answers whether it was done.
  * @param {object} of
  * @param {Messages} of.messages
@@ -237,7 +232,7 @@ export function toldOfRoll(refused, roll, entry) {
 export function attempts(of) {
   const { messages, isCurrent } = of;
   return async function attempt(action, how = {}) {
-    messages.clear();
+    if (!how.goesOn) messages.clear();
     const end = how.isLoading ? () => {} : messages.waiting();
     try {
       await action();
@@ -260,7 +255,7 @@ export function attempts(of) {
  */
 async function tellFault({ messages, reload, signIn, isChanged }, fault, how, again) {
   if (fault instanceof Lost) {
-    const { text, ...more } = how.lost?.() ?? { text: words.lost, again: words.tryAgain, press: again };
+    const { text, ...more } = how.lost?.() ?? { text: words.lost, again: words.tryAgain, press: fault.again ?? again };
     messages.warn(text, more);
   } else if (!(fault instanceof Refused)) {
     messages.warn(words.unexpected);

@@ -1,8 +1,9 @@
 // Who has what, once it is published: to search, to sort, to keep as a file and to print. And before, the lecturers, projects and students as
 // they stand, to search and to sort.
 
-import { records } from './csv.js';
+import { records, writtenForSpreadsheets } from './csv.js';
 import { bar, button, download, given, make, part, print, titled } from './dom.js';
+import { pageTitle } from './frame.js';
 import { SearchTable } from './table.js';
 import { words } from './words.js';
 import { roundOf, takesRolls } from './year.js';
@@ -51,7 +52,7 @@ export function resultPart(result, titleOf, nameOf) {
   };
   return part(words.result, [
     make('div', { class: 'buttons' }, [
-      button(words.downloadCsv, () => download('allocation.csv', result.csv, 'text/csv')),
+      button(words.downloadCsv, () => download('allocation.csv', forSpreadsheets(result.csv), 'text/csv')),
       button(words.printReport, printed),
     ]),
     usageFold(shown),
@@ -60,6 +61,12 @@ export function resultPart(result, titleOf, nameOf) {
     paper,
   ]);
 }
+
+/**
+ * The portal's own text, as long as a spreadsheet of the reader's language opens it in columns.
+ * @param {string} csv
+ */
+const forSpreadsheets = (csv) => (words.separator === ',' ? csv : writtenForSpreadsheets([...records(csv)], words.separator));
 
 // More projects than these are folded, so that the table is in sight.
 const UNFOLDED = 20;
@@ -118,7 +125,7 @@ function paperOf(shown) {
   const rows = shown.rows.map((row) => make('tr', {}, cells(row, shown.nameOf).map((cell) => make('td', {}, [cell]))));
   const count = shown.rows.filter(({ project }) => project !== '').length;
   return [
-    make('h1', {}, [given(document.title)]),
+    make('h1', {}, [given(pageTitle)]),
     make('h2', { text: words.result }),
     make('p', { text: words.assigned(count, shown.rows.length) }),
     make('table', {}, [make('thead', {}, [make('tr', {}, heads)]), make('tbody', {}, rows)]),

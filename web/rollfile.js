@@ -2,106 +2,38 @@
 // of another roll. No element of the page is touched here.
 
 import { isCode, makeCode } from './codes.js';
+import { KINDS, ROLLS, columnsOf, entriesOf, extraOf, hasCodes, missingOf, rollOf, strangerIn } from './columns.js';
 import { largestCapacity, largestFile, longestKey, longestName, mostRows } from './config.js';
 import { isLikeFormula, table, written, writtenForSpreadsheets } from './csv.js';
+import { meantBy } from './found.js';
 import { words } from './words.js';
 
-/** @type {Record<Roll, Column[]>} The columns of each roll, as the portal wants them. */
-export const KINDS = {
-  lecturers: ['id', 'name', 'code', 'capacity'],
-  projects: ['id', 'lecturer', 'title', 'capacity'],
-  students: ['id', 'name', 'code'],
-};
-/** @type {Roll[]} */
-export const ROLLS = ['lecturers', 'projects', 'students'];
-/** @type {Column[]} What a file need not have: a code can be made, and addresses are for the browser alone. */
-const OPTIONAL = ['code', 'email'];
-
-/** @param {Roll} roll */
-export const hasCodes = (roll) => KINDS[roll].includes('code');
-
 /**
- * The columns that are taken from a file.
- * @param {Roll} roll
- * @returns {Column[]}
- */
-export const columnNames = (roll) => (hasCodes(roll) ? [...KINDS[roll], 'email'] : KINDS[roll]);
-
-/** @param {string} text */
-const plain = (text) => text.trim().toLowerCase();
-
-/**
- * Where the file has each column of the roll, by its name in any case.
- * @param {Roll} roll
- * @param {string[]} header
- * @returns {Columns}
- */
-export function columnsOf(roll, header) {
-  const names = header.map(plain);
-  return Object.fromEntries(columnNames(roll).map((column) => [column, names.indexOf(column)]));
-}
-
-/**
- * The columns that the file has to have and has not.
- * @param {Columns} columns
- */
-export const missingOf = (columns) => namesOf(columns).filter((column) => (columns[column] ?? -1) < 0 && !OPTIONAL.includes(column));
-
-/** @param {object} of */
-const namesOf = (of) => /** @type {Column[]} */ (Object.keys(of));
-
-/**
- * The columns of the file that nothing is taken from, by their names.
- * @param {Columns} columns
- * @param {string[]} header
- */
-export function extraOf(columns, header) {
-  const taken = new Set(Object.values(columns));
-  return header.filter((name, at) => !taken.has(at) && name.trim() !== '');
-}
-
-/**
- * The roll that a file is for by its header: the first one of which all columns are there.
- * @param {string[]} header
- */
-export const rollOf = (header) => ROLLS.find((roll) => missingOf(columnsOf(roll, header)).length === 0);
-
-/**
- * The rows under the header as those of the roll: each column's text without blanks around it.
- * @param {FileRow[]} rows
- * @param {Columns} columns
- * @returns {Entry[]}
- */
-export function entriesOf(rows, columns) {
-  return rows.slice(1).map(({ row, fields }) => {
-    const texts = namesOf(columns).map((column) => [column, (fields[columns[column] ?? -1] ?? '').trim()]);
-    return { ...Object.fromEntries(texts), row };
-  });
-}
-
-/**
- * @param {Roll} roll
+ * @param {Column[]} columns
  * @param {Entry[]} entries
  */
-const rowsOf = (roll, entries) => [KINDS[roll], ...entries.map((entry) => KINDS[roll].map((column) => entry[column] ?? ''))];
+const rowsOf = (columns, entries) => [columns, ...entries.map((entry) => columns.map((column) => entry[column] ?? ''))];
 
 /**
  * The text that the portal wants.
  * @param {Roll} roll
  * @param {Entry[]} entries
  */
-export const rollText = (roll, entries) => written(rowsOf(roll, entries));
+export const rollText = (roll, entries) => written(rowsOf(KINDS[roll], entries));
 
 /**
- * The text of a file to keep.
+ * The text of a file to keep, with the mail addresses that were read.
  * @param {Roll} roll
  * @param {Entry[]} entries
  */
-export const fileText = (roll, entries) => writtenForSpreadsheets(rowsOf(roll, entries));
+export function fileText(roll, entries) {
+  const hasEmail = entries.some(({ email = '' }) => email !== '');
+  return writtenForSpreadsheets(rowsOf(hasEmail ? [...KINDS[roll], 'email'] : KINDS[roll], entries), words.separator);
+}
 
 /**
- * The other roll whose file this rather is: students have no capacity, the header is exactly the other one's, or most rows have the key and
- * the name of somebody on it. A column of another name says nothing: it may have been mapped.
+ * The other roll whose file this rather is: its header is the other one's, it has a column that this one has not, or most rows have the key
+ * and the name of somebody on the other one. A header with more columns says nothing where they can be those that are missed.
  * @param {Roll} roll
  * @param {string[]} header
  * @param {Entry[]} entries
@@ -109,12 +41,11 @@ export const fileText = (roll, entries) => writtenForSpreadsheets(rowsOf(roll, e
  * @returns {Likeness | null}
  */
 export function likeness(roll, header, entries, there) {
-  const names = header.map(plain).filter((name) => name !== '' && !OPTIONAL.includes(/** @type {Column} */ (name))).sort().join();
-  const isExactly = (/** @type {Roll} */ other) => KINDS[other].filter((column) => !OPTIONAL.includes(column)).sort().join() === names;
-  const exact = ROLLS.find(isExactly);
-  if (exact !== undefined && exact !== roll) return { roll: exact, why: 'header' };
   const by = rollOf(header);
-  if (roll === 'students' && columnsOf('lecturers', header).capacity !== -1) return { roll: by === 'projects' ? by : 'lecturers', why: 'capacity' };
+  const isWhole = by !== undefined && extraOf(columnsOf(by, header), header).length === 0;
+  if (by !== undefined && by !== roll && (isWhole || by === 'projects' || roll === 'students')) return { roll: by, why: 'header' };
+  const stranger = strangerIn(roll, header);
+  if (stranger !== null) return { ...stranger, why: 'column' };
   for (const other of ROLLS.filter((one) => one !== roll)) {
     const count = entries.filter((entry) => isSame(entry, there[other].get(entry.id)) && !isSame(entry, there[roll].get(entry.id))).length;
     if (count * 2 > entries.length) return { roll: other, why: 'people', count, all: entries.length };
@@ -136,6 +67,8 @@ export class RollFile {
   made = new Map();
   /** @type {Map<string, {}>} who is there by the portal's refusals */
   #known = new Map();
+  /** @type {Map<string, string>} the lecturers' keys that a person has agreed to, by what stands in the file */
+  #agreed = new Map();
   roll;
   name;
   how;
@@ -182,9 +115,39 @@ export class RollFile {
     return missingOf(this.columns).length === 0;
   }
 
-  /** The rows, with the codes that were made. */
+  /** The rows, with the codes that were made, and with the keys of lecturers that were agreed to. */
   get entries() {
-    return entriesOf(this.#rows, this.columns).map((entry) => (entry.code === '' && this.made.has(entry.id) ? { ...entry, code: this.made.get(entry.id) } : entry));
+    return entriesOf(this.#rows, this.columns).map((entry) => {
+      if (entry.lecturer !== undefined) return { ...entry, lecturer: this.#agreed.get(entry.lecturer) ?? entry.lecturer };
+      return entry.code === '' && this.made.has(entry.id) ? { ...entry, code: this.made.get(entry.id) } : entry;
+    });
+  }
+
+  /** How many rows have no ID: all, where there is no column for it. */
+  get lacking() {
+    return this.entries.filter(({ id }) => id === '').length;
+  }
+
+  /**
+   * Lecturers who stand in the file by name, or by an ID in another case: the only one who can be meant, by what stands there.
+   * @param {There} there
+   */
+  named({ lecturers }) {
+    const meant = meantBy([...lecturers].map(([key, { name = '' }]) => /** @type {[string, string]} */ ([key, name])));
+    const keyOf = (/** @type {string} */ text) => [...lecturers.keys()].find((key) => key.toLowerCase() === text.toLowerCase()) ?? meant(text);
+    const texts = new Set(this.entries.map(({ lecturer = '' }) => lecturer).filter((text) => text !== '' && !lecturers.has(text)));
+    return new Map([...texts].flatMap((text) => {
+      const key = keyOf(text);
+      return key === null ? [] : [/** @type {[string, string]} */ ([text, key])];
+    }));
+  }
+
+  /**
+   * A person agrees to these keys of lecturers.
+   * @param {Map<string, string>} keys by what stands in the file
+   */
+  agree(keys) {
+    this.#agreed = new Map([...this.#agreed, ...keys]);
   }
 
   /**
@@ -196,16 +159,19 @@ export class RollFile {
   }
 
   /**
-   * What sending it would do.
+   * What sending it would do, once lecturers by name are agreed to.
    * @param {There} there
    */
   plan(there) {
-    const { entries, roll } = this;
+    const { roll } = this;
+    const named = this.named(there);
+    const entries = this.entries.map((entry) => (named.has(entry.lecturer ?? '') ? { ...entry, lecturer: named.get(entry.lecturer ?? '') } : entry));
     const all = { ...there, [roll]: new Map([...there[roll], ...this.#known]) };
     const parts = sorted(roll, entries, all);
-    const toSend = entries.filter((entry) => !parts.left.includes(entry));
-    const doubts = doubtsOf(roll, entries.filter(({ id }) => !this.made.has(id)), all);
-    return { entries, ...parts, toSend, faults: faultsOf(roll, entries), doubts, known: all[roll].size };
+    const left = new Set(parts.left);
+    const toSend = entries.filter((entry) => !left.has(entry));
+    const doubts = doubtsOf(roll, toSend.filter(({ id }) => !this.made.has(id)), all);
+    return { entries, named, ...parts, toSend, unlike: unlikeIn(roll, parts.left, all), faults: faultsOf(roll, entries), doubts, known: all[roll].size };
   }
 
   /** @param {Entry[]} entries */
@@ -342,7 +308,7 @@ function sameCode(entries) {
 export function doubtsOf(roll, entries, there) {
   const rows = (/** @type {(entry: Entry) => boolean} */ test) => entries.filter(test).map(({ row }) => row);
   const all = {
-    differs: rows((entry) => differs(entry, there[roll].get(entry.id))),
+    differs: unlikeIn(roll, entries, there),
     weakCode: hasCodes(roll) ? weakCodes(entries) : [],
     noLecturer: rows(({ lecturer }) => lecturer !== undefined && lecturer !== '' && !there.lecturers.has(lecturer)),
     sameTitle: rows(roll === 'projects' ? sameTitle(entries, there) : () => false),
@@ -382,6 +348,14 @@ const COMPARED = ['name', 'capacity', 'lecturer', 'title'];
  * @param {Partial<Record<Column, string>>} [known]
  */
 const differs = (entry, known = {}) => COMPARED.some((column) => entry[column] !== undefined && known[column] !== undefined && entry[column] !== known[column]);
+
+/**
+ * The rows that differ from what is known of those who are there.
+ * @param {Roll} roll
+ * @param {Entry[]} entries
+ * @param {There} there
+ */
+export const unlikeIn = (roll, entries, there) => entries.filter((entry) => differs(entry, there[roll].get(entry.id))).map(({ row }) => row);
 
 /**
  * The rows whose code can be guessed: a short one, one with the own key or name in it, or one that differs from another in digits alone.

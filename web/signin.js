@@ -7,12 +7,18 @@ const KEPT = 'portal-code';
 const ACTIVE = 'portal-active';
 // Whoever does nothing for so many milliseconds is signed out.
 const IDLE = 30 * 60_000;
+// So many milliseconds before that the page asks whether anybody is there.
+const BEFORE = 2 * 60_000;
 // How often that is looked at, and how seldom a sign of life is written.
-const LOOK = 30_000;
+const LOOK = 10_000;
 const SELDOM = 5_000;
 
 const lastActive = () => Number(sessionStorage.getItem(ACTIVE) ?? Date.now());
 const isIdle = () => Date.now() - lastActive() > IDLE;
+const isNearlyIdle = () => Date.now() - lastActive() > IDLE - BEFORE;
+
+// What tells that somebody is there: what is pressed, typed, pointed at and scrolled, and the focus, which screen readers move.
+const SIGNS = ['pointerdown', 'pointermove', 'keydown', 'wheel', 'touchmove', 'scroll', 'focusin'];
 
 /** The code of whoever is signed in in this tab, or null. */
 export const keptCode = () => sessionStorage.getItem(KEPT);
@@ -36,21 +42,29 @@ export function forgetIdle() {
 }
 
 /**
- * Watches over this tab: `elsewhere` is called when somebody signs out in another tab, `idle` when nothing was done here for too long.
- * @param {{ elsewhere: () => void, idle: () => void }} calls
+ * Watches over this tab: `elsewhere` is called when somebody signs out in another tab, `idle` when nothing was done here for too long, `soon`
+ * a while before, to ask whether anybody is there; the answer is a sign of life then, and nothing else.
+ * @param {{ elsewhere: () => void, idle: () => void, soon: () => Promise<unknown> }} calls
  * @returns a function that tells the other tabs that somebody signs out here
  */
-export function watch({ elsewhere, idle }) {
+export function watch({ elsewhere, idle, soon }) {
+  let isAsked = false;
   const channel = new BroadcastChannel(KEPT);
   channel.addEventListener('message', () => keptCode() !== null && elsewhere());
-  const look = () => {
-    if (forgetIdle()) idle();
+  const look = async () => {
+    if (forgetIdle()) return idle();
+    if (isAsked || keptCode() === null || !isNearlyIdle()) return;
+    isAsked = true;
+    await soon();
+    isAsked = false;
+    live();
   };
   const live = () => {
-    look();
+    if (isAsked) return;
+    if (forgetIdle()) return idle();
     if (keptCode() !== null && Date.now() - lastActive() > SELDOM) sessionStorage.setItem(ACTIVE, `${Date.now()}`);
   };
-  for (const event of ['pointerdown', 'keydown', 'wheel', 'touchmove']) addEventListener(event, live, { capture: true, passive: true });
+  for (const event of SIGNS) addEventListener(event, live, { capture: true, passive: true });
   // a computer that slept, or a page that comes back, is looked at at once
   for (const event of ['focus', 'pageshow']) addEventListener(event, look);
   setInterval(look, LOOK);

@@ -2,15 +2,13 @@
 
 import { Catalogue } from './catalogue.js';
 import { longestList } from './config.js';
-import { make, measure, part, titled } from './dom.js';
-import { ListEditor, fixedList, unsavedPart } from './list.js';
-import { draftOf, keep, keepDraft, kept } from './store.js';
-import { receiptButton } from './table.js';
+import { make, measure, part, titled, withNames } from './dom.js';
+import { ListEditor, savedLines, unsavedPart } from './list.js';
+import { fixedList } from './ordered.js';
+import { receiptButton } from './paper.js';
+import { draftOf, keepDraft } from './store.js';
 import { words } from './words.js';
 import { hasResult, makesList, roundOf } from './year.js';
-
-// That this browser has shown the advice once.
-const ADVISED = 'portal-advised';
 
 /**
  * @param {PageOf} of
@@ -36,6 +34,13 @@ function rememberFirst(me, { saved }) {
 }
 
 /**
+ * The list of the first round, where this tab has seen it; in the first round there is no other one to show.
+ * @param {Me} me
+ * @returns {string[]}
+ */
+const firstSeen = (me) => (roundOf(me) === 2 ? draftOf(firstList(me)) ?? [] : []);
+
+/**
  * A student who has a project of the first round takes no part in the second.
  * @param {Me} me
  * @param {StudentState} state
@@ -58,7 +63,21 @@ function partsOf(of, state) {
   if (isPlaced(me, state)) return placedParts(of, state);
   const top = me.phase === 'published' ? [resultPart(of, state, state.saved)] : [];
   const lost = unsavedPart(of, state.saved, { show: entryOf(known), name: (key) => known.titleOf(key) });
-  return [...top, ...lost, savedPart(of, state.saved, words.yourList, marksOf(me, state)), catalogue];
+  const own = me.phase === 'published' ? savedPart(of, state.saved, words.yourList, marksOf(of, state, state.saved)) : savedPart(of, state.saved, words.yourList);
+  return [...top, ...lost, own, ...firstPart(of, state), catalogue];
+}
+
+/**
+ * What became of the first list of a student who has no project of the first round, folded.
+ * @param {PageOf} of
+ * @param {StudentState} state
+ */
+function firstPart(of, state) {
+  const first = firstSeen(of.me);
+  if (first.length === 0) return [];
+  const { taken, mark } = marksOf(of, { ...state, own: null }, first, true);
+  const list = fixedList(words.firstList, first.map(entryOf(of.known, mark)));
+  return [make('details', { class: 'first-list' }, [make('summary', { text: words.firstList }), ...textsOf(taken), list])];
 }
 
 /**
@@ -67,10 +86,9 @@ function partsOf(of, state) {
  * @param {StudentState} state
  */
 function placedParts(of, state) {
-  const seen = /** @type {string[] | null} */ (draftOf(firstList(of.me)));
-  const first = seen !== null && state.own !== null && seen.includes(state.own) ? seen : [];
+  const first = firstSeen(of.me).includes(state.own ?? '') ? firstSeen(of.me) : [];
   const top = resultPart(of, state, first);
-  return first.length === 0 ? [top] : [top, savedPart(of, first, words.firstList, marked(first, state.own, words.markTaken))];
+  return first.length === 0 ? [top] : [top, savedPart(of, first, words.firstList, marksOf(of, state, first, true))];
 }
 
 /**
@@ -81,28 +99,35 @@ function placedParts(of, state) {
 const entryOf = (known, mark = () => []) => (/** @type {string} */ key) => titled(known.titleOf(key), words.byLecturer(known.lecturerOf(key), key), mark(key));
 
 /**
- * What became of each project of a list: nothing is said before there is a result.
- * @param {Me} me
+ * What became of the projects of a list: the own one, and those above it, which had no place; all of them, where there is none. Why they had
+ * none is either of two things: the project was full, or its lecturer was. It was the project where its lecturer has taken this student with
+ * another one, or after the first round takes others. Elsewhere one sentence stands for all.
+ * @param {PageOf} of
  * @param {StudentState} state
- */
-function marksOf(me, { own, saved }) {
-  return me.phase === 'published' ? marked(saved, own, roundOf(me) === 2 ? words.markTakenSecond : words.markTaken) : undefined;
-}
-
-/**
- * The own project, and those above it, which had no place; all of them, where there is none.
  * @param {string[]} keys of the list
- * @param {string | null} own
- * @param {string} taken what is said of those above it
- * @returns {(key: string) => Node[]}
+ * @param {boolean} isFirst the list is that of the first round, and the second has begun
+ * @returns {{ result: string[], taken: string[], mark: (key: string) => Node[] }} `result` and `taken` are said of all
  */
-function marked(keys, own, taken) {
-  const above = own === null ? keys.length : keys.indexOf(own);
-  return (key) => {
-    if (key === own) return [make('span', { class: 'mark yours', text: words.markYours })];
-    return keys.indexOf(key) < above ? [make('span', { class: 'mark taken', text: taken })] : [];
+function marksOf({ me, known }, { own, projects }, keys, isFirst = false) {
+  const above = own === null ? keys : keys.slice(0, keys.indexOf(own));
+  const takers = new Set([...(isFirst ? projects.map(({ lecturer }) => lecturer) : []), ...(own === null ? [] : [known.ownerOf(own)])]);
+  const isFull = (/** @type {string} */ key) => known.ownerOf(key) !== undefined && takers.has(known.ownerOf(key));
+  const isSecond = roundOf(me) === 2 && !isFirst;
+  const [why, full] = isSecond ? [words.whyTakenSecond, words.markFullSecond] : [words.whyTaken, words.markFull];
+  const taken = above.every(isFull) ? [] : [why];
+  const none = roundOf(me) === 2 ? words.noneTitleSecond : words.noneTitle;
+  return {
+    taken,
+    result: [own === null ? none : resultText(known, own)],
+    mark: (key) => {
+      if (key === own) return [make('span', { class: 'mark yours', text: words.markYours })];
+      return above.includes(key) ? [make('span', { class: 'mark taken', text: isFull(key) ? full : words.markTaken })] : [];
+    },
   };
 }
+
+/** @type {ReturnType<typeof marksOf>} Before there is a result. */
+const UNMARKED = { result: [], taken: [], mark: () => [] };
 
 /**
  * @param {PageOf} of
@@ -113,29 +138,44 @@ function resultPart({ me, known }, state, list) {
   const { own } = state;
   const isKept = isPlaced(me, state);
   const isSecond = roundOf(me) === 2 && !isKept;
-  if (own === null) return part(words.yourProject, list.length === 0 ? textsOf(withoutList(isSecond)) : withoutProject(isSecond), { class: 'result' });
-  const lecturer = known.lecturerOf(own);
-  const title = lecturer === '' ? words.ownProjectByKey(known.titleOf(own)) : words.ownProject(known.titleOf(own), lecturer);
+  if (own === null) return part(words.yourProject, withoutProject(list, isSecond), { class: 'result' });
+  const title = resultText(known, own);
   const choice = list.indexOf(own);
   /** @type {Node[]} */
-  const parts = [make('p', { class: 'outcome', text: title }), ...textsOf(isKept ? [words.keptFirst] : [])];
-  if (choice === 0) parts.push(...textsOf([words.choiceFirst]));
-  if (choice > 0) parts.push(...textsOf([words.choice(choice + 1)]), whyNotHigher(choice, isSecond));
-  return part(words.yourProject, parts, { class: 'result' });
+  const parts = [make('p', { class: 'outcome' }, withNames(title)), ...textsOf(isKept ? [words.keptFirst] : [])];
+  if (choice >= 0) parts.push(make('p', { class: 'reason-why', text: choice === 0 ? words.choiceFirst : words.choice(choice + 1) }));
+  if (choice > 0) parts.push(whyNotHigher(choice, isSecond));
+  return part(words.yourProject, [...parts, nextPart([words.ownNext])], { class: 'result' });
 }
+
+/**
+ * @param {Known} known
+ * @param {string} own
+ */
+function resultText(known, own) {
+  const lecturer = known.lecturerOf(own);
+  return lecturer === '' ? words.ownProjectByKey(known.titleOf(own)) : words.ownProject(known.titleOf(own), lecturer);
+}
+
+/**
+ * What there is to be done now that the result is there.
+ * @param {string[]} texts
+ */
+const nextPart = (texts) => make('div', { class: 'steps-next' }, [make('h3', { text: words.whatNext }), ...textsOf(texts)]);
 
 /** @param {string[]} texts */
 const textsOf = (texts) => texts.map((text) => make('p', { text }));
 
-/** @param {boolean} isSecond */
-const withoutList = (isSecond) => (isSecond ? [words.noProjectNoListSecond] : [words.noProjectNoList]);
-
-/** @param {boolean} isSecond */
-function withoutProject(isSecond) {
-  const [title, ...reasons] = isSecond
-    ? [words.noneTitleSecond, words.whyNoneSecond, words.whyFilled, words.noneNextSecond]
-    : [words.noneTitle, words.whyNone, words.whyFilled, words.noneNext];
-  return [make('p', { class: 'outcome', text: title }), ...textsOf(reasons)];
+/**
+ * That there is none, why, and whether there may be another one.
+ * @param {string[]} list
+ * @param {boolean} isSecond
+ */
+function withoutProject(list, isSecond) {
+  const next = nextPart(isSecond ? [words.noneNextSecond] : [words.noneNext, words.noneMayBe]);
+  if (list.length === 0) return [make('p', { class: 'outcome', text: isSecond ? words.noProjectNoListSecond : words.noProjectNoList }), next];
+  const [title, why] = isSecond ? [words.noneTitleSecond, words.whyNoneSecond] : [words.noneTitle, words.whyNone];
+  return [make('p', { class: 'outcome', text: title }), ...textsOf([why, words.whyFilled]), next];
 }
 
 /**
@@ -151,15 +191,17 @@ function whyNotHigher(count, isSecond) {
 }
 
 /**
- * A list that is saved, to look at and to print.
+ * A list that is saved, to look at and to print, in the end with what became of it.
  * @param {PageOf} of
  * @param {string[]} keys
  * @param {string} title
- * @param {(key: string) => Node[]} [mark] what became of a project
+ * @param {ReturnType<typeof marksOf>} marks
  */
-function savedPart({ me, known }, keys, title, mark) {
+function savedPart({ me, known }, keys, title, { result, taken, mark } = UNMARKED) {
   if (keys.length === 0) return part(title, [make('p', { text: words.listClosedEmpty })]);
-  return part(title, [fixedList(title, keys.map(entryOf(known, mark))), receiptButton({ title, me, entries: () => keys.map(entryOf(known)) })]);
+  const entries = () => keys.map(entryOf(known, mark));
+  const lines = () => [...result, ...taken, ...savedLines(me, keys)];
+  return part(title, [...taken.map((text) => make('p', { class: 'quiet', text })), fixedList(title, entries()), receiptButton({ title, me, entries, lines })]);
 }
 
 /**
@@ -167,11 +209,14 @@ function savedPart({ me, known }, keys, title, mark) {
  * @param {PageOf} of
  * @param {StudentState} state
  */
-function listMaking(of, { projects, saved }) {
+function listMaking(of, state) {
   const { me, known } = of;
+  const { projects, saved } = state;
   const there = new Set(projects.map(({ id }) => id));
   const aims = [{ text: words.skipToList, aim: () => own }, { text: words.skipToSave, aim: () => editor.saveButton }];
-  const making = { add: (/** @type {string} */ key) => editor.list.add(key), aims };
+  /** @type {Making} */
+  const making = { add: (key) => editor.list.add(key), take: (key) => editor.list.take(key), full: () => of.messages.say(words.listFull), aims };
+  const decided = decidedPart(me, saved.length === 0);
   const catalogue = new Catalogue(projects, known, { isSecond: roundOf(me) === 2, making });
   const empty = make('p', { class: 'quiet', text: words.listEmpty });
   const editor = new ListEditor({
@@ -188,33 +233,43 @@ function listMaking(of, { projects, saved }) {
       catalogue.mark(keys, keys.length >= longestList);
       empty.hidden = keys.length > 0;
     },
+    stored: () => { decided.open = false; },
+    look: (key) => catalogue.look(key),
   });
-  const parts = [empty, editor.list.element, editor.tools, make('p', { class: 'quiet', text: words.orderHint }), aboutPart(me)];
-  const own = part(words.yourList, parts, { class: 'own', tabindex: '-1' });
+  const own = part(words.yourList, [empty, editor.list.element, editor.tools], { class: 'own', tabindex: '-1' });
   measure(own, '--own');
   editor.update();
   return {
-    element: make('div', { class: 'columns' }, [catalogue.element, make('div', { class: 'own-side' }, [own])]),
+    element: make('div', {}, [decided, make('div', { class: 'columns' }, [catalogue.element, make('div', { class: 'own-side' }, [own])]), ...firstPart(of, state)]),
     bar: editor.bar,
     aims,
     isChanged: () => editor.isChanged(),
     isKept: true,
-    year: roundOf(me) === 2 ? { now: words.chooseAgain } : {},
+    // when the list can be changed is said with how it is decided
+    year: roundOf(me) === 2 ? { now: words.chooseAgain, next: `${words.adviceSecond} ${roomText(projects)}` } : { next: '' },
   };
 }
 
 /**
- * Who sees the list, and how to order it: open at the first visit, folded later.
- * @param {Me} me
+ * How much is left. A lecturer may take fewer students than the own projects have places.
+ * @param {Project[]} projects
  */
-function aboutPart(me) {
-  const isNew = !kept(ADVISED, false);
-  keep(ADVISED, true);
-  const parts = roundOf(me) === 2 ? [words.adviceSecond, ...words.adviceParts] : [...words.adviceParts, words.adviceWait];
-  return make('details', { open: isNew }, [
-    make('summary', { text: words.about }),
-    make('p', { text: words.secret }),
-    make('p', { text: words.advice }),
-    make('ul', {}, parts.map((text) => make('li', { text }))),
+const roomText = (projects) => words.roomLeft(projects.reduce((sum, { capacity }) => sum + capacity, 0), projects.length);
+
+/**
+ * How it is decided, in three sentences: open until a list is saved, a line afterwards. How to order the list, and who sees it, is folded in it.
+ * @param {Me} me
+ * @param {boolean} isOpen
+ */
+function decidedPart(me, isOpen) {
+  const isSecond = roundOf(me) === 2;
+  const parts = isSecond ? words.adviceParts : [...words.adviceParts, words.adviceWait];
+  const when = (isSecond ? words.nextSecond : words.next).student.choosing ?? '';
+  /** @param {string[]} texts */
+  const items = (texts) => make('ul', {}, texts.map((text) => make('li', { text })));
+  return make('details', { class: 'decided', open: isOpen }, [
+    make('summary', { text: words.decided }),
+    items(words.decidedParts),
+    make('details', {}, [make('summary', { text: words.about }), ...textsOf([words.secret, words.advice]), items(parts), ...textsOf([when])]),
   ]);
 }

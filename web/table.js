@@ -1,32 +1,8 @@
-// A table with a search field, for up to some thousand rows: they are made once, and a search only hides and shows them. And what a person
-// takes along: a saved list to print, and a small table to print, to copy for a mail or a spreadsheet, or to download.
+// A table with a search field, for up to some thousand rows: they are made once, and a search only hides and shows them.
 
-import { writtenForSpreadsheets } from './csv.js';
-import { button, download, given, labelled, make, print } from './dom.js';
+import { labelled, make } from './dom.js';
+import { compare, hasAll, plain, wordsOf } from './found.js';
 import { words } from './words.js';
-import { roundOf } from './year.js';
-
-/**
- * Small letters without accents, so that "cafe" finds "Café".
- * @param {string} text
- */
-const plain = (text) => text.normalize('NFKD').replace(/\p{M}/gu, '').toLowerCase();
-
-/** @param {string} search */
-const wordsOf = (search) => plain(search).split(/\s+/);
-
-/**
- * @param {string} text
- * @param {string[]} wanted
- */
-const hasAll = (text, wanted) => wanted.every((word) => text.includes(word));
-
-/**
- * Every word of the search stands somewhere in the text.
- * @param {string} text
- * @param {string} search
- */
-export const isFound = (text, search) => hasAll(plain(text), wordsOf(search));
 
 // So many rows are shown at once, and so many more in each moment after, so that no key press has to wait for all of them.
 const AT_ONCE = 100;
@@ -37,7 +13,7 @@ export class SearchTable {
   #rows;
   #heads;
   #body = make('tbody');
-  #count = make('p', { class: 'quiet', 'aria-live': 'polite' });
+  #count = make('p', { class: 'quiet count-said', 'aria-live': 'polite' });
   #field = make('input', { type: 'search', autocomplete: 'off', spellcheck: 'false', on: { input: () => this.#filter() } });
   /** @type {(key: string) => boolean} */
   #isKept = () => true;
@@ -52,7 +28,7 @@ export class SearchTable {
    * @param {TableColumn[]} of.columns
    * @param {TableRow[]} of.rows
    * @param {(shown: number, all: number) => string} of.shown what is said of how many rows are shown, of all
-   * @param {Node[]} [of.tools] what else chooses rows, under the search field
+   * @param {Node[]} [of.tools] what else chooses rows, beside the search field
    */
   constructor({ label, search, columns, rows, shown, tools = [] }) {
     this.#shown = shown;
@@ -61,7 +37,10 @@ export class SearchTable {
     this.#body.append(...this.#rows.map((row) => row.line));
     this.#filter();
     const table = make('table', { 'aria-label': label }, [make('thead', {}, [make('tr', {}, this.#heads)]), this.#body]);
-    this.element = make('div', {}, [labelled(search, this.#field), ...tools, this.#count, table]);
+    // where there is more beside it, the field tells in itself what it is for
+    if (tools.length > 0) this.#field.placeholder = search;
+    const finder = tools.length > 0 ? [make('div', { class: 'finder' }, [labelled(search, this.#field), ...tools])] : [labelled(search, this.#field)];
+    this.element = make('div', {}, [...finder, this.#count, table]);
   }
 
   /**
@@ -73,12 +52,22 @@ export class SearchTable {
     this.#filter();
   }
 
+  /**
+   * Brings a row into sight, where it is one of those that are wanted.
+   * @param {string} key
+   */
+  look(key) {
+    this.#filter();
+    this.#rows.find((row) => row.key === key)?.line.scrollIntoView({ block: 'nearest' });
+  }
+
   #filter() {
     const wanted = wordsOf(this.#field.value);
     const matches = this.#rows.filter((row) => hasAll(row.found, wanted) && this.#isKept(row.key));
     const isMatch = new Set(matches);
     this.#rows.filter((row) => !isMatch.has(row)).forEach(hide);
     this.#count.textContent = matches.length === 0 ? words.noMatches : this.#shown(matches.length, this.#rows.length);
+    this.#count.classList.toggle('none', matches.length === 0);
     this.#reveal(matches, ++this.#searches);
   }
 
@@ -106,9 +95,6 @@ export class SearchTable {
     this.#filter();
   }
 }
-
-/** Orders texts as people do, numbers by their value. */
-export const { compare } = new Intl.Collator(undefined, { numeric: true });
 
 /**
  * What is opened below a row goes with it.
@@ -147,74 +133,4 @@ function lineOf(cells, columns) {
 function head({ title, isSorted, style }, press) {
   if (!isSorted) return make('th', { scope: 'col', text: title, class: style });
   return make('th', { scope: 'col', class: style }, [make('button', { type: 'button', class: 'sort', text: title, on: { click: press } })]);
-}
-
-/** A paper that is seen in print alone, and what prints it with these nodes on it. */
-function paper() {
-  const sheet = make('div', { class: 'paper' });
-  /** @param {Node[]} nodes */
-  const printed = (nodes) => {
-    sheet.replaceChildren(make('h2', { text: document.title }), ...nodes);
-    print(sheet);
-  };
-  return { sheet, printed };
-}
-
-/**
- * A button that prints whose list it is, the list in its order, and when.
- * @param {object} of
- * @param {string} of.title
- * @param {{ name: string, key: string, round?: number }} of.me
- * @param {() => Node[]} of.entries a node for each entry
- */
-export function receiptButton({ title, me, entries }) {
-  const { sheet, printed } = paper();
-  const press = () => {
-    const when = new Date().toLocaleString(words.dates, { dateStyle: 'long', timeStyle: 'short' });
-    printed([
-      make('p', {}, [given(me.name), make('span', { text: ` (${me.key})` })]),
-      make('h3', { text: roundOf(me) === 2 ? `${title}, ${words.round(2)}` : title }),
-      make('ol', {}, entries().map((entry) => make('li', {}, [entry]))),
-      make('p', { class: 'quiet', text: words.printed(when, location.host) }),
-    ]);
-  };
-  return make('span', {}, [button(words.printReceipt, press), sheet]);
-}
-
-/**
- * Buttons for a table.
- * @param {object} of
- * @param {{ print: string, copy: string, download: string }} of.texts of the buttons
- * @param {string} of.title what stands above it in print
- * @param {string[]} of.header the names of its columns in print
- * @param {string[]} of.fileHeader those in the file, the same in each language
- * @param {() => string[][]} of.rows
- * @param {string} of.file what the file is called
- * @param {Messages} of.messages
- */
-export function tableButtons({ texts, title, header, fileHeader, rows, file, messages }) {
-  const { sheet, printed } = paper();
-  const copy = async () => {
-    try {
-      await navigator.clipboard.writeText(rows().map((row) => row.join('\t')).join('\n'));
-      messages.say(words.copiedLines(rows().length));
-    } catch {
-      messages.warn(words.notCopied);
-    }
-  };
-  return make('div', { class: 'buttons' }, [
-    button(texts.print, () => printed([make('h3', { text: title }), printedTable(header, rows())])),
-    button(texts.copy, copy),
-    button(texts.download, () => download(file, writtenForSpreadsheets([fileHeader, ...rows()]), 'text/csv')),
-    sheet,
-  ]);
-}
-
-/**
- * @param {string[]} header
- * @param {string[][]} rows
- */
-function printedTable(header, rows) {
-  const heads = make('tr', {}, header.map((text) => make('th', { scope: 'col', text })));
-  return make('table', {}, [make('thead', {}, [heads]), make('tbody', {}, rows.map((row) => make('tr', {}, row.map((text) => make('td', {}, [given(text)])))))]);
 }

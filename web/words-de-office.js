@@ -2,7 +2,7 @@
 
 import { largestCapacity, longestCode, longestKey, longestName, mostRows, shortestCode } from './config.js';
 import { lecturers, many, number, places, projects, students } from './words-de.js';
-import { given, texts } from './words.js';
+import { apart, texts } from './words.js';
 
 const saveAs = 'Wählen Sie in der Tabellenkalkulation „Speichern unter“ oder „Herunterladen“, dann „CSV UTF-8“. Öffnen Sie die neue Datei hier.';
 const keyForm = () => `1 bis ${longestKey} Buchstaben (ohne Akzente), Ziffern, Bindestriche, Unterstriche oder Punkte.`;
@@ -36,7 +36,7 @@ export const words = texts({
   rollFile: 'Datei der Lehrenden oder Studierenden wählen',
   readFileHint: 'Personen und Projekte können nicht mehr hinzukommen. Sie können hier noch eine Datei der Lehrenden oder Studierenden öffnen, um Zettel zu drucken oder Namen zu lesen. Sie wird nicht gesendet.',
   rollTaken: (roll, added, same) => `${roll}: ${number(added)} hinzugefügt, ${number(same)} schon vorhanden.`,
-  inHand: (roll, file) => `${roll}: ${given(file)}`,
+  inHand: (roll, file) => `${roll}: ${apart(file)}`,
 
   // how a file was read
   noTable: {
@@ -48,15 +48,17 @@ export const words = texts({
   separators: { ';': 'mit Semikolons getrennt', '\t': 'mit Tabulatoren getrennt' },
   readAs: (found) => `Diese Datei ist ${found.join(' und ')}. Das ist in Ordnung: Beim Senden wird sie umgewandelt.`,
   columnsOfFile: 'Spalten zuordnen',
+  idWanted: (count, example) => `${many(count, 'Zeile hat', 'Zeilen haben')} keine ID. Jede Zeile braucht eine, die keine andere hat: ${example}.`,
+  idOf: { lecturers: 'etwa l07', projects: 'etwa p017', students: 'etwa die Matrikelnummer' },
   columnsMissing: (columns) => `Wählen Sie die Spalte für: ${columns.join(', ')}.`,
-  columnFor: (column) => `Spalte für ${column}`,
+  columnFor: (column) => `Spalte für ${column === 'first' ? 'Vorname' : column}`,
   noColumn: 'Nicht in dieser Datei',
   looksLike: (other, own) => `Das sieht nach der Datei „${other}“ aus, nicht nach der Datei „${own}“. Es wurde nichts gesendet.`,
-  hasCapacity: 'Sie hat eine Spalte „capacity“, die es bei Studierenden nicht gibt.',
+  hasColumn: (name, other) => `Sie hat eine Spalte „${apart(name)}“, wie Dateien „${other}“ sie haben.`,
   hasHeader: (other) => `Ihre Spalten sind die der Datei „${other}“.`,
   hasPeople: (count, all, other) => `${number(count)} von ${many(all, 'Zeile', 'Zeilen')} stehen schon im Portal unter „${other}“.`,
   useAs: (other) => `Als Datei „${other}“ verwenden`,
-  columnsLeft: (names) => `Wird nicht gesendet: ${names.map(given).join(', ')}.`,
+  columnsLeft: (names) => `Wird nicht gesendet: ${names.map(apart).join(', ')}.`,
 
   // what a file would do
   rowNumber: 'Zeile',
@@ -65,11 +67,11 @@ export const words = texts({
   rowCount: (count) => `Die Datei hat ${many(count, 'Zeile', 'Zeilen')}.`,
   newCount: (fresh, old, isSure) => `Neu: ${number(fresh)}. Schon im Portal: ${number(old)}.${isSure ? '' : ' Die Zahlen können abweichen: Dieser Browser kennt nicht alle im Portal.'}`,
   wouldRefuse: 'Diese Datei kann noch nicht gesendet werden. Berichtigen Sie sie in der Tabellenkalkulation und öffnen Sie sie noch einmal:',
-  rowFault: (row, column, why) => `Zeile ${row}, ${given(column)}: ${why}`,
+  rowFault: (row, column, why) => `Zeile ${row}, ${apart(column)}: ${why}`,
   rowFaults: {
     empty: () => 'diese Zelle ist leer.',
     id: keyForm,
-    lecturer: keyForm,
+    lecturer: () => 'unter diesem Namen ist keine Lehrperson bekannt, oder mehr als eine. Nehmen Sie die ID.',
     name: () => `zu lang oder mit einem Zeilenumbruch. Die Grenze ist ${longestName} Bytes; Buchstaben mit Akzent und nicht lateinische brauchen zwei oder mehr.`,
     title: () => `zu lang oder mit einem Zeilenumbruch. Die Grenze ist ${longestName} Bytes; Buchstaben mit Akzent und nicht lateinische brauchen zwei oder mehr.`,
     code: () => `${shortestCode} bis ${longestCode} Buchstaben (ohne Akzente), Ziffern oder Bindestriche.`,
@@ -89,6 +91,13 @@ export const words = texts({
     formula: (rows) => `Name oder Titel beginnt mit =, +, - oder @. Eine Tabellenkalkulation kann das für eine Formel halten: ${rows}.`,
   },
   codesMissing: (count) => `${many(count, 'neue Person hat', 'neue Personen haben')} keinen Code zum Anmelden. Sie können hier, in Ihrem Browser, zufällige Codes machen.`,
+  lecturersNamed: (count) => `${many(count, 'Lehrperson steht', 'Lehrende stehen')} in dieser Datei mit Namen. Prüfen Sie, ob diese gemeint sind:`,
+  useNamed: 'Diese IDs nehmen',
+  notChanged: (rows) => `Weicht von dem ab, was zuvor gesendet wurde, und wird NICHT geändert: ${rows}. Bitten Sie die Administration, es zu berichtigen.`,
+  askCorrected: 'Hat die Administration das berichtigt?',
+  correctedIf: (rows) => `Die Datei weicht von dem ab, was das Portal hat, soweit dieser Browser weiß: ${rows}.`,
+  takeCorrected: 'Berichtigt: Datei nehmen',
+  keepSent: 'Gesendetes behalten',
   leftOut: (count) => `${many(count, 'Person ist', 'Personen sind')} schon im Portal und ${count === 1 ? 'behält den alten Code' : 'behalten ihre Codes'}. ${count === 1 ? 'Diese Zeile wird' : 'Diese Zeilen werden'} nicht gesendet.`,
   codesMade: (count) => `${many(count, 'Code', 'Codes')} gemacht. Drücken Sie als Nächstes „Senden“. Dann bekommen Sie eine Datei mit den Codes und Zettel zum Drucken.`,
   final: 'Prüfen Sie, bevor Sie senden: Danach können hier keine Zeilen geändert oder entfernt werden.',
@@ -99,10 +108,9 @@ export const words = texts({
   addedForGood: 'Sie können sie später weder entfernen noch ändern.',
   askSendAgain: (what) => `${what} noch einmal senden?`,
   allThere: 'Soweit dieser Browser weiß, sind alle schon im Portal.',
-  fromFile: (file) => `Aus der Datei ${given(file)}.`,
+  fromFile: (file) => `Aus der Datei ${apart(file)}.`,
   doAdd: (what) => `${what} hinzufügen`,
   notNow: 'Jetzt nicht',
-  cancel: 'Abbrechen',
   keepNames: 'Nur Namen lesen',
   namesKept: (count, emails) => `${many(count, 'Name', 'Namen')}${emails === 0 ? '' : ` und ${addresses(emails)}`} gelesen. Es wurde nichts gesendet.`,
   leaveOut: 'Diese Zeile weglassen',
@@ -127,12 +135,15 @@ export const words = texts({
 
   // the office: where the year stands
   state: 'Fortschritt',
+  lacking: (count) => `${number(count)} ${count === 1 ? 'fehlt' : 'fehlen'}`,
+  placesAre: (count, all, isSure) => `${isSure ? 'Plätze' : 'Plätze höchstens'}: ${number(count)} für ${students(all)}`,
+  ends: (phase, left, when) => `„${phase}“ endet: ${left} – ${when}`,
   refresh: 'Neu laden',
   refreshed: 'Auf dem neuesten Stand.',
-  withList: (count, all) => `Mit Liste: ${number(count)} von ${students(all)}`,
-  ranked: (done, all) => `Rangfolgen fertig: ${number(done)} von ${lecturers(all)}`,
+  withList: (count, all) => `Mit Liste: ${number(count)} von ${many(all, 'Person', 'Studierenden')}`,
+  ranked: (done, all) => `Rangfolgen fertig: ${number(done)} von ${many(all, 'Lehrperson', 'Lehrenden')}`,
   rankedMeans: 'Lehrende ohne Bewerbungen gelten als fertig.',
-  assigned: (count, all) => `Mit Projekt: ${number(count)} von ${students(all)}`,
+  assigned: (count, all) => `Mit Projekt: ${number(count)} von ${many(all, 'Person', 'Studierenden')}`,
   counts: (of) => `${lecturers(of.lecturers)}, ${projects(of.projects)}, ${students(of.students)}`,
   noneYet: { lecturers: 'Noch keine Lehrenden', projects: 'Noch keine Projekte', students: 'Noch keine Studierenden' },
   missing: {
@@ -143,13 +154,13 @@ export const words = texts({
   nobody: 'Niemand',
   allNames: (count) => `Alle ${number(count)} Namen zeigen`,
   keysAlone: 'Das Portal zeigt hier nur IDs. Um Namen zu sehen, öffnen Sie die Datei der Lehrenden oder Studierenden noch einmal und drücken „Nur Namen lesen“. Nichts wird gesendet.',
-  person: (key, name) => (name === undefined ? key : `${name} (${key})`),
+  person: (key, name) => (name === undefined ? key : `${apart(name)} (${key})`),
   copyNames: 'Namen kopieren',
   copied: (count) => `${many(count, 'Name', 'Namen')} kopiert.`,
   copyEmails: 'E-Mail-Adressen kopieren',
   copiedEmails: (count, unknown) => `${addresses(count)} kopiert${unknown === 0 ? '' : `, ${number(unknown)} unbekannt`}. „Bcc“ benutzen.`,
   data: 'Personen und Projekte prüfen',
-  dataHint: 'Öffnen Sie eine Tabelle, um zu sehen, was jetzt im Portal steht. Die Namen kommen aus diesem Browser.',
+  dataHint: 'Öffnen Sie eine Tabelle, um zu sehen, was jetzt im Portal steht. Namen, und wie viele Studierende eine Lehrperson nimmt, sind die der Dateien, die dieser Browser gesendet oder gelesen hat.',
   dataColumns: { lecturer: 'Lehrperson', takes: 'Nimmt', projects: 'Projekte', places: 'Plätze', ranking: 'Rangfolge', has: 'Hat', student: 'Person', list: 'Liste' },
   standsList: { done: 'Gespeichert', missing: 'Keine', placed: 'Hat ein Projekt' },
   standsRanking: { done: 'Erledigt', missing: 'Fehlt' },
@@ -169,7 +180,7 @@ export const words = texts({
     openChoosing: 'Studierende können Listen zusammenstellen und speichern. Personen und Projekte können noch hinzukommen.',
     openRanking: 'Die Wahl schließt: Listen können nicht mehr geändert werden, und Personen und Projekte können nicht mehr hinzukommen. Lehrende sehen, wer ihre Projekte gewählt hat, und ordnen diese Bewerbungen.',
     publish: 'Das Portal vergibt die Projekte. Studierende sehen ihr Ergebnis, Lehrende ihre Studierenden. Rangfolgen können nicht mehr geändert werden.',
-    fill: 'Nur wenn Lehrende nicht antworten: Das Portal ordnet ihre Bewerbungen nach ID. Die Lehrenden können diese Rangfolge noch ändern, bis Sie veröffentlichen.',
+    fill: 'Nur wenn Lehrende nicht antworten: Das Portal ordnet die Bewerbungen bei ihnen nach ID. Die Lehrenden können diese Rangfolge noch ändern, bis Sie veröffentlichen.',
     openSecond: 'Freiwillig. Studierende ohne Projekt wählen noch einmal unter den übrigen Plätzen, und Lehrende ordnen sie. Alle anderen behalten ihre Projekte. Personen und Projekte können nicht hinzukommen.',
   },
   ask: {
@@ -180,7 +191,10 @@ export const words = texts({
     openSecond: 'Die zweite Runde jetzt öffnen?',
   },
   forGoodOf: (name) => (name === 'fill' ? 'Sie können eine ergänzte Rangfolge nicht entfernen; nur ihre Lehrperson kann sie ersetzen.' : 'Sie können das nicht rückgängig machen.'),
-  listed: (names) => (names.length > 10 ? `${names.slice(0, 10).map(given).join(', ')} und ${number(names.length - 10)} mehr` : names.map(given).join(', ')),
+  early: (phase, when, left) => `Allen wurde gesagt, dass „${phase}“ am ${when} endet. Das ist ${left}.`,
+  filledHere: (count, names) => `${many(count, 'Rangfolge wurde', 'Rangfolgen wurden')} von diesem Browser aus nach ID ergänzt; ihre Lehrenden können sie seither ersetzt haben: ${names}.`,
+  filledElsewhere: 'Ob Rangfolgen von einem anderen Browser aus ergänzt wurden, kann diese Seite nicht wissen.',
+  noListNoProject: (count) => `${many(count, 'Person hat', 'Studierende haben')} keine Liste und ${count === 1 ? 'bekommt' : 'bekommen'} deshalb kein Projekt.`,
   fillWith: (names) => `Lehrende ohne Rangfolge: ${names}.`,
   publishMissing: (count) => `Sie können noch nicht veröffentlichen: ${many(count, 'Rangfolge fehlt', 'Rangfolgen fehlen')}.`,
   openLecturers: 'Datei der Lehrenden öffnen',
@@ -204,7 +218,7 @@ export const words = texts({
   result: 'Ergebnisse',
   searchResult: 'Ergebnisse durchsuchen',
   resultColumns: { student: 'Person', project: 'Projekt', lecturer: 'Lehrperson' },
-  resultShown: (shown, all) => (shown === all ? students(all) : `${number(shown)} von ${students(all)}`),
+  resultShown: (shown, all) => (shown === all ? students(all) : `${number(shown)} von ${many(all, 'Person', 'Studierenden')}`),
   nothing: 'Kein Projekt',
   usage: 'Belegte Plätze',
   usageOf: (taken, count) => `Belegte Plätze: ${number(taken)} (${projects(count)})`,
@@ -218,7 +232,6 @@ export const words = texts({
   lostRoll: 'Das Portal antwortet nicht, wir wissen also nicht, ob die Datei angekommen ist. Sie können sie ruhig noch einmal senden: Zeilen, die schon da sind, werden nicht doppelt hinzugefügt.',
   lookAgain: 'Stand prüfen',
   sendAgain: 'Noch einmal senden',
-  stillToRank: (names) => `Nicht veröffentlicht. Noch ohne Rangfolge: ${names.map(given).join(', ')}.`,
-  badRow: (roll, row, lecturer) => `${roll}: Nichts wurde hinzugefügt, denn Zeile ${row} hat einen Fehler.${lecturer === undefined ? '' : ` Keine Lehrperson hat die ID ${given(lecturer)}.`}`,
+  badRow: (roll, row, lecturer) => `${roll}: Nichts wurde hinzugefügt, denn Zeile ${row} hat einen Fehler.${lecturer === undefined ? '' : ` Keine Lehrperson hat die ID ${apart(lecturer)}.`}`,
   rollConflict: (roll, row) => `${roll}: Nichts wurde hinzugefügt. Zeile ${row} weicht von dem ab, was das Portal unter derselben ID hat, oder ihr Code gehört jemand anderem.`,
 });

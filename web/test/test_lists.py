@@ -178,8 +178,45 @@ class Ordering(ListCase):
         self.browser.keys(Keys.ARROW_UP)
         self.assertEqual(self.entries(), KEYS[:6])
 
+    def test_keys_after_a_click_scroll(self):
+        """Keys move an entry that has the focus by keyboard, or with Alt: after a click they scroll, as everywhere."""
+        self.door.do(ADA, "PUT", "/choices", {"projects": KEYS[:6]})
+        self.open(ADA, "Choosing")
+        self.browser.press(f"Move {named('p02')} up")
+        order = ["p00", "p02", "p01", "p03", "p04", "p05"]
+        for key in (Keys.END, Keys.HOME, Keys.ARROW_DOWN, Keys.ARROW_UP):
+            self.browser.keys(key)
+            self.assertEqual(self.entries(), order)
+        self.with_alt(Keys.END)
+        self.assertEqual(self.entries(), ["p00", "p01", "p03", "p04", "p05", "p02"])
+        self.browser.press("Undo")
+        self.browser.press(f"Move {named('p02')} up")
+        self.browser.keys(Keys.TAB, Keys.HOME)
+        self.assertEqual(self.entries(), ["p02", "p00", "p01", "p03", "p04", "p05"])
+        self.browser.keys(Keys.ARROW_DOWN)
+        self.assertEqual(self.entries(), ["p00", "p02", "p01", "p03", "p04", "p05"])
+
+    def with_alt(self, key):
+        ActionChains(self.browser.driver).key_down(Keys.ALT).send_keys(key).key_up(Keys.ALT).perform()
+
+    def test_undo_brings_the_row_back(self):
+        """After a project was put on the list or taken off it, taking that back brings its row of the catalogue into sight."""
+        self.open(ADA, "Choosing")
+        row = "((r) => r.top >= 0 && r.bottom <= document.querySelector('.dock').getBoundingClientRect().top)([...document.querySelectorAll('.catalogue tbody tr')].find((r) => r.innerText.includes(arguments[0])).getBoundingClientRect())"
+        for width, height in ((1280, 900), (390, 844)):
+            self.browser.resize(width, height)
+            for name in (f"Add {named('p01')}", f"Remove from your list: {named('p01')}"):
+                self.click(name)
+                self.browser.driver.execute_script("scrollTo(0, document.documentElement.scrollHeight)")
+                self.browser.wait(lambda: not self.browser.script(row, "p01"), "the row out of sight")
+                self.browser.press("Undo")
+                self.browser.wait(lambda: self.browser.script(row, "p01"), "the row in sight")
+                if name.startswith("Add"):
+                    self.click(name)
+            self.click(f"Remove from your list: {named('p01')}")
+
     def test_rows_of_the_catalogue(self):
-        """A project on the list tells its place in the place of its button, and moves along."""
+        """A project on the list tells its place, and moves along; its button takes it off again, and keeps the focus."""
         self.open(ADA, "Choosing")
         self.add("p03", "p04")
         self.assertFalse(self.browser.has("button", f"Add {named('p03')}"))
@@ -191,6 +228,13 @@ class Ordering(ListCase):
         self.click(f"Remove {named('p03')}")
         self.assertTrue(self.browser.has("button", f"Add {named('p03')}"))
         self.assertNotIn("Choice", self.browser.script(row, "p03"))
+        self.browser.press(f"Remove from your list: {named('p04')}")
+        self.browser.announced("Nothing is left.")
+        self.assertEqual((self.entries(), self.browser.focused().accessible_name), ([], f"Add {named('p04')}"))
+        self.add(*KEYS[:20])
+        self.browser.press(f"Add {named('p20')}")
+        self.browser.says("List full: remove a project first.")
+        self.assertEqual(self.entries(), KEYS[:20])
 
     def test_dragging_scrolls_at_the_edge(self):
         self.door.do(ADA, "PUT", "/choices", {"projects": KEYS[:20]})

@@ -153,7 +153,7 @@ class NextStep(OfficeCase):
         self.assertNotIn("places for", self.text())
 
     def test_publish_with_rankings_missing(self):
-        """What the portal would refuse cannot be pressed: the reason stands beside it, and the names below. To fill rankings stands last."""
+        """What the portal would refuse cannot be pressed: the reason stands beside it, and the names once, in a list of their own. To fill rankings stands last."""
         self.door.load_rolls()
         self.door.move("choosing")
         self.open(OFFICE, "Choosing")
@@ -166,7 +166,9 @@ class NextStep(OfficeCase):
         self.browser.press("Refresh")
         self.browser.in_phase("Ranking")
         said = self.browser.script("[...document.querySelector('.step').querySelectorAll('p')].map((e) => e.textContent)")
-        self.assertEqual(said[:2], ["You can’t publish yet: 1 ranking is missing.", "\u2068Jocelyn Bell (bell)\u2069"])
+        self.assertEqual(said[0], "You can’t publish yet: 1 ranking is missing.")
+        self.assertEqual(self.text().count("Jocelyn Bell (bell)"), 1)
+        self.assertEqual(self.copied(), ["Jocelyn Bell (bell)"])
         publish = self.browser.find("button", "Publish results")
         self.assertFalse(publish.is_enabled())
         described = self.browser.script("arguments[0].getAttribute('aria-describedby').split(' ').map((id) => document.getElementById(id).textContent)", publish)

@@ -142,7 +142,7 @@ class Describing(PeopleCase):
         self.browser.says("Gespeichert.")
         self.assertEqual(self.browser.script("document.documentElement.lang"), "de")
         self.browser.open(self.door.address)
-        self.browser.find("button", "*, comets hinzufügen").click()
+        self.browser.find("button", "Wählen: *, comets").click()
         self.browser.find("button", "Liste speichern").click()
         self.browser.says("Gespeichert. Ihre Liste hat 2 Projekte.")
         self.browser.choose("Sprache", "English")
@@ -152,11 +152,14 @@ class Describing(PeopleCase):
 
 class Ways(PeopleCase):
     def test_by_keyboard(self):
-        """The first Tab leads to the own list; sections have names; a question says what it means; the advice is folded after the first visit."""
+        """The first Tab leads to the own list; sections have names; a question says what it means; how it is decided is told until a list is saved."""
         self.door.move("choosing")
         self.open()
         self.browser.sign_in("student–ada—1 ")  # as a letter or a spreadsheet writes it
         self.browser.in_phase("Choosing")
+        decided = ("they go to the students whom the lecturer ranks higher", "Lecturers rank without seeing your order", "Saving early gains nothing.")
+        self.sees(*decided)
+        self.browser.unfold(".decided details")
         self.sees("Only you see your whole list and its order.", "Waiting for a second round never pays.", "no group of friends can agree on lists")
         for name in ("Stages", "Projects", "Your list"):
             self.browser.find("region", name)
@@ -171,11 +174,17 @@ class Ways(PeopleCase):
         self.assertEqual(described, "Your unsaved changes will be lost.")
         self.browser.press("Leave")
         self.sign_in(BEN, "Choosing")
-        self.assertNotIn("Only you see your whole list", self.text())
+        self.sees(*decided)
+        self.browser.press("Add *, comets")
+        self.browser.press("Save list")
+        self.browser.says("Saved")
+        self.assertNotIn("Saving early", self.text())
         self.browser.driver.find_element("css selector", "summary").click()
-        self.sees("Only you see your whole list and its order.")
+        self.sees(*decided)
         self.browser.sign_out()
-        self.door.do(BEN, "PUT", "/choices", {"projects": ["comets"]})
+        self.sign_in(BEN, "Choosing")
+        self.assertNotIn("Saving early", self.text())
+        self.browser.sign_out()
         self.door.move("ranking")
         self.sign_in(BELL, "Ranking")
         self.browser.keys(Keys.TAB)

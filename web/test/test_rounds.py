@@ -43,6 +43,8 @@ class Rounds(PageCase):
         self.browser.says("The portal is now at “Choosing” of the second round.")
         self.browser.in_phase("Choosing")
         self.sees("Round 2", "With a list: 0 of 1 student", "With a project: 4 of 5 students", "Emil Eke (emil)")
+        # Bell takes two and has one, and Comets has a place
+        self.assertIn("Places: 1 for 1 student", self.browser.script("[...document.querySelectorAll('.fact')].map((e) => e.textContent)"))
         self.assertEqual(self.steps(), ["Choosing", "Ranking", "Results"])
         self.browser.sign_out()
         self.student_without_a_project()
@@ -76,7 +78,7 @@ class Rounds(PageCase):
     def student_without_a_project(self):
         self.sign_in(EMIL, "Choosing")
         self.sees("Round 2", "The second round is for students who didn’t get a project in the first.", "You didn’t get a project in the first round. Add the projects you want now to your list",
-                  "No project from your first list has a place left for you.")
+                  "No project from your first list has a place left for you.", "At most 1 place is left, in 1 project.")
         self.assertNotIn("You didn’t get a project this time", self.text())
         self.assertEqual(self.browser.entries("Your list"), [])
         self.sees("1 project")

@@ -9,8 +9,9 @@ from selenium.webdriver.common.keys import Keys
 from case import OFFICE
 from largecase import PHONE, LargeCase
 
-TAKEN = "All its places, or all its lecturer’s, went to students ranked above you."
-TAKEN_SECOND = "All places left in it, or left with its lecturer, went to students ranked above you."
+TAKEN, FULL, FULL_SECOND = "No place for you", "All its places went to students ranked above you.", "All places left in it went to students ranked above you."
+WHY = "“No place for you” means: all the project’s places, or all its lecturer’s, went to students ranked above you."
+WHY_SECOND = "“No place for you” means: all places left in the project, or left with its lecturer, went to students ranked above you."
 ROWS = "[...document.querySelectorAll('.catalogue tbody tr:not([hidden], .description)')]"
 ENTRIES = "[...document.querySelectorAll(`ol[aria-label='${arguments[0]}'] > li`)].map((e) => e.innerText)"
 
@@ -38,12 +39,17 @@ class Results(StudentCase):
             found.setdefault(kind, (key, own, listed))
         return found
 
-    def marks(self, own, listed, taken):
-        """Each entry says what became of it: those above the own project, or all where there is none, went to others."""
+    def marks(self, own, listed, why):
+        """Each entry says what became of it: those above the own project, or all where there is none, went to others. Those of the lecturer
+        who has taken this student were full; of the others either of two things stands once for all."""
         above = len(listed) if own is None else listed.index(own)
+        owners = {one["id"]: one["lecturer"] for one in self.large.projects}
+        full = [key for key in listed[:above] if own is not None and owners[key] == owners[own]]
+        self.assertEqual(self.text().count(why), 1 if above > len(full) else 0)
         for at, (key, entry) in enumerate(zip(listed, self.entries("Your list"), strict=True)):
             self.assertIn(self.title(key), entry)
-            self.assertEqual(taken in entry, at < above)
+            self.assertEqual(TAKEN in entry, at < above and key not in full)
+            self.assertEqual((FULL_SECOND if why == WHY_SECOND else FULL) in entry, key in full)
             self.assertEqual("Your project" in entry, key == own)
 
     def shown(self, *parts):
@@ -65,7 +71,7 @@ class Results(StudentCase):
                 self.assertEqual("no other list would have got you a choice above your result" in self.text(), kind in (1, 2))
                 self.assertNotIn("either", self.text())
                 self.shown("Your result", "Your list", "Projects")
-                self.marks(own, listed, TAKEN)
+                self.marks(own, listed, WHY)
             for project in listed[:listed.index(own)] if own else listed:
                 self.assertTrue(self.is_taken(key, project), f"{key}, {project}")
             self.browser.sign_out()
@@ -102,13 +108,17 @@ class Results(StudentCase):
         for _ in self.sizes():
             self.sees("You got this project in the first round. The second round doesn’t change that.", "It was your 2nd choice.", "You already have a project")
             self.assertEqual(self.parts(), ["Your result", "Your list of the first round"])
-            self.assertEqual([TAKEN in entry for entry in self.entries("Your list of the first round")], [True] + [False] * (len(listed) - 1))
+            self.assertEqual([TAKEN in entry or FULL in entry for entry in self.entries("Your list of the first round")], [True] + [False] * (len(listed) - 1))
         self.browser.sign_out()
         self.sign_in(self.large.codes[key], "Choosing")  # another tab has not seen the list, and the portal does not tell it again
         self.assertEqual(self.parts(), ["Your result"])
+        self.assertNotIn("choice.", self.text())  # and so no number of a choice, which would be a guess
+        self.sees(f"Your project is {self.title(own)}")
         self.browser.sign_out()
         self.sign_in(self.large.codes[kinds["none"][0]], "Choosing")
-        self.sees("No project from your first list has a place left for you.")
+        self.assertEqual(self.browser.script("document.querySelector('.first-list')"), None)
+        places = [one["capacity"] for one in self.ask(kinds["none"][0], "/catalogue")["projects"]]
+        self.sees("No project from your first list has a place left for you.", f"At most {sum(places)} places are left, in {len(places)} projects.")
         for _ in self.sizes():
             self.browser.find("button", "Places left")
             self.assertEqual(self.browser.script("[...document.querySelectorAll('thead th')].filter((e) => e.scrollWidth > e.clientWidth).map((e) => e.textContent)"), [])
@@ -126,8 +136,45 @@ class Results(StudentCase):
                     self.browser.driver.execute_script("document.querySelector('.why').open = true")
                 self.sees(part)
                 self.shown("Your result", "Your list", "Projects")
-                self.marks(own, listed, TAKEN_SECOND)
+                self.marks(own, listed, WHY_SECOND)
             self.browser.sign_out()
+
+
+class Remembering(Results):
+    test_first_round = test_second_round = None  # the same tests are not run twice
+
+    def test_the_first_list_in_the_second_round(self):
+        """Who has no project sees in this tab the first list, each project with its reason: the one of the two, where the page can know it."""
+        self.load("published")
+        left = {one["id"]: self.ask(one["id"], "/choices")["projects"] for one in self.large.students if self.ask(one["id"], "/result")["project"] is None}
+        owners = {one["id"]: one["lecturer"] for one in self.large.projects}
+        key = max(left, key=lambda one: len(left[one]))
+        self.open(self.large.codes[key], "Results")
+        self.large.play(self.door.do, OFFICE, "choosing", 2, ("published", 1))
+        self.browser.open(self.door.address)
+        self.browser.in_phase("Choosing")
+        taking = {one["lecturer"] for one in self.ask(key, "/catalogue")["projects"]}
+        self.browser.unfold(".first-list")
+        for _ in self.sizes():
+            entries = self.entries("Your list of the first round")
+            self.assertEqual(len(entries), len(left[key]))
+            for project, entry in zip(left[key], entries):
+                self.assertIn(self.title(project), entry)
+                self.assertIn(FULL if owners[project] in taking else TAKEN, entry)
+            self.assertEqual(self.text().count(WHY), 0 if all(owners[one] in taking for one in left[key]) else 1)
+
+    def test_receipt_of_the_result(self):
+        """After publication the receipt has the result as well."""
+        self.load("published")
+        key, own, listed = self.of_each_kind([one["id"] for one in self.large.students])[1]
+        self.open(self.large.codes[key], "Results")
+        self.browser.driver.execute_script("window.print = () => { window.seen = document.querySelector('.printed').innerText; }")
+        self.browser.press("Print receipt")
+        paper = self.plain(self.browser.script("window.seen"))
+        owners = {one["id"]: one["lecturer"] for one in self.large.projects}
+        why = FULL if owners[listed[0]] == owners[own] else WHY
+        for part in (f"Your project is {self.title(own)}, with ", why, "Last saved version on localhost", *(self.title(one) for one in listed)):
+            self.assertIn(part, paper)
 
 
 class Choosing(StudentCase):
@@ -240,9 +287,27 @@ class Choosing(StudentCase):
         finally:
             self.door.portal.send_signal(signal.SIGCONT)
         self.browser.says("Saved. Your list has 1 project.")
-        self.assertRegex(self.browser.script("document.querySelector('.state').textContent"), r"^Saved at \d\d:\d\d$")
+        state = self.browser.script("document.querySelector('.state').textContent")
+        self.assertRegex(state, r"^Saved at \d\d:\d\d$")
+        self.saving_time(state)
+        self.browser.unfold(".decided, .decided details")
         self.sees("Whichever projects you list, list them in your honest order: no other order of them, and no shorter list of some of them, gives you one that you like better.",
                   "A list has room for 20; if you like more, no rule says which 20 to list.", "Waiting for a second round never pays.")
+
+    def saving_time(self, state):
+        """It survives a reload and stands on the receipt; of a list that was saved elsewhere it is not said."""
+        self.reload("Choosing")
+        self.assertEqual(self.browser.script("document.querySelector('.state').textContent"), state)
+        self.assertIn(state, self.receipt())
+        self.door.do(self.large.codes[self.key], "PUT", "/choices", {"projects": ["p002"]})
+        self.reload("Choosing")
+        self.assertEqual(self.browser.script("document.querySelector('.state').textContent"), "All changes saved")
+        self.assertNotIn("Saved at", self.receipt())
+
+    def receipt(self):
+        self.browser.driver.execute_script("window.print = () => { window.seen = document.querySelector('.printed').innerText; }")
+        self.browser.press("Print receipt")
+        return self.browser.script("window.seen")
 
     def test_names_and_skips(self):
         """Everything is called by title and key. From the catalogue a link leads to the list, and one to what saves it."""

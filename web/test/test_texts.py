@@ -52,6 +52,7 @@ class Texts(PageCase):
         self.browser.sign_out()
         self.sign_in(OFFICE, "Ranking")
         self.assertIn(STRANGE["hebrew"], self.browser.page_text())
+        self.key_behind_the_name()
         self.answer("Fill missing rankings", "Fill the missing rankings now?")
         self.browser.says("Filled for")
         self.answer("Publish results", "Publish the results now?")
@@ -60,6 +61,22 @@ class Texts(PageCase):
         self.fits()
         self.assertEqual(self.browser.script("document.querySelectorAll('img, b, body script').length"), 0)
         self.assertIsNone(self.browser.script("window.hacked"))
+
+    def key_behind_the_name(self):
+        """A name from right to left does not turn what stands behind it."""
+        name, key = self.browser.driver.execute_script("""
+            const entry = [...document.querySelectorAll('.names li')].find((e) => e.textContent.includes('(l-hebrew)'));
+            const left = (part) => {
+              const texts = document.createTreeWalker(entry, NodeFilter.SHOW_TEXT);
+              while (!texts.nextNode().data.includes(part));
+              const [range, text] = [document.createRange(), texts.currentNode];
+              range.setStart(text, text.data.indexOf(part));
+              range.setEnd(text, text.data.indexOf(part) + part.length);
+              return range.getBoundingClientRect().left;
+            };
+            return [left(arguments[0]), left('(l-hebrew)')];
+        """, STRANGE["hebrew"].split(" ")[0])
+        self.assertLess(name, key)
 
     def given(self, selector):
         return self.browser.script("[...document.querySelectorAll(arguments[0])].map((e) => e.textContent)", selector)
@@ -92,7 +109,7 @@ class German(PageCase):
                 self.browser.find("textbox", "Ihr Code").send_keys(code, Keys.ENTER)
                 self.browser.in_phase(step)
                 if step == "Wahl" and code == large.students[0]["code"]:
-                    self.browser.press("*, p001 hinzufügen")
+                    self.browser.press("Wählen: *, p001")
                 for width in (1280, 390):
                     self.browser.resize(width)
                     self.assertEqual(self.browser.script(self.CUT), [], f"{code} in {step} at {width}")
@@ -128,7 +145,7 @@ class Looks(PageCase):
         (self.door.notice / "department.json").write_text(json.dumps({"name": "Mathematics", "contact": "office@example.org", "privacy": "https://example.org/privacy"}))
         self.open(OFFICE, "Setup")
         self.choose_file("Students", self.write("bad.csv", "id,name,code,group\n,Ann,student-ann-1,1\n"))
-        self.browser.wait(lambda: "This file can’t be sent yet." in self.browser.page_text(), "the fault")
+        self.browser.wait(lambda: "1 row has no ID." in self.browser.page_text(), "the fault")
         self.look()
         self.door.move("choosing")
         self.browser.sign_out()

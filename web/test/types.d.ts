@@ -4,7 +4,7 @@ type Portal = import('../requests.js').Portal;
 type Refused = import('../requests.js').Refused;
 type Messages = import('../frame.js').Messages;
 type Known = import('../known.js').Known;
-type Names = import('../known.js').Names;
+type Names = import('../names.js').Names;
 type RollFile = import('../rollfile.js').RollFile;
 
 /** Every text of the page. */
@@ -57,8 +57,11 @@ type Call = { method: string; body?: string };
 
 type LinkName = 'contact' | 'privacy' | 'accessibility';
 
-/** What department.json says. `until`: the end of a stage, by the stage's name. */
-type Department = { name: string; languages?: string[]; until?: Record<string, Date> } & Partial<Record<LinkName, string>>;
+/** The end of a stage, and how many minutes the department's clocks are ahead of UTC then. */
+type End = { at: Date; offset: number };
+
+/** What department.json says. `names`: the name by language; `until`: the end of a stage, by the stage's name. */
+type Department = { name: string; names?: Record<string, string>; languages?: string[]; until?: Record<string, End> } & Partial<Record<LinkName, string>>;
 
 /** A text with a count in it. */
 type Counted = (count: number) => string;
@@ -106,6 +109,8 @@ interface How {
   refused?: (fault: Refused) => Told;
   /** what is said where no answer came */
   lost?: () => Told;
+  /** it is the second half of what was begun: what was refused meanwhile stays */
+  goesOn?: boolean;
   /** the page says itself that it needs a moment */
   isLoading?: boolean;
 }
@@ -124,6 +129,8 @@ interface PageOf {
   /** shows the page anew */
   reload: (tell?: Tell) => Promise<void>;
   known: Known;
+  /** the end of a stage, by the stage's name */
+  until: Record<string, End>;
 }
 
 /** The page of a role. */
@@ -182,6 +189,10 @@ type KeptPerson = { name: string; capacity?: string; email?: string; isThere: bo
 interface Making {
   /** puts a project on the list */
   add: (key: string) => void;
+  /** takes it off again */
+  take: (key: string) => void;
+  /** says why nothing can be added */
+  full: () => void;
   /** where the skip links lead */
   aims: Aim[];
 }
@@ -265,6 +276,8 @@ interface EditorOf {
   changed: (keys: string[]) => void;
   /** called when it is saved */
   stored?: () => void;
+  /** brings into sight what was put on the list or taken off it, where it is chosen from */
+  look?: (key: string) => void;
 }
 
 /** A list that is not saved, and what was saved when it was begun. */
@@ -280,7 +293,8 @@ type FileTable = { encoding: string; separator: string; rows: FileRow[] };
 /** How a file was read. */
 type ReadAs = { encoding: string; separator: string };
 
-type Column = 'id' | 'name' | 'code' | 'capacity' | 'lecturer' | 'title' | 'email';
+/** `first`: the first name, where the file has it apart. */
+type Column = 'id' | 'name' | 'first' | 'code' | 'capacity' | 'lecturer' | 'title' | 'email';
 
 /** Where the file has each column, counted from 0; -1 where it has it not. */
 type Columns = Partial<Record<Column, number>>;
@@ -297,7 +311,7 @@ type Fault = { row: number; column: Column; fault: string; other?: number };
 type Doubt = { doubt: string; rows: number[] };
 
 /** Another roll that a file looks like, and why. */
-type Likeness = { roll: Roll; why: 'capacity' | 'header' | 'people'; count?: number; all?: number };
+type Likeness = { roll: Roll; why: 'column' | 'header' | 'people'; name?: string; count?: number; all?: number };
 
 type Plan = ReturnType<RollFile['plan']>;
 
@@ -336,13 +350,15 @@ interface Standing {
   nameOf: (lecturer: string) => string | undefined;
   /** how many places of each project are taken */
   used: Used[];
+  /** that the stage was announced to end later, if that is so */
+  end?: string;
+  /** whose rankings were filled in from this browser, in words */
+  filled?: string[];
 }
 
 /** What stands in the way of a step. */
 interface Lack {
   text: string;
-  /** who it is about */
-  names?: string;
   /** the step can be taken, but some would regret it */
   isRisk?: boolean;
   /** the step cannot be taken, or would be for nobody */

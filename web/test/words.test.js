@@ -9,8 +9,11 @@ import { LANGUAGES, firstLanguage, offeredLanguages, speak, words } from '../wor
 const web = new URL('../', import.meta.url);
 const sources = readdirSync(web).filter((name) => name.endsWith('.js'));
 const source = (name) => readFileSync(new URL(name, web), 'utf8');
-const textsOf = async (language) => Object.assign({}, ...(await Promise.all(LANGUAGES[language].texts())).map((texts) => texts.words));
-await speak('en');
+const textsOf = async (language) => {
+  const { texts, office } = LANGUAGES[language];
+  return { ...(await texts()).words, ...(await office()).words };
+};
+await speak('en', true);
 
 /** Each text by the path of its keys. */
 function flat(texts, path = '') {
@@ -43,6 +46,20 @@ test('every text that is used is there, and every text that is there is used', (
   const byName = ['openChoosing', 'openRanking', 'publish', 'fill', 'openSecond'];
   for (const name of used) assert.ok(name in words, name);
   for (const name of Object.keys(words)) assert.ok(used.has(name) || byName.includes(name) || name === 'language', `${name} is not used`);
+});
+
+test('what students and lecturers see needs no text of the office', async () => {
+  const seen = new Set();
+  const walk = (name) => {
+    if (seen.has(name)) return;
+    seen.add(name);
+    for (const [, other] of source(name).matchAll(/^import .*from '\.\/(.+)';$/gm)) walk(other);
+  };
+  for (const name of ['main.js', 'student.js', 'lecturer.js']) walk(name);
+  const { words: base } = await LANGUAGES.en.texts();
+  for (const name of seen) {
+    for (const [, text] of source(name).matchAll(/(?<!\/)\bwords\.(\w+)/g)) assert.ok(text in base, `${name}: ${text}`);
+  }
 });
 
 test('what is said otherwise in the second round is said of phases that it has', () => {

@@ -1,0 +1,44 @@
+// A small table that a lecturer takes along: to print, to copy for a mail or a spreadsheet, or to download.
+
+import { writtenForSpreadsheets } from './csv.js';
+import { button, download, given, make } from './dom.js';
+import { paper } from './paper.js';
+import { words } from './words.js';
+
+/**
+ * Buttons for a table.
+ * @param {object} of
+ * @param {{ print: string, copy: string, download: string }} of.texts of the buttons
+ * @param {string} of.title what stands above it in print
+ * @param {string[]} of.header the names of its columns in print
+ * @param {string[]} of.fileHeader those in the file, the same in each language
+ * @param {() => string[][]} of.rows
+ * @param {string} of.file what the file is called
+ * @param {Messages} of.messages
+ */
+export function tableButtons({ texts, title, header, fileHeader, rows, file, messages }) {
+  const { sheet, printed } = paper();
+  const copy = async () => {
+    try {
+      await navigator.clipboard.writeText(rows().map((row) => row.join('\t')).join('\n'));
+      messages.say(words.copiedLines(rows().length));
+    } catch {
+      messages.warn(words.notCopied);
+    }
+  };
+  return make('div', { class: 'buttons' }, [
+    button(texts.download, () => download(file, writtenForSpreadsheets([fileHeader, ...rows()], words.separator), 'text/csv')),
+    button(texts.copy, copy),
+    button(texts.print, () => printed([make('h3', { text: title }), printedTable(header, rows())])),
+    sheet,
+  ]);
+}
+
+/**
+ * @param {string[]} header
+ * @param {string[][]} rows
+ */
+function printedTable(header, rows) {
+  const heads = make('tr', {}, header.map((text) => make('th', { scope: 'col', text })));
+  return make('table', {}, [make('thead', {}, [heads]), make('tbody', {}, rows.map((row) => make('tr', {}, row.map((text) => make('td', {}, [given(text)])))))]);
+}
