@@ -153,7 +153,9 @@ class Office(DepartmentCase):
         self.assertEqual(self.browser.script("document.activeElement.textContent"), "Open second round")
         self.department.lecturers[-4:] = [{**one, "capacity": taken} for one, taken in zip(self.department.lecturers[-4:], (2, 2, 1, 1))]
         self.department.write(self.files)
-        self.read_names("Lecturer or student file", "lecturers")
+        self.choose_file("Lecturer or student file", self.files / "lecturers.csv")
+        self.answer("Read names only", "Has the administrator corrected this?", "Corrected: use the file")
+        self.browser.says("Read 30 names. Nothing was sent.")
         self.sees("0 places for 90 students: there is nothing left to choose.")
         self.assertFalse(self.browser.find("button", "Open second round").is_enabled())
 
