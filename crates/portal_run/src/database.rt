@@ -71,9 +71,10 @@ pub(crate) fn do_job<R: Read, W: Write>(
         → SaysUpgrade result (W.contents writer.old) (W.contents writer.new) }
 {
     match place_of(rt, path) {
-        Place::Missing | Place::Empty => return refuse(writer, Refusal::NotPortal),
-        Place::Other => return refuse(writer, Refusal::Store),
-        Place::Database => {}
+        Ok(Place::Missing | Place::Empty) => return refuse(writer, Refusal::NotPortal),
+        Ok(Place::Other) => return refuse(writer, Refusal::Store),
+        Ok(Place::Database) => {}
+        Err(_) => return refuse(writer, Refusal::Memory),
     }
     match job {
         Job::Serve { port, connections } => serve_over(rt, path, port, connections, writer),

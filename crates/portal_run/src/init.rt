@@ -77,8 +77,10 @@ pub(crate) fn init<R: Read, W: Write>(
 {
     match code_of(rt.alloc(), reader) {
         Ok(office) => {
-            if place_of(rt, path) == Place::Other {
-                return say_store(writer);
+            match place_of(rt, path) {
+                Ok(Place::Other) => return say_store(writer),
+                Ok(_) => {}
+                Err(_) => return say_memory(writer),
             }
             let done = made(make_file(rt, path, Unknown, office));
             say_done(writer, done, b"made\n")

@@ -1,6 +1,7 @@
 //! Looks at what stands where a database should be, before a command connects to it.
 
-use crate::input::first_bytes;
+use crate::input::{InputFault, first_bytes};
+use std::alloc::AllocError;
 use std::fs;
 use std::io::ErrorKind;
 
@@ -19,9 +20,19 @@ pub(crate) enum Place {
 
 /// Returns the first bytes of a file, at most 64 and at least the first line, or `None` if they
 /// cannot be read.
-fn front_of(rt: &HostRuntime, path: &str) -> Option<Vec<u8>> {
-    let mut file = fs::open(rt, path).ok()?;
-    first_bytes(rt.alloc(), &mut file).ok()
+fn front_of(rt: &HostRuntime, path: &str) -> Result<Option<Vec<u8>>, AllocError> {
+    let mut file = match fs::open(rt, path) {
+        Ok(file) => file,
+        Err(error) => match error.kind() {
+            ErrorKind::OutOfMemory => return Err(AllocError),
+            _ => return Ok(None),
+        },
+    };
+    match first_bytes(rt.alloc(), &mut file) {
+        Ok(front) => Ok(Some(front)),
+        Err(InputFault::Memory) => Err(AllocError),
+        Err(InputFault::Read) => Ok(None),
+    }
 }
 
 /// Returns whether a log has the header that is written before a new database: it counts as many
@@ -31,43 +42,44 @@ fn is_begun(log: &[u8]) -> bool {
 }
 
 /// Returns whether the log beside a database file says that the database was only begun.
-fn has_begun_log(rt: &HostRuntime, path: &str) -> bool {
+fn has_begun_log(rt: &HostRuntime, path: &str) -> Result<bool, AllocError> {
     let Ok(log) = format!(in rt.alloc(); "{path}-wal") else {
-        return false;
+        return Err(AllocError);
     };
-    match front_of(rt, log.as_str()) {
-        Some(front) => is_begun(&front),
-        None => false,
+    match front_of(rt, log.as_str())? {
+        Some(front) => Ok(is_begun(&front)),
+        None => Ok(false),
     }
 }
 
 /// Returns what a regular file is.
-fn place_in(rt: &HostRuntime, path: &str) -> Place {
-    let Some(front) = front_of(rt, path) else {
-        return Place::Other;
+fn place_in(rt: &HostRuntime, path: &str) -> Result<Place, AllocError> {
+    let Some(front) = front_of(rt, path)? else {
+        return Ok(Place::Other);
     };
     if front.starts_with(b"SQLite format 3\0".as_slice()) {
-        return Place::Database;
+        return Ok(Place::Database);
     }
-    if front.is_empty() || has_begun_log(rt, path) {
-        return Place::Empty;
+    if front.is_empty() || has_begun_log(rt, path)? {
+        return Ok(Place::Empty);
     }
-    Place::Other
+    Ok(Place::Other)
 }
 
-/// Returns what stands at a path.
-pub(crate) fn place_of(rt: &HostRuntime, path: &str) -> Place {
+/// Returns what stands at a path, or that memory ran out.
+pub(crate) fn place_of(rt: &HostRuntime, path: &str) -> Result<Place, AllocError> {
     match fs::metadata(rt, path) {
         Ok(found) => {
             if found.is_file() {
                 place_in(rt, path)
             } else {
-                Place::Other
+                Ok(Place::Other)
             }
         }
         Err(error) => match error.kind() {
-            ErrorKind::NotFound => Place::Missing,
-            _ => Place::Other,
+            ErrorKind::NotFound => Ok(Place::Missing),
+            ErrorKind::OutOfMemory => Err(AllocError),
+            _ => Ok(Place::Other),
         },
     }
 }
