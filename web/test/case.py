@@ -94,6 +94,7 @@ class PageCase(unittest.TestCase):
         return said
 
     def downloaded(self, name):
+        """The file of that name, once it is whole: until then the browser keeps an empty one in its place."""
         path = self.downloads / name
-        self.browser.wait(path.is_file, f"the file {name}")
+        self.browser.wait(lambda: path.stat().st_size, f"the file {name}")
         return path
