@@ -127,11 +127,13 @@ told_is_one : (task : Task) (i : Spa) (pairs : List Pair) (t u : Told) → OfPai
 told_is_one task i pairs t u a b = elim a [
   | inl bad ↦ elim b [
     | inl worse ↦ bad.3 ∙ first_one number_of_pair_fault same_pair_fault (HasPairFault i pairs) refused_matching bad.0 worse.0 bad.1 worse.1 (bad.2.here, bad.2.least, bad.2.none_before) (worse.2.here, worse.2.least, worse.2.none_before) ∙ sym worse.3
-    | inr good ↦ absurd (good.1 bad.0 bad.1 bad.2.here)
+    | inr good ↦ absurd (good.1.sound bad.0 bad.1 bad.2.here)
   ]
   | inr good ↦ elim b [
-    | inl bad ↦ absurd (good.1 bad.0 bad.1 bad.2.here)
-    | inr other ↦ tells_one task i good.0 other.0 t u (matching_one i pairs good.0 other.0 good.2 other.2) good.4 other.4
+    | inl bad ↦ absurd (good.1.sound bad.0 bad.1 bad.2.here)
+    | inr other ↦
+        let one = matching_one i pairs good.0 other.0 good.1.pairs other.1.pairs in
+        tells_one task i good.0 other.0 t u one good.2 other.2
   ]
 ]
 
@@ -146,14 +148,16 @@ file_is_one : (task : Task) (f : File) (t u : Told) → OfFile task f t → OfFi
 file_is_one task f t u a b = elim a [
   | inl bad ↦ elim b [
     | inl worse ↦ bad.3 ∙ first_one number_of same_number (HasFault (file_rows f)) refused_instance bad.0 worse.0 bad.1 worse.1 (bad.2.here, bad.2.least, bad.2.none_before) (worse.2.here, worse.2.least, worse.2.none_before) ∙ sym worse.3
-    | inr good ↦ absurd (told_first (file_rows f) bad.0 bad.1 bad.2 good.1)
+    | inr good ↦ absurd (told_first (file_rows f) bad.0 bad.1 bad.2 good.1.faultless)
   ]
   | inr good ↦ elim b [
-    | inl bad ↦ absurd (told_first (file_rows f) bad.0 bad.1 bad.2 good.1)
+    | inl bad ↦ absurd (told_first (file_rows f) bad.0 bad.1 bad.2 good.1.faultless)
     | inr other ↦
-        let same : good.0 ≡ other.0 = instance_is_one (file_rows f) good.1 good.0 other.0 good.3 good.2 other.3 other.2 in
-        let moved : OfPairs task other.0 f.pairs t = subst (λ (i : Spa). OfPairs task i f.pairs t) same good.4 in
-        told_is_one task other.0 f.pairs t u moved other.4
+        let same : good.0 ≡ other.0 =
+        instance_is_one (file_rows f) good.1.faultless good.0 other.0 good.1.lawful good.1.stands other.1.lawful
+        other.1.stands in
+        let moved : OfPairs task other.0 f.pairs t = subst (λ (i : Spa). OfPairs task i f.pairs t) same good.2 in
+        told_is_one task other.0 f.pairs t u moved other.2
   ]
 ]
 

@@ -8,13 +8,12 @@ use Rattle.spa_model.specs.declared.matching.MatchingFault.TheVariants as matchi
 use Rattle.portal_rolls.specs.declared.fault.RollFault.{RollFault}
 use Rattle.portal_rolls.specs.declared.fault.RollFault.TheVariants as file
 use Rattle.std.specs.List.{flat_map, zip}
-use Rattle.spa_model.specs.Spa.{Spa, text_of, IsBest, IsLawful, IsMatching}
+use Rattle.spa_model.specs.Spa.{Spa, text_of, IsBest}
 use Rattle.spa_check.specs.Listed.{AreAllBlocks}
 use Rattle.spa_check.specs.declared.blocking.Block.{Block}
 use Rattle.spa_rows.specs.Lines.{Pair, Rows}
-use Rattle.spa_rows.specs.Faults.{IsFirstFault, HasNoneBefore}
-use Rattle.spa_rows.specs.declared.faults.InstanceFault.TheVariants.{Memory}
-use Rattle.spa_model.specs.Pairs.{StandsFor, HasPairs, IsFirstPairFault, AreSound}
+use Rattle.spa_rows.specs.Faults.{IsFirstFault}
+use Rattle.spa_model.specs.Pairs.{IsInstanceOf, IsMatchingOf, IsFirstPairFault}
 use Rattle.portal_rolls.specs.Lines.{File, rows}
 use Rattle.portal_answer.specs.declared.answer.Task.{Task}
 use Rattle.portal_answer.specs.declared.answer.Task.TheVariants.{Check, Solve}
@@ -121,7 +120,7 @@ Tells Solve i m told = TellsBest i told
 abbrev pub OfPairs : Task → Spa → List Pair → Told → Type 0
 OfPairs task i pairs told =
     ((fault : MatchingFault) × (r : ℕ) × IsFirstPairFault i pairs fault r × (told ≡ refused_matching fault r))
-    ⊎ ((m : List (Option ℕ)) × AreSound i pairs × HasPairs i pairs m × IsMatching i m × Tells task i m told)
+    ⊎ ((m : List (Option ℕ)) × IsMatchingOf i pairs m × Tells task i m told)
 
 abbrev pub file_rows : File → Rows
 file_rows f = record { lecturers = f.lecturers; projects = f.projects; students = f.students }
@@ -130,7 +129,7 @@ file_rows f = record { lecturers = f.lecturers; projects = f.projects; students 
 abbrev pub OfFile : Task → File → Told → Type 0
 OfFile task f told =
     ((fault : InstanceFault) × (r : ℕ) × IsFirstFault (file_rows f) fault r × (told ≡ refused_instance fault r))
-    ⊎ ((i : Spa) × HasNoneBefore (file_rows f) Memory × StandsFor (file_rows f) i × IsLawful i × OfPairs task i f.pairs told)
+    ⊎ ((i : Spa) × IsInstanceOf (file_rows f) i × OfPairs task i f.pairs told)
 
 -- the answer for what was read: the reader's fault, or the answer for the file
 abbrev pub OfRead : Task → Result File RollFault → Told → Type 0

@@ -2,6 +2,8 @@ pub mod Base
 pub mod Texts
 pub mod Keys
 pub mod AllLaws
+pub mod Members
+pub mod Growing
 pub mod Adjacent
 pub mod Persons
 pub mod Puts

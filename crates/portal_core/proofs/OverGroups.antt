@@ -1,6 +1,6 @@
 -- No group of students gains over both rounds, nor does one student: of worlds.
 use Rattle.portal_core.proofs.Base.{◌≡◌, inl, inr, ℕ, zero, suc, ◌+◌, ◌<◌, ◌≤◌, Bool, true, false, List, [], ◌∷◌, map, length, get_or, refl, sym, ◌∙◌, ap, subst, arith, Option, Some, None, option_map, is_none, filter, count_by, ◌&&◌, ◌||◌, AllByRecursion, list_any, get_or-map, length-map, length-filter, cases_lt, IsOn, project_of, number_in, Second, Phase, Key, equals, has, World, project_key, is_at, is_left, is_published, is_second, shown_placement, students_in, in_play, first, first_placed, first_published, instance_of, places_of, project_keys, student_keys, view, student_sees, Good, HasBest, Sound, at_lecturer, count_with, DifferInLists, ListAlike, IsNoWorse, OneGainsNothing, KeepsCapacities, no_group_over_by_number, given_to, given_with, placed_to, placed_with, limit_of, DifferInOneList, First, IsBest, StudentSees}
-use Rattle.spa_honest.specs.Honest as instances
+use Rattle.spa_honest.specs.inner.ByNumber as instances
 use Rattle.portal_core.specs.declared.view.View.TheVariants as sees
 use Rattle.portal_core.specs.World.{Lecturer, Student, ProjectRow}
 use Rattle.portal_core.proofs.Keys.{all_unmap}

@@ -8,12 +8,13 @@ use Rattle.portal_core.specs.declared.keeper.KeepFault.TheVariants.{Memory, Stor
 pub record KeeperState : Type 1 where
   -- the stored world
   pub world : World
-  -- the keeper is clean, so that what is said of its world holds; a clean store has its own tables
-  -- and an open connection
+  -- the keeper is clean: `world` is what it stores; a clean store has its own tables and an open
+  -- connection, and is not broken
   pub clean : Type 0
-  -- the disk, if there is one, has returned what was written so far
+  -- the disk, if there is one, has returned only what was written so far (it may have reported
+  -- errors)
   pub disk : Type 0
-  -- the disk failed in a call and the keeper gave up: each view and each change fails from then on
+  -- the disk reported an error and the keeper gave up: each view and each change fails from then on
   pub broken : Type 0
   -- a stop of the machine at this moment may leave this world to the next process
   pub leaves : World → Type 0
@@ -57,9 +58,9 @@ pub record Uses {A E : Type 0} (r : Result A E) (old new : KeeperState) (makes :
   pub clean : new.clean → old.clean
   -- if it succeeds, a clean keeper stays clean, on a clean disk
   pub lasts : OnOk r (StaysClean old new)
-  -- else a clean keeper stays clean or breaks
+  -- in any case a clean keeper stays clean or breaks
   pub breaks : LastsOrBreaks old new
-  -- a stop after it leaves only the world of a clean keeper
+  -- if the keeper is clean, a stop after it leaves only its world
   pub settled : new.clean → IsSettled new
   -- on a clean disk, a stop leaves what one before it left, or what the call makes
   pub leaves : LeavesBy old new makes

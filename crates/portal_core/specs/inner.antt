@@ -1,3 +1,4 @@
 pub mod ViewCache
 pub mod Tables
 pub mod Room
+pub mod Offers

@@ -2,7 +2,9 @@
 #![tactic(auto)]
 
 mod by_key;
+mod catalogue;
 mod code;
+mod collecting;
 mod deciding;
 mod decision;
 mod keeper;
@@ -15,7 +17,9 @@ mod view;
 mod view_cache;
 
 pub use by_key::{Pairs, Placings};
+pub use catalogue::{HasLecturerRow, listings_of};
 pub use code::{Code, CodeFault};
+pub use collecting::{try_filter_map, try_map, try_map_where};
 pub use deciding::decide;
 pub use decision::{Act, Body, Call, Change, Decision, Reply, Sheet};
 pub use keeper::{KeepFault, Keeper};

@@ -18,10 +18,11 @@ pub use Rattle.portal_core.specs.World.{World, is_setup, Placements, changed, is
 pub use Rattle.portal_core.specs.declared.view.View.{View as Sight}
 pub use Rattle.portal_core.specs.inner.Room.{pairs_by}
 pub use Rattle.portal_desk.specs.Session.{Finish, Ended, Stopped, Tells, Session, IsSession, ServesOne}
-pub use Rattle.portal_desk.specs.Headline.{ServesEach, AllTellOf, AreServed, AreVisits, Visit, exchanges_of, worlds_of, IsVisit, AreAnswered, Hears, texts_to, replies_in, AlikeTexts, AreServedOn, left_by, exchanges_in, IsServed, IsUnseen, AreUnseen, PublishesBest, IsUpheld, MainPromise, IsEnded, AreOf}
+pub use Rattle.portal_desk.specs.Headline.{TellsOf, AreVisits, Visit, exchanges_of, worlds_of, IsVisit, AreAnswered, Hears, texts_to, replies_in, AlikeTexts, AreServedOn, left_by, exchanges_in, IsServed, IsUnseen, AreUnseen, PublishesBest, IsUpheld, MainPromise}
 pub use Rattle.portal_desk.specs.Kept.{Acted, MayLeave, FailsByCount, Moves, IsMoved, Worked, MayReach, Kept, TakesAtMost}
 pub use Rattle.portal_desk.specs.declared.served.Cause.{Cause}
 pub use Rattle.portal_desk.specs.inner.Play.{CanDo, IsSolved, with_sheet}
+pub use Rattle.portal_desk.specs.inner.Served.{AreServed, ServesEach, IsEnded, AreOf}
 pub use Rattle.portal_desk.specs.inner.Reading.{Follows, Heads, NoneWhole, ReadsMore, KeepsStream, IsWithin}
 pub use Rattle.portal_desk.specs.inner.Turns.{Broke, Partly, Replied}
 pub use Rattle.portal_frame.specs.Stream.{Asked, Opens, fault, is_head, refused, seen, whole, Framed, IsWithinLimits, over, item_of, after_lines, asked_of, fields_of, body_length, bad_length}

@@ -16,10 +16,14 @@ heads stream after rest ended (frame.Bad refusal head_only) e last framed not_ne
     subst (λ s. Opens s (fault (refused refusal) head_only)) e (framed rest last)
 
 pub follows : (old new : Option (List ℕ)) (before after : List ℕ) (ended : Bool) (f : Frame) → ReadsMore old new before after ended
-    → Framed after ended f → f ≢ frame.Need → Follows old new before after f
-follows None new before after ended f reads framed not_need = record { goes = tt }
-follows (Some more) new before after ended f (rest, known, same, last) framed not_need =
-    record { goes = (rest, known, same, heads (before ++ more) after rest ended f same last framed not_need) }
+    → Framed after ended f → f ≢ frame.Need → IsWithin after f → Follows old new before after f
+follows None new before after ended f reads framed not_need held = record { goes = tt; whole = not_need; within = held }
+follows (Some more) new before after ended f (rest, known, same, last) framed not_need held =
+    record {
+      goes = (rest, known, same, heads (before ++ more) after rest ended f same last framed not_need);
+      whole = not_need;
+      within = held;
+    }
 
 pub within : (buffer : List ℕ) (f : Frame) → IsWithinLimits buffer f → IsWithin buffer f
 within buffer (frame.Request request used) limits = (limits.1, limits.2)

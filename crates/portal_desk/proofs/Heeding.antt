@@ -1,5 +1,5 @@
 -- The bytes of the replies to one caller.
-use Rattle.portal_desk.proofs.Base.{◌≡◌, ℕ, inl, inr, Bool, true, false, List, [], ◌∷◌, ◌++◌, refl, sym, ap, ◌∙◌, subst, if◌then◌else◌, Key, World, view, Answer, Run, end_of, reply_text, Exchange, asked_in, told_in, exchange_text, KeeperState, Visit, AreVisits, exchanges_of, worlds_of, Session, AreServed, AllTellOf, AllZip, equals, Sight, IsVisit, AreAnswered, Hears, texts_to, replies_in, AlikeTexts}
+use Rattle.portal_desk.proofs.Base.{◌≡◌, ℕ, inl, inr, Bool, true, false, List, [], ◌∷◌, ◌++◌, refl, sym, ap, ◌∙◌, subst, if◌then◌else◌, Key, World, view, Answer, Run, end_of, reply_text, Exchange, asked_in, told_in, exchange_text, KeeperState, Visit, AreVisits, exchanges_of, worlds_of, Session, AreServed, TellsOf, AllZip, equals, Sight, IsVisit, AreAnswered, Hears, texts_to, replies_in, AlikeTexts}
 use Rattle.portal_core.specs.Heard.{HeardItem, Asked, Sees, own_item, SeenIf, Heard, replies_to, SameButPlaces, SameRequest, AlikeUntilPublished, has_places, moves_to_published}
 use Rattle.portal_core.proofs.Hearing.{same_replies}
 use Rattle.portal_core.proofs.Disclosed.{places_unseen, unless_map}
@@ -80,7 +80,7 @@ same_places w v visits others same zip are all were also =
 
 -- what was told of streams that were served one after another
 pub are_visits : {K : Type 0} (state : K → KeeperState) (k : K) (ss : List (Session K)) → AreServed state k ss
-    → (vs : List Visit) × AllTellOf state ss vs × AreVisits (state k).world vs
+    → (vs : List Visit) × AllZip (TellsOf state) ss vs × AreVisits (state k).world vs
 are_visits state k [] served = ([], tt, tt)
 are_visits state k (s ∷ ss) (same, is_clean, serves, later) =
     let r = serves.moves.reaches is_clean in
@@ -96,7 +96,8 @@ are_visits state k (s ∷ ss) (same, is_clean, serves, later) =
 
 pub equal : {K L : Type 0} (state : K → KeeperState) (states : L → KeeperState) (c : Key) (k : K) (l : L)
     (ss : List (Session K)) (ts : List (Session L)) → AreServed state k ss → AreServed states l ts → view (state k).world c ≡ view (states l).world c
-    → (first second : List Visit) × AllTellOf state ss first × AreVisits (state k).world first × AllTellOf states ts second × AreVisits (states l).world second
+    → (first second : List Visit) × AllZip (TellsOf state) ss first × AreVisits (state k).world first
+    × AllZip (TellsOf states) ts second × AreVisits (states l).world second
     × ((items : List HeardItem) → AreAnswered first → AreAnswered second → Hears c (state k).world first items → Hears c (states l).world second items
     → replies_in c first ≡ replies_in c second)
 equal state states c k l ss ts served others same =

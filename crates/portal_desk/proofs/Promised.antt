@@ -1,5 +1,5 @@
 -- The main promise, from what each call of `serve` tells.
-use Rattle.portal_desk.proofs.Base.{Some, ◌≡◌, ℕ, ◌+◌, ◌<◌, length, take, map, get_or, add-one, inl, inr, true, false, List, [], ◌∷◌, ◌++◌, refl, sym, ap, ◌∙◌, subst, both_ways, Key, World, view, AbstractCall, Answer, Good, Request, Step, Run, Serves, AllAnswered, asked_in, told_in, KeeperState, Ended, Visit, AreVisits, exchanges_of, worlds_of, Session, IsSession, AreServed, AllTellOf, ServesEach, take-suc, map-append, AllByRecursion, is_published, Wish, Calls, Refused, Answers, Last, AreServedOn, left_by, exchanges_in, IsServed, IsUnseen, AreUnseen, PublishesBest, IsUpheld, MainPromise, IsEnded, AreOf}
+use Rattle.portal_desk.proofs.Base.{AllZip, Some, ◌≡◌, ℕ, ◌+◌, ◌<◌, length, take, map, get_or, add-one, inl, inr, true, false, List, [], ◌∷◌, ◌++◌, refl, sym, ap, ◌∙◌, subst, both_ways, Key, World, view, AbstractCall, Answer, Good, Request, Step, Run, Serves, AllAnswered, asked_in, told_in, KeeperState, Ended, Visit, AreVisits, exchanges_of, worlds_of, Session, IsSession, AreServed, TellsOf, ServesEach, take-suc, map-append, AllByRecursion, is_published, Wish, Calls, Refused, Answers, Last, AreServedOn, left_by, exchanges_in, IsServed, IsUnseen, AreUnseen, PublishesBest, IsUpheld, MainPromise, IsEnded, AreOf}
 use Rattle.portal_core.specs.Honest.{HasBest, ShowsBest}
 use Rattle.portal_core.proofs.Unseen.{others}
 use Rattle.portal_desk.proofs.Heeding.{are_visits, whole_run, same_bytes}
@@ -20,7 +20,8 @@ stays_served state k (s ∷ ss) (resumes, serves, later) all last =
     )
 
 -- the visits have the streams' own requests and replies
-pub same_exchanges : {K : Type 0} (state : K → KeeperState) (ss : List (Session K)) (vs : List Visit) → AllTellOf state ss vs → exchanges_in ss ≡ exchanges_of vs
+pub same_exchanges : {K : Type 0} (state : K → KeeperState) (ss : List (Session K)) (vs : List Visit)
+    → AllZip (TellsOf state) ss vs → exchanges_in ss ≡ exchanges_of vs
 same_exchanges state [] [] tell = refl
 same_exchanges state (s ∷ ss) (v ∷ vs) tell =
     ap (λ es. es ++ exchanges_in ss) (sym tell.0.exchanges) ∙ ap (λ es. v.exchanges ++ es) (same_exchanges state ss vs tell.1)

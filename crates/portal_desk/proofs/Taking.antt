@@ -1,10 +1,8 @@
 -- How many bytes a reader gave.
 use Rattle.portal_desk.proofs.Base.{◌≡◌, ℕ, Bool, ◌+◌, ◌-◌, ◌<◌, ◌≤◌, List, ◌++◌, length, drop, refl, sym, ap, ◌∙◌, subst, arith, Option, Some, None, Result, Ok, Err, length-append, Frame, Follows, ◌*◌, length-drop, TakesAtMost, ReadsMore, request_limit, connection_limit, taken_limit}
-use Rattle.std.specs.Prelude.{OnErr}
-
-pub at_err : {A E P : Type 0} (r : Result A E) → P → OnErr r P
-at_err (Ok a) p = tt
-at_err (Err e) p = p
+use Rattle.portal_desk.specs.declared.served.Cause.{Cause}
+use Rattle.portal_desk.specs.inner.Reading.{IsFailedRead, KeepsStream}
+use Rattle.std.specs.Prelude.{IfErr, IsErrAnd}
 
 -- the lengths of what stays one stream
 one_stream : (before after more rest : List ℕ) → after ++ rest ≡ before ++ more → length after + length rest ≡ length before + length more
@@ -34,12 +32,40 @@ reads_taken room (Some bytes) new before after ended (left, known, same, last) h
     (left, known, omega (arith, one_stream before after bytes left same, held))
 
 -- the same, and what one more read took
-pub more_taken : (room : ℕ) (old mid new : Option (List ℕ)) (before during : List ℕ) (ended : Bool) → ReadsMore old mid before during ended → length during ≤ room
+more_taken : (room : ℕ) (old mid new : Option (List ℕ)) (before during : List ℕ) (ended : Bool) → ReadsMore old mid before during ended → length during ≤ room
     → TakesAtMost (room - length during) mid new → TakesAtMost (room - length before) old new
 more_taken room None mid new before during ended reads held taken = tt
 more_taken room (Some bytes) mid new before during ended (left, known, same, last) held taken =
     let t = subst (λ o. TakesAtMost (room - length during) o new) known taken in
     (t.0, t.1, omega (arith, one_stream before during bytes left same, held, t.2))
+
+-- what stays the stream before a read that fails, and after it
+still_stream : (old mid new : Option (List ℕ)) (before during after : List ℕ) (ended : Bool)
+    → ReadsMore old mid before during ended → KeepsStream mid new during after → KeepsStream old new before after
+still_stream None mid new before during after ended reads keeps = tt
+still_stream (Some bytes) mid new before during after ended (left, known, same, last) keeps =
+    let k = subst (λ o. KeepsStream o new during after) known keeps in
+    (k.0, k.1, k.2 ∙ same)
+
+-- a read that fails after others
+failed_after : (old mid new : Option (List ℕ)) (before during after : List ℕ) (ended : Bool) (why : Cause)
+    → ReadsMore old mid before during ended → length during ≤ request_limit
+    → IsFailedRead mid new during after why → IsFailedRead old new before after why
+failed_after old mid new before during after ended why reads held failed = record {
+  causes = failed.causes;
+  left = λ is. still_stream old mid new before during after ended reads (failed.left is);
+  taken = more_taken request_limit old mid new before during ended reads held failed.taken;
+}
+
+-- the same, where the fault is handed on
+pub failed_on : {X : Type 0} (r : Result X Cause) (why : Cause)
+    (old mid new : Option (List ℕ)) (before during after : List ℕ) (ended : Bool)
+    → IsErrAnd r (λ e. e ≡ why) → ReadsMore old mid before during ended → length during ≤ request_limit
+    → IsFailedRead mid new during after why → IfErr r (IsFailedRead old new before after)
+failed_on (Ok x) why old mid new before during after ended is reads held failed = tt
+failed_on (Err e) why old mid new before during after ended is reads held failed =
+    let is_failed = failed_after old mid new before during after ended why reads held failed in
+    subst (IsFailedRead old new before after) (sym is) is_failed
 
 -- where serving ends after this frame
 pub ended_taken : {done : ℕ} {old mid new : Option (List ℕ)} {before after : List ℕ} {f : Frame} → done < connection_limit → length after ≤ request_limit

@@ -1,7 +1,7 @@
 -- Streams served one after another, and the main promise: what a caller may learn from them, over
 -- any keeper.
-use Rattle.std.specs.Prelude.{◌≡◌, if◌then◌else◌, ℕ, List, [], ◌∷◌, ◌++◌, length, Some, true, false}
-use Rattle.std.specs.List.{AllByRecursion}
+use Rattle.std.specs.Prelude.{◌≡◌, if◌then◌else◌, ℕ, List, [], ◌∷◌, length, true, false}
+use Rattle.std.specs.List.{AllByRecursion, AllZip, flat_map}
 use Rattle.std.specs.Io.KnownBytes.{Appends}
 use Rattle.portal_core.specs.Words.{Key, equals}
 use Rattle.portal_core.specs.World.{World, is_published}
@@ -12,7 +12,7 @@ use Rattle.portal_core.specs.Run.{Run, AllAnswered, end_of, Request}
 use Rattle.portal_core.specs.Heard.{HeardItem, Heard, Unless, has_places, moves_to_published, IsMember}
 use Rattle.portal_wire.specs.Conversation.{Exchange, asked_in, told_in, exchange_text}
 use Rattle.portal_core.specs.Keeping.{KeeperState}
-use Rattle.portal_desk.specs.Session.{Finish, Ended, Stopped, Tells, Session, IsSession}
+use Rattle.portal_desk.specs.Session.{Finish, Tells, Session, IsSession}
 
 -- a stream, what is written for it, how serving it ends, its exchanges, and the world after each
 pub record Visit : Type 0 where
@@ -33,12 +33,10 @@ AreVisits w [] = Unit {0}
 AreVisits w (v ∷ vs) = IsVisit w v × AreVisits (end_of w v.worlds) vs
 
 abbrev pub exchanges_of : List Visit → List Exchange
-exchanges_of [] = []
-exchanges_of (v ∷ vs) = v.exchanges ++ exchanges_of vs
+exchanges_of vs = flat_map (λ v. v.exchanges) vs
 
 abbrev pub worlds_of : List Visit → List World
-worlds_of [] = []
-worlds_of (v ∷ vs) = v.worlds ++ worlds_of vs
+worlds_of vs = flat_map (λ v. v.worlds) vs
 
 -- no reply is 503
 abbrev pub AreAnswered : List Visit → Type 0
@@ -62,12 +60,6 @@ AlikeTexts (e ∷ es) (f ∷ fs) =
     Unless (has_places e.request.wish) (exchange_text e ≡ exchange_text f) × Unless (moves_to_published e.request.wish e.reply) (AlikeTexts es fs)
 AlikeTexts _ _ = Unit {0}
 
--- sessions one after another, from the world of keeper k; each leaves its keeper clean
-abbrev pub AreServed : {K : Type 0} → (K → KeeperState) → K → List (Session K) → Type 0
-AreServed state k [] = Unit {0}
-AreServed state k (s ∷ ss) =
-    ((state s.old).world ≡ (state k).world) × (state s.new).clean × IsSession state s × AreServed state s.new ss
-
 -- the visit describes the call of `serve`, and ends in the world that the keeper then has
 pub record TellsOf {K : Type 0} (state : K → KeeperState) (s : Session K) (v : Visit) : Type 0 where
   pub bytes : v.bytes ≡ s.bytes
@@ -76,11 +68,6 @@ pub record TellsOf {K : Type 0} (state : K → KeeperState) (s : Session K) (v :
   pub count : s.count ≡ length v.exchanges
   pub written : Appends s.before s.after v.written
   pub left : (state s.new).world ≡ end_of (state s.old).world v.worlds
-
-abbrev pub AllTellOf : {K : Type 0} → (K → KeeperState) → List (Session K) → List Visit → Type 0
-AllTellOf state [] [] = Unit {0}
-AllTellOf state (s ∷ ss) (v ∷ vs) = TellsOf state s v × AllTellOf state ss vs
-AllTellOf state _ _ = ⊥
 
 -- `new` goes on from `old`: it is the same keeper, or what it kept was closed and opened again
 abbrev pub Resumes : KeeperState → KeeperState → Type 0
@@ -97,8 +84,7 @@ left_by k [] = k
 left_by k (s ∷ ss) = left_by s.new ss
 
 abbrev pub exchanges_in : {K : Type 0} → List (Session K) → List Exchange
-exchanges_in [] = []
-exchanges_in (s ∷ ss) = s.exchanges ++ exchanges_in ss
+exchanges_in ss = flat_map (λ s. s.exchanges) ss
 
 -- the premises: the first keeper is clean, its world good, no reply 503, and the last disk clean
 pub record IsServed {K : Type 0} (state : K → KeeperState) (k : K) (sessions : List (Session K)) : Type 0 where
@@ -146,20 +132,5 @@ HasPromise w visits = IsUpheld w visits × IsLikeAll w visits
 -- visits describe the sessions of both lists, and the main promise holds of these visits
 abbrev pub MainPromise : {K L : Type 0} → (K → KeeperState) → (L → KeeperState) → World → World → List (Session K) → List (Session L) → Type 0
 MainPromise state states w v sessions others =
-    (first second : List Visit) × AllTellOf state sessions first × AllTellOf states others second × IsUpheld w first × IsUpheld v second
-    × AreEqual w v first second
-
--- the sessions serve these streams to their ends, and write these texts, each to an empty writer
-abbrev pub IsEnded : Finish → Type 0
-IsEnded (Ended ending) = Unit {0}
-IsEnded (Stopped why failed left) = ⊥
-
-abbrev pub AreOf : {K : Type 0} → List (Session K) → List (List ℕ) → List (List ℕ) → Type 0
-AreOf [] [] [] = Unit {0}
-AreOf (s ∷ ss) (x ∷ xs) (t ∷ ts) = (s.bytes ≡ x) × (s.before ≡ Some []) × (s.after ≡ Some t) × IsEnded s.finish × AreOf ss xs ts
-AreOf _ _ _ = ⊥
-
--- from `old` to `new`, keepers serve the streams in turn and write these texts
-abbrev pub ServesEach : {K : Type 0} → (K → KeeperState) → K → K → List (List ℕ) → List (List ℕ) → Type 0
-ServesEach state old new streams texts =
-    (sessions : List (Session _)) × AreServedOn state old sessions × (left_by old sessions ≡ new) × AreOf sessions streams texts
+    (first second : List Visit) × AllZip (TellsOf state) sessions first × AllZip (TellsOf states) others second
+    × IsUpheld w first × IsUpheld v second × AreEqual w v first second

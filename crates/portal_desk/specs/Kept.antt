@@ -1,9 +1,8 @@
 -- What a desk, a metered device and a keeper hold, how they count failed calls, and what requests
 -- with their replies do to a keeper.
 use Rattle.std.specs.Prelude.{ℕ, Bool, ◌≡◌, ◌≢◌, ◌⊎◌, ◌+◌, ◌-◌, ◌^◌, ◌<◌, ◌≤◌, min, List, length, Option, Some, IfSome, Result, MatchResult, true, false, ◌∷◌, ◌++◌}
-use Rattle.serde_json.specs.Written.{has_float}
 use Rattle.portal_core.specs.World.{World}
-use Rattle.portal_core.specs.Answer.{Answer, Said, Json, Unavailable}
+use Rattle.portal_core.specs.Answer.{Answer}
 use Rattle.portal_core.specs.Keeping.{KeeperState, IsSettled, StaysClean, LastsOrBreaks, LeavesBy}
 use Rattle.portal_core.specs.Run.{AllAnswered, Request, Serves, unavailable}
 use Rattle.portal_wire.specs.Conversation.{Exchange, told_in, Reaches}
@@ -36,17 +35,11 @@ taken_limit = 272629760
 abbrev pub TakesAtMost : ℕ → Option (List ℕ) → Option (List ℕ) → Type 0
 TakesAtMost n old new = IfSome old (λ bytes. (left : List ℕ) × (new ≡ Some left) × (length bytes ≤ length left + n))
 
--- a desk fails exactly if its keeper's fault count rises, by one; then it leaves the keeper alone
+-- a desk fails exactly if its keeper's fault count rises, by one; then the count stays
 abbrev pub FailsByCount : Bool → Bool → ℕ → ℕ → Type 0
 FailsByCount true after old new = (after ≡ true) × (new ≡ old)
 FailsByCount false false old new = new ≡ old
 FailsByCount false true old new = new ≡ old + 1
-
--- the body of an answer other than 503; JSON has whole numbers only
-abbrev pub IsTold : Said → Type 0
-IsTold (Json body) = has_float body ≡ false
-IsTold Unavailable = ⊥
-IsTold _ = Unit {0}
 
 -- the exchanges reach this world, or they do if the request of one reply 503 was carried out
 abbrev pub MayReach : World → List Exchange → World → Type 0
@@ -70,13 +63,13 @@ pub record Acted (old new : KeeperState) (r : Request) (reply : Answer) : Type 0
   pub serves : new.clean → Serves old.world r reply new.world
   -- a clean keeper is clean still if the reply is not 503, on a clean disk
   pub lasts : reply ≢ unavailable → StaysClean old new
-  -- else it is clean or broken
+  -- in any case it is clean or broken
   pub breaks : LastsOrBreaks old new
-  -- a broken keeper leaves each world as it is
+  -- if the keeper is broken now, the reply is one that leaves every world as it is: 503 or a refusal
   pub broken : new.disk → new.broken → (w : World) → Serves w r reply w
   -- a stop leaves only the keeper's world, if it did before
   pub settled : IsSettled old → new.clean → IsSettled new
-  -- else it may leave the world after this request
+  -- it may also leave the world after this request
   pub leaves : LeavesBy old new (MayLeave old new r reply)
 
 -- what these exchanges did to a keeper, whatever is known of their bytes
@@ -87,11 +80,11 @@ pub record Moves (old new : KeeperState) (es : List Exchange) : Type 0 where
   pub reaches : new.clean → Reaches old.world es new.world
   -- it is clean still if no reply is 503, on a clean disk
   pub lasts : AllAnswered (told_in es) → StaysClean old new
-  -- else it is clean or broken
+  -- in any case it is clean or broken
   pub breaks : LastsOrBreaks old new
   -- a stop leaves only its world, if it did before
   pub settled : IsSettled old → new.clean → IsSettled new
-  -- a broken keeper leaves each world as it is
+  -- if it was broken, the exchanges leave every world as it is, and a stop leaves what one before did
   pub still : new.disk → old.broken → (w : World) → Reaches w es w × (new.leaves w → old.leaves w)
   -- a stop may leave the world of these exchanges, or of a run in which the request of one reply 503
   -- was carried out

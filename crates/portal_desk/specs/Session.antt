@@ -111,5 +111,5 @@ pub record ServesOne {K : Type 0} (state : K → KeeperState) (r : Result Served
   pub taken : TakesAtMost taken_limit source left
   -- a desk that had failed is as before, and ends the stream at its first request
   pub stays : old.failed ≡ true → (new ≡ old) × TakesFirst r
-  -- a desk fails by a fault of the store alone
+  -- it fails in a call whose cause is the store
   pub settles : Settles r old.failed new.failed

@@ -1,3 +1,4 @@
 pub mod Play
 pub mod Turns
 pub mod Reading
+pub mod Served

@@ -82,8 +82,16 @@ impl<K: Keeper> Desk<K> {
         }
     }
 
-    /// Acts on one request, as one step of the world. The reply is 503 if memory runs out or the
-    /// store fails. Once the store has failed, every reply is 503.
+    /// Acts on one request, as one step of the world, which leads to a good one. The reply may be
+    /// 503, if memory runs out or the store fails. The desk fails exactly if its keeper counts a
+    /// fault of the store. Then every reply is 503, and the keeper is left alone.
+    ///
+    /// After a 503, the world of a keeper that is clean is as before. On a clean disk, a clean
+    /// keeper stays clean unless the reply is 503; then it may have broken. If it was settled, a
+    /// stop now leaves only its world if it is clean, else the world before this request or after
+    /// it. On a clean disk, a broken keeper stays broken, and no request adds to what a stop
+    /// leaves. If the disk fails in a call that reports want of memory, the desk has not failed,
+    /// but its keeper may have broken.
     pub fn respond(&mut self, alloc: Global, request: &Request) -> Reply
         ensures acted { Acted (K.state self.old.keeper) (K.state self.new.keeper)
             (request_of request.now.close (seen request.now)) (reply_model result) }

@@ -10,7 +10,8 @@ ghost use Rattle.portal_core.specs.Heard.{HeardItem, SameButPlaces, SameRequest}
 ghost use Rattle.portal_wire.specs.Conversation.{asked_in};
 ghost use Rattle.portal_desk.specs.Headline.{IsServed, MainPromise, Visit, AreVisits, AreAnswered};
 ghost use Rattle.portal_desk.specs.Headline.{exchanges_of, worlds_of, Hears, replies_in};
-ghost use Rattle.portal_desk.specs.Headline.{AlikeTexts, AreServed, AllTellOf};
+ghost use Rattle.portal_desk.specs.Headline.{AlikeTexts, TellsOf};
+ghost use Rattle.portal_desk.specs.inner.Served.{AreServed};
 ghost use Rattle.portal_desk.specs.Session.{Session};
 
 use portal_core::Keeper;
@@ -21,6 +22,8 @@ use portal_core::laws::{published_best, run_good};
 /// hears the same in both, the caller's replies and last view are equal. Now let the first worlds
 /// and the requests differ at most in the order within students' lists. Then all replies are equal,
 /// up to and including the first accepted move to published, except replies with a student's list.
+/// A refusal that ends a stream belongs to no caller: it depends on the stream alone (`stream_once`
+/// of `portal_wire`).
 pub fn same_bytes()
     ensures replies { (c : Key) (w v : World) (visits others : List Visit) (items : List HeardItem)
         → AreVisits w visits → AreAnswered visits → Hears c w visits items
@@ -39,7 +42,7 @@ pub fn served_is_visit<K: Keeper>()
     ensures { (k : K) (sessions : List (Session K))
         → AreServed K.state k sessions
         → (visits : List Visit)
-        × AllTellOf K.state sessions visits
+        × AllZip (TellsOf K.state) sessions visits
         × AreVisits (K.state k).world visits }
 {}
 
@@ -52,9 +55,9 @@ pub fn equal_byte_for_byte<K: Keeper, L: Keeper>()
         → AreServed L.state l others
         → view (K.state k).world c ≡ view (L.state l).world c
         → (first second : List Visit)
-        × AllTellOf K.state sessions first
+        × AllZip (TellsOf K.state) sessions first
         × AreVisits (K.state k).world first
-        × AllTellOf L.state others second
+        × AllZip (TellsOf L.state) others second
         × AreVisits (L.state l).world second
         × ((items : List HeardItem) → AreAnswered first → AreAnswered second
         → Hears c (K.state k).world first items → Hears c (L.state l).world second items

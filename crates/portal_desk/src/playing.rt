@@ -11,8 +11,7 @@ ghost use Rattle.portal_core.specs.Good.{Good, CanPublish};
 ghost use Rattle.portal_core.specs.inner.Room.{pairs_by};
 ghost use Rattle.portal_core.specs.Run.{HasForm, StepLeaves, Step};
 ghost use Rattle.portal_core.specs.View as seen;
-ghost use Rattle.portal_desk.specs.Kept.{IsTold};
-ghost use Rattle.portal_desk.specs.inner.Play.{CanDo, IsSolved, sheet_text, with_sheet};
+ghost use Rattle.portal_desk.specs.inner.Play.{CanDo, IsSolved, IsTold, sheet_text, with_sheet};
 
 use portal_core::{
     Act, Body, Call, Change, Decision, KeepFault, Keeper, OfficeView, Reply, Sheet, View, decide,
@@ -70,7 +69,8 @@ fn decide_whole(alloc: Global, view: &View, call: &Call) -> Result<Decision, Kee
     Ok(Decision { reply, act })
 }
 
-/// Gets the view of the caller with this code from the keeper, and decides the call.
+/// Gets the view of the caller with this code from the keeper, and decides the call. It changes
+/// nothing; the reply has its sheet written, and is not 503.
 fn ask<K: Keeper>(
     alloc: Global,
     keeper: &mut K,
@@ -147,7 +147,12 @@ fn perform<K: Keeper>(alloc: Global, keeper: &mut K, act: Act) -> Result<(), Kee
     }
 }
 
-/// Plays one call as a step of the keeper's world, and returns the reply.
+/// Plays one call as a step of the keeper's world, and returns the reply, which is not 503. If the
+/// keeper is clean afterwards, a stop leaves only its world.
+///
+/// # Errors
+///
+/// Memory runs out, or the store fails. The world of a keeper that is still clean is unchanged.
 pub fn play<K: Keeper>(
     alloc: Global,
     keeper: &mut K,

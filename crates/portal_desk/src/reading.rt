@@ -1,12 +1,9 @@
 //! Buffers a stream until its next request is complete; removes answered requests.
 
-ghost use Rattle.std.specs.Prelude.{◌≡◌, ◌⊎◌, ◌≢◌, ◌+◌, ◌-◌, ◌<◌, ◌≤◌, length, drop, IfOk};
-ghost use Rattle.std.specs.Prelude.{OnErr, IfErr, if◌then◌else◌};
+ghost use Rattle.std.specs.Prelude.{◌≡◌, ◌<◌, ◌≤◌, length, drop, IfOk, IfErr, OnErr};
 ghost use Rattle.portal_frame.specs.Stream.{request_limit};
 ghost use Rattle.portal_desk.specs.inner.Turns.{CountsFor};
-ghost use Rattle.portal_desk.specs.Kept.{TakesAtMost};
-ghost use Rattle.portal_desk.specs.inner.Reading.{ReadsMore, Follows, IsWithin, KeepsStream, NoneWhole};
-ghost use Rattle.portal_desk.specs.declared.served.Cause.TheVariants.{Memory as OutOfMemory};
+ghost use Rattle.portal_desk.specs.inner.Reading.{Follows, IsFailedRead, IsPieceRead, NoneWhole};
 ghost use Rattle.portal_desk.specs.declared.served.Cause.TheVariants.{Read as ReadFailed};
 
 use crate::devices::Source;
@@ -17,18 +14,12 @@ use std::alloc::Global;
 /// Reads a stream's next bytes into the buffer, and returns whether the source has ended.
 fn read_piece<R: Source>(source: &mut R, buffer: &mut Vec<u8>) -> Result<bool, Cause>
     requires { length buffer.old.items < request_limit }
-    ensures bytes { IfOk result (ReadsMore (R.remaining source.old)
+    ensures ok { IfOk result (IsPieceRead (R.remaining source.old)
         (R.remaining source.new) buffer.old.items buffer.new.items) }
-    ensures more { IfOk result (λ ended. length buffer.old.items + (if ended then 0 else 1)
-        ≤ length buffer.new.items) }
-    ensures held { length buffer.new.items ≤ request_limit }
+    ensures err { IfErr result (IsFailedRead (R.remaining source.old)
+        (R.remaining source.new) buffer.old.items buffer.new.items) }
     ensures none_lost { OnErr result (buffer.new.items ≡ buffer.old.items) }
-    ensures causes { IfErr result (λ cause. (cause ≡ ReadFailed) ⊎ (cause ≡ OutOfMemory)) }
-    ensures left { IfErr result (λ cause. cause ≡ ReadFailed
-        → KeepsStream (R.remaining source.old)
-        (R.remaining source.new) buffer.old.items buffer.new.items) }
-    ensures taken { OnErr result (TakesAtMost (request_limit - length buffer.old.items)
-        (R.remaining source.old) (R.remaining source.new)) }
+    ensures held { length buffer.new.items ≤ request_limit }
     ensures failures { CountsFor ReadFailed result (R.failed source.old) (R.failed source.new) }
     ensures same_device { R.name source.new ≡ R.name source.old }
 {
@@ -55,16 +46,10 @@ pub(crate) fn next_frame<R: Source>(
     requires { length buffer.old.items ≤ request_limit }
     ensures follows { IfOk result (Follows (R.remaining source.old)
         (R.remaining source.new) buffer.old.items buffer.new.items) }
-    ensures found { IfOk result (λ f. f ≢ Frame.Need) }
-    ensures held { length buffer.new.items ≤ request_limit }
-    ensures within { IfOk result (IsWithin buffer.new.items) }
-    ensures causes { IfErr result (λ cause. (cause ≡ ReadFailed) ⊎ (cause ≡ OutOfMemory)) }
-    ensures stays { IfErr result (λ cause. cause ≡ ReadFailed
-        → KeepsStream (R.remaining source.old)
+    ensures err { IfErr result (IsFailedRead (R.remaining source.old)
         (R.remaining source.new) buffer.old.items buffer.new.items) }
     ensures none { IfErr result (λ cause. cause ≡ ReadFailed → NoneWhole buffer.new.items) }
-    ensures taken { OnErr result (TakesAtMost (request_limit - length buffer.old.items)
-        (R.remaining source.old) (R.remaining source.new)) }
+    ensures held { length buffer.new.items ≤ request_limit }
     ensures failures { CountsFor ReadFailed result (R.failed source.old) (R.failed source.new) }
     ensures same_device { R.name source.new ≡ R.name source.old }
 {

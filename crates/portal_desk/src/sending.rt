@@ -1,13 +1,12 @@
 //! Writes replies to a sink.
 
-ghost use Rattle.std.specs.Prelude.{◌≡◌, true, OnOk, IfErr};
-ghost use Rattle.std.specs.Io.KnownBytes.{Appends};
+ghost use Rattle.std.specs.Prelude.{◌≡◌, true};
 ghost use Rattle.portal_core.specs.Answer.{HasWholeNumbers};
 ghost use Rattle.portal_core.specs.Meaning.{reply_model, body_model};
 ghost use Rattle.portal_frame.specs.Stream.{refused};
 ghost use Rattle.portal_wire.specs.Wish.{answer_to};
 ghost use Rattle.portal_wire.specs.Conversation.{reply_text};
-ghost use Rattle.portal_desk.specs.inner.Turns.{CountsFor, Partly};
+ghost use Rattle.portal_desk.specs.inner.Turns.{CountsFor, Writes};
 ghost use Rattle.portal_desk.specs.declared.served.Cause.TheVariants.{Write as WriteFailed};
 
 use crate::devices::{Sink, write_whole};
@@ -19,9 +18,7 @@ use std::alloc::Global;
 
 /// Writes all the bytes of a reply to a sink, or returns the cause `Write`.
 fn send<W: Sink>(bytes: &[u8], sink: &mut W) -> Result<(), Cause>
-    ensures ok { OnOk result (Appends (W.contents sink.old) (W.contents sink.new) bytes.now) }
-    ensures err { IfErr result (λ cause. Partly cause (W.contents sink.old)
-        (W.contents sink.new) bytes.now) }
+    ensures writes { Writes result (W.contents sink.old) (W.contents sink.new) bytes.now }
     ensures failures { CountsFor WriteFailed result (W.failed sink.old) (W.failed sink.new) }
     ensures same_device { W.name sink.new ≡ W.name sink.old }
 {
@@ -40,10 +37,8 @@ pub(crate) fn send_reply<W: Sink>(
     sink: &mut W,
 ) -> Result<(), Cause>
     requires { HasWholeNumbers (body_model reply.body) }
-    ensures ok { OnOk result (Appends (W.contents sink.old) (W.contents sink.new)
-        (reply_text (reply_model reply) head_only close)) }
-    ensures err { IfErr result (λ cause. Partly cause (W.contents sink.old) (W.contents sink.new)
-        (reply_text (reply_model reply) head_only close)) }
+    ensures writes { Writes result (W.contents sink.old) (W.contents sink.new)
+        (reply_text (reply_model reply) head_only close) }
     ensures failures { CountsFor WriteFailed result (W.failed sink.old) (W.failed sink.new) }
     ensures same_device { W.name sink.new ≡ W.name sink.old }
 {
@@ -60,10 +55,8 @@ pub(crate) fn send_refusal<W: Sink>(
     head_only: bool,
     sink: &mut W,
 ) -> Result<(), Cause>
-    ensures ok { OnOk result (Appends (W.contents sink.old) (W.contents sink.new)
-        (reply_text (answer_to (refused refusal.now)) head_only true)) }
-    ensures err { IfErr result (λ cause. Partly cause (W.contents sink.old) (W.contents sink.new)
-        (reply_text (answer_to (refused refusal.now)) head_only true)) }
+    ensures writes { Writes result (W.contents sink.old) (W.contents sink.new)
+        (reply_text (answer_to (refused refusal.now)) head_only true) }
     ensures failures { CountsFor WriteFailed result (W.failed sink.old) (W.failed sink.new) }
     ensures same_device { W.name sink.new ≡ W.name sink.old }
 {

@@ -8,11 +8,10 @@ ghost use Rattle.portal_wire.specs.Conversation.{reply_text};
 ghost use Rattle.portal_wire.specs.inner.Calls.{last_for};
 ghost use Rattle.portal_desk.specs.Kept.{Blames, FailsByCount};
 ghost use Rattle.portal_desk.specs.Session.{ServesOne};
-ghost use Rattle.portal_desk.specs.Headline.{ServesEach};
+ghost use Rattle.portal_desk.specs.inner.Served.{ServesEach};
 ghost use Rattle.portal_desk.specs.inner.Turns.{Broke, CountsFor, Replied};
 ghost use Rattle.portal_desk.specs.declared.served.Cause.TheVariants.{Read as ReadFailed};
 ghost use Rattle.portal_desk.specs.declared.served.Cause.TheVariants.{Write as WriteFailed};
-ghost use Rattle.portal_desk.specs.declared.served.Cause.TheVariants.{Store as StoreFailed};
 
 use crate::desk::Desk;
 use crate::devices::{Borrowed, Sink, Source};
@@ -47,8 +46,6 @@ impl<K: Keeper> Desk<K> {
         ensures failures { CountsFor WriteFailed result (W.failed sink.old) (W.failed sink.new) }
         ensures counts { FailsByCount self.old.failed self.new.failed
             (K.state self.old.keeper).faults (K.state self.new.keeper).faults }
-        ensures unread { IfErr result (λ cause. cause ≢ ReadFailed) }
-        ensures store { IfErr result (λ cause. cause ≡ StoreFailed → self.new.failed ≡ true) }
         ensures same_device { W.name sink.new ≡ W.name sink.old }
     {
         let reply = self.respond(alloc, request);
@@ -65,11 +62,23 @@ impl<K: Keeper> Desk<K> {
     }
 
     /// Serves the requests of a stream in order, at most 256. It acts on a request and writes the
-    /// whole reply before it reads on.
+    /// whole reply before it reads on. The world of a clean keeper is good. A desk that had failed
+    /// stays as it is.
+    ///
+    /// If the bytes of the source are known, it takes at most 272,629,760 of them, and the requests
+    /// are those of the stream: they are a run from the world before to the world after, over a
+    /// keeper that is clean afterwards. It writes their replies, then any refusal that ends the
+    /// stream, and returns how many requests there were and how the stream ended. If the bytes are
+    /// not known, some requests with replies are such a run. A stop after the call leaves the world
+    /// after the requests, or that with the request of one reply 503 carried out, if the keeper was
+    /// clean and settled and the disk is clean.
     ///
     /// # Errors
     ///
-    /// The source or the sink failed, memory ran out, or the store failed.
+    /// The source or the sink failed, memory ran out, or the store failed. Then all this holds of
+    /// the first requests of the stream, as many as the error says; the definition `Wrote` says
+    /// which bytes are written. The device that the error blames has failed in this call (its count
+    /// rose or is at its maximum), and no other has. After `Ok`, nothing is said of these counts.
     pub fn serve<R: Source, W: Sink>(
         &mut self,
         alloc: Global,

@@ -12,8 +12,8 @@ use Rattle.portal_desk.specs.Headline.{Visit, AreVisits, IsVisit, exchanges_of, 
 use Rattle.portal_desk.proofs.Steps.{answered_apart}
 use Rattle.portal_desk.proofs.Promised.{RunsGood, StepsBest, RunsBest, are_unseen, publishes_best, upheld}
 use Rattle.portal_desk.proofs.Heeding.{same_bytes}
-use Rattle.portal_file.specs.Tables.{Stream, TellsIn}
-use Rattle.portal_file.specs.Files.{HoldsWorld}
+use Rattle.portal_file.specs.Tables.{Stream, TellsIn, Either}
+use Rattle.portal_file.specs.Files.{HoldsSome, HoldsWorld}
 use Rattle.portal_file.specs.Chain.{Process, IsProcess, AreProcesses, left_after, exchanges_by, MayStandFor, IsKeptRun, KeptOverFiles, AllTellOfProcesses, IsKnown, PromisedOverFiles}
 
 end_more : (w : World) (us vs : List World) → end_of (end_of w us) vs ≡ end_of w (us ++ vs)
@@ -37,6 +37,10 @@ visit_of p (Some s) there is process worlds = (
 )
 visit_of p None there is process worlds = absurd (never there)
 
+-- the files hold this world
+holds_one : (image : Image) (w : World) → HoldsSome Either image (λ v. v ≡ w) → HoldsWorld image w
+holds_one image w some = ∥∥₁_elim some squash₁ (λ h. subst (HoldsWorld image) h.1 h.2)
+
 -- a process without requests leaves the world
 stays : (w : World) (worlds : List World) → Run w [] [] worlds → end_of w worlds ≡ w
 stays w [] run = refl
@@ -45,7 +49,8 @@ stays w (u ∷ worlds) run = absurd run
 quiet : (w : World) (p : Process) → IsProcess p → HoldsWorld p.found w → p.exchanges ≡ [] → HoldsWorld p.left w
 quiet w p process holds none =
     let turn = process.turns w holds (subst (λ es. AllAnswered (told_in es)) (sym none) tt) in
-    subst (HoldsWorld p.left) (stays w turn.0 (subst (λ es. Run w (asked_in es) (told_in es) turn.0) none turn.1)) turn.2
+    subst (HoldsWorld p.left) (stays w turn.0 (subst (λ es. Run w (asked_in es) (told_in es) turn.0) none turn.1))
+    (holds_one p.left _ turn.2)
 
 abbrev AreTold : World → Image → List Process → Type 0
 AreTold w image ps = (vs : List Visit) × AllTellOfProcesses ps vs × AreVisits w vs × HoldsWorld (left_after image ps) (end_of w (worlds_of vs))
@@ -57,7 +62,7 @@ one_more w image p ps process holds known answered others =
     let turn = process.turns w holds answered in
     let v = visit_of p p.stream known refl process turn.0 in
     let e = ap (end_of w) (sym v.3) in
-    let more = others (end_of w v.0.worlds) (subst (HoldsWorld p.left) e turn.2) in (
+    let more = others (end_of w v.0.worlds) (subst (HoldsWorld p.left) e (holds_one p.left _ turn.2)) in (
       v.0 ∷ more.0,
       inr (v.0, more.0, refl, record { stream = v.1; exchanges = v.2 }, more.1),
       (v.4 w turn.1, more.2),

@@ -1,5 +1,5 @@
 -- What making and upgrading the tables leaves.
-use Rattle.std.proofs.Common.{◌≡◌, true, false, List, IsTrue, ◌↔◌, ◌⊎◌, inl, inr, refl, sym, ap, subst, ◌∙◌}
+use Rattle.std.proofs.Common.{◌≡◌, true, false, List, IsTrue, ◌⊎◌, inl, inr, refl, sym, ap, subst, ◌∙◌}
 use Rattle.std.proofs.lemmas.Bool.{both_ways}
 use Rattle.std.proofs.Math.Logic.{∥∥₁_elim}
 use Rattle.sqlite.specs.Store.{Ghosts}
@@ -8,27 +8,26 @@ use Rattle.sqlite.specs.State.{HasCleanDisk, State, Survives}
 use Rattle.sqlite.specs.Tree.{Trees}
 use Rattle.portal_core.specs.World.{World}
 use Rattle.portal_core.specs.Good.{Good}
-use Rattle.portal_core.specs.declared.phase.Round.TheVariants.{First}
 use Rattle.portal_tables.specs.Tables.{IsFirstSchema, first_schema, no_schema, portal_schema}
-use Rattle.portal_tables.specs.Making.{Creates, Upgrades, has_names}
-use Rattle.portal_tables.specs.Steps.{Commits}
+use Rattle.portal_tables.specs.Making.{has_names}
 use Rattle.portal_tables.specs.declared.names.Names.{Names}
 use Rattle.portal_tables.specs.declared.names.Names.TheVariants.{All, OfSecond}
 use Rattle.portal_tables.proofs.Base.{everything}
 use Rattle.portal_store.specs.Crash.{IsUpgradedFrom, LeavesUpgraded}
 use Rattle.portal_store.specs.Kept.{Seen, IsCleanStore, kept_world}
-use Rattle.portal_store.specs.World.{first_world, world_in, world_of}
+use Rattle.portal_store.specs.World.{first_world, world_of}
 use Rattle.portal_store.specs.Calls.{CreatesStore, UpgradesStore}
 use Rattle.portal_store.proofs.Upgraded.{named_as}
 use Rattle.sqlite.specs.Schema.{Schema}
 use Rattle.sqlite.specs.Effect.{Database}
-use Rattle.portal_file.specs.Tables.{AllStandCurrent, AreOf, ClosesAs, Shows, ShowsCurrent, ShowsFirst, ShowsWorld, StandsFor}
-use Rattle.portal_file.proofs.Served.{closed_world}
+use Rattle.portal_file.specs.Tables.{AllStand, AreOf, ClosesAs, Shows, Stands, First, Current, Either}
+use Rattle.portal_file.proofs.Served.{closed_world, no_proof}
 
 -- tables of version 1 that were upgraded
 pub same_world : {S : Type 0} (g : Ghosts S) (old new : Held S) (made : Seen S) → ClosesAs g made new → UpgradesStore g old made
-    → (w : World) → HasCleanDisk (state g new) → ShowsFirst (state g old) w → AllStandCurrent (state g new).may_leave (λ v. v ≡ w)
-same_world g old new made closes is w clean shows db may =
+    → HasCleanDisk (state g new) → (w : World) → Shows First (state g old) w
+    → AllStand Current (state g new).may_leave (λ v. v ≡ w)
+same_world g old new made closes is clean w shows db may =
     ∥∥₁_elim shows.stands squash₁ (λ first.
     let done = is.commits first.schema (subst (λ h. HasCleanDisk (state g h)) closes.same clean) in
     let on : IsCleanStore g made = (is.makes.own.1 first.schema, done.is_open) in
@@ -37,7 +36,8 @@ same_world g old new made closes is w clean shows db may =
 
 -- tables that were made where there were none
 pub fresh_world : {S : Type 0} (g : Ghosts S) (old new : Held S) (made : Seen S) (office : List _) → ClosesAs g made new → CreatesStore g office old made
-    → old.schema ≡ no_schema → HasCleanDisk (state g new) → Good (first_world office) × AllStandCurrent (state g new).may_leave (λ v. v ≡ first_world office)
+    → old.schema ≡ no_schema → HasCleanDisk (state g new) → Good (first_world office)
+    × AllStand Current (state g new).may_leave (λ v. v ≡ first_world office)
 fresh_world g old new made office closes is none clean =
     let done = is.commits (subst (λ h. HasCleanDisk (state g h)) closes.same clean) in
     let on : IsCleanStore g made = (is.makes.own.1 none, done.is_open) in
@@ -64,33 +64,33 @@ pub none_taken : (s : Schema) → s ≡ no_schema → IsTrue (has_names All s) �
 none_taken s none taken = both_ways _ (ap (has_names All) none ∙ none_named) taken
 
 -- over them no tables are made
-none_free_in : (db : Database) (w : World) → StandsFor db w → IsTrue (has_names All db.schema)
+none_free_in : (db : Database) (w : World) → Stands Either db w → IsTrue (has_names All db.schema)
 none_free_in db w (inl current) = named_as All db.schema portal_schema current.consistent.1.current ∙ current_named All
 none_free_in db w (inr first) = named_as All db.schema first_schema first.schema ∙ first_named
 
-pub none_free : {S : Type 0} (g : Ghosts S) (old : Held S) (w : World) → StandsFor (state g old).now w → IsTrue (has_names All old.schema)
+pub none_free : {S : Type 0} (g : Ghosts S) (old : Held S) (w : World) → Stands Either (state g old).now w
+    → IsTrue (has_names All old.schema)
 none_free g old w = none_free_in (state g old).now w
 
-no_proof : (x y : ⊥) → x ≡ y
-no_proof x y = absurd x
-
 -- an empty schema shows no world
-pub shows_none : (s : State) (w : World) → s.now.schema ≡ no_schema → ShowsWorld s w → ⊥
+pub shows_none : (s : State) (w : World) → s.now.schema ≡ no_schema → Shows Either s w → ⊥
 shows_none s w none shows = ∥∥₁_elim shows.stands no_proof (λ stands. none_taken s.now.schema none (none_free_in s.now w stands))
 
 -- tables of version 2 have the names that an upgrade needs
-pub current_taken : {S : Type 0} (g : Ghosts S) (old : Held S) (w : World) → has_names OfSecond old.schema ≡ false → ShowsCurrent (state g old) w → ⊥
+pub current_taken : {S : Type 0} (g : Ghosts S) (old : Held S) (w : World) → has_names OfSecond old.schema ≡ false
+    → Shows Current (state g old) w → ⊥
 current_taken g old w free shows =
     ∥∥₁_elim shows.stands no_proof (λ stands. both_ways _ free (named_as OfSecond old.schema portal_schema stands.consistent.1.current ∙ current_named OfSecond))
 
 -- an upgrade leaves those of version 2 as they are, and those of version 1 with the same world
 pub upgrade_leaves : (old new : State) → Survives old new (LeavesUpgraded old) → (IsFirstSchema old.now.schema → Survives old new (IsUpgradedFrom old.now.trees))
-    → (w : World) → HasCleanDisk new → StandsFor old.now w → (db : Trees) → new.may_leave db → old.may_leave db ⊎ AreOf StandsFor db w
-upgrade_leaves old new upgrades left w clean (inl current) db may = elim (upgrades.crash clean db may) [
+    → HasCleanDisk new → (w : World) → Stands Either old.now w → (db : Trees) → new.may_leave db
+    → old.may_leave db ⊎ AreOf Either db w
+upgrade_leaves old new upgrades left clean w (inl current) db may = elim (upgrades.crash clean db may) [
   | inl was ↦ inl was
   | inr made ↦ absurd (both_ways _ made.0 (named_as OfSecond old.now.schema portal_schema current.consistent.1.current ∙ current_named OfSecond))
 ]
-upgrade_leaves old new upgrades left w clean (inr first) db may = elim ((left first.schema).crash clean db may) [
+upgrade_leaves old new upgrades left clean w (inr first) db may = elim ((left first.schema).crash clean db may) [
   | inl was ↦ inl was
   | inr up ↦
       inr (up.after, sym up.trees, inl (record { consistent = up.holds; good = subst Good first.world first.stands.good; world = ap world_of (sym up.trees) ∙ up.world ∙ first.world }))

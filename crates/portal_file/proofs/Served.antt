@@ -17,7 +17,7 @@ use Rattle.portal_desk.specs.Session.{IsSession, count_of, finish_of}
 use Rattle.portal_desk.specs.declared.served.Served.{Served}
 use Rattle.portal_desk.specs.declared.served.ServeFault.{ServeFault}
 use Rattle.portal_desk.proofs.Promised.{RunsGood}
-use Rattle.portal_serve.specs.Hall.{IsMovedBy, told_of}
+use Rattle.portal_serve.specs.Hall.{told_of}
 use Rattle.sqlite.specs.Tree.{Trees}
 use Rattle.sqlite.specs.Effect.{Database}
 use Rattle.sqlite.specs.Store.{Ghosts}
@@ -34,8 +34,10 @@ use Rattle.portal_store.specs.declared.store.UpgradeFault.TheVariants as upgradi
 use Rattle.portal_store.proofs.Again.{holds_again, none_but_store}
 use Rattle.portal_store.proofs.Upgraded.{first_own}
 use Rattle.portal_tables.proofs.InTurn.{clean_before}
-use Rattle.portal_file.specs.Tables.{AllStand, AllStandCurrent, AreOf, ClosesAs, Denies, DeniesFirst, IsOfStore, ReportsStream}
-use Rattle.portal_file.specs.Tables.{ServesStream, ServesTables, ShowsWorld, StandsCurrent, StandsFirst, StandsFor}
+use Rattle.portal_file.specs.Tables.{AllStand, AreOf, ClosesAs, IsTurn, Shows, Stands, StandsCurrent, StandsFirst}
+use Rattle.portal_file.specs.Tables.{Stream, TellsIn}
+use Rattle.portal_file.specs.Tables.{First, Current, Either}
+use Rattle.portal_file.specs.Jobs.{IsOfStore, ReportsStream}
 use Rattle.portal_file.proofs.Sets.{World-set}
 
 pub good_end : (w : World) (worlds : List World) → Good w → AllByRecursion Good worlds → Good (end_of w worlds)
@@ -77,32 +79,41 @@ reach_none w v (inr (front, back, e, other, is, untold, run)) = absurd (no_more 
 none_reached : (w v : World) → v ≡ w → MayReach w [] v
 none_reached w v same = inl ([], tt, same)
 
+-- over a connection, these requests are served
+abbrev pub IsTurnOf : State → State → List Exchange → Option Stream → Type 0
+IsTurnOf old new = IsTurn (Shows Either old) (AllStand Either new.may_leave)
+
 -- a stop leaves the world that was there
-pub none_served : (old new : State) → (HasCleanDisk new → HasCleanDisk old) → ((w : World) → HasCleanDisk new → ShowsWorld old w → AllStand new.may_leave (MayReach w [])) → ServesTables old new []
-none_served old new back stops = record {
-  clean = back;
+none_served : (old new : State) → ((w : World) → Shows Either old w → AllStand Either new.may_leave (MayReach w []))
+    → IsTurnOf old new [] None
+none_served old new stops = record {
   stops = stops;
-  turns = λ w clean all shows. ([], tt, λ db may. ∥∥₁_map (stops w clean shows db may) (λ t. (t.0, reach_none w t.0 t.1, t.2)));
+  turns = λ w shows all. ([], tt, λ db may. ∥∥₁_map (stops w shows db may) (λ t. (t.0, reach_none w t.0 t.1, t.2)));
+  tells = tt;
 }
 
 -- whatever world was shown, a stop leaves what one before it left, or trees that stand for this world
-pub unserved : (old new : State) → (HasCleanDisk new → HasCleanDisk old) → (IsTrue old.is_open → old.now ≡ old.committed) → ((db : Trees) → IsTrue old.is_open → old.may_leave db → db ≡ old.committed.trees)
-    → ((w : World) → HasCleanDisk new → StandsFor old.now w → (db : Trees) → new.may_leave db → old.may_leave db ⊎ AreOf StandsFor db w) → ServesTables old new []
-unserved old new back settled law leaves =
-    none_served old new back (λ w clean shows db may.
+pub unserved : (old new : State) → (IsTrue old.is_open → old.now ≡ old.committed)
+    → ((db : Trees) → IsTrue old.is_open → old.may_leave db → db ≡ old.committed.trees)
+    → ((w : World) → Stands Either old.now w → (db : Trees) → new.may_leave db → old.may_leave db ⊎ AreOf Either db w)
+    → IsTurnOf old new [] None
+unserved old new settled law leaves =
+    none_served old new (λ w shows db may.
     ∥∥₁_map shows.stands (λ stands.
-    let are : AreOf StandsFor db w = elim (leaves w clean stands db may) [
+    let are : AreOf Either db w = elim (leaves w stands db may) [
       | inl was ↦ (old.now, ap (λ (d : Database). d.trees) (settled shows.is_open) ∙ sym (law db shows.is_open was), stands)
       | inr are ↦ are
     ] in
-    let is : (v : World) × MayReach w [] v × AreOf StandsFor db v = (w, none_reached w w refl, are) in is))
+    let is : (v : World) × MayReach w [] v × AreOf Either db v = (w, none_reached w w refl, are) in is))
 
 -- what stands so as tables of version 2 stands for the world
-all_stand : (Finds : Trees → Type 0) (Kind : World → Type 0) → AllStandCurrent Finds Kind → AllStand Finds Kind
+all_stand : (Finds : Trees → Type 0) (Kind : World → Type 0) → AllStand Current Finds Kind → AllStand Either Finds Kind
 all_stand Finds Kind all db may = ∥∥₁_map (all db may) (λ t. (t.0, t.1, (t.2.0, t.2.1, inl t.2.2)))
 
 -- a clean store that was closed leaves its world alone
-pub closed_world : {S : Type 0} (g : Ghosts S) (s : Seen S) (new : Held S) → ClosesAs g s new → IsCleanStore g s → (w : World) → kept_world g s ≡ w → Good w → AllStandCurrent (state g new).may_leave (λ v. v ≡ w)
+pub closed_world : {S : Type 0} (g : Ghosts S) (s : Seen S) (new : Held S) → ClosesAs g s new → IsCleanStore g s
+    → (w : World) → kept_world g s ≡ w → Good w
+    → AllStand Current (state g new).may_leave (λ v. v ≡ w)
 closed_world g s new closes on w same good db may =
     let live : IsTrue (state g new).is_open = subst (λ h. IsTrue (state g h).is_open) (sym closes.same) on.1 in
     let stands : StandsCurrent (state g new).now w = record {
@@ -110,7 +121,8 @@ closed_world g s new closes on w same good db may =
       good = good;
       world = ap (λ h. world_of (state g h).now.trees) closes.same ∙ same;
     } in
-    let is : (v : World) × (v ≡ w) × AreOf StandsCurrent db v = (w, refl, ((state g new).now, sym (closes.only live db may), stands)) in
+    let is : (v : World) × (v ≡ w)
+    × AreOf Current db v = (w, refl, ((state g new).now, sym (closes.only live db may), stands)) in
     ∣ is ∣₁
 
 module _ {S : Type 0} (g : Ghosts S) (old new : Held S) (opened served : Seen S) (run_good : RunsGood) (opens : OpensStore g old opened) (closes : ClosesAs g served new) where
@@ -130,10 +142,11 @@ module _ {S : Type 0} (g : Ghosts S) (old new : Held S) (opened served : Seen S)
       let same = ap number_in (version.version_is _ first.stands.office.is) in
       absurd (omega (arith, same))
 
-  shown : (w : World) → ShowsWorld (state g old) w → HasDisk g opened → ∥ StandsCurrent (state g old).now w ∥₁
+  shown : (w : World) → Shows Either (state g old) w → HasDisk g opened → ∥ StandsCurrent (state g old).now w ∥₁
   shown w shows disk = ∥∥₁_map shows.stands (λ stands. elim stands [ inl current ↦ current | inr first ↦ absurd (not_first w first disk) ])
 
-  at_first : (w : World) → ShowsWorld (state g old) w → HasDisk g opened → IsCleanStore g opened × (kept_world g opened ≡ w)
+  at_first : (w : World) → Shows Either (state g old) w → HasDisk g opened → IsCleanStore g opened
+      × (kept_world g opened ≡ w)
   at_first w shows disk =
       let current = shown w shows disk in
       let mine : IsTrue opened.own = ∥∥₁_elim current (hlevel props) (λ stands. opens.makes.own.1 stands.consistent.1.current) in
@@ -142,7 +155,8 @@ module _ {S : Type 0} (g : Ghosts S) (old new : Held S) (opened served : Seen S)
 
   stopped : (es : List Exchange) → LastsOrBreaks (keeper opened) (keeper served)
       → (IsSettled (keeper opened) → IsCleanStore g opened → HasDisk g served → (v : World) → LeavesWorld g served v → MayReach (kept_world g opened) es v)
-      → (w : World) → HasCleanDisk (state g new) → ShowsWorld (state g old) w → AllStand (state g new).may_leave (MayReach w es)
+      → (w : World) → HasCleanDisk (state g new) → Shows Either (state g old) w
+      → AllStand Either (state g new).may_leave (MayReach w es)
   stopped es breaks leaves w clean shows db may =
       let broke = breaks (disk_at clean) in
       let first = at_first w shows broke.0 in
@@ -155,11 +169,15 @@ module _ {S : Type 0} (g : Ghosts S) (old new : Held S) (opened served : Seen S)
         good = good_reach run_good (kept_world g opened) (world_of db) es (opens.makes.good first.0) reach;
         world = ap world_of (sym d.1);
       } in
-      let is : (v : World) × MayReach w es v × AreOf StandsFor db v = (world_of db, subst (λ u. MayReach u es (world_of db)) first.1 reach, (d.0, sym d.1, inl stands)) in
+      let is : (v : World) × MayReach w es v
+      × AreOf Either db v =
+      (world_of db, subst (λ u. MayReach u es (world_of db)) first.1 reach, (d.0, sym d.1, inl stands)) in
       ∣ is ∣₁
 
-  turned : (es : List Exchange) → Moves (keeper opened) (keeper served) es → (w : World) → HasCleanDisk (state g new) → AllAnswered (told_in es) → ShowsWorld (state g old) w
-      → (worlds : List World) × Run w (asked_in es) (told_in es) worlds × AllStand (state g new).may_leave (λ v. v ≡ end_of w worlds)
+  turned : (es : List Exchange) → Moves (keeper opened) (keeper served) es → (w : World) → HasCleanDisk (state g new)
+      → AllAnswered (told_in es) → Shows Either (state g old) w
+      → (worlds : List World) × Run w (asked_in es) (told_in es) worlds
+      × AllStand Either (state g new).may_leave (λ v. v ≡ end_of w worlds)
   turned es moves w clean all shows =
       let lasts = moves.lasts all (disk_at clean) in
       let first = at_first w shows lasts.0 in
@@ -170,26 +188,32 @@ module _ {S : Type 0} (g : Ghosts S) (old new : Held S) (opened served : Seen S)
       let world : kept_world g served ≡ end_of w r.0 = r.2 ∙ ap (λ u. end_of u r.0) first.1 in
       (r.0, run, all_stand (state g new).may_leave (λ v. v ≡ end_of w r.0) (closed_world g served new closes last (end_of w r.0) world good))
 
-  pub serves : (es : List Exchange) → Moves (keeper opened) (keeper served) es → ServesTables (state g old) (state g new) es
-  serves es moves = record {
-    clean = λ clean. disk_first (moves.breaks (disk_at clean)).0;
-    stops = stopped es moves.breaks moves.leaves;
-    turns = turned es moves;
+  pub disk_before : LastsOrBreaks (keeper opened) (keeper served) → HasCleanDisk (state g new)
+      → HasCleanDisk (state g old)
+  disk_before breaks clean = disk_first (breaks (disk_at clean)).0
+
+  pub serves : (es : List Exchange) (stream : Option Stream) → TellsIn stream es
+      → Moves (keeper opened) (keeper served) es → HasCleanDisk (state g new)
+      → IsTurnOf (state g old) (state g new) es stream
+  serves es stream tells moves clean = record {
+    stops = λ w. stopped es moves.breaks moves.leaves w clean;
+    turns = λ w shows all. turned es moves w clean all shows;
+    tells = tells;
   }
 
-  pub serves_some : (Told : List Exchange → Type 0) → IsMovedBy Told (keeper opened) (keeper served) → (es : List Exchange) × ServesTables (state g old) (state g new) es × Told es
-  serves_some Told (es, moves, told_of_them) = (es, serves es moves, told_of_them)
-
   -- a call that only reads
-  pub serves_none : {A E : Type 0} {r : Result A E} → Uses r (keeper opened) (keeper served) (λ _. ⊥) → ServesTables (state g old) (state g new) []
-  serves_none uses =
-      none_served (state g old) (state g new) (λ clean. disk_first (uses.breaks (disk_at clean)).0)
-      (stopped [] uses.breaks (λ settled on disk v left. none_reached (kept_world g opened) v (elim (uses.leaves disk v left) [ inl was ↦ settled v was | inr never ↦ absurd never ])))
+  pub serves_none : {A E : Type 0} {r : Result A E} → Uses r (keeper opened) (keeper served) (λ _. ⊥)
+      → HasCleanDisk (state g new) → IsTurnOf (state g old) (state g new) [] None
+  serves_none uses clean =
+      none_served (state g old) (state g new)
+      (λ w. stopped [] uses.breaks
+      (λ settled on disk v left. none_reached (kept_world g opened) v
+      (elim (uses.leaves disk v left) [ inl was ↦ settled v was | inr never ↦ absurd never ])) w clean)
 
   -- the report is of the world that the connection showed
   pub reported : KeepsClean g opened served → (text : List ℕ) → (IsCleanStore g served → Good (kept_world g opened) → text ≡ told_of (office_sees (kept_world g opened)))
-      → (w : World) → HasCleanDisk (state g new) → ShowsWorld (state g old) w → text ≡ told_of (office_sees w)
-  reported lasts text is w clean shows =
+      → HasCleanDisk (state g new) → (w : World) → Shows Either (state g old) w → text ≡ told_of (office_sees w)
+  reported lasts text is clean w shows =
       let kept = lasts (disk_at clean) in
       let first = at_first w shows kept.0 in
       is (kept.1 first.0) (opens.makes.good first.0) ∙ ap (λ u. told_of (office_sees u)) first.1
@@ -198,40 +222,43 @@ module _ {S : Type 0} (g : Ghosts S) (old new : Held S) (opened served : Seen S)
   pub serves_stream : (r : Result Served ServeFault) (failed : Bool) (remaining left before after : Option (List ℕ)) → IsMoved (keeper opened) (keeper served)
       → IfSome remaining (λ bytes. (es : List Exchange)
       × IsSession keeper (record { old = opened; new = served; bytes = bytes; before = before; after = after; count = count_of r; finish = finish_of r failed left; exchanges = es }))
-      → ServesStream (state g old) (state g new) (ReportsStream r (record { remaining = remaining; left = left; before = before; after = after }))
-  serves_stream r failed (Some bytes) left before after moved (es, session) = (
-    es,
-    Some (record { bytes = bytes; written = session.written; finish = finish_of r failed left }),
-    serves es session.moves,
-    session.tells,
-    record {
-      known = λ b x y is was now. (some_same bytes b is, added before after session.written x y session.adds was now);
-      counted = session.counted;
-      ended = (failed, refl);
-    },
-  )
-  serves_stream r failed None left before after (es, moves) session = (
+      → HasCleanDisk (state g new)
+      → (es : List Exchange) × (stream : Option Stream) × IsTurnOf (state g old) (state g new) es stream
+      × ReportsStream r (record { remaining = remaining; left = left; before = before; after = after }) es stream
+  serves_stream r failed (Some bytes) left before after moved (es, session) clean =
+      let written = session.written in
+      let finish = finish_of r failed left in
+      let stream : Option Stream = Some (record { bytes = bytes; written = written; finish = finish }) in (
+        es,
+        stream,
+        serves es stream session.tells session.moves clean,
+        record {
+          known = λ b x y is was now. (some_same bytes b is, added before after written x y session.adds was now);
+          counted = session.counted;
+          ended = (failed, refl);
+        },
+      )
+  serves_stream r failed None left before after (es, moves) session clean = (
     es,
     None,
-    serves es moves,
-    tt,
+    serves es None tt moves clean,
     record { known = λ b x y is was now. absurd (none_some b is); counted = tt; ended = tt },
   )
 
 -- a refusal that is not of the store or of memory is of what the tables hold
 
-no_proof : (x y : ⊥) → x ≡ y
+pub no_proof : (x y : ⊥) → x ≡ y
 no_proof x y = absurd x
 
 of_store : (fault : OpenFault) → ∥ IsOfStore fault ∥₁ → IsOfStore fault
-of_store opening.NotPortal told = absurd (∥∥₁_elim told no_proof (λ t. elim t [ inl e ↦ absurd (cc) | inr e ↦ absurd (cc) ]))
-of_store opening.OtherVersion told = absurd (∥∥₁_elim told no_proof (λ t. elim t [ inl e ↦ absurd (cc) | inr e ↦ absurd (cc) ]))
-of_store opening.Damaged told = absurd (∥∥₁_elim told no_proof (λ t. elim t [ inl e ↦ absurd (cc) | inr e ↦ absurd (cc) ]))
 of_store opening.Store told = inl refl
 of_store opening.Memory told = inr refl
+of_store _ told = absurd (∥∥₁_elim told no_proof (λ t. elim t [ inl e ↦ absurd (cc) | inr e ↦ absurd (cc) ]))
 
-pub denied : {S : Type 0} (g : Ghosts S) (old new : Held S) (fault : OpenFault) → RefusesToOpen g fault old new → Denies (state g old) (state g new) fault
-denied g old new fault refuses w clean shows =
+pub denied : {S : Type 0} (g : Ghosts S) (old new : Held S) (fault : OpenFault) → RefusesToOpen g fault old new
+    → HasCleanDisk (state g new)
+    → (w : World) → Shows Current (state g old) w → IsOfStore fault
+denied g old new fault refuses clean w shows =
     of_store fault (∥∥₁_map shows.stands (λ stands.
     let again = holds_again (state g old).now (state g old).now stands.consistent (subst Good (sym stands.world) stands.good) refl stands.consistent.1.sound in
     again.faults fault (refuses.refuted stands.consistent.1.current clean)))
@@ -240,13 +267,12 @@ abbrev IsOfStoreToo : UpgradeFault → Type 0
 IsOfStoreToo fault = (fault ≡ upgrading.Store) ⊎ (fault ≡ upgrading.Memory)
 
 of_store_too : (fault : UpgradeFault) → ∥ IsOfStoreToo fault ∥₁ → IsOfStoreToo fault
-of_store_too upgrading.NotPortal told = absurd (∥∥₁_elim told no_proof (λ t. elim t [ inl e ↦ absurd (cc) | inr e ↦ absurd (cc) ]))
-of_store_too upgrading.OtherVersion told = absurd (∥∥₁_elim told no_proof (λ t. elim t [ inl e ↦ absurd (cc) | inr e ↦ absurd (cc) ]))
-of_store_too upgrading.Damaged told = absurd (∥∥₁_elim told no_proof (λ t. elim t [ inl e ↦ absurd (cc) | inr e ↦ absurd (cc) ]))
-of_store_too upgrading.Exists told = absurd (∥∥₁_elim told no_proof (λ t. elim t [ inl e ↦ absurd (cc) | inr e ↦ absurd (cc) ]))
 of_store_too upgrading.Store told = inl refl
 of_store_too upgrading.Memory told = inr refl
+of_store_too _ told = absurd (∥∥₁_elim told no_proof (λ t. elim t [ inl e ↦ absurd (cc) | inr e ↦ absurd (cc) ]))
 
-pub denied_first : {S : Type 0} (g : Ghosts S) (old new : Held S) (fault : UpgradeFault) → RefusesToUpgrade g fault old new → DeniesFirst (state g old) (state g new) fault
-denied_first g old new fault refuses w clean shows =
+pub denied_first : {S : Type 0} (g : Ghosts S) (old new : Held S) (fault : UpgradeFault)
+    → RefusesToUpgrade g fault old new → HasCleanDisk (state g new)
+    → (w : World) → Shows First (state g old) w → IsOfStoreToo fault
+denied_first g old new fault refuses clean w shows =
     of_store_too fault (∥∥₁_map shows.stands (λ stands. none_but_store (state g old).now.trees stands.stands fault (refuses.barred stands.schema clean)))

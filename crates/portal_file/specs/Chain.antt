@@ -1,7 +1,11 @@
 -- Processes over one database file, each of which finds what the one before may leave, and what is
 -- promised of them.
-use Rattle.std.specs.Prelude.{◌≡◌, ◌⊎◌, List, [], ◌∷◌, ◌++◌, Option, Some, None, IsSome}
+use Rattle.std.specs.Prelude.{◌≡◌, ◌⊎◌, List, [], ◌∷◌, ◌++◌, Option, Some, IsSome}
 use Rattle.std.specs.List.{AllByRecursion}
+use Rattle.sqlite_disk.specs.declared.Disk.{Ghosts}
+use Rattle.sqlite_disk.specs.declared.Files.{Files}
+use Rattle.sqlite_wal.specs.Files.{outcomes}
+use Rattle.sqlite_wal.specs.Reads.{AreClean}
 use Rattle.sqlite_wal.specs.Recovery.{Image}
 use Rattle.portal_core.specs.Words.{Key}
 use Rattle.portal_core.specs.World.{World}
@@ -9,10 +13,9 @@ use Rattle.portal_core.specs.Good.{Good}
 use Rattle.portal_core.specs.Honest.{ShowsBest}
 use Rattle.portal_core.specs.Run.{Run, AllAnswered, end_of, unavailable}
 use Rattle.portal_wire.specs.Conversation.{Exchange, asked_in, told_in}
-use Rattle.portal_desk.specs.Kept.{MayReach}
 use Rattle.portal_desk.specs.Headline.{Visit, AreVisits, worlds_of, AreUnseen, HasPromise, PublishesBest}
-use Rattle.portal_file.specs.Tables.{Stream, TellsIn}
-use Rattle.portal_file.specs.Files.{HoldsWorld, HoldsSome}
+use Rattle.portal_file.specs.Tables.{IsTurn, Stream, Work, Either}
+use Rattle.portal_file.specs.Files.{Holds, HoldsSome, HoldsWorld}
 
 -- a process over the files: what they hold before it and after it, its requests with their replies,
 -- and its stream, if the bytes are known
@@ -22,13 +25,9 @@ pub record Process : Type 0 where
   pub exchanges : List Exchange
   pub stream : Option Stream
 
--- whatever world the files held, they hold one that the requests may reach from there; if no reply
--- is 503, the requests are a run to it. What is written tells the requests
-pub record IsProcess (p : Process) : Type 0 where
-  pub stops : (w : World) → HoldsWorld p.found w → HoldsSome p.left (MayReach w p.exchanges)
-  pub turns : (w : World) → HoldsWorld p.found w → AllAnswered (told_in p.exchanges)
-      → (worlds : List World) × Run w (asked_in p.exchanges) (told_in p.exchanges) worlds × HoldsWorld p.left (end_of w worlds)
-  pub tells : TellsIn p.stream p.exchanges
+-- whatever world the files held, its requests lead from it to a world that they hold afterwards
+abbrev pub IsProcess : Process → Type 0
+IsProcess p = IsTurn (HoldsWorld p.found) (HoldsSome Either p.left) p.exchanges p.stream
 
 -- processes in turn, each of which finds what the one before left
 abbrev pub AreProcesses : Image → List Process → Type 0
@@ -96,18 +95,17 @@ PromisedOverFiles =
 
 -- what the functions of this crate say
 
--- from the one contents of the files to the other by these requests
-abbrev pub Turns : Image → Image → List Exchange → Option Stream → Type 0
-Turns found left es stream = IsProcess (record { found = found; left = left; exchanges = es; stream = stream })
+-- work over files with these contents, of which a crash may then leave such contents: it is a process
+-- to each of these
+abbrev pub work_over : Image → (Image → Type 0) → Work
+work_over found Leaves = record {
+  finds = λ version. Holds version found;
+  is_new = found.db ≡ [];
+  leaves = λ version Kind. (left : Image) → Leaves left → HoldsSome version left Kind;
+  serves = λ es stream. (left : Image) → Leaves left
+      → IsProcess (record { found = found; left = left; exchanges = es; stream = stream });
+}
 
--- some requests of which this is told, whatever is known of their bytes
-abbrev pub TurnsBySome : Image → Image → (List Exchange → Type 0) → Type 0
-TurnsBySome found left Told = (es : List Exchange) × Turns found left es None × Told es
-
--- no request
-abbrev pub TurnsByNone : Image → Image → Type 0
-TurnsByNone found left = Turns found left [] None
-
--- the requests of a stream
-abbrev pub TurnsByStream : Image → Image → (List Exchange → Option Stream → Type 0) → Type 0
-TurnsByStream found left Known = (es : List Exchange) × (stream : Option Stream) × Turns found left es stream × Known es stream
+-- if the disk of the closed files was clean, this was done over what they held before
+abbrev pub OverFiles : {D : Type 0} (g : Ghosts D) → Image → (Work → Type 0) → Files D → Type 0
+OverFiles g found Does files = AreClean g files.log files.db → Does (work_over found (outcomes g files.log files.db))

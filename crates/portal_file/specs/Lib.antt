@@ -1,3 +1,5 @@
 pub mod Tables
+pub mod Jobs
 pub mod Files
 pub mod Chain
+pub mod inner

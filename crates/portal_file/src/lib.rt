@@ -2,9 +2,9 @@
 #![tactic(auto)]
 
 mod closing;
+mod job;
 pub mod laws;
 mod making;
-mod opening;
 mod piping;
 mod reporting;
 mod serving;
@@ -12,9 +12,8 @@ mod tables;
 mod upgrading;
 
 pub use closing::{close_files, rest};
-pub use making::{create_tables, make_file};
+pub use making::make_file;
 pub use piping::pipe_file;
 pub use reporting::report_file;
 pub use serving::serve_file;
-pub use tables::{pipe_tables, report_tables, serve_tables};
-pub use upgrading::{upgrade_file, upgrade_tables};
+pub use upgrading::upgrade_file;

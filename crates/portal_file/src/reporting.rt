@@ -1,53 +1,73 @@
 //! Returns the office's report on the world that a database file holds.
 
-ghost use Rattle.std.specs.Prelude.{◌≡◌, false, IfOk, IfErr};
-ghost use Rattle.sqlite_wal.specs.Files.{image_at, outcomes};
-ghost use Rattle.sqlite_wal.specs.Reads.{AreClean};
-ghost use Rattle.sqlite_wal.specs.Recovery.{Image};
-ghost use Rattle.portal_core.specs.World.{World};
+ghost use Rattle.std.specs.Prelude.{◌≡◌, IfOk};
+ghost use Rattle.sqlite_wal.specs.Files.{image_at};
+ghost use Rattle.portal_core.specs.Good.{Good};
+ghost use Rattle.portal_core.specs.Keeping.{Uses};
 ghost use Rattle.portal_core.specs.View.{office_sees};
 ghost use Rattle.portal_serve.specs.Hall.{told_of};
-ghost use Rattle.portal_file.specs.Tables.{IsOfStore};
-ghost use Rattle.portal_file.specs.Files.{HoldsCurrent, HoldsWorld, OpensOver};
-ghost use Rattle.portal_file.specs.Chain.{TurnsByNone};
+ghost use Rattle.portal_store.specs.Kept.{IsCleanStore, kept_state, kept_world};
+ghost use Rattle.portal_file.specs.Jobs.{ReportsWorld};
+ghost use Rattle.portal_file.specs.Chain.{OverFiles};
 
-use crate::closing::close_files;
-use crate::opening::open_file;
-use crate::tables::report_tables;
+use crate::job::{Job, over_file};
+use crate::tables::{close_tables, open_tables};
 use portal_core::KeepFault;
-use portal_store::OpenFault;
-use sqlite::{Connection, Error, FileFrom, FileStore, Files, Start};
+use portal_core::laws::run_good;
+use portal_serve::report;
+use portal_store::{OpenFault, Store};
+use sqlite::{Alter, Connection, Error, FileFrom, Files, Start};
 use sqlite_disk::Disk;
 use std::alloc::Global;
 
-/// Returns the office's report over the database of a connection to files, and closes the files.
-fn report_closing<D: Disk + Drop>(
-    alloc: Global,
-    conn: Connection<FileStore<D>>,
-) -> (
-    Result<Result<Vec<u8>, KeepFault>, OpenFault>,
-    Result<Files<D>, Files<D>>,
-)
-    requires idle { conn.in_transaction ≡ false }
-    ensures process { IfOk result.1 (λ files. (found left : Image) → OpensOver found conn
-        → AreClean D.Disk files.log files.db → outcomes D.Disk files.log files.db left
-        → TurnsByNone found left) }
-    ensures text { IfOk result.1 (λ files. IfOk result.0 (λ told. IfOk told (λ text.
-        (found : Image) (w : World) → OpensOver found conn → AreClean D.Disk files.log files.db
-        → HoldsWorld found w → text.items ≡ told_of (office_sees w)))) }
-    ensures refused { IfErr result.0 (λ fault. IfOk result.1 (λ files. (found : Image) (w : World)
-        → OpensOver found conn → AreClean D.Disk files.log files.db → HoldsCurrent found w
-        → IsOfStore fault)) }
+/// Gets the office's code from the store, and returns the office's report.
+fn report_of<S: Alter>(alloc: Global, store: &mut Store<S>) -> Result<Vec<u8>, KeepFault>
+    ensures uses { Uses result (kept_state S.Store store.old) (kept_state S.Store store.new)
+        (λ _. ⊥) }
+    ensures same { IsCleanStore S.Store store.new
+        → kept_world S.Store store.new ≡ kept_world S.Store store.old }
+    ensures text { IfOk result (λ text. IsCleanStore S.Store store.new
+        → Good (kept_world S.Store store.old)
+        → text.items ≡ told_of (office_sees (kept_world S.Store store.old))) }
 {
-    let (told, conn) = report_tables(alloc, conn);
-    let opened = told.is_ok();
-    (told, close_files(conn, opened))
+    match store.office_code(alloc) {
+        Ok(office) => report(alloc, store, &office),
+        Err(fault) => Err(fault),
+    }
+}
+
+/// Returns the office's report.
+#[derive(Drop)]
+struct ReportWorld;
+
+impl Job for ReportWorld {
+    type Done = Result<Vec<u8>, KeepFault>;
+
+    type Fault = OpenFault;
+
+    ghost does = { λ old new r. ReportsWorld r };
+
+    fn run<S: Alter>(
+        &mut self,
+        alloc: Global,
+        conn: Connection<S>,
+    ) -> (Result<Result<Vec<u8>, KeepFault>, OpenFault>, Connection<S>) {
+        run_good();
+        match open_tables(alloc, conn) {
+            Ok(mut store) => {
+                let told = report_of(alloc, &mut store);
+                (Ok(told), close_tables(store))
+            }
+            Err((fault, conn)) => (Err(fault), conn),
+        }
+    }
 }
 
 /// Returns the office's report on the world that a database file holds, and closes the file. `S`
 /// stands for what the files held before. Gives the files back, as `Ok` unless closing failed. If
 /// the disk was clean, the report is of that world, and each thing that a crash may leave of the
-/// files holds the same world, also without a report.
+/// files holds the same world, also without a report. Other than `Store` and `Memory`, a refusal
+/// means that the files held no good world of version 2.
 pub fn report_file<S: Start>(
     rt: &HostRuntime,
     path: &str,
@@ -59,19 +79,9 @@ pub fn report_file<S: Start>(
     ),
     Error,
 >
-    ensures process { IfOk result (λ r. IfOk r.1 (λ files. (left : Image)
-        → AreClean ⟦<FileFrom<S> as Disk>⟧ files.log files.db
-        → outcomes ⟦<FileFrom<S> as Disk>⟧ files.log files.db left
-        → TurnsByNone (image_at S.Start) left)) }
-    ensures text { IfOk result (λ r. IfOk r.1 (λ files. IfOk r.0 (λ told. IfOk told (λ text.
-        (w : World) → AreClean ⟦<FileFrom<S> as Disk>⟧ files.log files.db
-        → HoldsWorld (image_at S.Start) w → text.items ≡ told_of (office_sees w))))) }
-    ensures refused { IfOk result (λ r. IfErr r.0 (λ fault. IfOk r.1 (λ files. (w : World)
-        → AreClean ⟦<FileFrom<S> as Disk>⟧ files.log files.db → HoldsCurrent (image_at S.Start) w
-        → IsOfStore fault))) }
+    ensures { IfOk result (λ r. IfOk r.1 (OverFiles ⟦<FileFrom<S> as Disk>⟧ (image_at S.Start)
+        (ReportsWorld r.0))) }
 {
-    match open_file(rt, path, start) {
-        Ok(conn) => Ok(report_closing(rt.alloc(), conn)),
-        Err(error) => Err(error),
-    }
+    let mut job = ReportWorld;
+    over_file(rt, path, start, &mut job)
 }

@@ -111,7 +111,8 @@ fn frame_head(
 ///
 /// Returns `Need` while a head or a body is incomplete, and `End` if the stream ended between
 /// requests. Otherwise returns a request with its length in bytes, or the refusal of the first
-/// fault. Further bytes change no answer but `Need`. The only error is a memory shortage.
+/// fault. Further bytes change no answer but `Need`, which is not given once the stream has ended,
+/// or `LONGEST_REQUEST` bytes have come; no request has more. The only error is a memory shortage.
 pub fn frame(alloc: Global, bytes: &[u8], ended: bool) -> Result<Frame, AllocError>
     ensures framed { IfOk result (Framed bytes.now ended) }
     ensures due { IfOk result (IsDue bytes.now ended) }

@@ -31,14 +31,15 @@ pub use Rattle.portal_core.specs.declared.phase.Round.TheVariants.{First, Second
 pub use Rattle.portal_core.specs.declared.rows.LecturerRow.{LecturerRow}
 pub use Rattle.portal_core.specs.declared.rows.ProjectRow.{ProjectRow}
 pub use Rattle.portal_core.specs.Alone.{alone_lecturer, alone_student, alone}
-pub use Rattle.portal_list.specs.Rows.{AllEntries, HasEntries, entries_in, choices_in, earlier_choices_in, rankings_with, RowsOfWorld, world_rows}
+pub use Rattle.portal_list.specs.inner.Rows.{AllEntries, HasEntries, entries_in, choices_in, earlier_choices_in, rankings_with, RowsOfWorld, world_rows}
 pub use Rattle.portal_list.specs.inner.ApplicantIndex.{IsIndexOf, is_among, is_noted, is_noted_in, passes_at}
 pub use Rattle.portal_list.specs.inner.Fill.{filled, missing, with_missing, unless_empty, fill_missing}
 pub use Rattle.portal_list.specs.inner.Fit.{IsFitted, lecturers_fitting, students_fitting, next_for, rest_for, earlier_for, earlier_rest, with_lists}
 pub use Rattle.portal_list.specs.inner.Lines.{instance_lecturer, instance_project, instance_rows, instance_student}
 pub use Rattle.portal_list.specs.inner.Parts.{HasNothingEarlier, HasRanking, ListsFit, ListsOf, RollsOf, applicant_keys, wanting, codes_in, lecturer_row_keys, student_row_keys, RollsFit, IsOutIfPlaced, IsStableIfPublished}
 pub use Rattle.portal_list.specs.inner.Played.{world_with, all_played, lecturer_played, project_played, takes_part, is_followed, placed_now}
-pub use Rattle.portal_list.specs.inner.Shown.{applicants_shown, catalogue_in, is_waiting, name_of, offered, placements_shown, is_wanted}
+pub use Rattle.portal_core.specs.inner.Offers.{name_of, offered}
+pub use Rattle.portal_list.specs.inner.Shown.{applicants_shown, catalogue_in, is_waiting, placements_shown, is_wanted}
 pub use Rattle.spa_model.proofs.OneInstance.{never_itself, own_number, numbers_back, choices_below, ranking_below, keys_one, student_there, project_there, lecturer_there, student_says, project_says, lecturer_says}
 pub use Rattle.spa_model.proofs.Zips.{any_map, any_unmap}
 pub use Rattle.spa_model.specs.Pairs.{StandsFor, number_in, keys_at}

@@ -3,7 +3,8 @@ use Rattle.portal_list.proofs.Base.{◌≡◌, inl, inr, ℕ, ◌<◌, ◌≤◌
 use Rattle.spa_rows.specs.declared.faults.InstanceFault.{InstanceFault}
 use Rattle.portal_core.proofs.AllLaws as laws
 use Rattle.portal_list.proofs.Rising.{map_map}
-use Rattle.portal_list.proofs.Members.{there, has_it, has_all, key_there, repeats_not, earlier_not, none_of}
+use Rattle.portal_core.proofs.Members.{there, has_it, has_all}
+use Rattle.portal_list.proofs.Members.{key_there, repeats_not, earlier_not, none_of}
 
 module _ (w : World) where
   abbrev rows : Rows

@@ -9,7 +9,6 @@ pub mod Standing
 pub mod Waiting
 pub mod Fitting
 pub mod Pigeons
-pub mod Steps
 pub mod Parted
 pub mod Fresh
 pub mod Followed

@@ -1,15 +1,7 @@
 -- What stands in a list, in a list made of it, and in a part of it.
 use Rattle.portal_list.proofs.Base.{◌≡◌, ℕ, zero, suc, ◌<◌, true, List, [], ◌∷◌, map, length, get_or, Any, Less, sym, ◌∙◌, subst, arith, AllByRecursion, nat_cmp, slice_cmp, get_or_default, get_or-take, length-take, length-map, Any-from_list_any, list_any-from_Any, BadAt, IsEarlierKey, IsKeyOf, Repeats, at_place, map_at, any_map, any_unmap, Key, equals, has, Rise, AreDistinct, is_same, is_own, all_at, rules, list_any_at, never_itself}
+use Rattle.portal_core.proofs.Members.{there}
 use Rattle.portal_list.proofs.Rising.{pairs_rise}
-
-pub there : (ks : List Key) (k : Key) → has ks k ≡ true → Any (λ x. x ≡ k) ks
-there ks k h = let found = Any-from_list_any (equals k) ks h in (found.0, found.1, found.2, found.3, sym (is_same k found.1 found.4))
-
-pub has_it : (ks : List Key) (k : Key) → Any (λ x. x ≡ k) ks → has ks k ≡ true
-has_it ks k (j, x, low, at, same) = list_any-from_Any (equals k) ks (j, x, low, at, subst (λ y. equals k y ≡ true) (sym same) (is_own k))
-
-pub has_all : (P : Key → Type 0) (ks : List Key) (k : Key) → AllByRecursion P ks → has ks k ≡ true → P k
-has_all P ks k all h = let found = there ks k h in subst P (found.3 ∙ found.4) (all_at P ks found.0 found.1 all found.2)
 
 -- a known key is a line's key
 pub key_there : {X L : Type 0} (f : X → L) (key : L → Key) (xs : List X) (k : Key) → has (map (λ x. key (f x)) xs) k ≡ true → IsKeyOf (map f xs) key k

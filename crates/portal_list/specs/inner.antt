@@ -1,3 +1,4 @@
+pub mod Rows
 pub mod Lines
 pub mod Shown
 pub mod Fit

@@ -3,9 +3,8 @@
 ghost use Rattle.std.specs.Prelude.{◌≡◌, [], None, IfOk, option_map};
 ghost use Rattle.portal_core.specs.Words.{has};
 
-use crate::collecting::try_map;
 use crate::entries::StudentEntry;
-use portal_core::{Name, Person, ProjectRow, StudentRow, copy_keys};
+use portal_core::{Name, Person, ProjectRow, StudentRow, copy_keys, try_map};
 use spa_rows::Key;
 use std::alloc::{AllocError, Global};
 

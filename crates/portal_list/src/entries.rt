@@ -4,7 +4,7 @@ ghost use Rattle.std.specs.Prelude.{◌≡◌, true, false, Ok, IfOk, OnOk, OnEr
 ghost use Rattle.portal_core.specs.World.{World, changed, with_place};
 ghost use Rattle.portal_core.specs.Good.{Sound};
 ghost use Rattle.portal_core.specs.Meaning.{change_model};
-ghost use Rattle.portal_list.specs.Rows.{HasEntries};
+ghost use Rattle.portal_list.specs.inner.Rows.{HasEntries};
 ghost use Rattle.portal_list.specs.inner.Played.{is_followed};
 
 use crate::changes::{fill_rankings, place_all, replace_choice, replace_ranking};
@@ -70,7 +70,7 @@ pub struct Entries {
 }
 
 impl Model for Entries {
-    ghost use Rattle.portal_list.specs.Rows.{AllEntries};
+    ghost use Rattle.portal_list.specs.inner.Rows.{AllEntries};
 
     ghost Value = { AllEntries };
 

@@ -3,7 +3,7 @@
 ghost use Rattle.std.specs.Prelude.{◌≡◌, Err, IfOk};
 ghost use Rattle.portal_core.specs.World.{World};
 ghost use Rattle.portal_core.specs.Good.{Sound};
-ghost use Rattle.portal_list.specs.Rows.{HasEntries, HasSoundFirst, world_rows};
+ghost use Rattle.portal_list.specs.inner.Rows.{HasEntries, HasSoundFirst, world_rows};
 ghost use Rattle.portal_list.specs.inner.Parts.{RollsFit, RollsOf};
 ghost use Rattle.portal_list.specs.inner.Fit.{IsFitted};
 ghost use Rattle.portal_list.specs.inner.Played.{world_with};
@@ -44,7 +44,7 @@ pub struct WorldRows {
 
 impl Model for WorldRows {
     ghost use Rattle.std.specs.Prelude.{map};
-    ghost use Rattle.portal_list.specs.Rows.{RowsOfWorld};
+    ghost use Rattle.portal_list.specs.inner.Rows.{RowsOfWorld};
 
     ghost Value = { RowsOfWorld };
 
@@ -156,8 +156,9 @@ fn joined(alloc: Global, rows: WorldRows) -> Result<ListKeeper, RowsFault>
 }
 
 impl ListKeeper {
-    /// Builds a keeper from the rows of a sound world. In the second round the first, as published,
-    /// must be sound, too. Refuses other rows as `NotGood`, also rolls out of the order of keys.
+    /// Builds a keeper with exactly these rows of a sound world. In the second round the first, as
+    /// published, must be sound, too. Refuses other rows, and only them, as `NotGood`, also rolls
+    /// out of the order of keys.
     pub fn from_rows(alloc: Global, rows: WorldRows) -> Result<ListKeeper, RowsFault>
         ensures ok { IfOk result (λ keeper. rows ≡ world_rows keeper) }
         ensures sound { IfOk result (λ keeper. Sound keeper) }

@@ -6,15 +6,14 @@ ghost use Rattle.portal_core.specs.World.{World, is_still_to_rank};
 ghost use Rattle.portal_core.specs.declared.phase.Round.TheVariants.{First};
 ghost use Rattle.portal_core.specs.Good.{Sound};
 ghost use Rattle.portal_core.specs.Good as meant_by;
-ghost use Rattle.portal_list.specs.Rows.{HasEntries};
+ghost use Rattle.portal_list.specs.inner.Rows.{HasEntries};
 ghost use Rattle.portal_list.specs.inner.Lines.{instance_lecturer, instance_project};
 ghost use Rattle.portal_list.specs.inner.Lines.{instance_student, instance_rows};
 
-use crate::collecting::try_map;
 use crate::entries::{Entries, LecturerEntry, StudentEntry};
 use crate::from_rows::RowsFault;
 use crate::second_round::played;
-use portal_core::{ProjectRow, Round};
+use portal_core::{ProjectRow, Round, try_map};
 use spa_model::{Instance, InstanceFault, InstanceRows, LecturerLine, ProjectLine, StudentLine};
 use spa_rows::Key;
 use std::alloc::{AllocError, Global};

@@ -27,7 +27,8 @@ use std::alloc::{AllocError, Global};
 use std::marker::Model;
 use std::rc::Rc;
 
-/// A world in vectors, with rows in key order.
+/// A world in vectors, with rows in key order. As a `Keeper`, it fails only for want of memory, and
+/// then changes nothing.
 #[derive(Drop)]
 pub struct ListKeeper {
     pub(crate) phase: Phase,

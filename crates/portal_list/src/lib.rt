@@ -3,7 +3,6 @@
 
 mod applicant_index;
 mod changes;
-mod collecting;
 mod copies;
 mod entries;
 mod from_rows;
@@ -20,4 +19,3 @@ mod world_checks;
 pub use entries::Entries;
 pub use from_rows::{RowsFault, WorldRows};
 pub use keeper::ListKeeper;
-pub use views::{HasLecturerRow, listings_of};

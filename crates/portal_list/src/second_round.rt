@@ -8,10 +8,9 @@ ghost use Rattle.portal_core.specs.Alone.{alone_student};
 ghost use Rattle.portal_list.specs.inner.Played as meant;
 ghost use Rattle.portal_list.specs.inner.Played.{lecturer_played, project_played, all_played};
 
-use crate::collecting::{try_filter_map, try_map_where};
 use crate::copies::{pair_copy, ranking_copy, student_copy};
 use crate::entries::{Entries, LecturerEntry, StudentEntry};
-use portal_core::{ProjectRow, Round, lecturer_left, project_left};
+use portal_core::{ProjectRow, Round, lecturer_left, project_left, try_filter_map, try_map_where};
 use spa_rows::Key;
 use std::alloc::{AllocError, Global};
 

@@ -15,7 +15,6 @@ use crate::entries::{LecturerEntry, StudentEntry};
 use crate::keeper::ListKeeper;
 use by_project::{applicants_by_project, placed_by_project};
 pub(crate) use catalogue::catalogue_of;
-pub use catalogue::{HasLecturerRow, listings_of};
 pub(crate) use office::waiting;
 use office::{lecturer_rows, still_to_rank, student_rows, without_list};
 use placements::{pairs_of, placement_shown};

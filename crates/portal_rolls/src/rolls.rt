@@ -96,7 +96,7 @@ impl Kind for StudentRoll {
     }
 }
 
-/// Reads the rows of a roll of lecturers from CSV.
+/// Reads the rows of a roll of lecturers from CSV. Each field then has the form of its column.
 ///
 /// # Errors
 ///
@@ -108,7 +108,7 @@ pub fn read_lecturers(alloc: Global, text: &[u8]) -> Result<Vec<LecturerRow>, Ro
     read_text::<LecturerRoll>(alloc, text)
 }
 
-/// Reads the rows of a roll of projects from CSV.
+/// Reads the rows of a roll of projects from CSV. Each field then has the form of its column.
 ///
 /// # Errors
 ///
@@ -120,7 +120,7 @@ pub fn read_projects(alloc: Global, text: &[u8]) -> Result<Vec<ProjectRow>, Roll
     read_text::<ProjectRoll>(alloc, text)
 }
 
-/// Reads the rows of a roll of students from CSV.
+/// Reads the rows of a roll of students from CSV. Each field then has the form of its column.
 ///
 /// # Errors
 ///

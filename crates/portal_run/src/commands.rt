@@ -8,10 +8,10 @@ ghost use Rattle.portal_run.specs.Run.{WritesAnswer, AnswersSome, IsOfFile, IsUp
 ghost use Rattle.portal_run.specs.Run.{ConsumesAtMost, SaysUpgrade};
 ghost use Rattle.portal_desk.specs.Kept.{TakesAtMost, taken_limit};
 
-use crate::database::{Job, do_job};
-use crate::init::init;
+use crate::init::{init, upgrade_over};
 use crate::input::{InputFault, bytes_of};
 use crate::output::{say, say_memory, say_read};
+use crate::serve::{pipe_over, report_over, serve_over};
 use portal_answer::{Task, answer_to};
 use portal_words::{Asked, Command, command_of};
 use std::alloc::Global;
@@ -89,6 +89,10 @@ fn answer_file<R: Read, W: Write>(
 /// task for the bytes of the instance file; the status is 3 if reading or writing fails. `upgrade`
 /// writes the line for the store's answer and returns its status. It reports a missing file as
 /// `refused not_portal` with status 2.
+///
+/// No contract says that a command over a database works on the file and the port that are named,
+/// prints what its function of `portal_file` returns, or does nothing else to files: this is read
+/// in this crate, and tested.
 #[tactic(auto, using(crate::proofs::Taken::few_taken, crate::proofs::Taken::same_left))]
 pub fn perform<R: Read, W: Write>(
     rt: &HostRuntime,
@@ -120,21 +124,15 @@ pub fn perform<R: Read, W: Write>(
             database,
             port,
             connections,
-        } => do_job(
-            rt,
-            database,
-            Job::Serve { port, connections },
-            reader,
-            writer,
-        ),
-        Command::Pipe(database) => do_job(rt, database, Job::Pipe, reader, writer),
-        Command::Report(database) => do_job(rt, database, Job::Report, reader, writer),
-        Command::Upgrade(database) => do_job(rt, database, Job::Upgrade, reader, writer),
+        } => serve_over(rt, database, port, connections, writer),
+        Command::Pipe(database) => pipe_over(rt, database, reader, writer),
+        Command::Report(database) => report_over(rt, database, writer),
+        Command::Upgrade(database) => upgrade_over(rt, database, writer),
     }
 }
 
-/// Performs the command that the words name, and returns the exit status. It takes at most
-/// 272,629,760 bytes from a reader whose bytes are known; `check` and `solve` take at most
+/// Performs the command that the words name, and returns the exit status, at most 3. It takes at
+/// most 272,629,760 bytes from a reader whose bytes are known; `check` and `solve` take at most
 /// 4,194,305. `check FILE` and `solve FILE` write the answer to their task unless the name begins
 /// with `-`. Their status is 3 if reading the file or writing the answer fails.
 #[tactic(auto, using(crate::proofs::Taken::same_left))]

@@ -1,19 +1,15 @@
 //! Creates a database for `init`; upgrades one for `upgrade`.
 
-ghost use Rattle.std.specs.Prelude.{◌<◌, ◌≤◌, IfErr, IfOk};
-ghost use Rattle.portal_run.specs.Run.{ConsumesAtMost, SaysUpgrade, refusal_line};
-ghost use Rattle.portal_run.specs.Run.{refusal_status, upgrade_line, upgrade_status};
-ghost use Rattle.portal_run.specs.inner.Lines.{Says, connect_refusal};
+ghost use Rattle.std.specs.Prelude.{◌<◌, ◌≤◌};
+ghost use Rattle.portal_run.specs.Run.{ConsumesAtMost, SaysUpgrade};
 
-use crate::database::made;
+use crate::database::{expect_database, outcome};
 use crate::input::{InputFault, first_bytes};
-use crate::output::{
-    Refusal, not_connected, refuse, say, say_done, say_memory, say_read, say_store, say_upgrade,
-};
+use crate::output::{refuse, say, say_done, say_memory, say_read, say_store};
 use crate::place::{Place, place_of};
 use portal_core::{Code, CodeFault};
 use portal_file::{make_file, upgrade_file};
-use sqlite::{Error, Unknown};
+use sqlite::Unknown;
 use std::alloc::Global;
 use std::io::{Read, Write};
 
@@ -82,26 +78,12 @@ pub(crate) fn init<R: Read, W: Write>(
                 Ok(_) => {}
                 Err(_) => return say_memory(writer),
             }
-            let done = made(make_file(rt, path, Unknown, office));
+            let done = outcome(make_file(rt, path, Unknown, office));
             say_done(writer, done, b"made\n")
         }
         Err(NoCode::Bad) => say(writer, b"refused bad_code\n", 2),
         Err(NoCode::Read) => say_read(writer),
         Err(NoCode::Memory) => say_memory(writer),
-    }
-}
-
-/// Reports what an upgrade returned, and returns the exit status.
-fn say_upgraded<F: Drop, W: Write>(writer: &mut W, done: Result<(Option<Refusal>, F), Error>) -> u8
-    ensures answered { IfOk done (λ r. Says (upgrade_line r.0) (upgrade_status r.0) result
-        (W.contents writer.old) (W.contents writer.new)) }
-    ensures closed { IfErr done (λ error. Says (refusal_line (connect_refusal error))
-        (refusal_status (connect_refusal error)) result (W.contents writer.old)
-        (W.contents writer.new)) }
-{
-    match done {
-        Ok((refused, _files)) => say_upgrade(writer, refused),
-        Err(error) => refuse(writer, not_connected(error)),
     }
 }
 
@@ -112,5 +94,11 @@ pub(crate) fn upgrade_over<W: Write>(rt: &HostRuntime, path: &str, writer: &mut 
     ensures says { result < 3
         → SaysUpgrade result (W.contents writer.old) (W.contents writer.new) }
 {
-    say_upgraded(writer, upgrade_file(rt, path, Unknown))
+    match expect_database(rt, path) {
+        Ok(()) => {
+            let done = outcome(upgrade_file(rt, path, Unknown));
+            say_done(writer, done, b"upgraded\n")
+        }
+        Err(why) => refuse(writer, why),
+    }
 }

@@ -2,7 +2,8 @@
 
 ghost use Rattle.std.specs.Prelude.{◌≡◌, ◌≢◌, ◌⊎◌, IfErr, IfOk};
 ghost use Rattle.std.specs.Io.KnownBytes.{Appends};
-ghost use Rattle.portal_run.specs.Run.{refusal_line, refusal_status, upgrade_line, upgrade_status};
+ghost use Rattle.portal_store.specs.declared.store.UpgradeFault.{UpgradeFault};
+ghost use Rattle.portal_run.specs.Run.{refusal_line, refusal_status};
 ghost use Rattle.portal_run.specs.inner.Lines.{Says, connect_refusal, create_refusal, open_refusal};
 
 use portal_store::{CreateFault, OpenFault};
@@ -53,37 +54,58 @@ pub(crate) fn say_write<W: Write>(writer: &mut W) -> u8
     say(writer, b"fault write\n", 3)
 }
 
-/// Converts an error of opening a file.
-pub(crate) fn not_connected(error: Error) -> Refusal
-    ensures { result ≡ connect_refusal error }
-{
-    match error {
-        Error::SqliteFailure(ErrorCode::OutOfMemory) => Refusal::Memory,
-        _ => Refusal::Store,
+/// What keeps a command from its work over a database.
+pub(crate) trait Fault {
+    // why the database is refused
+    ghost refusal: { Self → UpgradeFault };
+
+    /// Converts the fault.
+    fn why(self) -> Refusal
+        ensures { result ≡ refusal self };
+}
+
+impl Fault for Error {
+    ghost refusal = { connect_refusal };
+
+    fn why(self) -> Refusal {
+        match self {
+            Error::SqliteFailure(ErrorCode::OutOfMemory) => Refusal::Memory,
+            _ => Refusal::Store,
+        }
     }
 }
 
-/// Converts a fault of opening a database.
-pub(crate) fn not_opened(fault: OpenFault) -> Refusal
-    ensures { result ≡ open_refusal fault }
-{
-    match fault {
-        OpenFault::NotPortal => Refusal::NotPortal,
-        OpenFault::OtherVersion => Refusal::OtherVersion,
-        OpenFault::Damaged => Refusal::Damaged,
-        OpenFault::Store => Refusal::Store,
-        OpenFault::Memory => Refusal::Memory,
+impl Fault for OpenFault {
+    ghost refusal = { open_refusal };
+
+    fn why(self) -> Refusal {
+        match self {
+            OpenFault::NotPortal => Refusal::NotPortal,
+            OpenFault::OtherVersion => Refusal::OtherVersion,
+            OpenFault::Damaged => Refusal::Damaged,
+            OpenFault::Store => Refusal::Store,
+            OpenFault::Memory => Refusal::Memory,
+        }
     }
 }
 
-/// Converts a fault of creating a database.
-pub(crate) fn not_made(fault: CreateFault) -> Refusal
-    ensures { result ≡ create_refusal fault }
-{
-    match fault {
-        CreateFault::Exists => Refusal::Exists,
-        CreateFault::Store => Refusal::Store,
-        CreateFault::Memory => Refusal::Memory,
+impl Fault for CreateFault {
+    ghost refusal = { create_refusal };
+
+    fn why(self) -> Refusal {
+        match self {
+            CreateFault::Exists => Refusal::Exists,
+            CreateFault::Store => Refusal::Store,
+            CreateFault::Memory => Refusal::Memory,
+        }
+    }
+}
+
+impl Fault for Refusal {
+    ghost refusal = { λ why. why };
+
+    fn why(self) -> Refusal {
+        self
     }
 }
 
@@ -99,17 +121,6 @@ pub(crate) fn refuse<W: Write>(writer: &mut W, why: Refusal) -> u8
         Refusal::Exists => say(writer, b"refused exists\n", 2),
         Refusal::Store => say_store(writer),
         Refusal::Memory => say_memory(writer),
-    }
-}
-
-/// Reports the success of an upgrade, or why it failed, and returns the exit status.
-pub(crate) fn say_upgrade<W: Write>(writer: &mut W, refused: Option<Refusal>) -> u8
-    ensures { Says (upgrade_line refused) (upgrade_status refused) result (W.contents writer.old)
-        (W.contents writer.new) }
-{
-    match refused {
-        None => say(writer, b"upgraded\n", 0),
-        Some(why) => refuse(writer, why),
     }
 }
 

@@ -1,5 +1,8 @@
 //! Looks at what stands where a database should be, before a command connects to it.
 
+ghost use Rattle.std.specs.Prelude.{◌≡◌, ◌≢◌, ◌↔◌, IsTrue, Some, option_map};
+ghost use Rattle.portal_run.specs.inner.Beginnings.{BeginsDatabase, IsBegunLog, IsOnlyBegun};
+
 use crate::input::{InputFault, first_bytes};
 use std::alloc::AllocError;
 use std::fs;
@@ -37,33 +40,50 @@ fn front_of(rt: &HostRuntime, path: &str) -> Result<Option<Vec<u8>>, AllocError>
 
 /// Returns whether a log has the header that is written before a new database: it counts as many
 /// checkpoints as no other log does.
-fn is_begun(log: &[u8]) -> bool {
-    log.len() >= 32 && log[12..16].iter().all(|byte| *byte == 0xff)
+fn is_begun(log: &[u8]) -> bool
+    ensures { IsTrue result ↔ IsBegunLog (Some log.now) }
+{
+    log.len() >= 32 && log[12..16] == [0xff; 4]
 }
 
-/// Returns whether the log beside a database file says that the database was only begun.
-fn has_begun_log(rt: &HostRuntime, path: &str) -> Result<bool, AllocError> {
-    let Ok(log) = format!(in rt.alloc(); "{path}-wal") else {
-        return Err(AllocError);
+/// Returns what a regular file is, by its first bytes and those of the log beside it, if there are
+/// any.
+fn place_by(front: &[u8], log: Option<&[u8]>) -> Place
+    ensures database { (result ≡ Place.Database) ↔ BeginsDatabase front.now }
+    ensures empty { (result ≡ Place.Empty)
+        ↔ IsOnlyBegun front.now (option_map (λ bytes. bytes.now) log.entry) }
+    ensures there { result ≢ Place.Missing }
+{
+    if front.starts_with(b"SQLite format 3\0".as_slice()) {
+        return Place::Database;
+    }
+    let is_only_begun = match log {
+        Some(bytes) => front.is_empty() || is_begun(bytes),
+        None => front.is_empty(),
     };
-    match front_of(rt, log.as_str())? {
-        Some(front) => Ok(is_begun(&front)),
-        None => Ok(false),
+    if is_only_begun {
+        Place::Empty
+    } else {
+        Place::Other
     }
 }
 
-/// Returns what a regular file is.
+/// Returns what a regular file is. Reads the log beside it only where the file alone does not tell.
 fn place_in(rt: &HostRuntime, path: &str) -> Result<Place, AllocError> {
     let Some(front) = front_of(rt, path)? else {
         return Ok(Place::Other);
     };
-    if front.starts_with(b"SQLite format 3\0".as_slice()) {
-        return Ok(Place::Database);
+    let place = place_by(&front, None);
+    if place != Place::Other {
+        return Ok(place);
     }
-    if front.is_empty() || has_begun_log(rt, path)? {
-        return Ok(Place::Empty);
+    let Ok(log) = format!(in rt.alloc(); "{path}-wal") else {
+        return Err(AllocError);
+    };
+    match front_of(rt, log.as_str())? {
+        Some(begun) => Ok(place_by(&front, Some(&begun))),
+        None => Ok(Place::Other),
     }
-    Ok(Place::Other)
 }
 
 /// Returns what stands at a path, or that memory ran out.

@@ -4,7 +4,7 @@ ghost use Rattle.std.specs.Prelude.{◌≡◌, ◌≤◌, IfErr, IfOk};
 ghost use Rattle.portal_desk.specs.Kept.{TakesAtMost, Worked, taken_limit};
 ghost use Rattle.portal_run.specs.inner.Lines.{Says, SaysHall};
 
-use crate::database::opened;
+use crate::database::{expect_database, outcome};
 use crate::output::{refuse, say, say_memory, say_read, say_store, say_write};
 use portal_core::{KeepFault, Keeper};
 use portal_desk::{Cause, Desk, ServeFault, Served};
@@ -94,6 +94,9 @@ pub(crate) fn serve_over<W: Write>(
 ) -> u8
     ensures { result ≤ 3 }
 {
+    if let Err(why) = expect_database(rt, path) {
+        return refuse(writer, why);
+    }
     let mut listener = PortListener {
         rt,
         port,
@@ -101,7 +104,7 @@ pub(crate) fn serve_over<W: Write>(
         writer: &mut *writer,
         status: 0,
     };
-    let done = opened(serve_file(rt, path, Unknown, &mut listener));
+    let done = outcome(serve_file(rt, path, Unknown, &mut listener));
     let status = listener.status;
     match done {
         Ok(()) => status,
@@ -154,7 +157,10 @@ pub(crate) fn pipe_over<R: Read, W: Write>(
     ensures bound { result ≤ 3 }
     ensures takes { TakesAtMost taken_limit (R.remaining reader.old) (R.remaining reader.new) }
 {
-    match opened(pipe_file(rt, path, Unknown, reader, writer)) {
+    if let Err(why) = expect_database(rt, path) {
+        return refuse(writer, why);
+    }
+    match outcome(pipe_file(rt, path, Unknown, reader, writer)) {
         Ok(ended) => say_ended(writer, ended),
         Err(why) => refuse(writer, why),
     }
@@ -178,7 +184,10 @@ fn say_report<W: Write>(writer: &mut W, told: Result<Vec<u8>, KeepFault>) -> u8
 pub(crate) fn report_over<W: Write>(rt: &HostRuntime, path: &str, writer: &mut W) -> u8
     ensures { result ≤ 3 }
 {
-    match opened(report_file(rt, path, Unknown)) {
+    if let Err(why) = expect_database(rt, path) {
+        return refuse(writer, why);
+    }
+    match outcome(report_file(rt, path, Unknown)) {
         Ok(told) => say_report(writer, told),
         Err(why) => refuse(writer, why),
     }

@@ -16,7 +16,8 @@ use std::time::Clock;
 /// Serves one stream on a desk within timeouts; a missed timeout ends it with a fault. The client
 /// may be silent for 30 seconds, and has 60 seconds to take a reply. A request has 60 seconds from
 /// its first byte, or from the first reply since the last read: its first byte may have come before
-/// that reply. The connection reads no request after 300 seconds.
+/// that reply. The connection reads no request after 300 seconds. Whatever the bytes are, some
+/// requests with replies lead from the world before to the world after.
 ///
 /// # Errors
 ///
@@ -64,7 +65,9 @@ impl<'a, T: Clock + AllocGlobal> Connections for Listening<'a, T> {
 }
 
 /// Serves up to `connections` connections of a listener in turn, each within the timeouts of
-/// `serve_stream`. Stops early if the desk or the listener fails.
+/// `serve_stream`. Stops early if the desk or the listener fails. Whatever the bytes are, some
+/// requests with replies lead from the world before to the world after. No contract records the
+/// outcomes of a listener's connections; tests compare the counts.
 pub fn serve_on<T: Clock + AllocGlobal, K: Keeper>(
     rt: &T,
     listener: &TcpListener,

@@ -98,8 +98,9 @@ fn faults_with(faults: u32, ended: &Result<Served, ServeFault>) -> u32
     }
 }
 
-/// Serves up to `most` connections one after another, and counts their faults. Stops early if the
-/// desk fails or none can be accepted.
+/// Serves up to `most` connections one after another, all of them if the result is `Full`. Counts
+/// their outcomes, and those with faults of their own. Stops early if the desk fails or none can be
+/// accepted.
 pub fn serve_each<C: Connections, K: Keeper>(
     connections: &mut C,
     most: u32,

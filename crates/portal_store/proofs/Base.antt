@@ -33,9 +33,10 @@ pub use Rattle.portal_core.specs.declared.view.View.TheVariants.{Lecturer as Lec
 pub use Rattle.portal_core.specs.Alone.{alone, alone_student, alone_lecturer}
 pub use Rattle.portal_core.specs.inner.ViewCache.{IsCacheOf}
 pub use Rattle.portal_list.proofs.Replaced.{ranking_elsewhere, ranking_here}
-pub use Rattle.portal_list.specs.Rows.{HasEntries, RowsOfWorld, world_rows, choices_in, rankings_with, AllEntries}
+pub use Rattle.portal_list.specs.inner.Rows.{HasEntries, RowsOfWorld, world_rows, choices_in, rankings_with, AllEntries}
 pub use Rattle.portal_list.specs.inner.Fill.{fill_missing}
-pub use Rattle.portal_list.specs.inner.Shown.{is_wanted, is_waiting, offered}
+pub use Rattle.portal_core.specs.inner.Offers.{offered}
+pub use Rattle.portal_list.specs.inner.Shown.{is_wanted, is_waiting}
 pub use Rattle.portal_store.specs.Crash.{Refutes, Bars, Reopens, OpensAgain, OpensFresh, UpgradesAgain, HasVersion, RefusalSays, IsLeft, IsUpgradedFrom, LeavesUpgraded}
 pub use Rattle.portal_store.specs.Kept.{AllNumbersDiffer, HasChanged, HasGoodFirst, HasGoodWorld, HasGoodWorldIn, HasSecond, IsCleanStore, IsConsistent, IsConsistentIn, IsTransition, IsUnopened, Seen, Whole, kept_world, later_trees, AreWhole, AreEmpty, HasDisk, DiskInMemory, KeepsClean, Lasts, LastsInMemory, IsOpened, IsBrokenStore, LeavesWorld, UnbrokenInMemory, AreConsistent, LeavesConsistent, kept_state}
 pub use Rattle.portal_store.specs.World.{is_ranked, lecturer_stored, phase_in, round_in, student_stored, first_world, ranking_in, choice_in, placement_in_round, second_phase, office_row, round_by}

@@ -1,6 +1,6 @@
 -- What is promised of a store that was made, and of a connection that is handed back.
 use Rattle.portal_store.proofs.Base.{◌≡◌, ◌≢◌, ◌↔◌, ◌∙◌, Bool, IsTrue, false, refl, sym, subst, Trees, Database, HasCleanDisk, IsUnchanged, IsLive, Survives, Ghosts, Held, state, Key, is_code, Good, HasFirstSchema, IsCurrentSchema, IsFirstSchema, first_version, no_schema, version, Creates, IsFresh, has_names, Commits, IsAfter, LeavesOnly, IsSettled, OnlyLooks, HasGoodFirst, HasGoodWorld, IsCleanStore, Seen, world_of, OpenFault, HasVersion, IsUpgradedFrom, LeavesUpgraded, RefusalSays, Refutes, IsKept, Admits, survives_weaker, Ok, Second, Reads, Answers, HasEntries, IsSoundIfOpen}
-use Rattle.portal_list.specs.Rows.{AllEntries}
+use Rattle.portal_list.specs.inner.Rows.{AllEntries}
 use Rattle.portal_tables.proofs.Runs.{survives_same}
 use Rattle.portal_tables.specs.declared.names.Names.TheVariants.{All}
 use Rattle.portal_store.specs.Calls.{CreatesStore, HandsBack, MakesStore, OpensStore, RefusesToCreate, RefusesToUpgrade, UpgradesStore}

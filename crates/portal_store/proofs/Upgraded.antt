@@ -6,7 +6,7 @@ use Rattle.sqlite.specs.Schema.{Schema}
 use Rattle.sqlite_tied.specs.Compute.{everything}
 use Rattle.portal_tables.specs.Tables.{SameSchema}
 use Rattle.portal_tables.specs.declared.names.Names.{Names}
-use Rattle.portal_list.specs.Rows.{AllEntries}
+use Rattle.portal_list.specs.inner.Rows.{AllEntries}
 use Rattle.portal_store.specs.inner.Upgrading.{UpgradesTables}
 use Rattle.portal_store.proofs.Asked.{apart_all}
 use Rattle.portal_store.proofs.Rounds.{world_told}

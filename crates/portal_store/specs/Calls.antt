@@ -68,7 +68,7 @@ pub record OpensStore {S : Type 0} (g : Ghosts S) (old : Held S) (s : Seen S) : 
   pub makes : MakesStore g (IsCurrentSchema old.schema) (λ _. ⊥) old s
   -- no tables were changed
   pub stays : HasDisk g s → IsTrue (state g s.conn).is_open → Stays (state g old) (state g s.conn)
-  -- nor was a connection to own tables
+  -- and a connection to own tables is as before, so that the store is clean
   pub same : IsCurrentSchema old.schema → HasDisk g s → IsUnchanged (state g old) (state g s.conn)
   -- the first row of `portal` has version 2
   pub shows : HasDisk g s → ShowsVersion version (state g s.conn)

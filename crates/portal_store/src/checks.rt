@@ -15,7 +15,7 @@ ghost use Rattle.portal_tables.specs.Rows.{RowNumbersDiffer};
 ghost use Rattle.portal_tables.specs.inner.Queries.{table_tree, table_round};
 ghost use Rattle.portal_tables.specs.Steps.{Reads, Gives, IsSettled, OnlyLooks};
 ghost use Rattle.portal_tables.specs.inner.Reads.{Always, Answers};
-ghost use Rattle.portal_list.specs.Rows.{HasEntries, world_rows};
+ghost use Rattle.portal_list.specs.inner.Rows.{HasEntries, world_rows};
 ghost use Rattle.portal_store.specs.Kept.{AllNumbersDiffer, HasGoodFirst};
 ghost use Rattle.portal_store.specs.inner.Keeping.{early_trees};
 ghost use Rattle.portal_store.specs.inner.Loads.{HasNothingBefore};

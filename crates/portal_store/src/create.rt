@@ -17,10 +17,16 @@ use sqlite::{Alter, Connection, MemStore};
 use std::alloc::Global;
 
 impl<S: Alter> Store<S> {
-    /// Makes the portal's tables in a database without them: an empty world in setup, with this
-    /// office code. Returns `Exists` if and only if a table or view has one of the eleven names. No
-    /// clause says when it returns `Store` or `Memory`. An error hands the connection back, and the
-    /// file is unchanged if the disk is clean and the connection open.
+    /// Makes the portal's tables in an empty database in one commit: an empty world in setup, with
+    /// this office code. On a clean disk, a crash right after that leaves the new tables; right
+    /// after an error in an empty database, those or none. A store that is clean is settled, too.
+    ///
+    /// # Errors
+    ///
+    /// Returns `Exists`, with the connection untouched, if and only if a table or view has one of
+    /// the eleven names. No clause says when it returns `Store` or `Memory`; then the tables are as
+    /// they were if the disk is clean and the connection open, whatever they are. If the database
+    /// has only other tables, no more is promised, and the new store is not clean.
     pub fn create(
         alloc: Global,
         mut conn: Connection<S>,

@@ -4,7 +4,7 @@ ghost use Rattle.std.specs.Prelude.{◌≡◌};
 ghost use Rattle.sqlite.specs.Effect.{IsDatabase};
 ghost use Rattle.portal_core.specs.Good.{Sound};
 ghost use Rattle.portal_core.specs.declared.phase.Round.TheVariants.{Second, First};
-ghost use Rattle.portal_list.specs.Rows.{HasEntries};
+ghost use Rattle.portal_list.specs.inner.Rows.{HasEntries};
 ghost use Rattle.portal_views.specs.inner.Contents.{rows_held};
 ghost use Rattle.portal_tables.specs.Steps.{Reads, Gives};
 ghost use Rattle.portal_tables.specs.inner.Reads.{Answers, Blames};

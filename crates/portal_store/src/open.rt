@@ -11,7 +11,7 @@ ghost use Rattle.portal_tables.specs.Tables.{HasFirstSchema, version};
 ghost use Rattle.portal_tables.specs.inner.Queries.{round_asked};
 ghost use Rattle.portal_tables.specs.Steps.{Reads, Gives, IsSettled, OnlyLooks};
 ghost use Rattle.portal_tables.specs.inner.Reads.{Always, Answers};
-ghost use Rattle.portal_list.specs.Rows.{HasEntries};
+ghost use Rattle.portal_list.specs.inner.Rows.{HasEntries};
 ghost use Rattle.portal_store.specs.Kept.{AreEmpty, HasSecond, HasGoodWorld, HasGoodWorldIn};
 ghost use Rattle.portal_store.specs.World.{phase_in, round_in, world_of};
 ghost use Rattle.portal_store.specs.Calls.{OpensStore, RefusesToOpen};
@@ -156,8 +156,11 @@ fn examine<S: Alter>(
 }
 
 impl<S: Alter> Store<S> {
-    /// Opens the portal in a database whose tables represent a good world. It checks the version
-    /// before it queries the tables of the second round.
+    /// Opens the portal in a database whose tables represent a good world; only of own tables does
+    /// `Ok` promise one. It checks the version before it queries the tables of the second round.
+    /// Whatever the tables are, it changes nothing if the disk is clean and the connection open,
+    /// and a crash right after it leaves only what one before left. Tables of which the first six
+    /// are the portal's are opened only in version 2. A store that is clean is settled, too.
     ///
     /// # Errors
     ///
@@ -165,8 +168,9 @@ impl<S: Alter> Store<S> {
     /// connection open, whatever its tables. `NotPortal`: a table cannot be queried, or `portal`
     /// has no row. `OtherVersion`: that row has a version other than 2. `Damaged`: it has version
     /// 2, and the rows represent no good world. `Store`: the store reports an error. `Memory`:
-    /// memory runs out. A fault of the device or memory shortage never causes one of the first
-    /// three.
+    /// memory runs out. What the first three say is proved of own tables, so that a good world in
+    /// them is refused only for the latter two; where `portal` has several rows, `OtherVersion` and
+    /// `Damaged` say nothing of the version.
     pub fn open(alloc: Global, mut conn: Connection<S>) -> Result<Store<S>, NotOpened<OpenFault, S>>
         requires idle { conn.in_transaction ≡ false }
         ensures opens { IfOk result (OpensStore S.Store conn) }

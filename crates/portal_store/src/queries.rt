@@ -143,7 +143,9 @@ pub(crate) fn show<S: Alter>(
 /// Returns the view of the caller with the code, by queries without a cache. For a student or a
 /// lecturer it queries what that role may see. For the office it queries the rolls, and who has a
 /// list, an applicant and a placement. The second round's catalogue also needs the students' keys
-/// and first-round projects; it reads nothing else of them.
+/// and first-round projects; it reads nothing else of them. No contract says which rows a query
+/// reads; the SQL texts show it: of applicants, only key, name and placement are read for a
+/// lecturer.
 ///
 /// # Errors
 ///

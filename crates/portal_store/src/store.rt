@@ -10,7 +10,11 @@ use portal_tables::PortalSchema;
 use sqlite::{Alter, Connection};
 use std::marker::Model;
 
-/// The portal in a database.
+/// The portal in a database. What is promised of its world holds while it is clean: its tables were
+/// own when it was made (their schema was exactly the portal's), and the connection is open. No
+/// method changes the former. A clean store over a clean disk becomes unclean only in a call that
+/// fails while the disk reports an error. A new store has counted no fault of the store; the count
+/// rises exactly when a method returns `KeepFault::Store`.
 #[derive(Drop)]
 pub struct Store<S: Alter> {
     pub(crate) conn: Connection<S>,
@@ -90,7 +94,8 @@ pub enum UpgradeFault {
 
 impl<S: Alter> Store<S> {
     /// Closes the store and returns its connection, which is in no transaction. The tables of a
-    /// clean store are consistent in it, and so is all that a stop may leave of own tables.
+    /// clean store are consistent in it, and so is all that a stop may leave of own tables on a
+    /// clean disk, even if the store has broken.
     pub fn into_connection(self) -> Connection<S>
         ensures same { result ≡ self.conn }
         ensures idle { result.in_transaction ≡ false }

@@ -9,7 +9,7 @@ ghost use Rattle.portal_tables.specs.Making.{has_names};
 ghost use Rattle.portal_tables.specs.declared.names.Names.TheVariants.{OfSecond};
 ghost use Rattle.portal_tables.specs.Steps.{Reads, IsSettled, OnlyLooks};
 ghost use Rattle.portal_tables.specs.inner.Reads.{Answers};
-ghost use Rattle.portal_list.specs.Rows.{HasEntries};
+ghost use Rattle.portal_list.specs.inner.Rows.{HasEntries};
 ghost use Rattle.portal_store.specs.Calls.{RefusesToUpgrade, UpgradesStore};
 ghost use Rattle.portal_store.specs.Kept.{HasGoodFirst};
 ghost use Rattle.portal_store.specs.World.{world_in};
@@ -81,16 +81,23 @@ fn upgraded<S: Alter>(
 }
 
 impl<S: Alter> Store<S> {
-    /// Upgrades tables of a good world from version 1 to 2 in one transaction; the world stays.
+    /// Upgrades tables of a good world from version 1 to 2 in one transaction; the world stays. On
+    /// a clean disk, a crash right after it leaves the new tables; right after an error, the old
+    /// ones or, if no new name was taken, the new ones. All this is proved of own tables of version
+    /// 1, and that these keep their world also after an error. A store that is clean is settled,
+    /// too.
     ///
     /// # Errors
     ///
     /// Every error hands the connection back, with the file unchanged if the disk is clean and the
     /// connection open. `NotPortal`: a table cannot be queried, or `portal` has no row.
     /// `OtherVersion`: that row has a version other than 1. `Damaged`: it has version 1, and the
-    /// rows represent no good world. `Exists`: a table or view has one of the five new names.
-    /// `Store`: the store reports an error. `Memory`: memory runs out. The first four are checked
-    /// in this order, and a fault of the device or memory shortage never causes them.
+    /// rows represent no good world. `Exists`: a table or view has one of the five new names, the
+    /// version is 1 and, if the first six tables are the portal's, their world is good. `Store`:
+    /// the store reports an error. `Memory`: memory runs out. The first four are checked in this
+    /// order, and a fault of the device or memory shortage never causes them. What the first three
+    /// say is proved of own tables; where `portal` has several rows, the latter two of them say
+    /// nothing of the version.
     pub fn upgrade(
         alloc: Global,
         mut conn: Connection<S>,

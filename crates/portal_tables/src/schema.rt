@@ -171,7 +171,9 @@ const FIRST_TABLES: usize = 6;
 /// How many indexes the tables of version 1 have.
 const FIRST_INDEXES: usize = 9;
 
-/// The portal's tables without rows, in an in-memory database, to compare schemas with.
+/// The portal's tables without rows, in an in-memory database, to compare schemas with. The terms
+/// of CHECK and DEFAULT are not compared: other CHECK constraints may refuse a row, but do not
+/// change what a successful statement does.
 #[derive(Drop)]
 pub struct PortalSchema {
     conn: Connection<MemStore>,

@@ -23,7 +23,7 @@ pub use Rattle.portal_core.proofs.Fills.{before_other, rise_kept}
 pub use Rattle.portal_core.proofs.Keys.{all_unmap, is_own, is_same}
 pub use Rattle.portal_core.specs.Words.{is_before, put_all, is_empty}
 pub use Rattle.portal_core.specs.inner.Room.{lecturer_left, project_left}
-pub use Rattle.portal_list.specs.inner.Shown.{name_of, offered}
+pub use Rattle.portal_core.specs.inner.Offers.{name_of, offered}
 pub use Rattle.portal_tables.proofs.InTurn.{at_item, both, judged, next_given, next_item, reads_as, reads_both, reads_handed, reads_more, reads_of, reads_open, reads_self, reads_short, reads_then, reads_then_of}
 pub use Rattle.portal_tables.proofs.Listed.{IsText, permuted, roll_shown, roll_rises}
 pub use Rattle.portal_tables.proofs.Lists.{any_alike, filter_all, not_true, eq_self, apart_filter}

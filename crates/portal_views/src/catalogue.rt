@@ -12,8 +12,9 @@ ghost use Rattle.portal_tables.specs.inner.Reads.{MayRead, Always, Answers, Blam
 ghost use Rattle.portal_tables.specs.inner.Rolls.{lecturers_shown, projects_shown};
 ghost use Rattle.portal_tables.specs.inner.Shown.{shown_lecturer, shown_project};
 
-use portal_core::{LecturerRow, Listing, ProjectRow, Round, lecturer_left, project_left};
-use portal_list::listings_of;
+use portal_core::{
+    LecturerRow, Listing, ProjectRow, Round, lecturer_left, listings_of, project_left,
+};
 use portal_tables::decode::{decoded, push_some};
 use portal_tables::select::RollTable;
 use portal_tables::{TableFault, first_pairs_in, roll_in};

@@ -1,90 +1,75 @@
 -- The main promise of what `serve_streams` wrote.
-use Rattle.std.proofs.Common.{◌≡◌, ℕ, List, [], ◌∷◌, ◌++◌, sym, ◌∙◌, subst, inl, inr}
+use Rattle.std.proofs.Common.{◌≡◌, ℕ, List, [], ◌∷◌, refl, sym, ap, ◌∙◌, subst, inl, inr, map}
 use Rattle.std.specs.Prelude.{Option, Some, None, IfSome}
-use Rattle.std.specs.List.{AllByRecursion}
+use Rattle.std.specs.List.{AllByRecursion, AllZip}
 use Rattle.portal_core.specs.World.{World}
 use Rattle.portal_core.specs.Good.{Good}
-use Rattle.portal_core.specs.Run.{AllAnswered}
-use Rattle.portal_wire.specs.Conversation.{Exchange, told_in}
+use Rattle.portal_wire.specs.Conversation.{Last}
 use Rattle.portal_core.specs.Keeping.{KeeperState}
 use Rattle.std.specs.Io.KnownBytes.{Appends}
-use Rattle.portal_desk.specs.Session.{Finish, Ended, Stopped, Tells, Session}
-use Rattle.portal_desk.specs.Headline.{Visit, AllTellOf, AreServed, AreServedOn, exchanges_in, IsEnded, AreOf, ServesEach}
-use Rattle.portal_desk.proofs.Promised.{RunsGood, StepsBest, RunsBest, same_exchanges, upheld}
+use Rattle.portal_desk.specs.Session.{Finish, Ended, Stopped, Session}
+use Rattle.portal_desk.specs.Headline.{Visit, TellsOf, AreServedOn}
+use Rattle.portal_desk.specs.inner.Served.{AreServed, IsEnded, AreOf, ServesEach}
+use Rattle.portal_desk.proofs.Promised.{RunsGood, StepsBest, RunsBest, upheld}
 use Rattle.portal_desk.proofs.Heeding.{are_visits, same_bytes}
-use Rattle.portal_whole.specs.Whole.{IsTold, AreTold, AreTheVisits, KeepsPromise}
+use Rattle.portal_whole.specs.Whole.{IsWhole, KeepsPromise}
 
-each_told : {K : Type 0} → List (Session K) → List (List Exchange)
-each_told [] = []
-each_told (s ∷ ss) = s.exchanges ∷ each_told ss
+ended : (finish : Finish) → IsEnded finish → (ending : Last) × (finish ≡ Ended ending)
+ended (Ended ending) whole = (ending, refl)
+ended (Stopped why failed left) whole = absurd whole
 
-told_by : (finish : Finish) (bytes : List ℕ) (es : List Exchange) (written : List ℕ) → IsEnded finish → Tells finish bytes es written → IsTold bytes es written
-told_by (Ended ending) bytes es written ended tells = (ending, tells)
-told_by (Stopped why failed left) bytes es written ended tells = absurd ended
+written_is : (before after : Option (List ℕ)) (written t : List ℕ) → Appends before after written → before ≡ Some []
+    → after ≡ Some t → written ≡ t
+written_is before after written t adds first last =
+    sym (subst (λ o. Appends o (Some t) written) first (subst (λ o. Appends before o written) last adds))
 
-written_is : (before after : Option (List ℕ)) (written t : List ℕ) → Appends before after written → before ≡ Some [] → after ≡ Some t → written ≡ t
-written_is before after written t adds first last = sym (subst (λ o. Appends o (Some t) written) first (subst (λ o. Appends before o written) last adds))
+both : {X : Type 0} {x y : X} {xs ys : List X} → x ≡ y → xs ≡ ys → x ∷ xs ≡ y ∷ ys
+both {X} {x} {y} {xs} {ys} one more = ap (λ z. z ∷ xs) one ∙ ap (λ zs. y ∷ zs) more
 
-are_told : {K : Type 0} (state : K → KeeperState) (k : K) (ss : List (Session K)) (xs ts : List (List ℕ)) → AreServedOn state k ss → AreOf ss xs ts
-    → AreTold xs (each_told ss) ts
-unfolding each_told
-are_told state k [] [] [] served are = tt
-are_told state k [] [] (t ∷ ts) served are = absurd are
-are_told state k [] (x ∷ xs) ts served are = absurd are
-are_told state k (s ∷ ss) [] ts served are = absurd are
-are_told state k (s ∷ ss) (x ∷ xs) [] served are = absurd are
-are_told state k (s ∷ ss) (x ∷ xs) (t ∷ ts) (next, visit, later) (bytes, before, after, ended, more) =
-    let written = written_is s.before s.after visit.written t visit.adds before after in
-    let told = told_by s.finish s.bytes s.exchanges visit.written ended visit.tells in
-    (subst (λ b. IsTold b s.exchanges t) bytes (subst (IsTold s.bytes s.exchanges) written told), are_told state s.new ss xs ts later more)
-
-answered_both : (es fs : List Exchange) → AllAnswered (told_in es) → AllAnswered (told_in fs) → AllAnswered (told_in (es ++ fs))
-answered_both [] fs all also = also
-answered_both (e ∷ es) fs all also = (all.0, answered_both es fs all.1 also)
-
-all_answered : {K : Type 0} (ss : List (Session K)) → AllByRecursion (λ es. AllAnswered (told_in es)) (each_told ss) → AllAnswered (told_in (exchanges_in ss))
-unfolding each_told
-all_answered [] all = tt
-all_answered (s ∷ ss) all = answered_both s.exchanges (exchanges_in ss) all.0 (all_answered ss all.1)
-
-the_visits : {K : Type 0} (state : K → KeeperState) (ss : List (Session K)) (vs : List Visit) (xs ts : List (List ℕ)) → AllTellOf state ss vs → AreOf ss xs ts → AreTheVisits vs xs (each_told ss) ts
-unfolding each_told
-the_visits state [] [] [] [] tell are = tt
-the_visits state [] [] [] (t ∷ ts) tell are = absurd are
-the_visits state [] [] (x ∷ xs) ts tell are = absurd are
-the_visits state [] (v ∷ vs) xs ts tell are = absurd tell
-the_visits state (s ∷ ss) [] xs ts tell are = absurd tell
-the_visits state (s ∷ ss) (v ∷ vs) [] ts tell are = absurd are
-the_visits state (s ∷ ss) (v ∷ vs) (x ∷ xs) [] tell are = absurd are
-the_visits state (s ∷ ss) (v ∷ vs) (x ∷ xs) (t ∷ ts) tell (bytes, before, after, ended, more) = (
-  tell.0.bytes ∙ bytes,
-  tell.0.exchanges,
-  written_is s.before s.after v.written t tell.0.written before after,
-  the_visits state ss vs xs ts tell.1 more,
-)
+-- the visits that describe sessions are of their streams and texts
+module _ {K : Type 0} (state : K → KeeperState) where
+  the_visits : (ss : List (Session K)) (vs : List Visit) (xs ts : List (List ℕ)) → AllZip (TellsOf state) ss vs
+      → AreOf ss xs ts
+      → (map (λ (v : Visit). v.bytes) vs ≡ xs) × (map (λ (v : Visit). v.written) vs ≡ ts) × AllByRecursion IsWhole vs
+  the_visits [] [] [] [] tell are = (refl, refl, tt)
+  the_visits [] [] [] (t ∷ ts) tell are = absurd are
+  the_visits [] [] (x ∷ xs) ts tell are = absurd are
+  the_visits [] (v ∷ vs) xs ts tell are = absurd tell
+  the_visits (s ∷ ss) [] xs ts tell are = absurd tell
+  the_visits (s ∷ ss) (v ∷ vs) [] ts tell are = absurd are
+  the_visits (s ∷ ss) (v ∷ vs) (x ∷ xs) [] tell are = absurd are
+  the_visits (s ∷ ss) (v ∷ vs) (x ∷ xs) (t ∷ ts) tell (bytes, before, after, whole, more) =
+      let others = the_visits ss vs xs ts tell.1 more in
+      let end = ended s.finish whole in (
+        both (tell.0.bytes ∙ bytes) others.0,
+        both (written_is s.before s.after v.written t tell.0.written before after) others.1,
+        ((end.0, tell.0.finish ∙ end.1), others.2),
+      )
 
 -- over a keeper that cannot break, a 503 leaves it clean too
-stays_unbroken : {K : Type 0} (state : K → KeeperState) → ((k : K) → (state k).disk) → ((k : K) → (state k).broken → ⊥) → (k : K) (ss : List (Session K)) → AreServedOn state k ss
-    → (state k).clean → AreServed state k ss
+stays_unbroken : {K : Type 0} (state : K → KeeperState) → ((k : K) → (state k).disk) → ((k : K) → (state k).broken → ⊥)
+    → (k : K) (ss : List (Session K)) → AreServedOn state k ss → (state k).clean → AreServed state k ss
 stays_unbroken state disk sound k [] served on = tt
 stays_unbroken state disk sound k (s ∷ ss) (resumes, serves, later) on =
     let start = (resumes (disk s.old)).1 on in
-    let now : (state s.new).clean = elim ((serves.moves.breaks (disk s.new)).1 start.0) [ inl up ↦ up | inr bad ↦ absurd (sound s.new bad) ] in
+    let now : (state s.new).clean =
+    elim ((serves.moves.breaks (disk s.new)).1 start.0) [ inl up ↦ up | inr bad ↦ absurd (sound s.new bad) ] in
     (start.1, now, serves, stays_unbroken state disk sound s.new ss later now)
 
-pub promised : RunsGood → StepsBest → RunsBest → {K : Type 0} (state : K → KeeperState) (k last : K) (w : World) (xs ts : List (List ℕ)) → ServesEach state k last xs ts
-    → (state k).clean → Good (state k).world → ((k : K) → (state k).disk) → ((k : K) → (state k).broken → ⊥) → (state k).world ≡ w → KeepsPromise w xs ts
+pub promised : RunsGood → StepsBest → RunsBest → {K : Type 0} (state : K → KeeperState) (k last : K) (w : World)
+    (xs ts : List (List ℕ)) → ServesEach state k last xs ts → (state k).clean → Good (state k).world
+    → ((k : K) → (state k).disk) → ((k : K) → (state k).broken → ⊥) → (state k).world ≡ w → KeepsPromise w xs ts
 promised run_good step_best run_best state k last w xs ts (ss, served, same, are) clean good disk sound is =
     let a = are_visits state k ss (stays_unbroken state disk sound k ss served clean) in
+    let of = the_visits state ss a.0 xs ts a.1 are in
     subst (λ u. KeepsPromise u xs ts) is (
-      each_told ss,
-      are_told state k ss xs ts served are,
       a.0,
-      the_visits state ss a.0 xs ts a.1 are,
+      of.0,
+      of.1,
+      of.2,
       upheld run_good step_best run_best (state k).world a.0 good a.2,
       λ all v others also heard c items alike mine theirs.
-          let said = subst (λ es. AllAnswered (told_in es)) (same_exchanges state ss a.0 a.1) (all_answered ss all) in
-          same_bytes c (state k).world v a.0 others items a.2 said mine also heard theirs alike,
+          same_bytes c (state k).world v a.0 others items a.2 all mine also heard theirs alike,
     )
 
 pub on_some : {A : Type 0} (r : Option A) (P Q : A → Type 0) → ((x : A) → P x → Q x) → IfSome r P → IfSome r Q

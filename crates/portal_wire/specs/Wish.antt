@@ -1,10 +1,12 @@
 -- What a request wants, by its route, method and JSON body, and the replies to refused requests.
 use Rattle.std.specs.Prelude.{ℕ, ◌+◌, ◌==◌, List, [], ◌∷◌, codes, Option, Some, None, option_map, option_and_then, if◌then◌else◌, Result, Ok, Err}
 use Rattle.std.specs.Option.{option_or}
+use Rattle.std.specs.List.{find}
 use Rattle.std.specs.Str.{bytes_eq, is_utf8}
 use Rattle.serde_json.specs.Read.{read as read_text}
 use Rattle.serde_json.specs.Find.{get_member, as_number, as_u64}
 use Rattle.serde_json.specs.Data.{Data, string, array, object, item, no_items, member, no_members, Items, Members}
+use Rattle.portal_core.specs.World.{phase_word}
 use Rattle.portal_core.specs.declared.phase.Phase.{Phase}
 use Rattle.portal_core.specs.declared.phase.Phase.TheVariants.{Setup, Choosing, Ranking, Published}
 use Rattle.portal_core.specs.declared.phase.Round.{Round}
@@ -48,12 +50,7 @@ texts_in _ = None
 
 -- the phase that a word names
 abbrev pub phase_of : List ℕ → Option Phase
-phase_of word =
-    if bytes_eq word (codes "setup") then Some Setup
-    else (if bytes_eq word (codes "choosing") then Some Choosing
-    else (if bytes_eq word (codes "ranking") then Some Ranking
-    else (if bytes_eq word (codes "published") then Some Published
-    else None)))
+phase_of word = find (λ p. bytes_eq word (phase_word p)) (Setup ∷ Choosing ∷ Ranking ∷ Published ∷ [])
 
 abbrev pub phase_named : Data → Option Phase
 phase_named (string word) = phase_of word

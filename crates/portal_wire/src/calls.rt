@@ -190,7 +190,8 @@ fn refusal_of(fault: CallFault) -> Refusal
     }
 }
 
-/// Returns the caller's code and the call that a request makes.
+/// Returns the caller's code and the call that a request makes. The rows of an Add call have the
+/// forms of their roll.
 ///
 /// # Errors
 ///

@@ -1,9 +1,9 @@
 //! Finds the route of a path, the methods that it allows, and the method of a request.
 
-ghost use Rattle.std.specs.Prelude.{◌≡◌, IfOk, option_map};
+ghost use Rattle.std.specs.Prelude.{◌≡◌, IfOk, OnOk, fold, option_map};
 ghost use Rattle.matchit.specs.Seek.{first};
 ghost use Rattle.portal_wire.specs.Wish.{route_at, allow_of, method_of};
-ghost use Rattle.portal_wire.specs.inner.RouteRows.{the_rows};
+ghost use Rattle.portal_wire.specs.inner.RouteRows.{the_rows, with_route};
 
 use http::method::MethodError;
 use matchit::{InsertError, Router};
@@ -31,26 +31,41 @@ pub(crate) enum Route {
     Report,
 }
 
+/// Each path with its route.
+const ROUTES: [(&str, Route); 15] = [
+    ("/me", Route::Me),
+    ("/catalogue", Route::Catalogue),
+    ("/choices", Route::Choices),
+    ("/applicants", Route::Applicants),
+    ("/ranking", Route::Ranking),
+    ("/result", Route::Outcome),
+    ("/rolls/lecturers", Route::Lecturers),
+    ("/rolls/projects", Route::Projects),
+    ("/rolls/students", Route::Students),
+    ("/phase", Route::Phase),
+    ("/ranking/fill", Route::Fill),
+    ("/status", Route::Status),
+    ("/allocation", Route::Allocation),
+    ("/allocation.csv", Route::AllocationCsv),
+    ("/report", Route::Report),
+];
+
+/// Inserts each path of a table with its route.
+fn insert_each(router: &mut Router<Route>, table: &[(&str, Route)]) -> Result<(), InsertError>
+    ensures { OnOk result (router.new ≡ fold with_route router.old table.now) }
+{
+    for entry in table {
+        router.insert(entry.0, entry.1)?;
+    }
+    Ok(())
+}
+
 /// Makes a router for all routes.
 fn all_routes(alloc: Global) -> Result<Router<Route>, InsertError>
     ensures { IfOk result (λ router. router ≡ the_rows) }
 {
     let mut router = Router::new(alloc);
-    router.insert("/me", Route::Me)?;
-    router.insert("/catalogue", Route::Catalogue)?;
-    router.insert("/choices", Route::Choices)?;
-    router.insert("/applicants", Route::Applicants)?;
-    router.insert("/ranking", Route::Ranking)?;
-    router.insert("/result", Route::Outcome)?;
-    router.insert("/rolls/lecturers", Route::Lecturers)?;
-    router.insert("/rolls/projects", Route::Projects)?;
-    router.insert("/rolls/students", Route::Students)?;
-    router.insert("/phase", Route::Phase)?;
-    router.insert("/ranking/fill", Route::Fill)?;
-    router.insert("/status", Route::Status)?;
-    router.insert("/allocation", Route::Allocation)?;
-    router.insert("/allocation.csv", Route::AllocationCsv)?;
-    router.insert("/report", Route::Report)?;
+    insert_each(&mut router, &ROUTES)?;
     Ok(router)
 }
 

@@ -88,7 +88,8 @@ fn add_blocks(
     Ok(())
 }
 
-/// Returns all blocking pairs, sorted by student, then by project.
+/// Returns exactly the blocking pairs, each with its only letter (law `one_letter`), sorted by
+/// student, then by project.
 pub fn blocking_pairs(
     alloc: Global,
     instance: &Instance,

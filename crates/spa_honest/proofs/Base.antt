@@ -7,7 +7,8 @@ pub use Rattle.std.specs.List.{count_by, list_all, list_any}
 pub use Rattle.std.specs.Ordering.{nat_cmp, is_lt}
 pub use Rattle.std.specs.Prelude.{AllPairs}
 pub use Rattle.std.specs.declared.cmp.Ordering.TheVariants.{Less}
-pub use Rattle.spa_honest.specs.Honest.{AddsTo, GivesRoom, places_among, places_with, IsBusy, IsTaken, MorePlacesNeverHarm, with_room, DifferInLists, DifferInOneList, HasRoom, NobodyGains, AssignTheSame, IsNoWorse}
+pub use Rattle.spa_honest.specs.Honest.{GivesRoom, places_among, places_with, IsBusy, IsTaken, MorePlacesNeverHarm, with_room, DifferInLists, DifferInOneList, HasRoom, NobodyGains, AssignTheSame, IsNoWorse}
+pub use Rattle.spa_honest.specs.inner.ByNumber.{AddsTo}
 pub use Rattle.spa_honest.specs.examples.Example.{ann, bells, cem, example, honest_list, kites, safe_list, short_list, tides}
 pub use Rattle.spa_model.proofs.Counts.{count_by-cons, count_by-lt, one_if, sum_below, sum_below-lt, count_by-le, sum_below-le, sum_below-add, sum_below-same, sum_below-zero, sum_below-one, share, at_lecturer-sum}
 pub use Rattle.spa_model.proofs.OneOnly.{blocks_wants}

@@ -1,6 +1,6 @@
--- The statements of the laws for the students. `NobodyGains` and `MorePlacesNeverHarm` are refuted;
--- the others are proved.
-use Rattle.std.specs.Prelude.{◌≡◌, ◌↔◌, ◌⊎◌, ℕ, zero, suc, ◌+◌, ◌<◌, ◌≤◌, ◌==◌, if◌then◌else◌, List, [], length, Option, Some, None}
+-- The statements of the laws that instances alone have. `NobodyGains` and `MorePlacesNeverHarm` are
+-- refuted; the others are proved.
+use Rattle.std.specs.Prelude.{◌≡◌, ◌↔◌, ◌⊎◌, ℕ, zero, suc, ◌+◌, ◌<◌, ◌≤◌, ◌==◌, if◌then◌else◌, List, length, Option, Some, None}
 use Rattle.spa_model.specs.Spa.{Spa, choices_of, ranking_of, project_of, lecturer_of, capacity_of, limit_of, at_project, at_lecturer, IsOn, IsBefore, IsAcceptable, IsAsGood, IsWith, Wants, IsMatching, IsLawful, IsStable, IsBest}
 
 -- the same students have a project in both, and each lecturer has as many students in both
@@ -37,51 +37,15 @@ DifferInOneList i j s = DifferInLists i j (λ t. t ≡ s)
 abbrev pub IsNoWorse : Spa → ℕ → Option ℕ → Option ℕ → Type 0
 IsNoWorse i s mine other = (p : ℕ) → other ≡ Some p → IsAcceptable i s p → IsAsGood i s mine (Some p)
 
--- by the list in i, the best matching of i is no worse for s than any stable matching of j
-abbrev pub HonestIsBest : Type 0
-HonestIsBest =
-    (i j : Spa) (s : ℕ) (m n : List (Option ℕ)) → IsLawful i → IsLawful j → DifferInOneList i j s → IsBest i m → IsStable j n
-    → IsNoWorse i s (project_of m s) (project_of n s)
-
 -- p and its lecturer are both under capacity
 abbrev pub HasRoom : Spa → List (Option ℕ) → ℕ → Type 0
 HasRoom i m p = (at_project m p < capacity_of i p) × (at_lecturer i m (lecturer_of i p) < limit_of i (lecturer_of i p))
 
--- a student whom a stable matching leaves without a project lists no project with room
-abbrev pub LeftFindsNone : Type 0
-LeftFindsNone =
-    (i : Spa) (m : List (Option ℕ)) (s p : ℕ) → IsStable i m → project_of m s ≡ None → IsAcceptable i s p → HasRoom i m p → ⊥
-
--- if a stable matching of j leaves s out and p has room in it, i's best gives s p or a better one
-abbrev pub WaitingNeverPays : Type 0
-WaitingNeverPays =
-    (i j : Spa) (s p : ℕ) (m n : List (Option ℕ)) → IsLawful i → IsLawful j → DifferInOneList i j s → IsBest i m → IsStable j n
-    → project_of n s ≡ None → IsAcceptable i s p → HasRoom j n p → IsAsGood i s (project_of m s) (Some p)
-
--- whatever lists a group submits in j, some member gets nothing better, by the list in i, than in i
-abbrev pub NoGroupGains : Type 0
-NoGroupGains =
-    (i j : Spa) (group : List ℕ) (m n : List (Option ℕ)) → IsLawful i → IsLawful j → 1 ≤ length group → DifferInLists i j (IsOn group) → IsBest i m → IsStable j n
-    → (s : ℕ) × IsOn group s × IsNoWorse i s (project_of m s) (project_of n s)
-
--- a statement that does not hold: no member of such a group gains
+-- a statement that does not hold: whatever lists a group submits in j, no member gains
 abbrev pub NobodyGains : Type 0
 NobodyGains =
     (i j : Spa) (group : List ℕ) (m n : List (Option ℕ)) → IsLawful i → IsLawful j → DifferInLists i j (IsOn group) → IsBest i m → IsBest j n
     → (s : ℕ) → IsOn group s → IsNoWorse i s (project_of m s) (project_of n s)
-
--- x keeps the pairs of n, may place those whom n leaves anywhere, and keeps within the capacities
-pub record AddsTo (i : Spa) (n x : List (Option ℕ)) : Type 0 where
-  pub students : length x ≡ length n
-  pub keeps : (s p : ℕ) → project_of n s ≡ Some p → project_of x s ≡ Some p
-  pub projects : (p : ℕ) → at_project x p ≤ capacity_of i p
-  pub lecturers : (l : ℕ) → at_lecturer i x l ≤ limit_of i l
-
--- the same over both rounds: x is a stable matching of j, with what a second round adds
-abbrev pub NoGroupGainsOverBoth : Type 0
-NoGroupGainsOverBoth =
-    (i j : Spa) (group : List ℕ) (m n x : List (Option ℕ)) → IsLawful i → IsLawful j → DifferInLists i j (IsOn group) → 1 ≤ length group → IsBest i m → IsStable j n → AddsTo j n x
-    → (s : ℕ) × IsOn group s × IsNoWorse i s (project_of m s) (project_of x s)
 
 -- by the list in i, no list of the same projects, or of some of them, gives s a better one
 abbrev pub OrderHonestly : Type 0
@@ -105,12 +69,6 @@ abbrev pub WhyNot : Type 0
 WhyNot =
     (i : Spa) (m : List (Option ℕ)) → IsLawful i → IsMatching i m
     → IsStable i m ↔ ((s p : ℕ) → Wants i m s p → IsTaken i m p s ⊎ IsBusy i m (lecturer_of i p) s)
-
--- if a group lists nothing in j, j's best gives nobody else worse than a stable matching of i
-abbrev pub FewerNeverHarm : Type 0
-FewerNeverHarm =
-    (i j : Spa) (group : List ℕ) (t : ℕ) (m n : List (Option ℕ)) → IsLawful i → DifferInLists i j (IsOn group) → ((s : ℕ) → IsOn group s → choices_of j s ≡ []) → IsStable i m → IsBest j n
-    → (IsOn group t → ⊥) → IsAsGood i t (project_of n t) (project_of m t)
 
 -- the same instance with other capacities and limits
 abbrev pub with_room : Spa → List ℕ → List ℕ → Spa

@@ -1,12 +1,14 @@
 //! Laws of stable matchings: best ones exist, honest lists are best, waiting never pays.
+//! Those of `specs/inner/ByNumber` are lemmas for the laws of worlds in `portal_core`.
 
 ghost use Rattle.std.specs.Prelude.{◌≡◌, ◌↔◌, ℕ, ◌∷◌, [], Some, None};
 ghost use Rattle.spa_model.specs.Spa.{IsBest, IsLawful};
-ghost use Rattle.spa_honest.specs.Honest.{BestThereIs, HasRoom, HonestIsBest, LeftFindsNone};
-ghost use Rattle.spa_honest.specs.Honest.{NobodyGains, NoGroupGains, SameAssigned};
-ghost use Rattle.spa_honest.specs.Honest.{WaitingNeverPays, NoGroupGainsOverBoth, OrderHonestly};
-ghost use Rattle.spa_honest.specs.Honest.{WhyNot, FewerNeverHarm, MoreRoomNeverHarms};
+ghost use Rattle.spa_honest.specs.Honest.{SameAssigned, BestThereIs, OrderHonestly, WhyNot};
+ghost use Rattle.spa_honest.specs.Honest.{NobodyGains, HasRoom, MoreRoomNeverHarms};
 ghost use Rattle.spa_honest.specs.Honest.{MorePlacesNeverHarm};
+ghost use Rattle.spa_honest.specs.inner.ByNumber.{HonestIsBest, LeftFindsNone, WaitingNeverPays};
+ghost use Rattle.spa_honest.specs.inner.ByNumber.{NoGroupGains, NoGroupGainsOverBoth};
+ghost use Rattle.spa_honest.specs.inner.ByNumber.{FewerNeverHarm};
 ghost use Rattle.spa_honest.specs.examples.Example.{bells, example, honest_list, kites, safe_list};
 ghost use Rattle.spa_honest.specs.examples.Example.{short_list, tides};
 ghost use Rattle.spa_honest.specs.examples.Waiting.{at_once, second_alone, waiting};

@@ -1,5 +1,5 @@
 -- Names from below that the proofs use.
-pub use Rattle.std.proofs.Common.{Vec, All, Any, Bool, Contains, Equal, Greater, IsTrue, Less, List, None, Option, Ordering, Some, [], ap, arith, cond, eqb, false, get_or, inl, inr, length, map, refl, rules, set, subst, suc, sym, take, true, zero, ℕ, ◌++◌, ◌+◌, ◌<◌, ◌↔◌, ◌∙◌, ◌∷◌, ◌≡◌, ◌≢◌, ◌≤◌, ◌⊎◌, ◌-◌, ltb, IsSortedByKey, IfSome, OnOk, Ok, Err}
+pub use Rattle.std.proofs.Common.{Vec, All, Any, Bool, Contains, Equal, Greater, IsTrue, Less, List, None, Option, Ordering, Some, [], ap, arith, cond, eqb, false, get_or, inl, inr, length, map, refl, rules, set, subst, suc, sym, take, true, zero, ℕ, ◌++◌, ◌+◌, ◌<◌, ◌↔◌, ◌∙◌, ◌∷◌, ◌≡◌, ◌≢◌, ◌≤◌, ◌⊎◌, ◌-◌, ltb, IsSortedByKey, IfSome, Ok, Err}
 pub use Rattle.std.proofs.lemmas.Bool.{leb-true, le-leb, ltb-true, lt-ltb, cases_Bool, cases_eq, cases_lt, eq-eqb, eqb-true, false≢true, ne_eqb, true≢false, true_from_ne_false}
 pub use Rattle.std.proofs.lemmas.Bool.Decides.{Decides-eqb, nat_tests}
 pub use Rattle.std.proofs.lemmas.Cmp.{nat_list_cmp_total, tied_itself, nat_list_eq_equiv}
@@ -17,7 +17,7 @@ pub use Rattle.std.specs.List.{AllPairs, AllZip, count_by, IsAnyAnswer, list_any
 pub use Rattle.std.specs.Ordering.{is_lt, nat_cmp, is_eq, ordering_reverse}
 pub use Rattle.std.specs.Prelude.{not, ◌||◌, nat_le, IfNone}
 pub use Rattle.std.specs.Str.{bytes_eq}
-pub use Rattle.spa_model.specs.Pairs.{AreSound, HasNone, HasPairs, lecturer_in, number_in, project_in, student_in, HasKey, StandsFor, StandsLecturer, StandsProject, StandsStudent, keys_at, HasPairFault, number_of_pair_fault, IsPairRefusal}
+pub use Rattle.spa_model.specs.Pairs.{AreSound, HasNone, HasPairs, lecturer_in, number_in, project_in, student_in, HasKey, IsInstanceOf, StandsFor, StandsLecturer, StandsProject, StandsStudent, keys_at, HasPairFault, number_of_pair_fault, IsPairRefusal}
 pub use Rattle.spa_model.specs.Spa.{IsAcceptable, IsDistinct, IsLawful, IsMatching, IsOn, Rise, Spa, at_lecturer, at_project, capacity_of, choices_of, is_lecturer, is_project, lecturer_of, limit_of, place, project_of, ranking_of, rank_in, Blocks, IsAsGood, IsBest}
 pub use Rattle.spa_model.specs.declared.instance.Lecturer.{Lecturer}
 pub use Rattle.spa_model.specs.declared.instance.Project.{Project}

@@ -1,10 +1,12 @@
 -- When an instance stands for rows, what can be wrong with pairs, and when they make a matching.
 use Rattle.std.specs.Prelude.{◌≡◌, ◌<◌, ℕ, List, [], All, map, length, slice_index_or, ◌≤◌, ◌+◌, ◌==◌, Option, Some, Any, Contains, take, count_by}
 use Rattle.spa_rows.specs.Lines.{Text, Lecturer, Project, Student, Rows, Pair}
-use Rattle.spa_model.specs.Spa.{Spa, choices_of, lecturer_of, capacity_of, ranking_of, limit_of, project_of, IsAcceptable}
+use Rattle.spa_model.specs.Spa.{Spa, choices_of, lecturer_of, capacity_of, ranking_of, limit_of, project_of}
+use Rattle.spa_model.specs.Spa.{IsAcceptable, IsLawful, IsMatching}
 use Rattle.std.specs.List.{position_or_len}
 use Rattle.std.specs.Str.{bytes_eq}
-use Rattle.spa_rows.specs.Faults.{BadAt}
+use Rattle.spa_rows.specs.Faults.{BadAt, HasNoneBefore}
+use Rattle.spa_rows.specs.declared.faults.InstanceFault.TheVariants as rows_fault
 use Rattle.spa_model.specs.declared.matching.MatchingFault.{MatchingFault}
 use Rattle.spa_model.specs.declared.matching.MatchingFault.TheVariants.{NoSuchStudent, NoSuchProject, NotAcceptable, StudentTwice, ProjectOver, LecturerOver, Memory}
 
@@ -34,6 +36,12 @@ pub record StandsFor (rows : Rows) (i : Spa) : Type 0 where
   pub project_count : length i.project_keys ≡ length rows.projects
   pub lecturers : All (StandsLecturer i) rows.lecturers
   pub lecturer_count : length i.lecturer_keys ≡ length rows.lecturers
+
+-- the instance is that of these rows, which have no fault
+pub record IsInstanceOf (rows : Rows) (i : Spa) : Type 0 where
+  pub stands : StandsFor rows i
+  pub lawful : IsLawful i
+  pub faultless : HasNoneBefore rows rows_fault.Memory
 
 -- the number of a key, from 0; if the text is no key, the number of keys
 abbrev pub number_in : List Text → Text → ℕ
@@ -94,3 +102,9 @@ HasNone i lines fault = (r : ℕ) → HasPairFault i lines fault r → ⊥
 -- no row has any fault
 abbrev pub AreSound : Spa → List Pair → Type 0
 AreSound i lines = (fault : MatchingFault) → HasNone i lines fault
+
+-- the matching is that of these pairs, which have no fault
+pub record IsMatchingOf (i : Spa) (lines : List Pair) (m : List (Option ℕ)) : Type 0 where
+  pub pairs : HasPairs i lines m
+  pub fits : IsMatching i m
+  pub sound : AreSound i lines

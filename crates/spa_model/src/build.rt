@@ -3,15 +3,12 @@
 mod applicants;
 mod numbers;
 
-ghost use Rattle.std.specs.Prelude.{IfErr, IfOk, OnOk, IsSortedByKey};
-ghost use Rattle.std.specs.Ordering.{nat_cmp};
-ghost use Rattle.std.specs.Cmp.Lexicographic.{slice_cmp};
+ghost use Rattle.std.specs.Prelude.{IfErr, IfOk};
 ghost use Rattle.spa_rows.specs.Faults.{HasNoneBefore, IsRefusal};
 ghost use Rattle.spa_rows.specs.inner.Index.{AreListNumbers};
-ghost use Rattle.spa_rows.specs.declared.faults.InstanceFault.TheVariants.{NotApplicant, Memory};
-ghost use Rattle.spa_model.specs.Pairs.{StandsFor};
-ghost use Rattle.spa_model.specs.Spa.{IsLawful};
-ghost use Rattle.spa_model.specs.inner.Numbers.{rows_of};
+ghost use Rattle.spa_rows.specs.declared.faults.InstanceFault.TheVariants.{NotApplicant};
+ghost use Rattle.spa_model.specs.Pairs.{IsInstanceOf};
+ghost use Rattle.spa_model.specs.inner.Numbers.{AreSorted, rows_of};
 
 use crate::instance::Instance;
 use applicants::{applicant_missing, not_applicant};
@@ -32,19 +29,15 @@ fn instance_of(
     choices: &[Vec<usize>],
     rankings: &[Vec<usize>],
 ) -> Result<Instance, BadInstance>
-    requires lecturers { IsSortedByKey (λ x. x.key) (slice_cmp nat_cmp) lecturers.now }
-    requires projects { IsSortedByKey (λ x. x.key) (slice_cmp nat_cmp) projects.now }
-    requires students { IsSortedByKey (λ x. x.key) (slice_cmp nat_cmp) students.now }
+    requires sorted { AreSorted (rows_of lecturers.now projects.now students.now) }
     requires faultless { HasNoneBefore
         (rows_of lecturers.now projects.now students.now) NotApplicant }
     requires choices { AreListNumbers projects.now (λ x. x.key) (λ x. x.list)
         students.now choices.now }
     requires rankings { AreListNumbers students.now (λ x. x.key) (λ x. x.list)
         lecturers.now rankings.now }
-    ensures ok { IfOk result (λ i. StandsFor (rows_of lecturers.now projects.now students.now) i) }
-    ensures lawful { IfOk result (λ i. IsLawful i) }
-    ensures sound { OnOk result
-        (HasNoneBefore (rows_of lecturers.now projects.now students.now) Memory) }
+    ensures ok { IfOk result
+        (λ i. IsInstanceOf (rows_of lecturers.now projects.now students.now) i) }
     ensures err { IfErr result
         (λ e. IsRefusal (rows_of lecturers.now projects.now students.now) e.fault e.row) }
 {
@@ -67,11 +60,10 @@ fn instance_of(
 }
 
 impl Instance {
-    /// Builds the instance of these rows, or returns their first fault as an error.
+    /// Builds the lawful instance of these rows, the only one (law `instance_is_one`), or returns
+    /// their first fault as an error.
     pub fn build(alloc: Global, rows: InstanceRows) -> Result<Instance, BadInstance>
-        ensures ok { IfOk result (λ i. StandsFor rows i) }
-        ensures lawful { IfOk result (λ i. IsLawful i) }
-        ensures sound { OnOk result (HasNoneBefore rows Memory) }
+        ensures ok { IfOk result (λ i. IsInstanceOf rows i) }
         ensures err { IfErr result (λ e. IsRefusal rows e.fault e.row) }
     {
         check_lines(alloc, &rows)?;

@@ -3,10 +3,8 @@
 
 ghost use Rattle.std.specs.Prelude.{◌≡◌, ℕ, List, Option};
 ghost use Rattle.spa_rows.specs.Lines.{Rows};
-ghost use Rattle.spa_rows.specs.Faults.{HasNoneBefore};
-ghost use Rattle.spa_rows.specs.declared.faults.InstanceFault.TheVariants.{Memory};
-ghost use Rattle.spa_model.specs.Spa.{Spa, Blocks, IsBest, IsLawful};
-ghost use Rattle.spa_model.specs.Pairs.{StandsFor};
+ghost use Rattle.spa_model.specs.Spa.{Spa, Blocks, IsBest};
+ghost use Rattle.spa_model.specs.Pairs.{IsInstanceOf};
 ghost use Rattle.spa_model.specs.declared.letter.Letter.{Letter};
 
 /// Law: a pair blocks a matching with at most one letter.
@@ -22,6 +20,5 @@ pub fn best_is_one()
 
 /// Law: rows without a fault describe at most one lawful instance.
 pub fn instance_is_one()
-    ensures { (rows : Rows) (i j : Spa) → HasNoneBefore rows Memory → IsLawful i → StandsFor rows i
-        → IsLawful j → StandsFor rows j → i ≡ j }
+    ensures { (rows : Rows) (i j : Spa) → IsInstanceOf rows i → IsInstanceOf rows j → i ≡ j }
 {}

@@ -1,6 +1,6 @@
 //! Builds matchings from pairs; names the faults that pairs can have.
 
-ghost use Rattle.std.specs.Prelude.{◌≡◌, ◌<◌, IfErr, IfOk, OnOk, length};
+ghost use Rattle.std.specs.Prelude.{◌≡◌, ◌<◌, IfErr, IfOk, length};
 
 use crate::instance::Instance;
 use crate::pairs::{assigned, check_pairs, project_numbers, student_numbers};
@@ -63,7 +63,7 @@ impl Model for Matching {
 
 impl Matching {
     ghost use Rattle.spa_model.specs.Spa.{project_of, IsMatching};
-    ghost use Rattle.spa_model.specs.Pairs.{HasPairs, IsPairRefusal, AreSound};
+    ghost use Rattle.spa_model.specs.Pairs.{IsMatchingOf, IsPairRefusal};
 
     /// Builds the matching of these pairs, or returns their first fault as an error.
     pub fn build(
@@ -71,9 +71,7 @@ impl Matching {
         instance: &Instance,
         pairs: Vec<PairLine>,
     ) -> Result<Matching, BadMatching>
-        ensures ok { IfOk result (λ m. HasPairs instance.now pairs.items m) }
-        ensures matching { IfOk result (λ m. IsMatching instance.now m) }
-        ensures sound { OnOk result (AreSound instance.now pairs.items) }
+        ensures ok { IfOk result (λ m. IsMatchingOf instance.now pairs.items m) }
         ensures err { IfErr result (λ e. IsPairRefusal instance.now pairs.items e.fault e.row) }
     {
         let lines = pairs.as_slice();

@@ -9,6 +9,6 @@ pub use Rattle.spa_model.proofs.Counts.{count_by-set, count_by-lt, one_if, off_p
 pub use Rattle.spa_model.proofs.Places.{place-injective, get_or-place, place-get_or, place-get_or-le}
 pub use Rattle.spa_model.specs.Spa.{IsAcceptable, IsBefore, IsBest, IsDistinct, IsLawful, IsMatching, IsWith, Spa, at_lecturer, at_project, capacity_of, choices_of, is_lecturer, is_project, lecturer_of, limit_of, place, project_of, ranking_of, IsOn, Improves, Wants, Blocks, IsStable, IsAsGood}
 pub use Rattle.spa_student.specs.declared.cuts.Progress.{Progress}
-pub use Rattle.spa_student.specs.inner.Cuts.{IsPastCut, IsSettled, IsUnderWay, Puts, IsCut, IsUncut, AreCounts, AreMarks, IsNextEntry, KeepsCuts, Leaves, Exchanges}
+pub use Rattle.spa_student.specs.inner.Cuts.{IsFree, IsPastCut, IsSettled, IsUnderWay, Puts, IsCut, IsUncut, AreCounts, AreMarks, IsNextEntry, KeepsCuts, Leaves, Exchanges}
 pub use Rattle.spa_student.specs.inner.Machine.{Holds, LecturerSpent, ProjectSpent, rank_of, IsRanked, IsSpent}
 pub use Rattle.spa_student.specs.inner.Worst.{IsWorstWith, IsWorstAt}

@@ -7,7 +7,7 @@ ghost use Rattle.std.specs.Prelude.{Some, length, slice_set, slice_index, map};
 ghost use Rattle.spa_model.specs.Spa.{IsWith, IsAcceptable, choices_of, project_of, lecturer_of};
 ghost use Rattle.spa_model.specs.Spa.{ranking_of};
 ghost use Rattle.spa_student.specs.inner.Cuts.{IsPastCut, IsUncut, IsUnderWay, AreCounts, AreMarks};
-ghost use Rattle.spa_student.specs.inner.Cuts.{IsNextEntry, KeepsCuts, Puts, Leaves, LetsGoAt};
+ghost use Rattle.spa_student.specs.inner.Cuts.{IsNextEntry, IsTallied, KeepsCuts, Puts, Leaves, LetsGoAt};
 ghost use Rattle.spa_student.specs.inner.Cuts.{LetsGoWith, Exchanges};
 ghost use Rattle.spa_student.specs.inner.Machine.{rank_of};
 ghost use Rattle.spa_student.specs.inner.Worst.{IsWorstAt, IsWorstWith};
@@ -141,14 +141,12 @@ impl Progress {
 
     /// Removes student `w` from project `u`, and moves the student's cursor to the next entry.
     fn leave(&mut self, instance: &Instance, w: usize, u: usize)
-        requires marks { AreMarks instance.now self.old }
-        requires counts { AreCounts instance.now self.old }
+        requires tallied { IsTallied instance.now self.old }
         requires has { project_of self.old.projects.items w ≡ Some u }
         requires past { IsPastCut instance.now self.old w u }
         ensures leaves { Leaves w self.old self.new }
         ensures cuts { KeepsCuts self.old self.new }
-        ensures marks { AreMarks instance.now self.new }
-        ensures counts { AreCounts instance.now self.new }
+        ensures tallied { IsTallied instance.now self.new }
     {
         let entries = instance.choices(w).len();
         prove!(self.cursors[w] < entries);
@@ -161,8 +159,7 @@ impl Progress {
 
     /// Removes and returns the project's worst student. The cut moves to the student's position.
     fn let_go_at(&mut self, instance: &Instance, p: usize) -> usize
-        requires marks { AreMarks instance.now self.old }
-        requires counts { AreCounts instance.now self.old }
+        requires tallied { IsTallied instance.now self.old }
         requires uncut { IsUncut instance.now self.old }
         requires in_range { p < length instance.now.lecturers }
         requires some { (s : ℕ) × (project_of self.old.projects.items s ≡ Some p) }
@@ -177,8 +174,7 @@ impl Progress {
 
     /// Removes and returns the lecturer's worst student. The cut moves to the student's position.
     fn let_go_with(&mut self, instance: &Instance, p: usize) -> usize
-        requires marks { AreMarks instance.now self.old }
-        requires counts { AreCounts instance.now self.old }
+        requires tallied { IsTallied instance.now self.old }
         requires uncut { IsUncut instance.now self.old }
         requires in_range { p < length instance.now.lecturers }
         requires some { (s : ℕ) × IsWith instance.now self.old.projects.items

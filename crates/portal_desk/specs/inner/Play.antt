@@ -1,5 +1,6 @@
 -- What a call that is played over a keeper may do.
-use Rattle.std.specs.Prelude.{◌≡◌, ℕ, List, Option}
+use Rattle.std.specs.Prelude.{◌≡◌, ℕ, List, Option, false}
+use Rattle.serde_json.specs.Written.{has_float}
 use Rattle.spa_model.specs.Spa.{Spa, IsBest}
 use Rattle.portal_core.specs.Words.{Key}
 use Rattle.portal_core.specs.World.{World, changed}
@@ -10,7 +11,7 @@ use Rattle.portal_core.specs.declared.view.View.TheVariants.{Office}
 use Rattle.portal_core.specs.declared.decision.Sheet.{Sheet}
 use Rattle.portal_core.specs.declared.decision.Sheet.TheVariants as sheet
 use Rattle.portal_core.specs.inner.Room.{pairs_by}
-use Rattle.portal_core.specs.Answer.{Answer, Said, Csv, Plain, Act, Nothing, Apply, Publish, Render}
+use Rattle.portal_core.specs.Answer.{Answer, Said, Json, Csv, Plain, Unavailable, Act, Nothing, Apply, Publish, Render}
 use Rattle.portal_core.specs.Good.{Good, CanPublish}
 
 -- an act that leaves a good world
@@ -33,3 +34,9 @@ sheet_text v sheet.Report = Plain (report_text v)
 abbrev pub with_sheet : Sight → Act → Answer → Answer
 with_sheet (Office v) (Render sheet) reply = record reply { body = sheet_text v sheet }
 with_sheet v act reply = reply
+
+-- the body of an answer other than 503; JSON has whole numbers only
+abbrev pub IsTold : Said → Type 0
+IsTold (Json body) = has_float body ≡ false
+IsTold Unavailable = ⊥
+IsTold _ = Unit {0}

@@ -21,6 +21,11 @@ Partly cause.Write before after text = (k : ℕ) × Appends before after (take k
 Partly cause.Memory before after text = Appends before after []
 Partly _ before after text = ⊥
 
+-- a text is written whole, or a first part of it
+abbrev pub Writes : Result (Unit {0}) Cause → Option (List ℕ) → Option (List ℕ) → List ℕ → Type 0
+Writes (Ok u) before after text = Appends before after text
+Writes (Err why) before after text = Partly why before after text
+
 -- the count of a device's failed calls: it has risen where the cause is the device's own, else it is as before
 abbrev pub CountsFor : {A : Type 0} → Cause → Result A Cause → ℕ → ℕ → Type 0
 CountsFor own (Ok x) old new = new ≡ old

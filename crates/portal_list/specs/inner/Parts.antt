@@ -12,7 +12,7 @@ use Rattle.spa_model.specs.Spa.{IsStable}
 use Rattle.portal_core.specs.Good.{instance, matching_of, IsLecturer, IsProject, IsStudent, IsChoice, IsRanking}
 use Rattle.portal_core.specs.World.{World, Lecturer, Student, project_key, student_key, is_setup, is_published, is_from_ranking, is_second, is_left, projects_in}
 use Rattle.portal_core.specs.inner.Room.{own_keys}
-use Rattle.portal_list.specs.Rows.{AllEntries, entries_in}
+use Rattle.portal_list.specs.inner.Rows.{AllEntries, entries_in}
 
 abbrev pub codes_in : Key → List LecturerRow → List StudentRow → List Key
 codes_in office lecturers students = office ∷ map (λ l. l.code) lecturers ++ map (λ s. s.code) students

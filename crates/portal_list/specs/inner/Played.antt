@@ -9,7 +9,7 @@ use Rattle.portal_core.specs.Words.{Key, equals}
 use Rattle.portal_core.specs.inner.Room.{lecturer_left, project_left}
 use Rattle.portal_core.specs.World.{Lecturer, Student, is_left, lecturers_left, projects_left, students_left, World, Change, Choices, Ranks, Lecturers, Projects, Students, To, Placements, Fill, SecondRound}
 use Rattle.portal_core.specs.Alone.{alone_lecturer, alone_student}
-use Rattle.portal_list.specs.Rows.{AllEntries}
+use Rattle.portal_list.specs.inner.Rows.{AllEntries}
 use Rattle.portal_core.specs.declared.phase.Phase.{Phase}
 
 -- the lecturer, if room is left

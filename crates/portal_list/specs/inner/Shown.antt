@@ -1,15 +1,14 @@
 -- What is read of lists of rows.
-use Rattle.std.specs.Prelude.{Bool, if◌then◌else◌, ◌&&◌, List, [], map, filter, Option, option_map, is_none}
-use Rattle.std.specs.List.{list_any, filter_map, find}
+use Rattle.std.specs.Prelude.{Bool, if◌then◌else◌, ◌&&◌, List, [], map, filter, is_none}
+use Rattle.std.specs.List.{list_any}
 use Rattle.portal_core.specs.Words.{Key, equals, has}
 use Rattle.portal_core.specs.World.{Student, Lecturer, is_at, shown_placement, lecturers_in, projects_in}
-use Rattle.portal_core.specs.View.{persons, listing_with, listings}
+use Rattle.portal_core.specs.View.{persons, listings}
 use Rattle.portal_core.specs.declared.phase.Phase.{Phase}
-use Rattle.portal_core.specs.declared.rows.LecturerRow.{LecturerRow}
 use Rattle.portal_core.specs.declared.rows.Listing.{Listing}
 use Rattle.portal_core.specs.declared.rows.ProjectRow.{ProjectRow}
 use Rattle.portal_core.specs.declared.rows.Person.{Person}
-use Rattle.portal_list.specs.Rows.{AllEntries}
+use Rattle.portal_list.specs.inner.Rows.{AllEntries}
 
 -- a lecturer's projects, with the applicants once the lists are closed
 abbrev pub applicants_shown : Bool → List Student → Key → List ProjectRow → List (Key × List Person)
@@ -30,10 +29,3 @@ is_waiting ss ps l = is_none l.ranking && is_wanted ss ps l.row.key
 -- the catalogue of a round
 abbrev pub catalogue_in : AllEntries → List Listing
 catalogue_in e = listings (lecturers_in e.round e.lecturers e.projects e.students) (projects_in e.round e.lecturers e.projects e.students)
-
--- of rows alone: the name of the lecturer with this key, and each project with its lecturer's name
-abbrev pub name_of : List LecturerRow → Key → Option Key
-name_of ls k = option_map (λ (l : LecturerRow). l.name) (find (λ l. equals l.key k) ls)
-
-abbrev pub offered : List LecturerRow → List ProjectRow → List Listing
-offered ls ps = filter_map (λ p. option_map (listing_with p) (name_of ls p.lecturer)) ps

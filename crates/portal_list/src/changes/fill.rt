@@ -4,16 +4,15 @@
 ghost use Rattle.std.specs.Prelude.{◌≡◌, IfOk, OnOk, OnErr, List, map};
 ghost use Rattle.portal_core.specs.Words as words;
 ghost use Rattle.portal_core.specs.World.{World};
-ghost use Rattle.portal_list.specs.Rows.{HasEntries};
+ghost use Rattle.portal_list.specs.inner.Rows.{HasEntries};
 ghost use Rattle.portal_list.specs.inner.Parts.{applicant_keys};
 ghost use Rattle.portal_list.specs.inner.Fill.{missing, with_missing, filled, fill_missing};
 
 use crate::applicant_index::ApplicantIndex;
-use crate::collecting::try_map;
 use crate::entries::{Entries, LecturerEntry, StudentEntry};
 use crate::list_checks::applicants;
 use crate::views::waiting;
-use portal_core::ProjectRow;
+use portal_core::{ProjectRow, try_map};
 use spa_rows::Key;
 use std::alloc::{AllocError, Global};
 use std::marker::Model;

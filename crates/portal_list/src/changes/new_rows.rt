@@ -4,10 +4,9 @@ ghost use Rattle.std.specs.Prelude.{◌≡◌, IfOk, OnOk, OnErr, map};
 ghost use Rattle.portal_core.specs.Words.{put_all};
 ghost use Rattle.portal_core.specs.World.{new_lecturer, new_student};
 
-use crate::collecting::try_map;
 use crate::entries::{LecturerEntry, StudentEntry};
 use crate::keys::put_rows;
-use portal_core::{Keyed, LecturerRow, StudentRow};
+use portal_core::{Keyed, LecturerRow, StudentRow, try_map};
 use std::alloc::{AllocError, Global};
 
 /// Makes the entries of new lecturers, without rankings.

@@ -4,10 +4,9 @@ ghost use Rattle.std.specs.Prelude.{◌≡◌, IfOk, OnOk, OnErr, map};
 ghost use Rattle.portal_core.specs.World.{placement_in, with_place};
 ghost use Rattle.portal_list.specs.inner.Played.{placed_now};
 
-use crate::collecting::try_map;
 use crate::copies::place_copy;
 use crate::entries::StudentEntry;
-use portal_core::Pairs;
+use portal_core::{Pairs, try_map};
 use spa_rows::Key;
 use std::alloc::{AllocError, Global};
 

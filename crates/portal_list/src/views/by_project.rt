@@ -7,10 +7,9 @@ ghost use Rattle.portal_core.specs.View.{persons};
 ghost use Rattle.portal_list.specs.inner.Shown.{applicants_shown, placements_shown};
 
 use super::placements::placement_shown;
-use crate::collecting::try_map_where;
 use crate::copies::{holds, person_of};
 use crate::entries::StudentEntry;
-use portal_core::{Person, Phase, ProjectRow};
+use portal_core::{Person, Phase, ProjectRow, try_map_where};
 use spa_rows::Key;
 use std::alloc::{AllocError, Global};
 

@@ -6,11 +6,10 @@ ghost use Rattle.portal_core.specs.Words.{has, is_empty};
 ghost use Rattle.portal_list.specs.inner.Played.{takes_part};
 ghost use Rattle.portal_list.specs.inner.Shown.{is_wanted, is_waiting};
 
-use crate::collecting::{try_map, try_map_where};
 use crate::copies::holds;
 use crate::entries::{LecturerEntry, StudentEntry};
 use crate::second_round::takes_part;
-use portal_core::{LecturerRow, ProjectRow, Round, StudentRow};
+use portal_core::{LecturerRow, ProjectRow, Round, StudentRow, try_map, try_map_where};
 use spa_rows::Key;
 use std::alloc::{AllocError, Global};
 

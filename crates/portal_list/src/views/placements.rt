@@ -3,10 +3,9 @@
 ghost use Rattle.std.specs.Prelude.{◌≡◌, IfOk, option_map};
 ghost use Rattle.portal_core.specs.World.{shown_placement, pairs_with};
 
-use crate::collecting::try_filter_map;
 use crate::copies::pair_copy;
 use crate::entries::StudentEntry;
-use portal_core::Phase;
+use portal_core::{Phase, try_filter_map};
 use spa_rows::Key;
 use std::alloc::{AllocError, Global};
 

@@ -11,7 +11,7 @@ use Rattle.portal_core.specs.World.{World, Change, changed}
 use Rattle.portal_core.specs.Good.{Good}
 use Rattle.portal_core.specs.inner.ViewCache.{IsCacheOf}
 use Rattle.portal_core.specs.declared.view_cache.ViewCache.{ViewCache}
-use Rattle.portal_list.specs.Rows.{AllEntries, HasEntries}
+use Rattle.portal_list.specs.inner.Rows.{AllEntries, HasEntries}
 use Rattle.portal_tables.specs.Tables.{lecturer_tree, project_tree, student_tree, choice_tree, ranking_tree}
 use Rattle.portal_store.specs.World.{world_in, world_of}
 use Rattle.portal_store.specs.Kept.{AreConsistent, IsConsistentIn, IsConsistent, Seen}

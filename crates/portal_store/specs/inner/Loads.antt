@@ -5,7 +5,7 @@ use Rattle.sqlite.specs.Tree.{Trees}
 use Rattle.portal_core.specs.declared.phase.Phase.{Phase}
 use Rattle.portal_core.specs.Words.{Key}
 use Rattle.portal_core.specs.World.{Student, World}
-use Rattle.portal_list.specs.Rows.{RowsOfWorld, world_rows}
+use Rattle.portal_list.specs.inner.Rows.{RowsOfWorld, world_rows}
 use Rattle.portal_views.specs.inner.Contents.{AllRows}
 use Rattle.portal_tables.specs.Tables.{portal_tree, version}
 use Rattle.portal_store.specs.World.{world_in}

@@ -11,7 +11,7 @@ use Rattle.portal_core.specs.World.{World}
 use Rattle.portal_core.specs.inner.ViewCache.{IsCacheOf}
 use Rattle.portal_core.specs.declared.view_cache.ViewCache.{ViewCache}
 use Rattle.portal_core.specs.Good.{Good}
-use Rattle.portal_list.specs.Rows.{AllEntries}
+use Rattle.portal_list.specs.inner.Rows.{AllEntries}
 use Rattle.portal_tables.specs.Tables.{HasRound}
 use Rattle.portal_tables.specs.inner.Changes.{every}
 use Rattle.portal_tables.specs.inner.Queries.{selection}

@@ -1,8 +1,8 @@
 //! Tests keepers in lists that are made from good and bad rows of a database.
 
 use crate::tests::readers::same;
-use portal_core::{Code, LecturerRow, Name, Phase, ProjectRow, Round, StudentRow};
-use portal_list::{ListKeeper, RowsFault, WorldRows, listings_of};
+use portal_core::{Code, LecturerRow, Name, Phase, ProjectRow, Round, StudentRow, listings_of};
+use portal_list::{ListKeeper, RowsFault, WorldRows};
 use portal_rolls::{read_lecturers, read_students};
 use spa_rows::Key;
 use std::fmt::Debug;

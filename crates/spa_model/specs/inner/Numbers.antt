@@ -1,5 +1,8 @@
 -- How lines are kept by number, and what numbers show of applicants.
 use Rattle.std.specs.Prelude.{◌≡◌, ◌<◌, ℕ, List, [], All, Any, map, length, Option, None, Vec, slice_index_or}
+use Rattle.std.specs.Prelude.{IsSortedByKey}
+use Rattle.std.specs.Ordering.{nat_cmp}
+use Rattle.std.specs.Cmp.Lexicographic.{slice_cmp}
 use Rattle.std.specs.Global.{Global}
 use Rattle.std.specs.List.{AllZip}
 use Rattle.spa_rows.specs.Lines
@@ -14,6 +17,12 @@ use Rattle.spa_model.specs.inner.Inside.{AreRanks}
 -- the rows of these lines
 abbrev pub rows_of : List Lines.Lecturer → List Lines.Project → List Lines.Student → Rows
 rows_of lecturers projects students = record { lecturers = lecturers; projects = projects; students = students }
+
+-- the lines of each kind are sorted by key
+pub record AreSorted (rows : Rows) : Type 0 where
+  pub lecturers : IsSortedByKey (λ x. x.key) (slice_cmp nat_cmp) rows.lecturers
+  pub projects : IsSortedByKey (λ x. x.key) (slice_cmp nat_cmp) rows.projects
+  pub students : IsSortedByKey (λ x. x.key) (slice_cmp nat_cmp) rows.students
 
 -- the keys of lines in their order
 abbrev pub student_keys : List Lines.Student → List Text

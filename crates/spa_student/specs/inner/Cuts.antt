@@ -39,6 +39,16 @@ pub record AreMarks (i : Spa) (q : Progress) : Type 0 where
   pub passed : (s p : ℕ) → place (choices_of i s) p < slice_index q.cursors.items s → IsPastCut i q s p
   pub at_cursor : (s p : ℕ) → project_of q.projects.items s ≡ Some p → place (choices_of i s) p ≡ slice_index q.cursors.items s
 
+-- the marks are right, and the counts
+pub record IsTallied (i : Spa) (q : Progress) : Type 0 where
+  pub marks : AreMarks i q
+  pub counts : AreCounts i q
+
+-- s is a student who has no project
+pub record IsFree (i : Spa) (q : Progress) (s : ℕ) : Type 0 where
+  pub in_range : s < length i.choices
+  pub unassigned : project_of q.projects.items s ≡ None
+
 -- what holds before and after each turn
 pub record IsUnderWay (i : Spa) (q : Progress) : Type 0 where
   pub marks : AreMarks i q

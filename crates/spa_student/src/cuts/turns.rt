@@ -1,8 +1,8 @@
 //! Gives each free student a turn, until nobody is free: `solve` runs the SPA-student algorithm.
 
-ghost use Rattle.std.specs.Prelude.{◌≡◌, ◌≢◌, ◌<◌, ◌⊎◌, ℕ, IfOk, IfSome, Some, None, length, sum};
-ghost use Rattle.spa_model.specs.Spa.{IsBest, project_of};
-ghost use Rattle.spa_student.specs.inner.Cuts.{IsUnderWay, IsSettled};
+ghost use Rattle.std.specs.Prelude.{◌≡◌, ◌≢◌, ◌<◌, ◌⊎◌, ℕ, IfOk, IfSome, Some, sum};
+ghost use Rattle.spa_model.specs.Spa.{IsBest};
+ghost use Rattle.spa_student.specs.inner.Cuts.{IsFree, IsSettled, IsUnderWay};
 
 use crate::cuts::Progress;
 use spa_model::{Instance, Matching};
@@ -13,13 +13,11 @@ impl Progress {
     /// that project, if there is one. Returns the student who is then removed, if any.
     fn turn(&mut self, instance: &Instance, s: usize) -> Option<usize>
         requires state { IsUnderWay instance.now self.old }
-        requires in_range { s < length instance.now.choices }
-        requires free { project_of self.old.projects.items s ≡ None }
+        requires free { IsFree instance.now self.old s }
         ensures state { IsUnderWay instance.now self.new }
         ensures settled { (x : ℕ) → result ≢ Some x → (x ≡ s) ⊎ IsSettled instance.now self.old x
             → IsSettled instance.now self.new x }
-        ensures free { IfSome result (λ w. (w < length instance.now.choices)
-            × (project_of self.new.projects.items w ≡ None)) }
+        ensures free { IfSome result (IsFree instance.now self.new) }
         ensures moves { IfSome result
             (λ w. sum self.old.cursors.items < sum self.new.cursors.items) }
     {
@@ -36,8 +34,7 @@ impl Progress {
     /// Gives a free student a turn, then each student whom a turn removes, until nobody is removed.
     fn settle(&mut self, instance: &Instance, s: usize)
         requires state { IsUnderWay instance.now self.old }
-        requires in_range { s < length instance.now.choices }
-        requires free { project_of self.old.projects.items s ≡ None }
+        requires free { IsFree instance.now self.old s }
         ensures state { IsUnderWay instance.now self.new }
         ensures settled { (x : ℕ) → (x ≡ s) ⊎ IsSettled instance.now self.old x
             → IsSettled instance.now self.new x }

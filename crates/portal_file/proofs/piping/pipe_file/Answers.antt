@@ -1,12 +1,17 @@
+use Rattle.std.proofs.Common.{rules}
 use Rattle.sqlite_wal.specs.Files.{image_at}
-use Rattle.portal_file.proofs.Base.{if_ok, if_err}
+use Rattle.portal_file.specs.Jobs.{PipesStream}
+use Rattle.portal_file.proofs.Carried.{pipes}
+use Rattle.portal_file.proofs.Held.{over_files_with}
 use Rattle.portal_file.proofs.piping.pipe_file.Goals as goal
 
-pub returns-in-Ok-clause-process : goal.returns-in-Ok-clause-process
-returns-in-Ok-clause-process g c =
-    if_ok c.pipe_closing.result.1 _ _ (λ files did left honest may. did (image_at g.S.Start) left c.in-Ok.ensures.found honest may) c.pipe_closing.ensures.process
-
-pub returns-in-Ok-clause-refused : goal.returns-in-Ok-clause-refused
-returns-in-Ok-clause-refused g c =
-    if_err c.pipe_closing.result.0 _ _
-    (λ fault did. if_ok c.pipe_closing.result.1 _ _ (λ files denies w honest holds. denies (image_at g.S.Start) w c.in-Ok.ensures.found honest holds) did) c.pipe_closing.ensures.refused
+pub returns-clause-pipes : goal.returns-clause-pipes
+returns-clause-pipes g c =
+    over_files_with _ (image_at g.S.Start)
+    (λ reader writer r. PipesStream r (record {
+      remaining = g.R.Read.remaining c.args.reader.now;
+      left = g.R.Read.remaining reader;
+      before = g.W.Write.contents c.args.writer.now;
+      after = g.W.Write.contents writer;
+    }))
+    (λ reader writer. pipes _) _ _ _ _ (search rules) (search rules) c.over_file.result c.over_file.ensures.runs

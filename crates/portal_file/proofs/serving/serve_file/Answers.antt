@@ -1,12 +1,11 @@
+use Rattle.std.proofs.Common.{refl, rules}
 use Rattle.sqlite_wal.specs.Files.{image_at}
-use Rattle.portal_file.proofs.Base.{if_ok, if_err}
+use Rattle.portal_file.specs.Jobs.{ServesRequests}
+use Rattle.portal_file.proofs.Carried.{serves}
+use Rattle.portal_file.proofs.Held.{over_files_with}
 use Rattle.portal_file.proofs.serving.serve_file.Goals as goal
 
-pub returns-in-Ok-clause-process : goal.returns-in-Ok-clause-process
-returns-in-Ok-clause-process g c =
-    if_ok c.serve_closing.result.1 _ _ (λ files did left honest may. did (image_at g.S.Start) left c.in-Ok.ensures.found honest may) c.serve_closing.ensures.process
-
-pub returns-in-Ok-clause-refused : goal.returns-in-Ok-clause-refused
-returns-in-Ok-clause-refused g c =
-    if_err c.serve_closing.result.0 _ _
-    (λ fault did. if_ok c.serve_closing.result.1 _ _ (λ files denies w honest holds. denies (image_at g.S.Start) w c.in-Ok.ensures.found honest holds) did) c.serve_closing.ensures.refused
+pub returns : goal.returns
+returns g c =
+    over_files_with _ (image_at g.S.Start) (λ was is r. ServesRequests r (g.L.Service.told was is)) (λ was is. serves _)
+    c.args.service.now c.args.service.now _ _ refl (search rules) c.over_file.result c.over_file.ensures.runs

@@ -1,5 +1,9 @@
-use Rattle.portal_run.proofs.Upgraded.{answered}
+use Rattle.portal_run.proofs.Upgraded.{answered, refused}
 use Rattle.portal_run.proofs.init.upgrade_over.Goals as goal
 
-pub returns-clause-says : goal.returns-clause-says
-returns-clause-says g c small = answered c.upgrade_file.result _ _ _ c.say_upgraded.ensures.answered c.say_upgraded.ensures.closed small
+pub returns-in-Ok-clause-says : goal.returns-in-Ok-clause-says
+returns-in-Ok-clause-says g c small =
+    answered c.outcome-done.result _ _ _ c.say_done.ensures.done c.say_done.ensures.refused small
+
+pub returns-in-Err-clause-says : goal.returns-in-Err-clause-says
+returns-in-Err-clause-says g c small = refused c.in-Err.why _ _ _ c.refuse.ensures small

@@ -13,7 +13,9 @@ abbrev rows : Start → Rows
 rows c = rows_of c.args.lecturers.now c.args.projects.now c.args.students.now
 
 good : (c : Start) → AreGood (rows c)
-good c = are_good (rows c) c.requires.lecturers c.requires.projects c.requires.students c.requires.faultless
+good c =
+    let sorted = c.requires.sorted in
+    are_good (rows c) sorted.lecturers sorted.projects sorted.students c.requires.faultless
 
 -- the same once students and projects have numbers
 abbrev start : After-deref-2 → Start
@@ -120,10 +122,13 @@ invariant_of-result c =
     (Lawful.lawful _ _ _ _ good' so' (c.in_ok-lecturer_rows.ensures (student_keys c.args.students.now) (length-map c.args.students.now (λ x. x.key)) (rankings_numbered (before c))) (faultless c), Lawful.have_ranks _ _ _ _ good' so' (c.in_ok-lecturer_rows.ensures (student_keys c.args.students.now) (length-map c.args.students.now (λ x. x.key)) (rankings_numbered (before c))) (faultless c))
 
 pub returns-clause-ok : goal.returns-clause-ok
-returns-clause-ok c = Lawful.stands_for _ _ _ _ (good (start (numbers (before c)))) (so (numbers (before c))) (c.in_ok-lecturer_rows.ensures (student_keys c.args.students.now) (length-map c.args.students.now (λ x. x.key)) (rankings_numbered (before c))) (faultless c)
-
-pub returns-clause-lawful : goal.returns-clause-lawful
-returns-clause-lawful c = Lawful.lawful _ _ _ _ (good (start (numbers (before c)))) (so (numbers (before c))) (c.in_ok-lecturer_rows.ensures (student_keys c.args.students.now) (length-map c.args.students.now (λ x. x.key)) (rankings_numbered (before c))) (faultless c)
-
-pub returns-clause-sound : goal.returns-clause-sound
-returns-clause-sound c = faultless c
+returns-clause-ok c =
+    let good' : AreGood (rows (start (numbers (before c)))) = good (start (numbers (before c))) in
+    let so' = so (numbers (before c)) in
+    let count = length-map c.args.students.now (λ x. x.key) in
+    let ranked = c.in_ok-lecturer_rows.ensures (student_keys c.args.students.now) count (rankings_numbered (before c)) in
+    record {
+      stands = Lawful.stands_for _ _ _ _ good' so' ranked (faultless c);
+      lawful = Lawful.lawful _ _ _ _ good' so' ranked (faultless c);
+      faultless = faultless c;
+    }

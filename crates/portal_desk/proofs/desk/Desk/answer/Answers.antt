@@ -10,7 +10,7 @@ returns-in-Err-clause-err g c =
     elim c.if-closes.branch [ then-closes w ↦ rw w.if-closes.true (w.shut-is ∙ w.if-closes.true) | else-closes w ↦ rw w.if-closes.false w.shut-is ] in (
       reply_model c.respond-reply.result,
       acted_as _ _ c.args.request.now.close c.args.closes (seen c.args.request.now) _ c.respond-reply.ensures.acted,
-      broke c.in-Err.cause _ _ _ c.args.closes _ _ (rw (c.asks_head.ensures, shut, c.failed-lost.ensures.failed) at c.in-Err.ensures.err),
+      broke c.in-Err.cause _ _ _ c.args.closes _ _ (rw (c.asks_head.ensures, shut, c.failed-lost.ensures.failed) at c.in-Err.ensures.writes),
     )
 
 pub returns-clause-ok : goal.returns-clause-ok
@@ -20,5 +20,5 @@ returns-clause-ok g c =
     elim c.if-closes.branch [ then-closes w ↦ rw w.if-closes.true (w.shut-is ∙ w.if-closes.true) | else-closes w ↦ rw w.if-closes.false w.shut-is ] in (
       reply_model c.respond-reply.result,
       acted_as _ _ c.args.request.now.close c.args.closes (seen c.args.request.now) _ c.respond-reply.ensures.acted,
-      (calm, still _ _ _ _ c.args.closes _ calm (rw (c.asks_head.ensures, shut, c.failed-lost.ensures.failed) at c.in-Ok.ensures.ok)),
+      (calm, still _ _ _ _ c.args.closes _ calm (rw (c.asks_head.ensures, shut, c.failed-lost.ensures.failed) at c.in-Ok.ensures.writes)),
     )

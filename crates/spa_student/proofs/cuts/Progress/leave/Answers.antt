@@ -6,7 +6,9 @@ pub prove-unreachable-requires : goal.prove-unreachable-requires
 prove-unreachable-requires c = search (rules, leaver_cursor, get_or_read, leaver_has_entry)
 
 pub lecturer_of-l-requires : goal.lecturer_of-l-requires
-lecturer_of-l-requires c = c.requires.marks.lawful.known c.args.w c.args.u (c.requires.marks.assigned.acceptable c.args.w c.args.u c.requires.has)
+lecturer_of-l-requires c =
+    let marks = c.requires.tallied.marks in
+    marks.lawful.known c.args.w c.args.u (marks.assigned.acceptable c.args.w c.args.u c.requires.has)
 
 pub overflow_sub-index_mut : goal.overflow_sub-index_mut
 overflow_sub-index_mut c = search (rules, get_or_read, some_at)
@@ -14,21 +16,33 @@ overflow_sub-index_mut c = search (rules, get_or_read, some_at)
 pub overflow_sub-index_mut-2 : goal.overflow_sub-index_mut-2
 overflow_sub-index_mut-2 c = search (rules, get_or_read, some_with)
 
-pub returns-clause-marks : goal.returns-clause-marks
-returns-clause-marks c =
+pub returns-clause-tallied : goal.returns-clause-tallied
+returns-clause-tallied c =
+    let i = c.args.instance.now in
     let q = c.args.self.now in
-    let in_range : c.args.w < length q.cursors.items = leaver_cursor c.args.instance.now q c.requires.marks c.args.w c.args.u c.requires.has in
-    let cursor : c.index_mut-2.result.now ≡ get_or q.cursors.items c.args.w 0 = get_or_read q.cursors.items c.args.w c.index_mut-2.result.now in_range c.index_mut-2.ensures.value 0 in
-    left_marks c.args.instance.now q _ c.requires.marks c.args.w c.args.u c.requires.has (record { projects = refl; cursors = ap (λ n. set q.cursors.items c.args.w (n + 1)) cursor }) (record { project_cuts = refl; lecturer_cuts = refl }) c.requires.past
-
-pub returns-clause-counts : goal.returns-clause-counts
-returns-clause-counts c =
-    let q = c.args.self.now in
-    let in_range : c.args.w < length q.cursors.items = leaver_cursor c.args.instance.now q c.requires.marks c.args.w c.args.u c.requires.has in
-    let cursor : c.index_mut-2.result.now ≡ get_or q.cursors.items c.args.w 0 = get_or_read q.cursors.items c.args.w c.index_mut-2.result.now in_range c.index_mut-2.ensures.value 0 in
-    let known : c.args.u < length c.args.instance.now.lecturers = c.requires.marks.lawful.known c.args.w c.args.u (c.requires.marks.assigned.acceptable c.args.w c.args.u c.requires.has) in
-    let count : c.index_mut-3.result.now ≡ get_or q.project_counts.items c.args.u 0 = get_or_read q.project_counts.items c.args.u c.index_mut-3.result.now (omega (arith, c.requires.counts.project_rows)) c.index_mut-3.ensures.value 0 in
-    let count_l : c.index_mut-4.result.now ≡ get_or q.lecturer_counts.items c.lecturer_of-l.result 0 = get_or_read q.lecturer_counts.items c.lecturer_of-l.result c.index_mut-4.result.now (omega (arith, c.requires.counts.lecturer_rows, c.lecturer_of-l.ensures.in_range)) c.index_mut-4.ensures.value 0 in
-    left_counts c.args.instance.now q _ c.requires.marks c.args.w c.args.u c.requires.has (record { projects = refl; cursors = ap (λ n. set q.cursors.items c.args.w (n + 1)) cursor }) c.requires.counts known (rw c.lecturer_of-l.ensures.gives at c.lecturer_of-l.ensures.in_range)
-    (ap (λ n. set q.project_counts.items c.args.u (n - 1)) count)
-    (ap (λ n. set q.lecturer_counts.items c.lecturer_of-l.result (n - 1)) count_l ∙ ap (λ l. set q.lecturer_counts.items l (get_or q.lecturer_counts.items l 0 - 1)) c.lecturer_of-l.ensures.gives)
+    let w = c.args.w in
+    let u = c.args.u in
+    let marks = c.requires.tallied.marks in
+    let counts = c.requires.tallied.counts in
+    let in_range : w < length q.cursors.items = leaver_cursor i q marks w u c.requires.has in
+    let cursor : c.index_mut-2.result.now ≡ get_or q.cursors.items w 0 =
+    get_or_read q.cursors.items w c.index_mut-2.result.now in_range c.index_mut-2.ensures.value 0 in
+    let known : u < length i.lecturers = marks.lawful.known w u (marks.assigned.acceptable w u c.requires.has) in
+    let count : c.index_mut-3.result.now ≡ get_or q.project_counts.items u 0 =
+    get_or_read q.project_counts.items u c.index_mut-3.result.now (omega (arith, counts.project_rows))
+    c.index_mut-3.ensures.value 0 in
+    let count_l : c.index_mut-4.result.now ≡ get_or q.lecturer_counts.items c.lecturer_of-l.result 0 =
+    get_or_read q.lecturer_counts.items c.lecturer_of-l.result c.index_mut-4.result.now
+    (omega (arith, counts.lecturer_rows, c.lecturer_of-l.ensures.in_range)) c.index_mut-4.ensures.value 0 in
+    record {
+      marks = left_marks i q _ marks w u c.requires.has
+          (record { projects = refl; cursors = ap (λ n. set q.cursors.items w (n + 1)) cursor })
+          (record { project_cuts = refl; lecturer_cuts = refl }) c.requires.past;
+      counts = left_counts i q _ marks w u c.requires.has
+          (record { projects = refl; cursors = ap (λ n. set q.cursors.items w (n + 1)) cursor })
+          counts known (rw c.lecturer_of-l.ensures.gives at c.lecturer_of-l.ensures.in_range)
+          (ap (λ n. set q.project_counts.items u (n - 1)) count)
+          (ap (λ n. set q.lecturer_counts.items c.lecturer_of-l.result (n - 1)) count_l
+          ∙ ap (λ l. set q.lecturer_counts.items l (get_or q.lecturer_counts.items l 0 - 1))
+          c.lecturer_of-l.ensures.gives);
+    }

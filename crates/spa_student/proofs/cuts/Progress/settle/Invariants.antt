@@ -1,4 +1,4 @@
-use Rattle.spa_student.proofs.Base.{◌≡◌, ◌≢◌, ◌⊎◌, ℕ, ◌<◌, ◌-◌, None, length, sum, project_of, IsUnderWay, IsSettled}
+use Rattle.spa_student.proofs.Base.{◌≡◌, ◌≢◌, ◌⊎◌, ℕ, ◌-◌, length, sum, IsFree, IsUnderWay, IsSettled}
 use Rattle.std.proofs.Common.{sum_by}
 use Rattle.spa_student.proofs.cuts.Progress.settle.Given as goal
 
@@ -6,8 +6,7 @@ use Rattle.spa_student.proofs.cuts.Progress.settle.Given as goal
 abbrev pub invariant-loop-w : goal.invariant-loop-w
 invariant-loop-w l = record {
   state : IsUnderWay l.instance l.self;
-  in_range : l.free < length l.instance.choices;
-  free : project_of l.self.projects.items l.free ≡ None;
+  free : IsFree l.instance l.self l.free;
   settled : (x : ℕ) → x ≢ l.free → (x ≡ l.s) ⊎ IsSettled l.instance l.initial.self x → IsSettled l.instance l.self x;
 }
 

@@ -1,0 +1,33 @@
+use Rattle.std.proofs.Common.{None, [], refl, sym, subst}
+use Rattle.portal_store.specs.Calls.{OpensStore}
+use Rattle.portal_file.specs.Tables.{ClosesAs}
+use Rattle.portal_file.proofs.Served.{disk_before, serves}
+use Rattle.portal_file.proofs.serving.ServeRequestsJob.run.Goals as goal
+
+pub returns-in-Ok-clause-works : goal.returns-in-Ok-clause-works
+returns-in-Ok-clause-works g c =
+    let opens = subst (OpensStore g.S.Store c.args.conn) (sym c.new-desk.ensures.keeper) c.in-Ok.ensures.opens in
+    let closes = subst (λ s. ClosesAs g.S.Store s c.close_tables.result) c.into_keeper.ensures.same
+    c.close_tables.ensures.closes in
+    let moved = c.serve.ensures.moves in
+    record {
+      disk = disk_before g.S.Store c.args.conn c.close_tables.result c.new-desk.result.keeper c.serve.new.desk.keeper
+          c.run_good.ensures opens closes moved.1.breaks;
+      did = λ clean. record {
+        serves = (
+          moved.0,
+          serves g.S.Store c.args.conn c.close_tables.result c.new-desk.result.keeper c.serve.new.desk.keeper
+              c.run_good.ensures opens closes moved.0 None tt moved.1 clean,
+          moved.2,
+        );
+        refused = tt;
+      };
+    }
+
+pub returns-in-Err-clause-works : goal.returns-in-Err-clause-works
+returns-in-Err-clause-works g c =
+    let refused = c.in-Err.ensures.refused in
+    record {
+      disk = refused.disk;
+      did = λ clean. let is = refused.did clean in record { serves = ([], is.serves, refl); refused = is.denies };
+    }
