@@ -1,9 +1,10 @@
 -- What is published is the best for the students.
-use Rattle.portal_core.proofs.Base.{◌≡◌, ◌⊎◌, inl, inr, Bool, true, false, List, refl, sym, ◌∙◌, ap, subst, AllByRecursion, IsBest, Key, World, is_published, is_second, first, changed, instance, matching_of, Caller, caller, sight_of, AbstractCall, Answer, Decision, decision, Good, StepLeaves, Step, Request, Calls, Run, OpensSecond, HasBest, arith, Placements, ShowsBest}
-use Rattle.portal_core.proofs.Kept.{instance_placed}
-use Rattle.portal_core.proofs.Steps.{run_keeps, step_good}
-use Rattle.portal_core.proofs.Opened.{first_back, opens_to, first_stays}
-use Rattle.portal_core.proofs.Opening.{step_turns}
+use Rattle.portal_rules.proofs.Base.{◌≡◌, ◌⊎◌, inl, inr, Bool, true, false, List, refl, sym, ◌∙◌, ap, subst, AllByRecursion, IsBest, Key, World, is_published, is_second, first, changed, instance, matching_of, Caller, caller, sight_of, AbstractCall, Answer, Decision, decision, Good, StepLeaves, Step, Request, Calls, Run, OpensSecond, arith, Placements}
+use Rattle.portal_core.specs.Honest.{HasBest, ShowsBest}
+use Rattle.portal_rules.proofs.Kept.{instance_placed}
+use Rattle.portal_rules.proofs.Steps.{run_keeps, step_good}
+use Rattle.portal_rules.proofs.Opened.{first_back, opens_to, first_stays}
+use Rattle.portal_rules.proofs.Opening.{step_turns}
 
 module _ (w v : World) where
   -- nothing changed, or nothing is published, or what is published is the best

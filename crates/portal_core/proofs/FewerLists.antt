@@ -1,12 +1,14 @@
 -- Students who submit no list harm nobody else: of worlds.
-use Rattle.portal_core.proofs.Base.{◌≡◌, ℕ, ◌<◌, true, false, List, [], map, length, get_or, sym, ◌∙◌, ap, subst, arith, filter, AllByRecursion, get_or-map, length-map, AllZip-get_or, AllZip-long, IsOn, IsAcceptable, IsAsGood, choices_of, project_of, number_in, number_is, Round, First, Second, Key, has, World, project_key, student_key, is_left, is_published, students_in, in_play, instance_of, places_of, project_keys, student_keys, StudentSees, view, Good, HasBest, DifferInLists, ListAlike, IsNoWorse, alone, alone_student, fewer_by_number, alike_by_number, ◌∷◌}
+use Rattle.portal_rules.proofs.Base.{◌≡◌, ℕ, ◌<◌, true, false, List, [], map, length, get_or, sym, ◌∙◌, ap, subst, arith, filter, AllByRecursion, get_or-map, length-map, AllZip-get_or, AllZip-long, IsOn, IsAcceptable, IsAsGood, choices_of, project_of, number_in, number_is, Round, First, Second, Key, has, World, project_key, student_key, is_left, is_published, students_in, in_play, instance_of, places_of, project_keys, student_keys, StudentSees, view, Good, alone, alone_student, ◌∷◌}
+use Rattle.portal_core.specs.Honest.{HasBest, DifferInLists, ListAlike, IsNoWorse}
+use Rattle.spa_honest.proofs.Fewer.{fewer_never_harm as fewer_by_number, as_good_alike as alike_by_number}
 use Rattle.spa_honest.specs.Honest as instances
-use Rattle.portal_core.specs.declared.view.View.TheVariants as sees
-use Rattle.portal_core.specs.World.{Student}
-use Rattle.portal_core.proofs.AllLaws.{all_at, all_map}
-use Rattle.portal_core.proofs.InRound.{all_filter}
+use Rattle.portal_rules.specs.declared.view.View.TheVariants as sees
+use Rattle.portal_rules.specs.World.{Student}
+use Rattle.portal_rules.proofs.AllLaws.{all_at, all_map}
+use Rattle.portal_rules.proofs.InRound.{all_filter}
 use Rattle.portal_core.proofs.HonestLists.{has_number, key_of, no_student, IsBestRound, IsStableRound, best_alone, stable_alone, world_ranked, differ_by_number, differ_alone}
-use Rattle.portal_core.proofs.Zips.{zip_same}
+use Rattle.portal_rules.proofs.Zips.{zip_same}
 use Rattle.portal_core.proofs.HonestGroups.{was_key, of_group, gains_nothing, own_group, one_gains_nothing, if_playing}
 
 module _ (w v : World) (group : List Key) (other : Good w) (one : HasBest v) (differ : DifferInLists w v (λ k. has group k ≡ true)) (none : AllByRecursion (λ s. has group s.row.key ≡ true → s.choice ≡ []) v.students) where

@@ -1,15 +1,16 @@
 -- From each good world each call has a step, and requests that have replies have a run without a 503.
-use Rattle.portal_core.proofs.Base.{◌≡◌, ◌≢◌, ◌∙◌, false, List, [], ◌∷◌, refl, sym, ap, subst, inl, inr, arith, AllByRecursion, Key, World, is_setup, is_from_ranking, is_still_to_rank, in_play, changed, Round, First, Second, Choices, Ranks, Lecturers, Projects, Students, To, Placements, Fill, SecondRound, Choosing, Ranking, Caller, NoCaller, OfficeCaller, LecturerCaller, StudentCaller, caller, sight_of, view, office_sees, lecturer_sees, student_sees, AbstractCall, Answer, Decision, refuses, decision, answer, Good, Sound, IsBest, instance, instance_of, matching_of, student_keys, project_keys, StepLeaves, Step, HasForm, Wish, Calls, Refused, Request, Answers, Serves, Run, AllAnswered, unavailable, Sight, HasReply, pairs_by}
+use Rattle.portal_rules.proofs.Base.{◌≡◌, ◌≢◌, ◌∙◌, false, List, [], ◌∷◌, refl, sym, ap, subst, inl, inr, arith, AllByRecursion, Key, World, is_setup, is_from_ranking, is_still_to_rank, in_play, changed, Round, First, Second, Choices, Ranks, Lecturers, Projects, Students, To, Placements, Fill, SecondRound, Choosing, Ranking, Caller, NoCaller, OfficeCaller, LecturerCaller, StudentCaller, caller, sight_of, view, office_sees, lecturer_sees, student_sees, AbstractCall, Answer, Decision, refuses, decision, answer, Good, Sound, IsBest, instance, instance_of, matching_of, student_keys, project_keys, StepLeaves, Step, HasForm, Wish, Calls, Refused, Request, Answers, Serves, Run, AllAnswered, unavailable, Sight, pairs_by}
+use Rattle.portal_core.specs.Replies.{HasReply}
 use Rattle.spa_honest.proofs.Exists.{best_of}
 use Rattle.spa_student.specs.inner.Machine.{IsRanked}
-use Rattle.portal_core.proofs.Cases.{by_student, by_lecturer, by_office}
-use Rattle.portal_core.proofs.Kept.{all_ranked, placed_sound, instance_placed}
-use Rattle.portal_core.proofs.Alone.{alone_sound, rows_alone}
-use Rattle.portal_core.proofs.Capacities.{first_plays, second_plays, left_of}
-use Rattle.portal_core.specs.Alone.{alone}
+use Rattle.portal_rules.proofs.Cases.{by_student, by_lecturer, by_office}
+use Rattle.portal_rules.proofs.Kept.{all_ranked, placed_sound, instance_placed}
+use Rattle.portal_rules.proofs.Alone.{alone_sound, rows_alone}
+use Rattle.portal_rules.proofs.Capacities.{first_plays, second_plays, left_of}
+use Rattle.portal_rules.specs.Alone.{alone}
 use Rattle.portal_core.proofs.HonestLists.{world_ranked}
-use Rattle.portal_core.proofs.Published.{pairs_place}
-use Rattle.portal_core.proofs.Steps.{step_good}
+use Rattle.portal_rules.proofs.Published.{pairs_place}
+use Rattle.portal_rules.proofs.Steps.{step_good}
 
 -- where nobody is still to rank, the instance is ranked
 ranked_now : (w : World) → Sound w → is_setup w.phase ≡ false → AllByRecursion (λ l. is_still_to_rank w l ≡ false) w.lecturers → IsRanked (instance w)

@@ -1,15 +1,17 @@
 -- No group of students gains anything by other lists, nor does one student: of worlds.
-use Rattle.portal_core.proofs.Base.{◌≡◌, ℕ, zero, suc, ◌<◌, Bool, true, false, List, [], ◌∷◌, map, length, get_or, refl, sym, ◌∙◌, ap, subst, arith, Option, Some, None, option_map, filter, find, AllByRecursion, AllZip, get_or-map, length-map, get_or_default, project_of, IsOn, number_in, number_is, Rise, Round, First, Second, StudentRow, Key, has, World, project_key, student_key, is_left, is_second, is_published, students_in, in_play, alone, alone_student, instance_of, places_of, project_keys, student_keys, StudentSees, view, student_with, student_sees, Good, Sound, HasBest, ListAlike, DifferInLists, DifferInOneList, IsNoWorse, no_group_by_number, OneGainsNothing}
+use Rattle.portal_rules.proofs.Base.{◌≡◌, ℕ, zero, suc, ◌<◌, Bool, true, false, List, [], ◌∷◌, map, length, get_or, refl, sym, ◌∙◌, ap, subst, arith, Option, Some, None, option_map, filter, find, AllByRecursion, AllZip, get_or-map, length-map, get_or_default, project_of, IsOn, number_in, number_is, Rise, Round, First, Second, StudentRow, Key, has, World, project_key, student_key, is_left, is_second, is_published, students_in, in_play, alone, alone_student, instance_of, places_of, project_keys, student_keys, StudentSees, view, student_with, student_sees, Good, Sound}
+use Rattle.portal_core.specs.Honest.{HasBest, ListAlike, DifferInLists, DifferInOneList, IsNoWorse, OneGainsNothing}
+use Rattle.spa_honest.proofs.Gains.{no_group_gains as no_group_by_number}
 use Rattle.spa_honest.specs.Honest as instances
-use Rattle.portal_core.specs.declared.view.View.TheVariants as sees
-use Rattle.portal_core.specs.World.{Student}
-use Rattle.portal_core.proofs.Keys.{is_same, is_own, found_passes, found_all, one_row}
-use Rattle.portal_core.proofs.AllLaws.{all_at, all_map, all_weaker, all_both, map_same}
-use Rattle.portal_core.proofs.Zips.{zip_by, zip_same}
-use Rattle.portal_core.proofs.Alone.{passes}
-use Rattle.portal_core.proofs.Named.{students_named}
-use Rattle.portal_core.proofs.Published.{number_back}
-use Rattle.portal_core.proofs.Capacities.{number_has}
+use Rattle.portal_rules.specs.declared.view.View.TheVariants as sees
+use Rattle.portal_rules.specs.World.{Student}
+use Rattle.portal_rules.proofs.Keys.{is_same, is_own, found_passes, found_all, one_row}
+use Rattle.portal_rules.proofs.AllLaws.{all_at, all_map, all_weaker, all_both, map_same}
+use Rattle.portal_rules.proofs.Zips.{zip_by, zip_same}
+use Rattle.portal_rules.proofs.Alone.{passes}
+use Rattle.portal_rules.proofs.Named.{students_named}
+use Rattle.portal_rules.proofs.Published.{number_back}
+use Rattle.portal_rules.proofs.Capacities.{number_has}
 use Rattle.portal_core.proofs.LeftOver.{is_none_of}
 use Rattle.portal_core.proofs.HonestLists.{has_number, on_number, key_of, no_student, IsBestRound, IsStableRound, best_alone, stable_alone, world_ranked, differ_by_number, differ_alone, no_worse_by_number, shown, shown_student, find_left}
 

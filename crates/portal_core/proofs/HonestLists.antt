@@ -1,17 +1,18 @@
 -- Instances and worlds that differ in lists: from numbers to keys, and from a round to its world.
-use Rattle.portal_core.proofs.Base.{◌≡◌, ℕ, zero, suc, ◌-◌, ◌<◌, ◌≤◌, Bool, true, false, not, inl, inr, List, [], ◌∷◌, map, length, get_or, refl, sym, ◌∙◌, ap, subst, arith, Option, Some, None, IfSome, option_map, unwrap_or, is_none, nat_lt, ◌&&◌, filter, AllByRecursion, AllZip, list_any, find, eqb-true, get_or-map, length-map, AllZip-get_or, AllZip-long, list_any_at, IsBest, IsStable, place, project_of, lecturer_of, IsOn, IsAcceptable, number_in, number_is, number_known, ProjectRow, Key, equals, has, is_empty, AreDistinct, World, lecturer_key, project_key, student_key, projects_of, applicants_of, is_published, is_left, given_with, lowered_lecturer, lowered_project, lecturers_left, students_left, lecturers_in, projects_in, students_in, in_play, alone, alone_lecturer, alone_student, Round, First, Second, instance, instance_of, places_of, lecturer_keys, project_keys, student_keys, student_with, view, student_sees, Good, Sound, IsChoice, IsRanking, StudentSees, HasBest, ListAlike, DifferInLists, cases_lt, get_or_past, choices_of, ranking_of, IsAsGood, IsDistinct, OrderAlike, RankAlike, and_from}
+use Rattle.portal_rules.proofs.Base.{◌≡◌, ℕ, zero, suc, ◌-◌, ◌<◌, ◌≤◌, Bool, true, false, not, inl, inr, List, [], ◌∷◌, map, length, get_or, refl, sym, ◌∙◌, ap, subst, arith, Option, Some, None, IfSome, option_map, unwrap_or, is_none, nat_lt, ◌&&◌, filter, AllByRecursion, AllZip, list_any, find, eqb-true, get_or-map, length-map, AllZip-get_or, AllZip-long, list_any_at, IsBest, IsStable, place, project_of, lecturer_of, IsOn, IsAcceptable, number_in, number_is, number_known, ProjectRow, Key, equals, has, is_empty, AreDistinct, World, lecturer_key, project_key, student_key, projects_of, applicants_of, is_published, is_left, given_with, lowered_lecturer, lowered_project, lecturers_left, students_left, lecturers_in, projects_in, students_in, in_play, alone, alone_lecturer, alone_student, Round, First, Second, instance, instance_of, places_of, lecturer_keys, project_keys, student_keys, student_with, view, student_sees, Good, Sound, IsChoice, IsRanking, StudentSees, cases_lt, get_or_past, choices_of, ranking_of, IsAsGood, IsDistinct, and_from}
+use Rattle.portal_core.specs.Honest.{HasBest, ListAlike, DifferInLists, OrderAlike, RankAlike}
 use Rattle.spa_student.specs.inner.Machine.{IsRanked}
 use Rattle.spa_student.proofs.CutSteps.{acceptable_in_range}
 use Rattle.spa_honest.specs.Honest as instances
-use Rattle.portal_core.specs.World.{Lecturer, Student}
-use Rattle.portal_core.specs.declared.view.View.TheVariants as sees
-use Rattle.portal_core.proofs.Keys.{is_same, is_own}
-use Rattle.portal_core.proofs.AllLaws.{all_at, any_map, filtered_any}
-use Rattle.portal_core.proofs.Only.{has_contains, on_roll}
-use Rattle.portal_core.proofs.Published.{number_back}
-use Rattle.portal_core.proofs.Capacities.{first_plays, number_has}
-use Rattle.portal_core.proofs.Zips.{zip_same, zip_mapped, zip_kept, zip_in, zip_lecturers, zip_projects}
-use Rattle.portal_core.proofs.Alone.{played_alone, rows_alone, places_alone}
+use Rattle.portal_rules.specs.World.{Lecturer, Student}
+use Rattle.portal_rules.specs.declared.view.View.TheVariants as sees
+use Rattle.portal_rules.proofs.Keys.{is_same, is_own}
+use Rattle.portal_rules.proofs.AllLaws.{all_at, any_map, filtered_any}
+use Rattle.portal_rules.proofs.Only.{has_contains, on_roll}
+use Rattle.portal_rules.proofs.Published.{number_back}
+use Rattle.portal_rules.proofs.Capacities.{first_plays, number_has}
+use Rattle.portal_rules.proofs.Zips.{zip_same, zip_mapped, zip_kept, zip_in, zip_lecturers, zip_projects}
+use Rattle.portal_rules.proofs.Alone.{played_alone, rows_alone, places_alone}
 
 -- numbers of keys
 

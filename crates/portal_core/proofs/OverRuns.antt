@@ -1,10 +1,11 @@
 -- From a published first round a run reaches that world, or a second round that opened from it.
-use Rattle.portal_core.proofs.Base.{DifferInLists, OneGainsNothing, has, student_keys, ◌≡◌, ◌⊎◌, inl, inr, true, false, List, refl, sym, ◌∙◌, ap, subst, AllByRecursion, Key, World, is_second, first, SecondRound, changed, Published, First, StudentSees, Caller, caller, sight_of, view, AbstractCall, Answer, Decision, decision, Good, StepLeaves, Step, Request, Run, HasBest, DifferInOneList, IsNoWorse, arith}
-use Rattle.portal_core.specs.declared.view.View.TheVariants as sees
-use Rattle.portal_core.proofs.Steps.{run_keeps, step_good}
-use Rattle.portal_core.proofs.Opened.{opens_to, first_stays}
-use Rattle.portal_core.proofs.Opening.{first_kept}
-use Rattle.portal_core.proofs.AllLaws.{all_weaker}
+use Rattle.portal_rules.proofs.Base.{has, student_keys, ◌≡◌, ◌⊎◌, inl, inr, true, false, List, refl, sym, ◌∙◌, ap, subst, AllByRecursion, Key, World, is_second, first, SecondRound, changed, Published, First, StudentSees, Caller, caller, sight_of, view, AbstractCall, Answer, Decision, decision, Good, StepLeaves, Step, Request, Run, arith}
+use Rattle.portal_core.specs.Honest.{DifferInLists, OneGainsNothing, HasBest, DifferInOneList, IsNoWorse}
+use Rattle.portal_rules.specs.declared.view.View.TheVariants as sees
+use Rattle.portal_rules.proofs.Steps.{run_keeps, step_good}
+use Rattle.portal_rules.proofs.Opened.{opens_to, first_stays}
+use Rattle.portal_rules.proofs.Opening.{first_kept}
+use Rattle.portal_rules.proofs.AllLaws.{all_weaker}
 use Rattle.portal_core.proofs.OverGroups.{honest_over_both, no_group_gains_over_both}
 
 module _ (w u : World) (out : w.phase ≡ Published) where

@@ -1,31 +1,14 @@
-//! What the portal does: worlds, what each caller sees, replies to calls, and changes.
+//! What the portal does: worlds, what each caller sees, replies to calls, and changes. It shows the rules and the deciding as one, and
+//! adds the laws on the best result and on honest lists, which alone need the theory of the method.
 #![tactic(auto)]
 
-mod by_key;
-mod catalogue;
-mod code;
-mod collecting;
-mod deciding;
-mod decision;
-mod keeper;
 pub mod laws;
-mod name;
-mod phase;
-mod room;
-mod rows;
-mod view;
-mod view_cache;
 
-pub use by_key::{Pairs, Placings};
-pub use catalogue::{HasLecturerRow, listings_of};
-pub use code::{Code, CodeFault};
-pub use collecting::{try_filter_map, try_map, try_map_where};
-pub use deciding::decide;
-pub use decision::{Act, Body, Call, Change, Decision, Reply, Sheet};
-pub use keeper::{KeepFault, Keeper};
-pub use name::{Name, NameFault};
-pub use phase::{Phase, Round};
-pub use room::{lecturer_left, own_keys, project_left, students_at};
-pub use rows::{Coded, Keyed, LecturerRow, Listing, Person, ProjectRow, StudentRow, copy_keys};
-pub use view::{LecturerView, OfficeView, StudentView, View};
-pub use view_cache::ViewCache;
+pub use portal_deciding::decide;
+pub use portal_rules::{
+    Act, Body, Call, Change, Code, CodeFault, Coded, Decision, HasLecturerRow, KeepFault, Keeper,
+    Keyed, LecturerRow, LecturerView, Listing, Name, NameFault, OfficeView, Pairs, Person, Phase,
+    Placings, ProjectRow, Reply, Round, Sheet, StudentRow, StudentView, View, ViewCache, copy_keys,
+    lecturer_left, listings_of, own_keys, project_left, students_at, try_filter_map, try_map,
+    try_map_where,
+};

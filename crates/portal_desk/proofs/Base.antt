@@ -6,17 +6,17 @@ pub use Rattle.std.proofs.lemmas.List.{length-append, length-drop, take-append-d
 pub use Rattle.std.specs.Io.KnownBytes.{Appends, Keeps}
 pub use Rattle.std.specs.List.{AllZip, AllByRecursion}
 pub use Rattle.std.specs.Prelude.{◌⊎◌, None, Option, Some, if◌then◌else◌, nat_le, ◌||◌, IsTrue, ◌≢◌, IfErr, Result, Ok, Err, IfSome, is_none}
-pub use Rattle.portal_core.specs.Answer.{Answer, Apply, Decision, Nothing, decision, Act, Publish, Render, Said, Json, Unavailable, emptied, open_where, unless_faulty, added, row_fault, already_placed, moves_on, opens, moves_in, moves, publishes, is_open_to_rolls, to_student, to_lecturer, to_office}
-pub use Rattle.portal_core.specs.Good.{Good, instance, matching_of, CanPublish}
-pub use Rattle.portal_core.specs.Keeping.{KeeperState, StaysClean, LastsOrBreaks, IsSettled, IsAlive, LeavesBy, CountsFaults, Uses, Looks, Changes}
-pub use Rattle.portal_core.specs.Meaning.{call_model, decision_model, reply_model}
-pub use Rattle.portal_core.specs.Run.{AllAnswered, Request, Run, Serves, Step, end_of, Request as Wanted, unavailable, HasForm, StepLeaves, Wish, Calls, Refused, Answers}
-pub use Rattle.portal_core.specs.Sight.{AbstractCall, StudentSees, LecturerSees, OfficeSees}
-pub use Rattle.portal_core.specs.View.{view}
-pub use Rattle.portal_core.specs.Words.{Key, equals, is_empty}
-pub use Rattle.portal_core.specs.World.{World, is_setup, Placements, changed, is_choosing, is_ranking, is_from_ranking, has_result, Change, Lecturers, Projects, Students, Fill, is_published}
-pub use Rattle.portal_core.specs.declared.view.View.{View as Sight}
-pub use Rattle.portal_core.specs.inner.Room.{pairs_by}
+pub use Rattle.portal_rules.specs.Answer.{Answer, Apply, Decision, Nothing, decision, Act, Publish, Render, Said, Json, Unavailable, emptied, open_where, unless_faulty, added, row_fault, already_placed, moves_on, opens, moves_in, moves, publishes, is_open_to_rolls, to_student, to_lecturer, to_office}
+pub use Rattle.portal_rules.specs.Good.{Good, instance, matching_of, CanPublish}
+pub use Rattle.portal_rules.specs.Keeping.{KeeperState, StaysClean, LastsOrBreaks, IsSettled, IsAlive, LeavesBy, CountsFaults, Uses, Looks, Changes}
+pub use Rattle.portal_rules.specs.Meaning.{call_model, decision_model, reply_model}
+pub use Rattle.portal_rules.specs.Run.{AllAnswered, Request, Run, Serves, Step, end_of, Request as Wanted, unavailable, HasForm, StepLeaves, Wish, Calls, Refused, Answers}
+pub use Rattle.portal_rules.specs.Sight.{AbstractCall, StudentSees, LecturerSees, OfficeSees}
+pub use Rattle.portal_rules.specs.View.{view}
+pub use Rattle.portal_rules.specs.Words.{Key, equals, is_empty}
+pub use Rattle.portal_rules.specs.World.{World, is_setup, Placements, changed, is_choosing, is_ranking, is_from_ranking, has_result, Change, Lecturers, Projects, Students, Fill, is_published}
+pub use Rattle.portal_rules.specs.declared.view.View.{View as Sight}
+pub use Rattle.portal_rules.specs.inner.Room.{pairs_by}
 pub use Rattle.portal_desk.specs.Session.{Finish, Ended, Stopped, Tells, Session, IsSession, ServesOne}
 pub use Rattle.portal_desk.specs.Headline.{TellsOf, AreVisits, Visit, exchanges_of, worlds_of, IsVisit, AreAnswered, Hears, texts_to, replies_in, AlikeTexts, AreServedOn, left_by, exchanges_in, IsServed, IsUnseen, AreUnseen, PublishesBest, IsUpheld, MainPromise}
 pub use Rattle.portal_desk.specs.Kept.{Acted, MayLeave, FailsByCount, Moves, IsMoved, Worked, MayReach, Kept, TakesAtMost}

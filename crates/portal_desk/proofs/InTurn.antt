@@ -2,7 +2,7 @@
 use Rattle.portal_desk.proofs.Base.{◌≡◌, ◌∙◌, true, false, inl, inr, subst, World, KeeperState, StaysClean, LastsOrBreaks, CountsFaults, Uses, Looks, Changes, Result, Ok, Err}
 use Rattle.std.specs.Prelude.{OnOk, IsErr}
 use Rattle.std.proofs.lemmas.Result.{on_ok_weaker, on_err_weaker}
-use Rattle.portal_core.specs.declared.keeper.KeepFault.{KeepFault}
+use Rattle.portal_rules.specs.declared.keeper.KeepFault.{KeepFault}
 
 pub lasts_then : (a b c : KeeperState) → StaysClean a b → StaysClean b c → StaysClean a c
 lasts_then a b c h k = λ disk. let after = k disk in let before = h after.0 in (before.0, λ on. after.1 (before.1 on))

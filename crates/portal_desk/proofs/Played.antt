@@ -1,14 +1,14 @@
 -- What was decided in a good world may be done, and leaves a good world.
 use Rattle.portal_desk.proofs.Base.{◌≡◌, List, sym, ◌∙◌, ap, subst, Key, World, pairs_by, AbstractCall, Nothing, Apply, Decision, decision, Good, Step, view, is_setup, Placements, changed, instance, matching_of, CanPublish, Act, Publish, Render, HasForm, StepLeaves, CanDo, IsSolved, Result, Ok, Err, inl, inr, refl, Bool, Answer, Asked, Answers, Calls, Serves, Wanted, request_of, reply_model, unavailable, KeeperState, IsAlive, Uses, Looks, Changes, MayLeave, Acted}
 use Rattle.std.specs.Prelude.{IfOk, OnOk, OnErr, MatchResult}
-use Rattle.portal_core.specs.declared.keeper.KeepFault.{KeepFault}
-use Rattle.portal_core.specs.declared.decision.Reply.{Reply}
+use Rattle.portal_rules.specs.declared.keeper.KeepFault.{KeepFault}
+use Rattle.portal_rules.specs.declared.decision.Reply.{Reply}
 use Rattle.portal_wire.specs.Wish.{wish_of}
 use Rattle.spa_model.specs.Spa.{Spa, IsBest}
-use Rattle.portal_core.proofs.Kept.{to_published}
-use Rattle.portal_core.proofs.Play.{can_apply, can_publish}
-use Rattle.portal_core.proofs.Published.{pairs_place}
-use Rattle.portal_core.proofs.Steps.{step_good}
+use Rattle.portal_rules.proofs.Kept.{to_published}
+use Rattle.portal_rules.proofs.Play.{can_apply, can_publish}
+use Rattle.portal_rules.proofs.Published.{pairs_place}
+use Rattle.portal_rules.proofs.Steps.{step_good}
 use Rattle.portal_desk.proofs.InTurn.{uses_then}
 
 -- the solved pairs place the students as the best matching does

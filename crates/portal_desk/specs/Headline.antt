@@ -3,15 +3,15 @@
 use Rattle.std.specs.Prelude.{◌≡◌, if◌then◌else◌, ℕ, List, [], ◌∷◌, length, true, false}
 use Rattle.std.specs.List.{AllByRecursion, AllZip, flat_map}
 use Rattle.std.specs.Io.KnownBytes.{Appends}
-use Rattle.portal_core.specs.Words.{Key, equals}
-use Rattle.portal_core.specs.World.{World, is_published}
-use Rattle.portal_core.specs.View.{view}
-use Rattle.portal_core.specs.Good.{Good}
+use Rattle.portal_rules.specs.Words.{Key, equals}
+use Rattle.portal_rules.specs.World.{World, is_published}
+use Rattle.portal_rules.specs.View.{view}
+use Rattle.portal_rules.specs.Good.{Good}
 use Rattle.portal_core.specs.Honest.{HasBest, ShowsBest}
-use Rattle.portal_core.specs.Run.{Run, AllAnswered, end_of, Request}
-use Rattle.portal_core.specs.Heard.{HeardItem, Heard, Unless, has_places, moves_to_published, IsMember}
+use Rattle.portal_rules.specs.Run.{Run, AllAnswered, end_of, Request}
+use Rattle.portal_rules.specs.Heard.{HeardItem, Heard, Unless, has_places, moves_to_published, IsMember}
 use Rattle.portal_wire.specs.Conversation.{Exchange, asked_in, told_in, exchange_text}
-use Rattle.portal_core.specs.Keeping.{KeeperState}
+use Rattle.portal_rules.specs.Keeping.{KeeperState}
 use Rattle.portal_desk.specs.Session.{Finish, Tells, Session, IsSession}
 
 -- a stream, what is written for it, how serving it ends, its exchanges, and the world after each

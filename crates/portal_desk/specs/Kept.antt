@@ -1,10 +1,10 @@
 -- What a desk, a metered device and a keeper hold, how they count failed calls, and what requests
 -- with their replies do to a keeper.
 use Rattle.std.specs.Prelude.{ℕ, Bool, ◌≡◌, ◌≢◌, ◌⊎◌, ◌+◌, ◌-◌, ◌^◌, ◌<◌, ◌≤◌, min, List, length, Option, Some, IfSome, Result, MatchResult, true, false, ◌∷◌, ◌++◌}
-use Rattle.portal_core.specs.World.{World}
-use Rattle.portal_core.specs.Answer.{Answer}
-use Rattle.portal_core.specs.Keeping.{KeeperState, IsSettled, StaysClean, LastsOrBreaks, LeavesBy}
-use Rattle.portal_core.specs.Run.{AllAnswered, Request, Serves, unavailable}
+use Rattle.portal_rules.specs.World.{World}
+use Rattle.portal_rules.specs.Answer.{Answer}
+use Rattle.portal_rules.specs.Keeping.{KeeperState, IsSettled, StaysClean, LastsOrBreaks, LeavesBy}
+use Rattle.portal_rules.specs.Run.{AllAnswered, Request, Serves, unavailable}
 use Rattle.portal_wire.specs.Conversation.{Exchange, told_in, Reaches}
 use Rattle.portal_desk.specs.declared.served.Cause.{Cause}
 use Rattle.portal_desk.specs.declared.served.Cause.TheVariants as cause

@@ -2,10 +2,10 @@
 
 ghost use Rattle.std.specs.Prelude.{◌≡◌, ◌≢◌, ◌||◌, true, false, MatchResult};
 ghost use Rattle.portal_frame.specs.Stream.{seen};
-ghost use Rattle.portal_core.specs.Meaning.{reply_model, body_model};
-ghost use Rattle.portal_core.specs.Keeping.{KeepsGood};
-ghost use Rattle.portal_core.specs.Run.{unavailable};
-ghost use Rattle.portal_core.specs.Answer.{HasWholeNumbers};
+ghost use Rattle.portal_rules.specs.Meaning.{reply_model, body_model};
+ghost use Rattle.portal_rules.specs.Keeping.{KeepsGood};
+ghost use Rattle.portal_rules.specs.Run.{unavailable};
+ghost use Rattle.portal_rules.specs.Answer.{HasWholeNumbers};
 ghost use Rattle.portal_wire.specs.Conversation.{request_of};
 ghost use Rattle.portal_desk.specs.Kept.{Acted, FailsByCount};
 ghost use Rattle.portal_desk.specs.inner.Turns.{is_store, TurnsAway};
@@ -25,7 +25,7 @@ pub struct Desk<K: Keeper> {
 }
 
 impl<K: Keeper> Model for Desk<K> {
-    ghost use Rattle.portal_core.specs.Keeping.{KeepsGood};
+    ghost use Rattle.portal_rules.specs.Keeping.{KeepsGood};
     ghost use Rattle.portal_desk.specs.Kept.{Kept};
 
     ghost Value = { Kept K };

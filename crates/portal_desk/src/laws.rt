@@ -2,11 +2,11 @@
 
 ghost use Rattle.std.specs.Prelude.{◌≡◌, List};
 ghost use Rattle.std.specs.List.{AllZip};
-ghost use Rattle.portal_core.specs.Words.{Key};
-ghost use Rattle.portal_core.specs.World.{World};
-ghost use Rattle.portal_core.specs.View.{view};
-ghost use Rattle.portal_core.specs.Run.{end_of};
-ghost use Rattle.portal_core.specs.Heard.{HeardItem, SameButPlaces, SameRequest};
+ghost use Rattle.portal_rules.specs.Words.{Key};
+ghost use Rattle.portal_rules.specs.World.{World};
+ghost use Rattle.portal_rules.specs.View.{view};
+ghost use Rattle.portal_rules.specs.Run.{end_of};
+ghost use Rattle.portal_rules.specs.Heard.{HeardItem, SameButPlaces, SameRequest};
 ghost use Rattle.portal_wire.specs.Conversation.{asked_in};
 ghost use Rattle.portal_desk.specs.Headline.{IsServed, MainPromise, Visit, AreVisits, AreAnswered};
 ghost use Rattle.portal_desk.specs.Headline.{exchanges_of, worlds_of, Hears, replies_in};

@@ -2,15 +2,15 @@
 
 ghost use Rattle.std.specs.Prelude.{◌≡◌, IfOk, OnOk, OnErr, IfErr};
 ghost use Rattle.spa_model.specs.Spa.{IsMatching};
-ghost use Rattle.portal_core.specs.Answer as answer;
-ghost use Rattle.portal_core.specs.Answer.{Answer, Publish, HasWholeNumbers};
-ghost use Rattle.portal_core.specs.Keeping.{Changes, CountsFaults, IsAlive, IsSettled, KeepsGood, Looks, Uses};
-ghost use Rattle.portal_core.specs.Meaning.{call_model, decision_model};
-ghost use Rattle.portal_core.specs.Meaning.{act_model, reply_model, body_model};
-ghost use Rattle.portal_core.specs.Good.{Good, CanPublish};
-ghost use Rattle.portal_core.specs.inner.Room.{pairs_by};
-ghost use Rattle.portal_core.specs.Run.{HasForm, StepLeaves, Step};
-ghost use Rattle.portal_core.specs.View as seen;
+ghost use Rattle.portal_rules.specs.Answer as answer;
+ghost use Rattle.portal_rules.specs.Answer.{Answer, Publish, HasWholeNumbers};
+ghost use Rattle.portal_rules.specs.Keeping.{Changes, CountsFaults, IsAlive, IsSettled, KeepsGood, Looks, Uses};
+ghost use Rattle.portal_rules.specs.Meaning.{call_model, decision_model};
+ghost use Rattle.portal_rules.specs.Meaning.{act_model, reply_model, body_model};
+ghost use Rattle.portal_rules.specs.Good.{Good, CanPublish};
+ghost use Rattle.portal_rules.specs.inner.Room.{pairs_by};
+ghost use Rattle.portal_rules.specs.Run.{HasForm, StepLeaves, Step};
+ghost use Rattle.portal_rules.specs.View as seen;
 ghost use Rattle.portal_desk.specs.inner.Play.{CanDo, IsSolved, IsTold, sheet_text, with_sheet};
 
 use portal_core::{

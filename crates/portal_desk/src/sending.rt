@@ -1,8 +1,8 @@
 //! Writes replies to a sink.
 
 ghost use Rattle.std.specs.Prelude.{◌≡◌, true};
-ghost use Rattle.portal_core.specs.Answer.{HasWholeNumbers};
-ghost use Rattle.portal_core.specs.Meaning.{reply_model, body_model};
+ghost use Rattle.portal_rules.specs.Answer.{HasWholeNumbers};
+ghost use Rattle.portal_rules.specs.Meaning.{reply_model, body_model};
 ghost use Rattle.portal_frame.specs.Stream.{refused};
 ghost use Rattle.portal_wire.specs.Wish.{answer_to};
 ghost use Rattle.portal_wire.specs.Conversation.{reply_text};

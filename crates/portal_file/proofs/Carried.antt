@@ -2,8 +2,8 @@
 use Rattle.std.proofs.Common.{List, Result, None, []}
 use Rattle.std.specs.Prelude.{Vec}
 use Rattle.std.specs.declared.alloc.Global.{Global}
-use Rattle.portal_core.specs.Words.{Key}
-use Rattle.portal_core.specs.declared.keeper.KeepFault.{KeepFault}
+use Rattle.portal_rules.specs.Words.{Key}
+use Rattle.portal_rules.specs.declared.keeper.KeepFault.{KeepFault}
 use Rattle.portal_wire.specs.Conversation.{Exchange}
 use Rattle.portal_desk.specs.declared.served.Served.{Served}
 use Rattle.portal_desk.specs.declared.served.ServeFault.{ServeFault}

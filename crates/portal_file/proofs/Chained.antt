@@ -3,9 +3,9 @@ use Rattle.std.proofs.Common.{◌≡◌, Option, Some, None, IsSome, List, [], �
 use Rattle.std.proofs.Math.Logic.{∥∥₁_elim, ∥∥₁_map}
 use Rattle.std.specs.List.{AllByRecursion}
 use Rattle.sqlite_wal.specs.Recovery.{Image}
-use Rattle.portal_core.specs.World.{World}
-use Rattle.portal_core.specs.Good.{Good}
-use Rattle.portal_core.specs.Run.{AllAnswered, Run, end_of}
+use Rattle.portal_rules.specs.World.{World}
+use Rattle.portal_rules.specs.Good.{Good}
+use Rattle.portal_rules.specs.Run.{AllAnswered, Run, end_of}
 use Rattle.portal_wire.specs.Conversation.{Exchange, Reaches, asked_in, told_in}
 use Rattle.portal_desk.specs.Kept.{MayReach}
 use Rattle.portal_desk.specs.Headline.{Visit, AreVisits, IsVisit, exchanges_of, worlds_of}

@@ -17,7 +17,7 @@ use Rattle.sqlite.specs.Held.{AreDatabases}
 use Rattle.sqlite.specs.Start.{FindsIn}
 use Rattle.sqlite.specs.Files.{HoldsDatabase, file_state}
 use Rattle.sqlite.proofs.Theorems.{opens_again}
-use Rattle.portal_core.specs.World.{World}
+use Rattle.portal_rules.specs.World.{World}
 use Rattle.portal_wire.specs.Conversation.{Exchange}
 use Rattle.sqlite.specs.Order.{Row}
 use Rattle.sqlite_trees.specs.Objects.{catalog_tree}

@@ -6,8 +6,8 @@ use Rattle.sqlite.specs.Store.{Ghosts}
 use Rattle.sqlite.specs.Held.{Held, state}
 use Rattle.sqlite.specs.State.{HasCleanDisk, State, Survives}
 use Rattle.sqlite.specs.Tree.{Trees}
-use Rattle.portal_core.specs.World.{World}
-use Rattle.portal_core.specs.Good.{Good}
+use Rattle.portal_rules.specs.World.{World}
+use Rattle.portal_rules.specs.Good.{Good}
 use Rattle.portal_tables.specs.Tables.{IsFirstSchema, first_schema, no_schema, portal_schema}
 use Rattle.portal_tables.specs.Making.{has_names}
 use Rattle.portal_tables.specs.declared.names.Names.{Names}

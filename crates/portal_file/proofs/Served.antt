@@ -5,12 +5,12 @@ use Rattle.std.specs.Io.KnownBytes.{Appends}
 use Rattle.std.proofs.Math.Logic.{∥∥₁_elim, ∥∥₁_map}
 use denote.Struct.Props.{props}
 use Rattle.std.specs.List.{AllByRecursion}
-use Rattle.portal_core.specs.World.{World}
-use Rattle.portal_core.specs.Good.{Good}
-use Rattle.portal_core.specs.Keeping.{KeeperState, IsSettled, LastsOrBreaks, Uses}
+use Rattle.portal_rules.specs.World.{World}
+use Rattle.portal_rules.specs.Good.{Good}
+use Rattle.portal_rules.specs.Keeping.{KeeperState, IsSettled, LastsOrBreaks, Uses}
 use Rattle.std.specs.Prelude.{Result}
-use Rattle.portal_core.specs.View.{office_sees}
-use Rattle.portal_core.specs.Run.{AllAnswered, Run, end_of}
+use Rattle.portal_rules.specs.View.{office_sees}
+use Rattle.portal_rules.specs.Run.{AllAnswered, Run, end_of}
 use Rattle.portal_wire.specs.Conversation.{Exchange, Reaches, asked_in, told_in}
 use Rattle.portal_desk.specs.Kept.{IsMoved, MayReach, Moves}
 use Rattle.portal_desk.specs.Session.{IsSession, count_of, finish_of}

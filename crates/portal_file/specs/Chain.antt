@@ -7,11 +7,11 @@ use Rattle.sqlite_disk.specs.declared.Files.{Files}
 use Rattle.sqlite_wal.specs.Files.{outcomes}
 use Rattle.sqlite_wal.specs.Reads.{AreClean}
 use Rattle.sqlite_wal.specs.Recovery.{Image}
-use Rattle.portal_core.specs.Words.{Key}
-use Rattle.portal_core.specs.World.{World}
-use Rattle.portal_core.specs.Good.{Good}
+use Rattle.portal_rules.specs.Words.{Key}
+use Rattle.portal_rules.specs.World.{World}
+use Rattle.portal_rules.specs.Good.{Good}
 use Rattle.portal_core.specs.Honest.{ShowsBest}
-use Rattle.portal_core.specs.Run.{Run, AllAnswered, end_of, unavailable}
+use Rattle.portal_rules.specs.Run.{Run, AllAnswered, end_of, unavailable}
 use Rattle.portal_wire.specs.Conversation.{Exchange, asked_in, told_in}
 use Rattle.portal_desk.specs.Headline.{Visit, AreVisits, worlds_of, AreUnseen, HasPromise, PublishesBest}
 use Rattle.portal_file.specs.Tables.{IsTurn, Stream, Work, Either}

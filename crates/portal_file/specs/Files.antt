@@ -4,7 +4,7 @@ use Rattle.sqlite.specs.Tree.{Trees}
 use Rattle.sqlite.specs.State.{State, HasCleanDisk}
 use Rattle.sqlite.specs.Files.{HoldsDatabase}
 use Rattle.sqlite_wal.specs.Recovery.{Image}
-use Rattle.portal_core.specs.World.{World}
+use Rattle.portal_rules.specs.World.{World}
 use Rattle.portal_file.specs.Tables.{Stands, Version, Either}
 
 -- the database file and its log hold the portal's own tables, of this version, which stand for this

@@ -2,11 +2,11 @@
 use Rattle.std.specs.Prelude.{◌≡◌, ◌⊎◌, ℕ, Bool, List, [], ◌++◌, length, Option, Some, None, IfSome, IsSomeAnd}
 use Rattle.std.specs.Prelude.{Result, Ok, Err, IfOk, IfErr, OnOk, MatchResult, Vec}
 use Rattle.std.specs.declared.alloc.Global.{Global}
-use Rattle.portal_core.specs.Words.{Key}
-use Rattle.portal_core.specs.World.{World}
-use Rattle.portal_core.specs.Good.{Good}
-use Rattle.portal_core.specs.View.{office_sees}
-use Rattle.portal_core.specs.declared.keeper.KeepFault.{KeepFault}
+use Rattle.portal_rules.specs.Words.{Key}
+use Rattle.portal_rules.specs.World.{World}
+use Rattle.portal_rules.specs.Good.{Good}
+use Rattle.portal_rules.specs.View.{office_sees}
+use Rattle.portal_rules.specs.declared.keeper.KeepFault.{KeepFault}
 use Rattle.portal_wire.specs.Conversation.{Exchange}
 use Rattle.portal_desk.specs.Session.{count_of, finish_of}
 use Rattle.portal_desk.specs.declared.served.Served.{Served}

@@ -5,10 +5,10 @@ use Rattle.sqlite.specs.Store.{Ghosts}
 use Rattle.sqlite.specs.Held.{Held, state}
 use Rattle.sqlite.specs.Effect.{Database, IsDatabase}
 use Rattle.sqlite.specs.Tree.{Trees}
-use Rattle.portal_core.specs.World.{World}
-use Rattle.portal_core.specs.Good.{Good}
-use Rattle.portal_core.specs.Run.{Run, AllAnswered, end_of}
-use Rattle.portal_core.specs.declared.phase.Round.TheVariants as round
+use Rattle.portal_rules.specs.World.{World}
+use Rattle.portal_rules.specs.Good.{Good}
+use Rattle.portal_rules.specs.Run.{Run, AllAnswered, end_of}
+use Rattle.portal_rules.specs.declared.phase.Round.TheVariants as round
 use Rattle.portal_wire.specs.Conversation.{Exchange, asked_in, told_in}
 use Rattle.portal_desk.specs.Kept.{MayReach}
 use Rattle.portal_desk.specs.Session.{Finish, Tells}

@@ -2,9 +2,9 @@
 
 ghost use Rattle.std.specs.Prelude.{◌≡◌, IfOk};
 ghost use Rattle.sqlite_wal.specs.Files.{image_at};
-ghost use Rattle.portal_core.specs.Good.{Good};
-ghost use Rattle.portal_core.specs.Keeping.{Uses};
-ghost use Rattle.portal_core.specs.View.{office_sees};
+ghost use Rattle.portal_rules.specs.Good.{Good};
+ghost use Rattle.portal_rules.specs.Keeping.{Uses};
+ghost use Rattle.portal_rules.specs.View.{office_sees};
 ghost use Rattle.portal_serve.specs.Hall.{told_of};
 ghost use Rattle.portal_store.specs.Kept.{IsCleanStore, kept_state, kept_world};
 ghost use Rattle.portal_file.specs.Jobs.{ReportsWorld};

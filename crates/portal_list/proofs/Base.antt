@@ -15,22 +15,22 @@ pub use Rattle.std.specs.List.{AllByRecursion, cons_option, filter_map, find, li
 pub use Rattle.std.specs.Ordering.{nat_cmp}
 pub use Rattle.std.specs.Prelude.{IfSome, None, Option, Some, filter, is_none, nat_lt, not, option_map, slice_set, unwrap_or, ◌&&◌, ◌==◌, ◌||◌, vec_len, vec_capacity}
 pub use Rattle.std.specs.Vec.Iter.{into_iter_items}
-pub use Rattle.portal_core.proofs.Acts.{catalogue_chosen, catalogue_ranked, catalogue_placed}
-pub use Rattle.portal_core.proofs.AllLaws.{all_at, all_weaker, map_same, any_or, any_nowhere, all_append, all_both, none_of, is_sym, all_map}
-pub use Rattle.portal_core.proofs.Capacities.{first_plays, left_of, second_plays}
-pub use Rattle.portal_core.proofs.Fills.{rise_kept, rise_distinct, catalogue_filled}
-pub use Rattle.portal_core.proofs.Keys.{all_unmap, is_own, is_same, not_before_itself, find_map}
-pub use Rattle.portal_core.specs.Good.{IsChoice, IsLecturer, IsProject, IsRanking, IsStudent, Sound, instance, instance_of, lecturer_keys, project_keys, student_keys, Good, codes_of, matching_of}
-pub use Rattle.portal_core.specs.Meaning.{change_model}
-pub use Rattle.portal_core.specs.View.{catalogue, persons, name_in, listing_with, listings, office_sees, lecturer_sees, lecturer_with, student_with, caller_among, sight_of}
-pub use Rattle.portal_core.specs.Words.{AreDistinct, Key, Rise, equals, has, is_before, is_empty, put, put_all, is_code}
-pub use Rattle.portal_core.specs.World.{Choices, Ranks, changed, placed_before, placement_in, ranked_before, with_choice, with_place, with_ranking, Lecturer, Student, World, applicants_of, first_placed, first_published, is_left, is_published, is_still_to_rank, lecturer_key, lecturers_left, lowered_lecturer, pairs_with, project_key, projects_left, projects_of, shown_placement, student_key, is_second, lowered_project, students_in, first, Change, To, Fill, with_fill, is_at, is_from_ranking, new_lecturer, new_student, projects_in}
-pub use Rattle.portal_core.specs.declared.phase.Phase.TheVariants.{Setup}
-pub use Rattle.portal_core.specs.declared.phase.Round.{Round}
-pub use Rattle.portal_core.specs.declared.phase.Round.TheVariants.{First, Second}
-pub use Rattle.portal_core.specs.declared.rows.LecturerRow.{LecturerRow}
-pub use Rattle.portal_core.specs.declared.rows.ProjectRow.{ProjectRow}
-pub use Rattle.portal_core.specs.Alone.{alone_lecturer, alone_student, alone}
+pub use Rattle.portal_rules.proofs.Acts.{catalogue_chosen, catalogue_ranked, catalogue_placed}
+pub use Rattle.portal_rules.proofs.AllLaws.{all_at, all_weaker, map_same, any_or, any_nowhere, all_append, all_both, none_of, is_sym, all_map}
+pub use Rattle.portal_rules.proofs.Capacities.{first_plays, left_of, second_plays}
+pub use Rattle.portal_rules.proofs.Fills.{rise_kept, rise_distinct, catalogue_filled}
+pub use Rattle.portal_rules.proofs.Keys.{all_unmap, is_own, is_same, not_before_itself, find_map}
+pub use Rattle.portal_rules.specs.Good.{IsChoice, IsLecturer, IsProject, IsRanking, IsStudent, Sound, instance, instance_of, lecturer_keys, project_keys, student_keys, Good, codes_of, matching_of}
+pub use Rattle.portal_rules.specs.Meaning.{change_model}
+pub use Rattle.portal_rules.specs.View.{catalogue, persons, name_in, listing_with, listings, office_sees, lecturer_sees, lecturer_with, student_with, caller_among, sight_of}
+pub use Rattle.portal_rules.specs.Words.{AreDistinct, Key, Rise, equals, has, is_before, is_empty, put, put_all, is_code}
+pub use Rattle.portal_rules.specs.World.{Choices, Ranks, changed, placed_before, placement_in, ranked_before, with_choice, with_place, with_ranking, Lecturer, Student, World, applicants_of, first_placed, first_published, is_left, is_published, is_still_to_rank, lecturer_key, lecturers_left, lowered_lecturer, pairs_with, project_key, projects_left, projects_of, shown_placement, student_key, is_second, lowered_project, students_in, first, Change, To, Fill, with_fill, is_at, is_from_ranking, new_lecturer, new_student, projects_in}
+pub use Rattle.portal_rules.specs.declared.phase.Phase.TheVariants.{Setup}
+pub use Rattle.portal_rules.specs.declared.phase.Round.{Round}
+pub use Rattle.portal_rules.specs.declared.phase.Round.TheVariants.{First, Second}
+pub use Rattle.portal_rules.specs.declared.rows.LecturerRow.{LecturerRow}
+pub use Rattle.portal_rules.specs.declared.rows.ProjectRow.{ProjectRow}
+pub use Rattle.portal_rules.specs.Alone.{alone_lecturer, alone_student, alone}
 pub use Rattle.portal_list.specs.inner.Rows.{AllEntries, HasEntries, entries_in, choices_in, earlier_choices_in, rankings_with, RowsOfWorld, world_rows}
 pub use Rattle.portal_list.specs.inner.ApplicantIndex.{IsIndexOf, is_among, is_noted, is_noted_in, passes_at}
 pub use Rattle.portal_list.specs.inner.Fill.{filled, missing, with_missing, unless_empty, fill_missing}
@@ -38,7 +38,7 @@ pub use Rattle.portal_list.specs.inner.Fit.{IsFitted, lecturers_fitting, student
 pub use Rattle.portal_list.specs.inner.Lines.{instance_lecturer, instance_project, instance_rows, instance_student}
 pub use Rattle.portal_list.specs.inner.Parts.{HasNothingEarlier, HasRanking, ListsFit, ListsOf, RollsOf, applicant_keys, wanting, codes_in, lecturer_row_keys, student_row_keys, RollsFit, IsOutIfPlaced, IsStableIfPublished}
 pub use Rattle.portal_list.specs.inner.Played.{world_with, all_played, lecturer_played, project_played, takes_part, is_followed, placed_now}
-pub use Rattle.portal_core.specs.inner.Offers.{name_of, offered}
+pub use Rattle.portal_rules.specs.inner.Offers.{name_of, offered}
 pub use Rattle.portal_list.specs.inner.Shown.{applicants_shown, catalogue_in, is_waiting, placements_shown, is_wanted}
 pub use Rattle.spa_model.proofs.OneInstance.{never_itself, own_number, numbers_back, choices_below, ranking_below, keys_one, student_there, project_there, lecturer_there, student_says, project_says, lecturer_says}
 pub use Rattle.spa_model.proofs.Zips.{any_map, any_unmap}

@@ -4,7 +4,7 @@ use Rattle.std.specs.HashMap as hash
 use Rattle.std.specs.HashMap.{HashMap}
 use Rattle.std.proofs.Math.Bool.{and-or_distrib_right}
 use lib.Dec.{eqb-zero-suc, eqb-suc-zero, eqb-suc-suc}
-use Rattle.portal_core.proofs.Growing.{grown}
+use Rattle.portal_rules.proofs.Growing.{grown}
 
 among_push : (ns : List ℕ) (n i : ℕ) → is_among (ns ++ n ∷ []) i ≡ (is_among ns i || (n == i))
 among_push ns n i = list_any-append (λ m. m == i) ns (n ∷ []) ∙ ap (λ b. is_among ns i || b) (or-false (n == i))

@@ -1,9 +1,9 @@
 -- A world is sound exactly where its parts fit, and its rows say which world it is.
 use Rattle.portal_list.proofs.Base.{◌≡◌, true, false, List, [], ◌∷◌, ◌++◌, map, refl, sym, ◌∙◌, ap, subst, arith, Option, Some, None, is_none, option_map, not, ◌&&◌, filter, AllByRecursion, length-map, Key, has, is_empty, Rise, AreDistinct, World, Lecturer, Student, project_key, student_key, projects_of, applicants_of, is_still_to_rank, is_from_ranking, is_second, is_published, Round, Sound, IsLecturer, IsStudent, lecturer_keys, student_keys, all_unmap, IsFitted, lecturers_fitting, students_fitting, applicant_keys, HasRanking, RollsOf, ListsOf, rules, first, codes_of, RowsOfWorld, world_rows, codes_in, lecturer_row_keys, student_row_keys, RollsFit, HasNothingEarlier, IsOutIfPlaced}
-use Rattle.portal_core.specs.World.{is_setup}
-use Rattle.portal_core.specs.declared.phase.Phase.{Phase}
+use Rattle.portal_rules.specs.World.{is_setup}
+use Rattle.portal_rules.specs.declared.phase.Phase.{Phase}
 use Rattle.portal_list.specs.inner.Parts.{StudentFits, LecturerFits}
-use Rattle.portal_core.proofs.AllLaws as laws
+use Rattle.portal_rules.proofs.AllLaws as laws
 use Rattle.portal_list.proofs.Rising.{map_map}
 use Rattle.portal_list.proofs.Fitting.{lecturers_back, lecturers_rows, students_back, students_rows}
 

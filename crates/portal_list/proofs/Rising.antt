@@ -2,7 +2,7 @@
 use Rattle.portal_list.proofs.Base.{◌≡◌, zero, suc, true, List, [], ◌∷◌, get_or, arith, nat_cmp, slice_cmp, Key, is_before, Rise, all_at}
 pub use Rattle.std.proofs.lemmas.Simd.{map-map as map_map}
 use Rattle.spa_model.specs.Spa as spa
-use Rattle.portal_core.proofs.Puts.{less_of}
+use Rattle.portal_rules.proofs.Puts.{less_of}
 
 pub pairs_rise : (keys : List Key) → Rise keys → spa.Rise keys
 pairs_rise [] r i j d low h = absurd (omega arith)

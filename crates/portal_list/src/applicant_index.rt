@@ -4,8 +4,8 @@ ghost use Rattle.std.specs.Prelude.{◌≡◌, ◌<◌, ◌==◌, ◌||◌, ◌&
 ghost use Rattle.std.specs.Prelude.{false, IfOk, OnOk};
 ghost use Rattle.std.specs.Borrow.{Bor};
 ghost use Rattle.std.specs.List.{list_any};
-ghost use Rattle.portal_core.specs.Words.{Key as Text, equals, has};
-ghost use Rattle.portal_core.specs.World.{student_key};
+ghost use Rattle.portal_rules.specs.Words.{Key as Text, equals, has};
+ghost use Rattle.portal_rules.specs.World.{student_key};
 ghost use Rattle.portal_list.specs.inner.Parts.{wanting};
 ghost use Rattle.portal_list.specs.inner.ApplicantIndex.{passes_at, is_among, is_noted};
 
@@ -25,7 +25,7 @@ pub(crate) struct ApplicantIndex<'a> {
 
 impl<'a> Model for ApplicantIndex<'a> {
     ghost use Rattle.std.specs.Prelude.{List};
-    ghost use Rattle.portal_core.specs.World.{Student};
+    ghost use Rattle.portal_rules.specs.World.{Student};
     ghost use Rattle.portal_list.specs.inner.ApplicantIndex.{IsIndexOf};
 
     ghost Value = { List Student };

@@ -1,8 +1,8 @@
 //! Replaces a list or a ranking in the entries; the submodules make the other changes.
 
 ghost use Rattle.std.specs.Prelude.{◌≡◌, OnOk, OnErr, map};
-ghost use Rattle.portal_core.specs.Words.{Rise};
-ghost use Rattle.portal_core.specs.World.{student_key, lecturer_key, with_choice, with_ranking};
+ghost use Rattle.portal_rules.specs.Words.{Rise};
+ghost use Rattle.portal_rules.specs.World.{student_key, lecturer_key, with_choice, with_ranking};
 
 mod fill;
 mod new_rows;
@@ -15,7 +15,7 @@ pub(crate) use fill::fill_rankings;
 pub(crate) use new_rows::{add_rows, new_lecturers, new_students};
 pub(crate) use opening::{lay_by_lists, lay_by_rankings};
 pub(crate) use placements::place_all;
-use portal_core::copy_keys;
+use portal_rules::copy_keys;
 use spa_rows::Key;
 use std::alloc::{AllocError, Global};
 

@@ -1,10 +1,10 @@
 //! Copies rankings, project keys, pairs and rows; makes persons and entries; `holds` looks for a key.
 
 ghost use Rattle.std.specs.Prelude.{◌≡◌, [], None, IfOk, option_map};
-ghost use Rattle.portal_core.specs.Words.{has};
+ghost use Rattle.portal_rules.specs.Words.{has};
 
 use crate::entries::StudentEntry;
-use portal_core::{Name, Person, ProjectRow, StudentRow, copy_keys, try_map};
+use portal_rules::{Name, Person, ProjectRow, StudentRow, copy_keys, try_map};
 use spa_rows::Key;
 use std::alloc::{AllocError, Global};
 

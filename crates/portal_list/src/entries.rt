@@ -1,14 +1,14 @@
 //! Entries: rows of the rolls, joined with lists and rankings. `follow` and `place` change them.
 
 ghost use Rattle.std.specs.Prelude.{◌≡◌, true, false, Ok, IfOk, OnOk, OnErr, map};
-ghost use Rattle.portal_core.specs.World.{World, changed, with_place};
-ghost use Rattle.portal_core.specs.Good.{Sound};
-ghost use Rattle.portal_core.specs.Meaning.{change_model};
+ghost use Rattle.portal_rules.specs.World.{World, changed, with_place};
+ghost use Rattle.portal_rules.specs.Good.{Sound};
+ghost use Rattle.portal_rules.specs.Meaning.{change_model};
 ghost use Rattle.portal_list.specs.inner.Rows.{HasEntries};
 ghost use Rattle.portal_list.specs.inner.Played.{is_followed};
 
 use crate::changes::{fill_rankings, place_all, replace_choice, replace_ranking};
-use portal_core::{Change, LecturerRow, ProjectRow, Round, StudentRow};
+use portal_rules::{Change, LecturerRow, ProjectRow, Round, StudentRow};
 use spa_rows::Key;
 use std::alloc::{AllocError, Global};
 use std::marker::Model;
@@ -24,7 +24,7 @@ pub(crate) struct LecturerEntry {
 
 impl Model for LecturerEntry {
     ghost use Rattle.std.specs.Prelude.{option_map};
-    ghost use Rattle.portal_core.specs.World.{Lecturer};
+    ghost use Rattle.portal_rules.specs.World.{Lecturer};
 
     ghost Value = { Lecturer };
 
@@ -47,7 +47,7 @@ pub(crate) struct StudentEntry {
 }
 
 impl Model for StudentEntry {
-    ghost use Rattle.portal_core.specs.World.{Student};
+    ghost use Rattle.portal_rules.specs.World.{Student};
 
     ghost Value = { Student };
 

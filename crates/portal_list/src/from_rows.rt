@@ -1,8 +1,8 @@
 //! Builds entries from the rows of tables, and a keeper around them; gives a keeper's entries out.
 
 ghost use Rattle.std.specs.Prelude.{◌≡◌, Err, IfOk};
-ghost use Rattle.portal_core.specs.World.{World};
-ghost use Rattle.portal_core.specs.Good.{Sound};
+ghost use Rattle.portal_rules.specs.World.{World};
+ghost use Rattle.portal_rules.specs.Good.{Sound};
 ghost use Rattle.portal_list.specs.inner.Rows.{HasEntries, HasSoundFirst, world_rows};
 ghost use Rattle.portal_list.specs.inner.Parts.{RollsFit, RollsOf};
 ghost use Rattle.portal_list.specs.inner.Fit.{IsFitted};
@@ -13,7 +13,7 @@ use crate::entries::Entries;
 use crate::joining::{lecturer_entries, student_entries};
 use crate::keeper::ListKeeper;
 use crate::roll_checks::rolls_fit;
-use portal_core::{Code, LecturerRow, Phase, ProjectRow, Round, StudentRow};
+use portal_rules::{Code, LecturerRow, Phase, ProjectRow, Round, StudentRow};
 use spa_rows::Key;
 use std::alloc::{AllocError, Global};
 use std::marker::Model;

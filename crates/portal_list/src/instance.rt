@@ -2,10 +2,10 @@
 
 ghost use Rattle.std.specs.Prelude.{◌≡◌, false, Err, IfOk, map};
 ghost use Rattle.std.specs.List.{AllByRecursion};
-ghost use Rattle.portal_core.specs.World.{World, is_still_to_rank};
-ghost use Rattle.portal_core.specs.declared.phase.Round.TheVariants.{First};
-ghost use Rattle.portal_core.specs.Good.{Sound};
-ghost use Rattle.portal_core.specs.Good as meant_by;
+ghost use Rattle.portal_rules.specs.World.{World, is_still_to_rank};
+ghost use Rattle.portal_rules.specs.declared.phase.Round.TheVariants.{First};
+ghost use Rattle.portal_rules.specs.Good.{Sound};
+ghost use Rattle.portal_rules.specs.Good as meant_by;
 ghost use Rattle.portal_list.specs.inner.Rows.{HasEntries};
 ghost use Rattle.portal_list.specs.inner.Lines.{instance_lecturer, instance_project};
 ghost use Rattle.portal_list.specs.inner.Lines.{instance_student, instance_rows};
@@ -13,7 +13,7 @@ ghost use Rattle.portal_list.specs.inner.Lines.{instance_student, instance_rows}
 use crate::entries::{Entries, LecturerEntry, StudentEntry};
 use crate::from_rows::RowsFault;
 use crate::second_round::played;
-use portal_core::{ProjectRow, Round, try_map};
+use portal_rules::{ProjectRow, Round, try_map};
 use spa_model::{Instance, InstanceFault, InstanceRows, LecturerLine, ProjectLine, StudentLine};
 use spa_rows::Key;
 use std::alloc::{AllocError, Global};

@@ -5,7 +5,7 @@ ghost use Rattle.portal_list.specs.inner.Fit.{next_for, rest_for, earlier_for, e
 ghost use Rattle.portal_list.specs.inner.Fit.{lecturers_fitting, students_fitting};
 
 use crate::entries::{LecturerEntry, StudentEntry};
-use portal_core::{LecturerRow, Round, StudentRow};
+use portal_rules::{LecturerRow, Round, StudentRow};
 use spa_rows::Key;
 use std::alloc::{AllocError, Global};
 use std::collections::VecDeque;

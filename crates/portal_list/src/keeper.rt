@@ -1,12 +1,12 @@
 //! `ListKeeper` implements `Keeper` in memory, with methods for the changes.
 
 ghost use Rattle.std.specs.Prelude.{◌≡◌, true, [], IfOk, IfErr, OnOk, OnErr};
-ghost use Rattle.portal_core.specs.View as seen;
-ghost use Rattle.portal_core.specs.Good.{Good, Sound, CanPublish};
-ghost use Rattle.portal_core.specs.Good as meant_by;
-ghost use Rattle.portal_core.specs.World.{changed, Lecturers, Projects, Students, Placements};
-ghost use Rattle.portal_core.specs.World.{SecondRound};
-ghost use Rattle.portal_core.specs.Meaning.{change_model};
+ghost use Rattle.portal_rules.specs.View as seen;
+ghost use Rattle.portal_rules.specs.Good.{Good, Sound, CanPublish};
+ghost use Rattle.portal_rules.specs.Good as meant_by;
+ghost use Rattle.portal_rules.specs.World.{changed, Lecturers, Projects, Students, Placements};
+ghost use Rattle.portal_rules.specs.World.{SecondRound};
+ghost use Rattle.portal_rules.specs.Meaning.{change_model};
 ghost use Rattle.portal_list.specs.inner.Played.{is_followed};
 
 use crate::changes::{add_rows, lay_by_lists, lay_by_rankings, new_lecturers, new_students};
@@ -17,7 +17,7 @@ use crate::roll_checks::formed_code;
 use crate::views::{
     catalogue_of, lecturer_view, lecturer_with, office_view, student_view, student_with,
 };
-use portal_core::{
+use portal_rules::{
     Change, Code, KeepFault, Keeper, LecturerRow, Listing, Phase, ProjectRow, Round, StudentRow,
     View,
 };
@@ -40,7 +40,7 @@ pub struct ListKeeper {
 
 impl Model for ListKeeper {
     ghost use Rattle.std.specs.Prelude.{◌≡◌, IfSome};
-    ghost use Rattle.portal_core.specs.World.{World};
+    ghost use Rattle.portal_rules.specs.World.{World};
     ghost use Rattle.portal_list.specs.inner.Played.{world_with};
     ghost use Rattle.portal_list.specs.inner.Shown.{catalogue_in};
 

@@ -7,11 +7,11 @@ ghost use Rattle.std.specs.Prelude.{vec_capacity, map};
 ghost use Rattle.std.specs.List.{list_any};
 ghost use Rattle.std.specs.Ordering.{nat_cmp};
 ghost use Rattle.std.specs.Cmp.Lexicographic.{slice_cmp};
-ghost use Rattle.portal_core.specs.Words.{AreDistinct, Rise, equals, has, put, put_all};
-ghost use Rattle.portal_core.specs.World.{lecturer_key, student_key};
+ghost use Rattle.portal_rules.specs.Words.{AreDistinct, Rise, equals, has, put, put_all};
+ghost use Rattle.portal_rules.specs.World.{lecturer_key, student_key};
 
 use crate::entries::{LecturerEntry, StudentEntry};
-use portal_core::Keyed;
+use portal_rules::Keyed;
 use spa_rows::Key;
 use std::alloc::{AllocError, Global};
 use std::cmp::Ordering;

@@ -2,9 +2,9 @@
 
 ghost use Rattle.std.specs.Prelude.{◌≡◌, ◌↔◌, IfOk, IsTrue, true, map, option_map};
 ghost use Rattle.std.specs.List.{AllByRecursion};
-ghost use Rattle.portal_core.specs.Words.{has, Rise};
-ghost use Rattle.portal_core.specs.World.{project_key, student_key};
-ghost use Rattle.portal_core.specs.Good.{IsChoice, IsRanking};
+ghost use Rattle.portal_rules.specs.Words.{has, Rise};
+ghost use Rattle.portal_rules.specs.World.{project_key, student_key};
+ghost use Rattle.portal_rules.specs.Good.{IsChoice, IsRanking};
 ghost use Rattle.portal_list.specs.inner.Parts.{HasNothingEarlier, IsOutIfPlaced, StudentFits};
 ghost use Rattle.portal_list.specs.inner.Parts.{LecturerFits, EntriesFit, HasChoices, HasRanking};
 ghost use Rattle.portal_list.specs.inner.Parts.{applicant_keys, ListsFit};
@@ -13,7 +13,7 @@ use crate::applicant_index::ApplicantIndex;
 use crate::entries::{Entries, LecturerEntry, StudentEntry};
 use crate::keys::{is_known, keys_are_distinct};
 use crate::second_round::played;
-use portal_core::{Keyed, Phase, ProjectRow, Round, own_keys};
+use portal_rules::{Keyed, Phase, ProjectRow, Round, own_keys};
 use spa_rows::Key;
 use spa_rows::limits::LONGEST_CHOICE;
 use std::alloc::{AllocError, Global};

@@ -3,13 +3,13 @@
 ghost use Rattle.std.specs.Prelude.{◌≡◌, ◌↔◌, ◌++◌, IfOk, OnOk, IsTrue, true, map};
 ghost use Rattle.std.specs.List.{AllByRecursion};
 ghost use Rattle.spa_rows.specs.Lines.{is_key};
-ghost use Rattle.portal_core.specs.Words.{has, is_code, is_name, Rise, AreDistinct};
-ghost use Rattle.portal_core.specs.Good.{IsLecturer, IsProject, IsStudent};
+ghost use Rattle.portal_rules.specs.Words.{has, is_code, is_name, Rise, AreDistinct};
+ghost use Rattle.portal_rules.specs.Good.{IsLecturer, IsProject, IsStudent};
 ghost use Rattle.portal_list.specs.inner.Parts.{codes_in, lecturer_row_keys, KeysRise, AreFew};
 ghost use Rattle.portal_list.specs.inner.Parts.{RollsFit};
 
 use crate::keys::{are_distinct, is_known, keys_rise};
-use portal_core::{Code, Coded, LecturerRow, Name, ProjectRow, StudentRow};
+use portal_rules::{Code, Coded, LecturerRow, Name, ProjectRow, StudentRow};
 use spa_rows::Key;
 use spa_rows::limits::{MOST_LECTURERS, MOST_PROJECTS, MOST_STUDENTS, is_capacity};
 use std::alloc::{AllocError, Global};

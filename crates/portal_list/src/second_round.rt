@@ -2,15 +2,15 @@
 
 ghost use Rattle.std.specs.Prelude.{◌≡◌, IfOk, map, filter};
 ghost use Rattle.std.specs.List.{list_any, filter_map};
-ghost use Rattle.portal_core.specs.Words.{equals};
-ghost use Rattle.portal_core.specs.World.{is_left, pairs_with};
-ghost use Rattle.portal_core.specs.Alone.{alone_student};
+ghost use Rattle.portal_rules.specs.Words.{equals};
+ghost use Rattle.portal_rules.specs.World.{is_left, pairs_with};
+ghost use Rattle.portal_rules.specs.Alone.{alone_student};
 ghost use Rattle.portal_list.specs.inner.Played as meant;
 ghost use Rattle.portal_list.specs.inner.Played.{lecturer_played, project_played, all_played};
 
 use crate::copies::{pair_copy, ranking_copy, student_copy};
 use crate::entries::{Entries, LecturerEntry, StudentEntry};
-use portal_core::{ProjectRow, Round, lecturer_left, project_left, try_filter_map, try_map_where};
+use portal_rules::{ProjectRow, Round, lecturer_left, project_left, try_filter_map, try_map_where};
 use spa_rows::Key;
 use std::alloc::{AllocError, Global};
 

@@ -2,8 +2,8 @@
 
 ghost use Rattle.std.specs.Prelude.{◌≡◌, IfOk, option_map};
 ghost use Rattle.std.specs.List.{find};
-ghost use Rattle.portal_core.specs.Words.{equals};
-ghost use Rattle.portal_core.specs.View.{student_sees, lecturer_sees, office_sees};
+ghost use Rattle.portal_rules.specs.Words.{equals};
+ghost use Rattle.portal_rules.specs.View.{student_sees, lecturer_sees, office_sees};
 
 mod by_project;
 mod catalogue;
@@ -18,7 +18,7 @@ pub(crate) use catalogue::catalogue_of;
 pub(crate) use office::waiting;
 use office::{lecturer_rows, still_to_rank, student_rows, without_list};
 use placements::{pairs_of, placement_shown};
-use portal_core::{LecturerView, OfficeView, StudentView, copy_keys};
+use portal_rules::{LecturerView, OfficeView, StudentView, copy_keys};
 use std::alloc::{AllocError, Global};
 use std::rc::Rc;
 

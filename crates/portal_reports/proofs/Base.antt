@@ -6,6 +6,6 @@ pub use Rattle.std.proofs.lemmas.Grind.{common_steps}
 pub use Rattle.std.specs.Fmt.{styled_decimal, styled_text, format_spec, is_char_start}
 pub use Rattle.std.specs.List.{flat_map, list_all, repeat}
 pub use Rattle.std.specs.Prelude.{nat_le, nat_lt, ◌&&◌, if◌then◌else◌, ◌||◌, ◌==◌}
-pub use Rattle.portal_core.proofs.Pieces.{said, one_more}
-pub use Rattle.portal_core.specs.Bodies.{padded_left, padded_right, project_line, student_line, line_feed, students_at}
+pub use Rattle.portal_rules.proofs.Pieces.{said, one_more}
+pub use Rattle.portal_rules.specs.Bodies.{padded_left, padded_right, project_line, student_line, line_feed, students_at}
 pub use Rattle.portal_reports.specs.inner.Labels.{is_short}

@@ -1,11 +1,11 @@
 -- The state of the round as text.
 use Rattle.std.specs.Prelude.{ℕ, if◌then◌else◌, codes, decimal, List, [], ◌++◌, length}
-use Rattle.portal_core.specs.declared.phase.Phase.{Phase}
-use Rattle.portal_core.specs.declared.phase.Round.{Round}
-use Rattle.portal_core.specs.declared.phase.Round.TheVariants.{First, Second}
-use Rattle.portal_core.specs.World.{phase_word, has_result}
-use Rattle.portal_core.specs.Sight.{OfficeSees}
-use Rattle.portal_core.specs.Bodies.{padded_left, padded_right, line_feed}
+use Rattle.portal_rules.specs.declared.phase.Phase.{Phase}
+use Rattle.portal_rules.specs.declared.phase.Round.{Round}
+use Rattle.portal_rules.specs.declared.phase.Round.TheVariants.{First, Second}
+use Rattle.portal_rules.specs.World.{phase_word, has_result}
+use Rattle.portal_rules.specs.Sight.{OfficeSees}
+use Rattle.portal_rules.specs.Bodies.{padded_left, padded_right, line_feed}
 
 unfoldable pub number_line : List ℕ → ℕ → List ℕ
 number_line label number = padded_left 16 label ++ padded_right 6 (decimal number) ++ line_feed

@@ -2,10 +2,10 @@
 
 ghost use Rattle.std.specs.Prelude.{◌≡◌, ◌++◌, IfOk, OnOk};
 ghost use Rattle.std.specs.List.{flat_map};
-ghost use Rattle.portal_core.specs.Bodies as sheet;
+ghost use Rattle.portal_rules.specs.Bodies as sheet;
 
 use crate::lines::{assigned_line, placed_line, project_line, unplaced_line};
-use portal_core::{OfficeView, Placings, StudentRow, students_at};
+use portal_rules::{OfficeView, Placings, StudentRow, students_at};
 use std::alloc::{AllocError, Global};
 
 /// Appends the line of a student to the text of the result.

@@ -2,11 +2,11 @@
 
 ghost use Rattle.std.specs.Prelude.{◌≡◌, ◌++◌, IfOk, IsTrue, Some, None, codes, decimal};
 ghost use Rattle.std.specs.Prelude.{string_bytes};
-ghost use Rattle.portal_core.specs.Bodies as sheet;
+ghost use Rattle.portal_rules.specs.Bodies as sheet;
 ghost use Rattle.portal_reports.specs.Status as spec;
 ghost use Rattle.portal_reports.specs.inner.Labels as form;
 
-use portal_core::{Phase, ProjectRow};
+use portal_rules::{Phase, ProjectRow};
 use spa_rows::Key;
 use std::alloc::{AllocError, Global};
 

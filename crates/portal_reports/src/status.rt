@@ -5,7 +5,7 @@ ghost use Rattle.portal_reports.specs.Status as spec;
 ghost use Rattle.portal_reports.specs.inner.Labels as form;
 
 use crate::lines::{number_line, phase_line};
-use portal_core::{OfficeView, Round};
+use portal_rules::{OfficeView, Round};
 use std::alloc::{AllocError, Global};
 
 /// Appends a line with a label and a number to the status.

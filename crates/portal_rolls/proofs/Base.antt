@@ -12,11 +12,11 @@ pub use Rattle.std.specs.Str.{is_utf8, bytes_eq}
 pub use Rattle.csv.specs.Records.{fields_of}
 pub use Rattle.csv.specs.Writing.{default_writer, row_text, needs_byte, field_text}
 pub use Rattle.csv.specs.declared.reader.Reader.{Reader}
-pub use Rattle.portal_core.specs.Bodies.{csv_header, csv_record, student_fields, needs_quotes, doubled, csv_field, csv_text, project_given, project_fields}
-pub use Rattle.portal_core.specs.Sight.{OfficeSees}
-pub use Rattle.portal_core.specs.Words.{is_code, is_name}
-pub use Rattle.portal_core.specs.declared.rows.ProjectRow.{ProjectRow}
-pub use Rattle.portal_core.specs.declared.rows.StudentRow.{StudentRow}
+pub use Rattle.portal_rules.specs.Bodies.{csv_header, csv_record, student_fields, needs_quotes, doubled, csv_field, csv_text, project_given, project_fields}
+pub use Rattle.portal_rules.specs.Sight.{OfficeSees}
+pub use Rattle.portal_rules.specs.Words.{is_code, is_name}
+pub use Rattle.portal_rules.specs.declared.rows.ProjectRow.{ProjectRow}
+pub use Rattle.portal_rules.specs.declared.rows.StudentRow.{StudentRow}
 pub use Rattle.portal_rolls.specs.Lines.{digits_value, is_capacity, unless_bad, is_number, lecturer, project, student, File, file_of, cut_at_blanks, with_front, list_of, by_columns, project_format, lecturer_format, student_format}
 pub use Rattle.portal_rolls.specs.Reading.{Format, first_or, line_of, lines_of, reading, same_record, unless, Record, records_of}
 pub use Rattle.portal_rolls.specs.Views.{Fails, Gives}

@@ -10,10 +10,10 @@ use Rattle.portal_rolls.specs.declared.line.Line.{Line}
 use Rattle.portal_rolls.specs.declared.line.Line.TheVariants as variant
 use Rattle.portal_rolls.specs.declared.instance.Mark.{Mark}
 use Rattle.portal_rolls.specs.declared.instance.Mark.TheVariants as mark
-use Rattle.portal_core.specs.Words.{is_code, is_name}
-use Rattle.portal_core.specs.declared.rows.LecturerRow.{LecturerRow}
-use Rattle.portal_core.specs.declared.rows.ProjectRow.{ProjectRow}
-use Rattle.portal_core.specs.declared.rows.StudentRow.{StudentRow}
+use Rattle.portal_rules.specs.Words.{is_code, is_name}
+use Rattle.portal_rules.specs.declared.rows.LecturerRow.{LecturerRow}
+use Rattle.portal_rules.specs.declared.rows.ProjectRow.{ProjectRow}
+use Rattle.portal_rules.specs.declared.rows.StudentRow.{StudentRow}
 
 -- 1 to 7 decimal digits
 abbrev pub is_number : Text → Bool

@@ -1,11 +1,11 @@
 //! Writes the result as CSV.
 
 ghost use Rattle.std.specs.Prelude.{◌≡◌, ◌++◌, ℕ, List, map, IfOk, OnOk};
-ghost use Rattle.portal_core.specs.Bodies as sheet;
+ghost use Rattle.portal_rules.specs.Bodies as sheet;
 ghost use Rattle.portal_rolls.specs.inner.Written.{HasWritten};
 
 use csv::Writer;
-use portal_core::{OfficeView, Placings, StudentRow};
+use portal_rules::{OfficeView, Placings, StudentRow};
 use std::alloc::{AllocError, Global};
 
 /// Writes one CSV record of five fields.

@@ -6,7 +6,7 @@ ghost use Rattle.std.specs.List.{list_all};
 ghost use Rattle.std.specs.Str.{is_utf8};
 ghost use Rattle.csv.specs.Records.{field_at, fields_of};
 ghost use Rattle.spa_rows.specs.Lines.{is_key};
-ghost use Rattle.portal_core.specs.Words.{is_code, is_name};
+ghost use Rattle.portal_rules.specs.Words.{is_code, is_name};
 ghost use Rattle.portal_rolls.specs.Lines as spec;
 ghost use Rattle.portal_rolls.specs.Views.{Gives};
 ghost use Rattle.portal_rolls.specs.Reading.{same_record};
@@ -14,7 +14,7 @@ ghost use Rattle.portal_rolls.specs.inner.AsRead as form;
 
 use crate::fault::RollFault;
 use csv::ByteRecord;
-use portal_core::{Code, CodeFault, Name, NameFault};
+use portal_rules::{Code, CodeFault, Name, NameFault};
 use spa_rows::limits::is_capacity;
 use spa_rows::{Key, KeyFault};
 use std::alloc::{AllocError, Global};

@@ -3,7 +3,7 @@
 ghost use Rattle.std.specs.Prelude.{◌≡◌, IfOk};
 ghost use Rattle.std.specs.List.{AllByRecursion};
 ghost use Rattle.csv.specs.Records.{fields_of};
-ghost use Rattle.portal_core.specs.Good.{IsLecturer, IsProject, IsStudent};
+ghost use Rattle.portal_rules.specs.Good.{IsLecturer, IsProject, IsStudent};
 ghost use Rattle.portal_rolls.specs.Views.{Gives};
 ghost use Rattle.portal_rolls.specs.Lines as spec;
 ghost use Rattle.portal_rolls.specs.Views as view;
@@ -12,7 +12,7 @@ use crate::fault::RollFault;
 use crate::fields::{code_at, four, key_at, limited, name_at, three};
 use crate::reading::{Kind, read_text};
 use csv::ByteRecord;
-use portal_core::{LecturerRow, ProjectRow, StudentRow};
+use portal_rules::{LecturerRow, ProjectRow, StudentRow};
 use spa_rows::limits::{MOST_LECTURERS, MOST_PROJECTS, MOST_STUDENTS};
 use std::alloc::Global;
 

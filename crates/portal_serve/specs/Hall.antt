@@ -8,14 +8,14 @@ use Rattle.portal_serve.specs.declared.server.Outcome.{Outcome}
 use Rattle.portal_serve.specs.declared.server.Hall.{Hall}
 use Rattle.portal_serve.specs.declared.server.Ended.{Ended}
 use Rattle.portal_serve.specs.declared.server.Ended.TheVariants.{Full, StoreFault}
-use Rattle.portal_core.specs.Sight.{OfficeSees}
-use Rattle.portal_core.specs.World.{has_result}
-use Rattle.portal_core.specs.Bodies.{report_text, line_feed}
-use Rattle.portal_core.specs.declared.view.View.{View as Sight}
-use Rattle.portal_core.specs.declared.view.View.TheVariants.{Nobody, Office, Lecturer, Student}
+use Rattle.portal_rules.specs.Sight.{OfficeSees}
+use Rattle.portal_rules.specs.World.{has_result}
+use Rattle.portal_rules.specs.Bodies.{report_text, line_feed}
+use Rattle.portal_rules.specs.declared.view.View.{View as Sight}
+use Rattle.portal_rules.specs.declared.view.View.TheVariants.{Nobody, Office, Lecturer, Student}
 use Rattle.portal_reports.specs.Status.{status_text}
 use Rattle.portal_wire.specs.Conversation.{Exchange}
-use Rattle.portal_core.specs.Keeping.{KeeperState}
+use Rattle.portal_rules.specs.Keeping.{KeeperState}
 use Rattle.portal_desk.specs.Kept.{Kept, Moves, Worked}
 
 -- some requests of which this holds were served, whatever is known of their bytes

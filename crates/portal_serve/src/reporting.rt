@@ -1,9 +1,9 @@
 //! Writes the office's report from any keeper: the status, then the result if there is one.
 
 ghost use Rattle.std.specs.Prelude.{◌≡◌, ◌+◌, Err, IfOk, OnOk};
-ghost use Rattle.portal_core.specs.Good.{Good};
-ghost use Rattle.portal_core.specs.Keeping.{IsAlive, Uses};
-ghost use Rattle.portal_core.specs.View.{office_sees};
+ghost use Rattle.portal_rules.specs.Good.{Good};
+ghost use Rattle.portal_rules.specs.Keeping.{IsAlive, Uses};
+ghost use Rattle.portal_rules.specs.View.{office_sees};
 ghost use Rattle.portal_serve.specs.Hall.{told_of, IsOfficeReport, IsOther};
 
 use portal_core::{Code, KeepFault, Keeper, OfficeView, View};

@@ -12,30 +12,30 @@ pub use Rattle.std.specs.List.{AllByRecursion, cons_option, filter_map, find, li
 pub use Rattle.std.specs.List.Sorted.{IsPermutation}
 pub use Rattle.std.specs.Prelude.{IfSome, if◌then◌else◌, is_none, ◌==◌, nat_lt, ◌-◌, ◌↔◌}
 pub use Rattle.std.specs.Result.{IsErr, IsErrAnd}
-pub use Rattle.portal_core.proofs.AllLaws.{all_append, all_map, all_weaker, is_sym, map_same, none_passes, all_both, any_map}
-pub use Rattle.portal_core.proofs.Capacities.{first_plays, each_one}
-pub use Rattle.portal_core.proofs.Kept.{place_row}
-pub use Rattle.portal_core.proofs.Keys.{all_unmap, is_own, is_same, find_map}
-pub use Rattle.portal_core.specs.Good.{Good, Sound, IsLecturer, IsProject, IsStudent, IsChoice, IsRanking, instance_of, places_of, project_keys, instance}
-pub use Rattle.portal_core.specs.Meaning.{change_model}
-pub use Rattle.portal_core.specs.View.{OfficeCaller, caller_among, catalogue, lecturer_with, sight_of, student_with, office_sees, student_sees, name_in, listing_with, listings, persons, lecturer_sees, view}
-pub use Rattle.portal_core.specs.Words.{is_code, Key, Rise, equals, has, is_empty, put_all}
-pub use Rattle.portal_core.specs.World.{Change, Choices, Fill, Lecturers, Placements, Projects, Ranks, SecondRound, Students, To, changed, placement_in, with_place, with_ranking, Lecturer, Student, World, applicants_of, first_placed, is_from_ranking, is_left, is_published, is_second, is_setup, is_still_to_rank, lecturer_key, pairs_with, project_key, shown_placement, student_key, students_in, with_choice, opened, ranked_before, placed_before, first, first_published, in_play, with_fill, pairs_of, given_with, lowered_lecturer, lowered_project, lecturers_left, projects_left, projects_of, applicants_to, placed_at, is_at, new_lecturer, new_student}
-pub use Rattle.portal_core.specs.declared.phase.Phase.{Phase}
-pub use Rattle.portal_core.specs.declared.phase.Phase.TheVariants.{Choosing, Published, Ranking, Setup}
-pub use Rattle.portal_core.specs.declared.phase.Round.{Round}
-pub use Rattle.portal_core.specs.declared.phase.Round.TheVariants.{First, Second}
-pub use Rattle.portal_core.specs.declared.rows.LecturerRow.{LecturerRow}
-pub use Rattle.portal_core.specs.declared.rows.Listing.{Listing}
-pub use Rattle.portal_core.specs.declared.rows.ProjectRow.{ProjectRow}
-pub use Rattle.portal_core.specs.declared.rows.StudentRow.{StudentRow}
-pub use Rattle.portal_core.specs.declared.view.View.TheVariants.{Lecturer as LecturerSight, Student as StudentSight, Office as OfficeSight}
-pub use Rattle.portal_core.specs.Alone.{alone, alone_student, alone_lecturer}
-pub use Rattle.portal_core.specs.inner.ViewCache.{IsCacheOf}
+pub use Rattle.portal_rules.proofs.AllLaws.{all_append, all_map, all_weaker, is_sym, map_same, none_passes, all_both, any_map}
+pub use Rattle.portal_rules.proofs.Capacities.{first_plays, each_one}
+pub use Rattle.portal_rules.proofs.Kept.{place_row}
+pub use Rattle.portal_rules.proofs.Keys.{all_unmap, is_own, is_same, find_map}
+pub use Rattle.portal_rules.specs.Good.{Good, Sound, IsLecturer, IsProject, IsStudent, IsChoice, IsRanking, instance_of, places_of, project_keys, instance}
+pub use Rattle.portal_rules.specs.Meaning.{change_model}
+pub use Rattle.portal_rules.specs.View.{OfficeCaller, caller_among, catalogue, lecturer_with, sight_of, student_with, office_sees, student_sees, name_in, listing_with, listings, persons, lecturer_sees, view}
+pub use Rattle.portal_rules.specs.Words.{is_code, Key, Rise, equals, has, is_empty, put_all}
+pub use Rattle.portal_rules.specs.World.{Change, Choices, Fill, Lecturers, Placements, Projects, Ranks, SecondRound, Students, To, changed, placement_in, with_place, with_ranking, Lecturer, Student, World, applicants_of, first_placed, is_from_ranking, is_left, is_published, is_second, is_setup, is_still_to_rank, lecturer_key, pairs_with, project_key, shown_placement, student_key, students_in, with_choice, opened, ranked_before, placed_before, first, first_published, in_play, with_fill, pairs_of, given_with, lowered_lecturer, lowered_project, lecturers_left, projects_left, projects_of, applicants_to, placed_at, is_at, new_lecturer, new_student}
+pub use Rattle.portal_rules.specs.declared.phase.Phase.{Phase}
+pub use Rattle.portal_rules.specs.declared.phase.Phase.TheVariants.{Choosing, Published, Ranking, Setup}
+pub use Rattle.portal_rules.specs.declared.phase.Round.{Round}
+pub use Rattle.portal_rules.specs.declared.phase.Round.TheVariants.{First, Second}
+pub use Rattle.portal_rules.specs.declared.rows.LecturerRow.{LecturerRow}
+pub use Rattle.portal_rules.specs.declared.rows.Listing.{Listing}
+pub use Rattle.portal_rules.specs.declared.rows.ProjectRow.{ProjectRow}
+pub use Rattle.portal_rules.specs.declared.rows.StudentRow.{StudentRow}
+pub use Rattle.portal_rules.specs.declared.view.View.TheVariants.{Lecturer as LecturerSight, Student as StudentSight, Office as OfficeSight}
+pub use Rattle.portal_rules.specs.Alone.{alone, alone_student, alone_lecturer}
+pub use Rattle.portal_rules.specs.inner.ViewCache.{IsCacheOf}
 pub use Rattle.portal_list.proofs.Replaced.{ranking_elsewhere, ranking_here}
 pub use Rattle.portal_list.specs.inner.Rows.{HasEntries, RowsOfWorld, world_rows, choices_in, rankings_with, AllEntries}
 pub use Rattle.portal_list.specs.inner.Fill.{fill_missing}
-pub use Rattle.portal_core.specs.inner.Offers.{offered}
+pub use Rattle.portal_rules.specs.inner.Offers.{offered}
 pub use Rattle.portal_list.specs.inner.Shown.{is_wanted, is_waiting}
 pub use Rattle.portal_store.specs.Crash.{Refutes, Bars, Reopens, OpensAgain, OpensFresh, UpgradesAgain, HasVersion, RefusalSays, IsLeft, IsUpgradedFrom, LeavesUpgraded}
 pub use Rattle.portal_store.specs.Kept.{AllNumbersDiffer, HasChanged, HasGoodFirst, HasGoodWorld, HasGoodWorldIn, HasSecond, IsCleanStore, IsConsistent, IsConsistentIn, IsTransition, IsUnopened, Seen, Whole, kept_world, later_trees, AreWhole, AreEmpty, HasDisk, DiskInMemory, KeepsClean, Lasts, LastsInMemory, IsOpened, IsBrokenStore, LeavesWorld, UnbrokenInMemory, AreConsistent, LeavesConsistent, kept_state}

@@ -5,8 +5,8 @@ use Rattle.spa_rows.specs.Lines.{is_key}
 use Rattle.spa_model.specs.Pairs.{number_in}
 use Rattle.spa_model.specs.Spa.{IsStable, IsOn, place}
 use Rattle.spa_model.proofs.Numbers.{number_is}
-use Rattle.portal_core.proofs.Alone.{played_alone}
-use Rattle.portal_core.proofs.Only.{on_roll}
+use Rattle.portal_rules.proofs.Alone.{played_alone}
+use Rattle.portal_rules.proofs.Only.{on_roll}
 use Rattle.portal_store.proofs.Loaded.{has_choice, has_ranked, lecturers_by_key, projects_by_key, students_by_key}
 
 abbrev IsKey : Key → Type 0

@@ -1,6 +1,6 @@
 -- From what queries show of one caller to what the world says.
 use Rattle.portal_store.proofs.Base.{◌≡◌, Option, option_map, List, [], ◌∷◌, refl, sym, ap, ◌∙◌, find, Row, column, bytes, Trees, Database, Listing, Key, equals, Lecturer, Student, Phase, catalogue, lecturer_with, student_with, all_weaker, Round, First, Second, lecturer_tree, student_tree, has_text, ListsBy, lecturer_columns, roll_columns, world_in, lecturer_stored, student_stored, student_shown, lecturer_from, student_from, IsLecturerRow, IsStudentRow, has_text_of, lecturer_rows_formed, student_rows_formed, student_sees, as_list, found, Anyhow, IfOk-weaker, Reading, RemembersIn, Result, State, TableFault, reads_as, reads_first}
-use Rattle.portal_core.specs.declared.view_cache.ViewCache.{ViewCache}
+use Rattle.portal_rules.specs.declared.view_cache.ViewCache.{ViewCache}
 use Rattle.portal_tables.specs.Steps.{Gives}
 use Rattle.portal_tables.specs.inner.Reads.{Always}
 use Rattle.portal_store.proofs.Loaded.{lecturers_by_key, students_by_key}

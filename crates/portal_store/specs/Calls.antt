@@ -4,10 +4,10 @@ use Rattle.sqlite.specs.Held.{Held, state}
 use Rattle.sqlite.specs.State.{HasCleanDisk, IsUnchanged, Survives}
 use Rattle.sqlite.specs.Store.{Ghosts}
 use Rattle.sqlite.specs.Tree.{Trees}
-use Rattle.portal_core.specs.Words.{Key}
-use Rattle.portal_core.specs.World.{Change}
-use Rattle.portal_core.specs.Keeping.{IsSettled, KeepsGood}
-use Rattle.portal_core.specs.declared.phase.Round.TheVariants.{First}
+use Rattle.portal_rules.specs.Words.{Key}
+use Rattle.portal_rules.specs.World.{Change}
+use Rattle.portal_rules.specs.Keeping.{IsSettled, KeepsGood}
+use Rattle.portal_rules.specs.declared.phase.Round.TheVariants.{First}
 use Rattle.portal_tables.specs.Tables.{HasFirstSchema, IsCurrentSchema, IsFirstSchema, first_version, no_schema, version}
 use Rattle.portal_tables.specs.Making.{Creates, Upgrades, has_names}
 use Rattle.portal_tables.specs.declared.names.Names.TheVariants.{All, OfSecond}

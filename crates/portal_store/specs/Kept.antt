@@ -7,7 +7,7 @@ use Rattle.sqlite.specs.Store.{Ghosts}
 use Rattle.sqlite.specs.Held.{Held, state}
 use Rattle.sqlite.specs.Steps.{over_memory}
 use Rattle.sqlite_trees.specs.declared.memory.MemStore.{MemStore}
-use Rattle.portal_core.specs.Keeping.{KeeperState}
+use Rattle.portal_rules.specs.Keeping.{KeeperState}
 use Rattle.portal_store.specs.World.{world_in, world_of, is_ranked, phase_in}
 
 -- in a round no list has a gap, and a lecturer without a ranking has no rows of one

@@ -6,7 +6,7 @@ ghost use Rattle.portal_store.specs.inner.Adding.{with_rows_added};
 ghost use Rattle.portal_store.specs.inner.Ending.{CommitsChange};
 ghost use Rattle.portal_store.specs.inner.Keeping.{IsTransitionIn};
 
-use portal_core::{LecturerRow, ProjectRow, Round, StudentRow};
+use portal_rules::{LecturerRow, ProjectRow, Round, StudentRow};
 use portal_tables::insert::{Lecturers, Projects, Students, add_all};
 use portal_tables::{Step, TableFault, commit, settled};
 use sqlite::{Alter, Connection, Error, Transaction};

@@ -2,8 +2,8 @@
 
 ghost use Rattle.std.specs.Prelude.{◌≡◌, false};
 ghost use Rattle.sqlite.specs.Held.{state};
-ghost use Rattle.portal_core.specs.Meaning.{change_model};
-ghost use Rattle.portal_core.specs.World.{SecondRound};
+ghost use Rattle.portal_rules.specs.Meaning.{change_model};
+ghost use Rattle.portal_rules.specs.World.{SecondRound};
 ghost use Rattle.portal_store.specs.inner.Opening.{is_opening};
 ghost use Rattle.portal_tables.specs.Tables.{IsCurrentSchema};
 ghost use Rattle.portal_store.specs.Kept.{IsTransition};
@@ -18,8 +18,8 @@ use crate::phase::set_phase;
 use crate::placing::publish;
 use crate::round::round_in;
 use crate::second_round::open_second;
-use portal_core::{Change, Round};
 use portal_list::Entries;
+use portal_rules::{Change, Round};
 use portal_tables::{TableFault, commit, settled};
 use sqlite::{Alter, Connection};
 use std::alloc::Global;

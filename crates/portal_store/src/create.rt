@@ -2,15 +2,15 @@
 
 ghost use Rattle.std.specs.Prelude.{◌≡◌, false, Err, IfOk, IfErr};
 ghost use Rattle.sqlite.specs.Steps.{over_memory};
-ghost use Rattle.portal_core.specs.Good.{Good};
-ghost use Rattle.portal_core.specs.Keeping.{IsSettled};
+ghost use Rattle.portal_rules.specs.Good.{Good};
+ghost use Rattle.portal_rules.specs.Keeping.{IsSettled};
 ghost use Rattle.portal_store.specs.Kept.{IsCleanStore, kept_state, kept_world};
 ghost use Rattle.portal_store.specs.World.{first_world};
 ghost use Rattle.portal_store.specs.Calls.{CreatesStore, RefusesToCreate};
 
 use crate::fault::create_fault_of;
 use crate::store::{CreateFault, NotOpened, Store};
-use portal_core::{Code, ViewCache};
+use portal_rules::{Code, ViewCache};
 use portal_tables::names::{Names, is_empty, is_there};
 use portal_tables::{PortalSchema, TableFault, create_portal};
 use sqlite::{Alter, Connection, MemStore};

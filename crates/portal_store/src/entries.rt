@@ -2,11 +2,11 @@
 
 ghost use Rattle.std.specs.Prelude.{◌≡◌, IfOk, OnOk, OnErr};
 ghost use Rattle.sqlite.specs.Effect.{IsDatabase};
-ghost use Rattle.portal_core.specs.World.{changed, World};
-ghost use Rattle.portal_core.specs.Good.{Sound};
-ghost use Rattle.portal_core.specs.Good as meant_by;
-ghost use Rattle.portal_core.specs.Meaning.{change_model};
-ghost use Rattle.portal_core.specs.declared.phase.Round.TheVariants.{Second};
+ghost use Rattle.portal_rules.specs.World.{changed, World};
+ghost use Rattle.portal_rules.specs.Good.{Sound};
+ghost use Rattle.portal_rules.specs.Good as meant_by;
+ghost use Rattle.portal_rules.specs.Meaning.{change_model};
+ghost use Rattle.portal_rules.specs.declared.phase.Round.TheVariants.{Second};
 ghost use Rattle.portal_list.specs.inner.Rows.{HasEntries};
 ghost use Rattle.portal_tables.specs.Steps.{Reads, Gives};
 ghost use Rattle.portal_store.specs.World.{world_of};
@@ -14,8 +14,8 @@ ghost use Rattle.portal_store.specs.inner.Keeping.{AreEntries};
 
 use crate::fault::rows_fault_of;
 use crate::load::load_entries;
-use portal_core::{Change, KeepFault};
 use portal_list::Entries;
+use portal_rules::{Change, KeepFault};
 use portal_tables::TableFault;
 use spa_model::Instance;
 use sqlite::{Alter, Connection};

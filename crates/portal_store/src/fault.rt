@@ -8,13 +8,13 @@ ghost use Rattle.portal_tables.specs.inner.Base.{SqliteFailure, OutOfMemory};
 ghost use Rattle.portal_tables.specs.declared.fault.TableFault.TheVariants as tables;
 ghost use Rattle.portal_store.specs.Crash.{as_upgrading};
 ghost use Rattle.portal_store.specs.declared.store.OpenFault.TheVariants as opening;
-ghost use Rattle.portal_core.specs.Keeping.{CountsFaults};
+ghost use Rattle.portal_rules.specs.Keeping.{CountsFaults};
 ghost use Rattle.portal_store.specs.inner.Asked.{SaysNothing};
 ghost use Rattle.portal_store.specs.inner.Reading.{IsToldAs};
 
 use crate::store::{CreateFault, OpenFault, UpgradeFault};
-use portal_core::KeepFault;
 use portal_list::RowsFault;
+use portal_rules::KeepFault;
 use portal_tables::TableFault;
 use sqlite::{Error, ErrorCode};
 

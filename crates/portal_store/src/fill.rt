@@ -2,8 +2,8 @@
 
 ghost use Rattle.std.specs.Prelude.{◌≡◌, false, List, map};
 ghost use Rattle.sqlite.specs.Held.{state};
-ghost use Rattle.portal_core.specs.Words as words;
-ghost use Rattle.portal_core.specs.World.{Fill};
+ghost use Rattle.portal_rules.specs.Words as words;
+ghost use Rattle.portal_rules.specs.World.{Fill};
 ghost use Rattle.portal_tables.specs.Tables.{IsCurrentSchema};
 ghost use Rattle.portal_store.specs.inner.Keeping.{IsTransitionIn};
 ghost use Rattle.portal_store.specs.inner.Ending.{CommitsChange};
@@ -12,8 +12,8 @@ ghost use Rattle.portal_store.specs.inner.Reading.{KeepsEntries};
 
 use crate::lists::PutRanking;
 use crate::load::load_entries;
-use portal_core::Round;
 use portal_list::Entries;
+use portal_rules::Round;
 use portal_tables::{Step, TableFault, commit, settled};
 use spa_rows::Key;
 use sqlite::{Alter, Connection, Error, Transaction};

@@ -1,12 +1,12 @@
 //! Implements `Keeper` for the store; `Store::office_code` returns the office's code.
 
 ghost use Rattle.std.specs.Prelude.{◌≡◌, IfOk, OnOk, IsTrue};
-ghost use Rattle.portal_core.specs.World.{changed};
-ghost use Rattle.portal_core.specs.Keeping.{Changes, IsAlive, KeepsGood, Looks};
-ghost use Rattle.portal_core.specs.Meaning.{change_model};
-ghost use Rattle.portal_core.specs.Good.{Good};
-ghost use Rattle.portal_core.specs.View as seen;
-ghost use Rattle.portal_core.specs.Good as meant_by;
+ghost use Rattle.portal_rules.specs.World.{changed};
+ghost use Rattle.portal_rules.specs.Keeping.{Changes, IsAlive, KeepsGood, Looks};
+ghost use Rattle.portal_rules.specs.Meaning.{change_model};
+ghost use Rattle.portal_rules.specs.Good.{Good};
+ghost use Rattle.portal_rules.specs.View as seen;
+ghost use Rattle.portal_rules.specs.Good as meant_by;
 ghost use Rattle.portal_tables.specs.Tables.{IsCurrentSchema};
 ghost use Rattle.portal_store.specs.Calls.{ChangesTables, StaysStore};
 ghost use Rattle.portal_store.specs.Kept.{IsCleanStore, kept_state, kept_world};
@@ -17,7 +17,7 @@ use crate::fault::{counted, told};
 use crate::queries::show;
 use crate::round::office_code;
 use crate::store::Store;
-use portal_core::{Change, Code, KeepFault, Keeper, View};
+use portal_rules::{Change, Code, KeepFault, Keeper, View};
 use portal_tables::TableFault;
 use spa_model::Instance;
 use sqlite::Alter;

@@ -2,12 +2,12 @@
 
 ghost use Rattle.std.specs.Prelude.{◌≡◌, false};
 ghost use Rattle.sqlite.specs.Held.{state};
-ghost use Rattle.portal_core.specs.World.{Choices, Ranks};
+ghost use Rattle.portal_rules.specs.World.{Choices, Ranks};
 ghost use Rattle.portal_store.specs.inner.Keeping.{IsTransitionIn};
 ghost use Rattle.portal_store.specs.inner.Ending.{CommitsChange};
 ghost use Rattle.portal_store.specs.inner.Putting.{TurnsThere};
 
-use portal_core::Round;
+use portal_rules::Round;
 use portal_tables::list_table::Lists;
 use portal_tables::select::{Query, read};
 use portal_tables::update::set_ranked;

@@ -2,8 +2,8 @@
 
 ghost use Rattle.std.specs.Prelude.{◌≡◌};
 ghost use Rattle.sqlite.specs.Effect.{IsDatabase};
-ghost use Rattle.portal_core.specs.Good.{Sound};
-ghost use Rattle.portal_core.specs.declared.phase.Round.TheVariants.{Second, First};
+ghost use Rattle.portal_rules.specs.Good.{Sound};
+ghost use Rattle.portal_rules.specs.declared.phase.Round.TheVariants.{Second, First};
 ghost use Rattle.portal_list.specs.inner.Rows.{HasEntries};
 ghost use Rattle.portal_views.specs.inner.Contents.{rows_held};
 ghost use Rattle.portal_tables.specs.Steps.{Reads, Gives};
@@ -16,8 +16,8 @@ ghost use Rattle.portal_store.specs.World.{round_in, world_of};
 
 use crate::fault::rows_fault_of;
 use crate::round::round_in;
-use portal_core::{Phase, Round};
 use portal_list::{Entries, WorldRows};
+use portal_rules::{Phase, Round};
 use portal_tables::{TableFault, VERSION, office_in, second_in};
 use portal_views::{Contents, contents_in};
 use sqlite::{Alter, Connection};

@@ -5,8 +5,8 @@ ghost use Rattle.std.specs.Prelude.{◌≡◌, false, [], IfOk, IfErr, OnOk, IsT
 ghost use Rattle.sqlite.specs.Effect.{IsDatabase};
 ghost use Rattle.sqlite.specs.State.{HasCleanDisk};
 ghost use Rattle.sqlite.specs.Held.{state};
-ghost use Rattle.portal_core.specs.declared.phase.Round.TheVariants.{First, Second};
-ghost use Rattle.portal_core.specs.declared.phase.Phase.TheVariants.{Published};
+ghost use Rattle.portal_rules.specs.declared.phase.Round.TheVariants.{First, Second};
+ghost use Rattle.portal_rules.specs.declared.phase.Phase.TheVariants.{Published};
 ghost use Rattle.portal_tables.specs.Tables.{HasFirstSchema, version};
 ghost use Rattle.portal_tables.specs.inner.Queries.{round_asked};
 ghost use Rattle.portal_tables.specs.Steps.{Reads, Gives, IsSettled, OnlyLooks};
@@ -24,8 +24,8 @@ use crate::checks::{judge_rows, see_first, see_first_numbers, see_row_numbers, s
 use crate::load::load;
 use crate::round::first_phase;
 use crate::store::{NotOpened, OpenFault, Store};
-use portal_core::{Phase, ViewCache};
 use portal_list::Entries;
+use portal_rules::{Phase, ViewCache};
 use portal_tables::list_table::Lists;
 use portal_tables::select::{Query, Table, finds_any};
 use portal_tables::{PortalSchema, VERSION, second_in, settled};

@@ -2,15 +2,15 @@
 
 ghost use Rattle.std.specs.Prelude.{◌≡◌, false};
 ghost use Rattle.sqlite.specs.Held.{state};
-ghost use Rattle.portal_core.specs.World.{To};
+ghost use Rattle.portal_rules.specs.World.{To};
 ghost use Rattle.portal_tables.specs.Tables.{IsCurrentSchema};
 ghost use Rattle.portal_store.specs.inner.Keeping.{IsTransitionIn};
 ghost use Rattle.portal_store.specs.inner.Ending.{CommitsChange};
 ghost use Rattle.portal_store.specs.inner.Reading.{KeepsEntries};
 
 use crate::load::load_entries;
-use portal_core::{Phase, Round};
 use portal_list::Entries;
+use portal_rules::{Phase, Round};
 use portal_tables::update::set_phase as write_phase;
 use portal_tables::{Step, TableFault, commit, set_second, settled};
 use sqlite::{Alter, Connection, Error, Transaction};

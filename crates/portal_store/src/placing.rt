@@ -3,15 +3,15 @@
 ghost use Rattle.std.specs.Prelude.{◌≡◌, false, map, IfOk, is_none, option_map};
 ghost use Rattle.std.specs.List.{filter_map};
 ghost use Rattle.sqlite.specs.Held.{state};
-ghost use Rattle.portal_core.specs.World.{Placements, placement_in};
+ghost use Rattle.portal_rules.specs.World.{Placements, placement_in};
 ghost use Rattle.portal_store.specs.inner.Keeping.{IsTransitionIn};
 ghost use Rattle.portal_store.specs.inner.Ending.{CommitsChange};
 ghost use Rattle.portal_store.specs.inner.Placing.{TurnsShown, TurnsLeft, assigned_of, pair_left};
 ghost use Rattle.sqlite.specs.Order.{column};
 ghost use Rattle.portal_tables.specs.Rows.{text_or_none};
-ghost use Rattle.portal_core.specs.declared.phase.Round.TheVariants.{First};
+ghost use Rattle.portal_rules.specs.declared.phase.Round.TheVariants.{First};
 
-use portal_core::{Pairs, Phase, Round};
+use portal_rules::{Pairs, Phase, Round};
 use portal_tables::cells::{bytes_at, key_at};
 use portal_tables::select::{Query, RollTable, read};
 use portal_tables::{

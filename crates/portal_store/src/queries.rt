@@ -1,12 +1,12 @@
 //! Identifies the caller, and makes the view from cache and queries.
 
 ghost use Rattle.std.specs.Prelude.{◌≡◌, false, None};
-ghost use Rattle.portal_core.specs.Good.{Good};
-ghost use Rattle.portal_core.specs.View as seen;
-ghost use Rattle.portal_core.specs.Words.{equals};
-ghost use Rattle.portal_core.specs.declared.phase.Round.TheVariants.{Second};
-ghost use Rattle.portal_core.specs.View.{sight_of, caller_among, OfficeCaller};
-ghost use Rattle.portal_core.specs.View.{student_with};
+ghost use Rattle.portal_rules.specs.Good.{Good};
+ghost use Rattle.portal_rules.specs.View as seen;
+ghost use Rattle.portal_rules.specs.Words.{equals};
+ghost use Rattle.portal_rules.specs.declared.phase.Round.TheVariants.{Second};
+ghost use Rattle.portal_rules.specs.View.{sight_of, caller_among, OfficeCaller};
+ghost use Rattle.portal_rules.specs.View.{student_with};
 ghost use Rattle.portal_tables.specs.Steps.{Reads, Gives};
 ghost use Rattle.portal_tables.specs.inner.Queries as asked;
 ghost use Rattle.portal_tables.specs.inner.Reads.{Always, MayRead};
@@ -16,7 +16,7 @@ ghost use Rattle.portal_store.specs.Kept.{IsConsistent};
 ghost use Rattle.portal_store.specs.inner.Reading.{IsNow, Remembers, RemembersIn, Shows, ShowsIn};
 
 use crate::round::current_round;
-use portal_core::{KeepFault, Listing, Phase, Round, View, ViewCache};
+use portal_rules::{KeepFault, Listing, Phase, Round, View, ViewCache};
 use portal_tables::decode::at_most_one;
 use portal_tables::select::{Query, read_rows};
 use portal_tables::{Office, TableFault};

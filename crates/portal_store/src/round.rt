@@ -2,16 +2,16 @@
 
 ghost use Rattle.std.specs.Prelude.{◌≡◌, true, false};
 ghost use Rattle.sqlite.specs.Effect.{IsDatabase};
-ghost use Rattle.portal_core.specs.declared.phase.Round.{Round as ThatRound};
-ghost use Rattle.portal_core.specs.declared.phase.Round.TheVariants.{First, Second};
-ghost use Rattle.portal_core.specs.World.{is_setup};
+ghost use Rattle.portal_rules.specs.declared.phase.Round.{Round as ThatRound};
+ghost use Rattle.portal_rules.specs.declared.phase.Round.TheVariants.{First, Second};
+ghost use Rattle.portal_rules.specs.World.{is_setup};
 ghost use Rattle.portal_tables.specs.Steps.{Reads, Gives};
 ghost use Rattle.portal_tables.specs.inner.Reads.{Answers, Blames};
 ghost use Rattle.portal_store.specs.World as meant_by;
 ghost use Rattle.portal_store.specs.inner.Reading.{IsNow};
 ghost use Rattle.portal_store.specs.Kept.{HasSecond, HasGoodWorldIn};
 
-use portal_core::{Code, Phase, Round};
+use portal_rules::{Code, Phase, Round};
 use portal_tables::{Office, TableFault, VERSION, office_in, second_in};
 use sqlite::{Alter, Connection};
 use std::alloc::Global;

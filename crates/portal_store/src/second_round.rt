@@ -2,13 +2,13 @@
 
 ghost use Rattle.std.specs.Prelude.{◌≡◌, ◌&&◌, false, not};
 ghost use Rattle.sqlite.specs.Held.{state};
-ghost use Rattle.portal_core.specs.World.{SecondRound, is_published, is_second};
+ghost use Rattle.portal_rules.specs.World.{SecondRound, is_published, is_second};
 ghost use Rattle.portal_store.specs.inner.Keeping.{IsTransitionFrom};
 ghost use Rattle.portal_store.specs.inner.Ending.{CommitsChange};
 ghost use Rattle.portal_store.specs.inner.Opening.{OpensSecondRound};
 
 use crate::round::first_phase;
-use portal_core::{Phase, Round};
+use portal_rules::{Phase, Round};
 use portal_tables::{Step, TableFault, commit, set_second, settled};
 use sqlite::{Alter, Connection, Error, Transaction};
 use std::alloc::Global;

@@ -4,8 +4,8 @@ ghost use Rattle.std.specs.Prelude.{◌≡◌, false};
 ghost use Rattle.sqlite.specs.Held.{state};
 ghost use Rattle.portal_store.specs.Kept.{IsCleanStore, IsConsistent, LeavesConsistent};
 
-use portal_core::ViewCache;
 use portal_list::Entries;
+use portal_rules::ViewCache;
 use portal_tables::PortalSchema;
 use sqlite::{Alter, Connection};
 use std::marker::Model;

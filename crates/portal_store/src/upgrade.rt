@@ -3,7 +3,7 @@
 ghost use Rattle.std.specs.Prelude.{◌≡◌, ◌↔◌, false, IfOk, IfErr, OnOk, IsTrue};
 ghost use Rattle.sqlite.specs.State.{HasCleanDisk};
 ghost use Rattle.sqlite.specs.Held.{state};
-ghost use Rattle.portal_core.specs.declared.phase.Round.TheVariants.{First};
+ghost use Rattle.portal_rules.specs.declared.phase.Round.TheVariants.{First};
 ghost use Rattle.portal_tables.specs.Tables.{first_version, IsFirstSchema};
 ghost use Rattle.portal_tables.specs.Making.{has_names};
 ghost use Rattle.portal_tables.specs.declared.names.Names.TheVariants.{OfSecond};
@@ -21,8 +21,8 @@ ghost use Rattle.portal_store.specs.inner.Upgrading.{UpgradesTables};
 use crate::checks::{judge_first, see_first};
 use crate::fault::upgrade_fault_of;
 use crate::store::{NotOpened, OpenFault, Store, UpgradeFault};
-use portal_core::ViewCache;
 use portal_list::Entries;
+use portal_rules::ViewCache;
 use portal_tables::names::{Names, is_there};
 use portal_tables::{FIRST_VERSION, PortalSchema, settled, upgrade_tables};
 use sqlite::{Alter, Connection};

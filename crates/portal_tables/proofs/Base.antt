@@ -26,12 +26,12 @@ pub use Rattle.std.specs.Prelude.{IfSome, if◌then◌else◌, is_some, option_c
 pub use Rattle.std.specs.Result.{IsErr, IsErrAnd}
 pub use Rattle.std.specs.declared.cmp.Ordering.{Ordering}
 pub use Rattle.std.specs.declared.cmp.Ordering.TheVariants.{Equal, Greater, Less}
-pub use Rattle.portal_core.proofs.Adjacent.{adjacent_rise, rows_sorted}
-pub use Rattle.portal_core.proofs.AllLaws.{all_map, all_weaker, any_map, filtered_any, is_sym, none_is}
-pub use Rattle.portal_core.proofs.Fills.{before_other}
-pub use Rattle.portal_core.proofs.Keys.{all_unmap, is_own, is_same, not_before_itself}
-pub use Rattle.portal_core.proofs.Puts.{after_other, before_trans, rise_put, less_of}
-pub use Rattle.portal_core.specs.Words.{is_empty}
+pub use Rattle.portal_rules.proofs.Adjacent.{adjacent_rise, rows_sorted}
+pub use Rattle.portal_rules.proofs.AllLaws.{all_map, all_weaker, any_map, filtered_any, is_sym, none_is}
+pub use Rattle.portal_rules.proofs.Fills.{before_other}
+pub use Rattle.portal_rules.proofs.Keys.{all_unmap, is_own, is_same, not_before_itself}
+pub use Rattle.portal_rules.proofs.Puts.{after_other, before_trans, rise_put, less_of}
+pub use Rattle.portal_rules.specs.Words.{is_empty}
 pub use Rattle.portal_tables.specs.Making.{Creates, IsFresh, Upgrades}
 pub use Rattle.portal_tables.specs.Rows.{RowNumbersDiffer, has_text, row_key, Assigned, portal_cells, portal_row, second_cells, second_row, CountUp, IsWhole, by_place, chosen, list_in_order, named_by, of_key, place_key, place_of, placed_project, second_placement, HasOffice, number_of_phase}
 pub use Rattle.portal_tables.specs.Steps.{Commits, IsAfter, IsSettled, IsUnchangedOrUndone, OnlyLooks, Stays, Reading, Anyhow, Gives}

@@ -2,7 +2,7 @@
 use Rattle.portal_tables.proofs.Base.{◌≡◌, ◌+◌, ◌<◌, ◌≤◌, ◌∷◌, arith, inl, inr, ℕ, pos, Bool, true, false, List, [], length, map, filter, refl, sym, ap, subst, subst₂, ◌∙◌, AllByRecursion, IsPermutation, IsSorted, nil_from_length, length-map, IsPermutation-map, IsPermutation-sym, length_permutation, Ordering, Less, Equal, Greater, is_lt, is_gt, nat_cmp, ordering_then, ordering_reverse, lt→ltb, nat_cmp_is, int_cmp_is, cases_lt, slice_cmp, Value, Int, Words, Row, column, bytes, value_cmp, number_in, IsAscending, map-map, all_of, value_cmp_total, value_cmp-Int, value_cmp-Text, then-Equal, ascending_from_sorted, IsSorted-map, Key, is_before, Rise, all_weaker, all_map, all_unmap, ListsBy, every, columns, has_text, row_key, by_key, of_key, place_of, place_key, by_place, named_by, chosen, CountUp, IsWhole, first_cell, shown_rank, shown_name, ◌<ℤ◌}
 use Rattle.std.specs.Ordering.{int_cmp}
 use Rattle.std.specs.Cmp.Lexicographic.{nat_list_cmp_total}
-use Rattle.portal_core.specs.Words.{put_all}
+use Rattle.portal_rules.specs.Words.{put_all}
 use Rattle.portal_tables.proofs.Lists.{filter_all}
 use Rattle.portal_tables.proofs.Sorted.{NeverFall, all_permuted, in_order, sorted_order, put_all_map, permutes, map_alike_on, at}
 

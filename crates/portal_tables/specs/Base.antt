@@ -1,9 +1,9 @@
 -- Names from below that the definitions use.
-pub use Rattle.portal_core.specs.Words.{Key, equals, put_all}
-pub use Rattle.portal_core.specs.declared.phase.Phase.{Phase}
-pub use Rattle.portal_core.specs.declared.phase.Phase.TheVariants.{Choosing, Published, Ranking, Setup}
-pub use Rattle.portal_core.specs.declared.phase.Round.{Round}
-pub use Rattle.portal_core.specs.declared.phase.Round.TheVariants.{First, Second}
+pub use Rattle.portal_rules.specs.Words.{Key, equals, put_all}
+pub use Rattle.portal_rules.specs.declared.phase.Phase.{Phase}
+pub use Rattle.portal_rules.specs.declared.phase.Phase.TheVariants.{Choosing, Published, Ranking, Setup}
+pub use Rattle.portal_rules.specs.declared.phase.Round.{Round}
+pub use Rattle.portal_rules.specs.declared.phase.Round.TheVariants.{First, Second}
 pub use Rattle.sqlite.specs.Collation.TheVariants.{Binary}
 pub use Rattle.sqlite.specs.Edit.{id_in}
 pub use Rattle.sqlite.specs.Effect.{Database, IsDatabase}

@@ -1,9 +1,9 @@
 -- What the rows of the tables say, what the statements put into them, and the lists that they hold.
 use Rattle.std.specs.Prelude.{◌∷◌, ◌≡◌, if◌then◌else◌, ◌==◌, ◌+◌}
 use Rattle.portal_tables.specs.Base.{ℕ, ℤ, pos, List, [], Option, Null, Int, Words, Row, column, bytes, Key, Some, None, Value, Real, Blob, Bool, false, ⊤, AllByRecursion, is_eq, value_cmp, id_in, rowid, Phase, Setup, Choosing, Ranking, Published, map, filter, number_in, put_all, option_map, find, Trees, equals}
-use Rattle.portal_core.specs.declared.rows.LecturerRow.{LecturerRow}
-use Rattle.portal_core.specs.declared.rows.ProjectRow.{ProjectRow}
-use Rattle.portal_core.specs.declared.rows.StudentRow.{StudentRow}
+use Rattle.portal_rules.specs.declared.rows.LecturerRow.{LecturerRow}
+use Rattle.portal_rules.specs.declared.rows.ProjectRow.{ProjectRow}
+use Rattle.portal_rules.specs.declared.rows.StudentRow.{StudentRow}
 use Rattle.portal_tables.specs.Tables.{assigned2_tree}
 
 -- the cells of the row of `portal` after its number; the number is the id, whose own cell is empty

@@ -6,7 +6,7 @@ ghost use Rattle.portal_tables.specs.inner.Base.{number_in, is_key, is_code, is_
 ghost use Rattle.portal_tables.specs.Rows.{text_or_none};
 
 use crate::fault::TableFault;
-use portal_core::{Code, CodeFault, Name, NameFault};
+use portal_rules::{Code, CodeFault, Name, NameFault};
 use spa_rows::limits::MOST_PLACES;
 use spa_rows::{Key, KeyFault};
 use sqlite::Row;

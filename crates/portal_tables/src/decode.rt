@@ -12,7 +12,7 @@ ghost use Rattle.portal_tables.specs.inner.Shown.{shown_name};
 
 use crate::cells::{bytes_at, capacity_at, code_at, key_at, name_at, number_at};
 use crate::fault::TableFault;
-use portal_core::{LecturerRow, ProjectRow, StudentRow};
+use portal_rules::{LecturerRow, ProjectRow, StudentRow};
 use spa_rows::Key;
 use sqlite::Row;
 use std::alloc::{AllocError, Global};

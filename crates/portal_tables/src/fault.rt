@@ -2,10 +2,10 @@
 
 ghost use Rattle.std.specs.Prelude.{◌≡◌, ◌↔◌};
 ghost use Rattle.portal_tables.specs.inner.Base.{SqliteFailure, OutOfMemory};
-ghost use Rattle.portal_core.specs.declared.keeper.KeepFault.TheVariants as keep;
+ghost use Rattle.portal_rules.specs.declared.keeper.KeepFault.TheVariants as keep;
 ghost use Rattle.portal_tables.specs.declared.fault.TableFault.TheVariants.{Damaged, Memory};
 
-use portal_core::KeepFault;
+use portal_rules::KeepFault;
 use sqlite::{Error, ErrorCode};
 use std::alloc::{AllocError, AllocFailed};
 

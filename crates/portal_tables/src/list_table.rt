@@ -5,7 +5,7 @@ ghost use Rattle.portal_tables.specs.Tables as meant;
 ghost use Rattle.portal_tables.specs.inner.Texts as texts;
 ghost use Rattle.portal_tables.specs.inner.Texts.{names, round_of};
 
-use portal_core::Round;
+use portal_rules::Round;
 
 /// The tables of lists.
 #[derive(Clone, Copy, Drop)]

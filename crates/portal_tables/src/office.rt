@@ -13,7 +13,7 @@ ghost use Rattle.portal_tables.specs.inner.RowChanges.{IsOffice, IsSecond};
 use crate::cells::code_at;
 use crate::fault::TableFault;
 use crate::select::{Query, read_rows};
-use portal_core::{Code, Phase};
+use portal_rules::{Code, Phase};
 use sqlite::types::ValueRef;
 use sqlite::{Alter, Connection, Row};
 use std::alloc::Global;

@@ -21,7 +21,7 @@ use crate::decode::{at_most_one, push_some};
 use crate::fault::TableFault;
 use crate::select::{Query, read_each};
 use crate::sorted_rolls::rising;
-use portal_core::{Phase, Round};
+use portal_rules::{Phase, Round};
 use spa_rows::Key;
 use sqlite::{Alter, Connection, Row};
 use std::alloc::Global;

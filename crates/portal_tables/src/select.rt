@@ -14,7 +14,7 @@ use crate::decode::FromCells;
 use crate::fault::TableFault;
 use crate::list_table::Lists;
 use crate::run;
-use portal_core::Round;
+use portal_rules::Round;
 use sqlite::types::ValueRef;
 use sqlite::{Alter, Connection, Error, Row};
 use std::alloc::Global;

@@ -16,7 +16,7 @@ use crate::cells::bytes_at;
 use crate::decode::{decoded, do_rise};
 use crate::fault::TableFault;
 use crate::select::{Query, RollTable, read_rows};
-use portal_core::{LecturerRow, ProjectRow, StudentRow};
+use portal_rules::{LecturerRow, ProjectRow, StudentRow};
 use sqlite::{Alter, Connection, Row};
 use std::alloc::Global;
 use std::cmp::Ordering;

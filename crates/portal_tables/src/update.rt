@@ -7,7 +7,7 @@ ghost use Rattle.portal_tables.specs.inner.Putting.{RanksSecond};
 
 use crate::office::phase_number;
 use crate::run::write;
-use portal_core::Phase;
+use portal_rules::Phase;
 use sqlite::types::{ToSql, ValueRef};
 use sqlite::{Alter, Error, Transaction};
 

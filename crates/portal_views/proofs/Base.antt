@@ -18,12 +18,12 @@ pub use Rattle.std.specs.Prelude.{Bool, Ok, Result, take, true, ℕ, ℤ, if◌t
 pub use Rattle.std.specs.Result.{IsErrAnd}
 pub use Rattle.std.specs.declared.cmp.Ordering.{Ordering}
 pub use Rattle.std.specs.declared.cmp.Ordering.TheVariants.{Equal}
-pub use Rattle.portal_core.proofs.AllLaws.{all_map, all_weaker, any_map, filtered_any, is_sym, any_nowhere}
-pub use Rattle.portal_core.proofs.Fills.{before_other, rise_kept}
-pub use Rattle.portal_core.proofs.Keys.{all_unmap, is_own, is_same}
-pub use Rattle.portal_core.specs.Words.{is_before, put_all, is_empty}
-pub use Rattle.portal_core.specs.inner.Room.{lecturer_left, project_left}
-pub use Rattle.portal_core.specs.inner.Offers.{name_of, offered}
+pub use Rattle.portal_rules.proofs.AllLaws.{all_map, all_weaker, any_map, filtered_any, is_sym, any_nowhere}
+pub use Rattle.portal_rules.proofs.Fills.{before_other, rise_kept}
+pub use Rattle.portal_rules.proofs.Keys.{all_unmap, is_own, is_same}
+pub use Rattle.portal_rules.specs.Words.{is_before, put_all, is_empty}
+pub use Rattle.portal_rules.specs.inner.Room.{lecturer_left, project_left}
+pub use Rattle.portal_rules.specs.inner.Offers.{name_of, offered}
 pub use Rattle.portal_tables.proofs.InTurn.{at_item, both, judged, next_given, next_item, reads_as, reads_both, reads_handed, reads_more, reads_of, reads_open, reads_self, reads_short, reads_then, reads_then_of}
 pub use Rattle.portal_tables.proofs.Listed.{IsText, permuted, roll_shown, roll_rises}
 pub use Rattle.portal_tables.proofs.Lists.{any_alike, filter_all, not_true, eq_self, apart_filter}

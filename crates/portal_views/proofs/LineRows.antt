@@ -4,7 +4,7 @@ use Rattle.portal_views.proofs.Choosers.{chooser, choosers_known}
 use Rattle.portal_views.proofs.Owners.{keys_shown}
 use Rattle.portal_views.proofs.OneKey.{roll_keys_rise}
 use Rattle.portal_tables.proofs.Lists.{sifted}
-use Rattle.portal_core.proofs.Keys.{find_map}
+use Rattle.portal_rules.proofs.Keys.{find_map}
 use Rattle.sqlite_rules.proofs.ListLemmas.{has_filtered, some_has}
 
 only_told : (shown : List Row) (l : ApplicantLine) → map told_line shown ≡ l ∷ [] → (c : Row) × (shown ≡ c ∷ []) × (told_line c ≡ l)

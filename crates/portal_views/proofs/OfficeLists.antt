@@ -3,8 +3,8 @@ use Rattle.portal_views.proofs.Base.{◌∙◌, ◌&&◌, ◌||◌, ◌∷◌, �
 use Rattle.std.proofs.Math.Bool.{not-not}
 use Rattle.sqlite_rules.proofs.ListLemmas.{some_has, some_from}
 use Rattle.sqlite_trees.specs.Objects.{number_in}
-use Rattle.portal_core.proofs.Kept.{empty_map}
-use Rattle.portal_core.proofs.Members.{has_all}
+use Rattle.portal_rules.proofs.Kept.{empty_map}
+use Rattle.portal_rules.proofs.Members.{has_all}
 use Rattle.portal_views.proofs.Choosers.{named_where, choices_formed, choices_parents, chooser, choosers_known}
 
 -- somebody names the project

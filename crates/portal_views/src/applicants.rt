@@ -11,7 +11,7 @@ ghost use Rattle.portal_views.specs.inner.Lines.{HasTables, HasStudents};
 ghost use Rattle.portal_tables.specs.inner.Reads.{MayRead, Answers};
 
 use crate::lines::{ApplicantLine, lines_to, persons_of};
-use portal_core::{Person, Phase, Round};
+use portal_rules::{Person, Phase, Round};
 use portal_tables::TableFault;
 use spa_rows::Key;
 use sqlite::{Alter, Connection};

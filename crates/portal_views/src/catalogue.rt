@@ -1,8 +1,8 @@
 //! Makes the catalogue by queries; in the second round it shows the remaining room.
 
 ghost use Rattle.std.specs.Prelude.{◌≡◌};
-ghost use Rattle.portal_core.specs.inner.Room as left_by;
-ghost use Rattle.portal_core.specs.declared.phase.Round.TheVariants.{First, Second};
+ghost use Rattle.portal_rules.specs.inner.Room as left_by;
+ghost use Rattle.portal_rules.specs.declared.phase.Round.TheVariants.{First, Second};
 ghost use Rattle.portal_views.specs.inner.Base.{IfOk, filter_map, map, IsDatabase, Contradicts};
 ghost use Rattle.portal_views.specs.inner.Catalogue.{offered_in, catalogue_shown, HasOffers};
 ghost use Rattle.portal_views.specs.inner.Catalogue.{HasPairs};
@@ -12,7 +12,7 @@ ghost use Rattle.portal_tables.specs.inner.Reads.{MayRead, Always, Answers, Blam
 ghost use Rattle.portal_tables.specs.inner.Rolls.{lecturers_shown, projects_shown};
 ghost use Rattle.portal_tables.specs.inner.Shown.{shown_lecturer, shown_project};
 
-use portal_core::{
+use portal_rules::{
     LecturerRow, Listing, ProjectRow, Round, lecturer_left, listings_of, project_left,
 };
 use portal_tables::decode::{decoded, push_some};

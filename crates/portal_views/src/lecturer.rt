@@ -14,7 +14,7 @@ ghost use Rattle.portal_tables.specs.inner.Shown.{first_cell};
 
 use crate::applicants::project_students;
 use crate::lines::person_at;
-use portal_core::{LecturerView, Listing, Phase, Round};
+use portal_rules::{LecturerView, Listing, Phase, Round};
 use portal_tables::cells::{bytes_at, capacity_at, key_at};
 use portal_tables::list_table::Lists;
 use portal_tables::select::Query;

@@ -12,7 +12,7 @@ ghost use Rattle.portal_views.specs.inner.Lines.{HasTables, HasStudents, IsNamed
 ghost use Rattle.portal_views.specs.inner.Lines.{IsTold, told_line, in_round, applicant_at};
 ghost use Rattle.portal_views.specs.inner.Lines.{applicant_lines};
 
-use portal_core::{Person, Round};
+use portal_rules::{Person, Round};
 use portal_tables::cells::{assigned_at, bytes_at, key_at, name_at};
 use portal_tables::decode::{FromCells, at_most_one};
 use portal_tables::select::{Query, read_each};

@@ -1,7 +1,7 @@
 //! Finds the students whose list is missing, and the lecturers whose ranking is missing.
 
 ghost use Rattle.std.specs.Prelude.{◌≡◌, ◌&&◌, is_none, if◌then◌else◌};
-ghost use Rattle.portal_core.specs.World.{is_from_ranking};
+ghost use Rattle.portal_rules.specs.World.{is_from_ranking};
 ghost use Rattle.portal_views.specs.inner.Base.{[], Some, None, Err, IfOk, AllByRecursion, map};
 ghost use Rattle.portal_views.specs.inner.Base.{not, filter, has, equals, Rise};
 ghost use Rattle.portal_views.specs.inner.Office.{HasWholeLists, is_chosen_shown, is_wanted_shown};
@@ -12,7 +12,7 @@ ghost use Rattle.portal_tables.specs.inner.Reads.{MayRead, Answers, Blames};
 ghost use Rattle.portal_tables.specs.inner.Placements.{placement_before};
 ghost use Rattle.portal_tables.specs.inner.Shown.{first_cell, shown_project};
 
-use portal_core::{Phase, Round};
+use portal_rules::{Phase, Round};
 use portal_tables::cells::{bytes_at, key_at};
 use portal_tables::decode::push_some;
 use portal_tables::list_table::Lists;

@@ -9,7 +9,7 @@ ghost use Rattle.portal_tables.specs.inner.Reads.{Answers};
 ghost use Rattle.portal_tables.specs.inner.Shown.{shown_lecturer, shown_project, shown_student};
 
 use crate::missing::{still_to_rank, without_list};
-use portal_core::{Listing, OfficeView, Round};
+use portal_rules::{Listing, OfficeView, Round};
 use portal_tables::{Office, Rolls, TableFault, pairs_in, parts_of, rolls_in};
 use spa_rows::Key;
 use sqlite::{Alter, Connection};

@@ -6,7 +6,7 @@ ghost use Rattle.portal_views.specs.inner.Callers.{IsReadable, student_shown};
 ghost use Rattle.portal_tables.specs.inner.Reads.{MayRead, Answers, Blames};
 
 use crate::lines::person_at;
-use portal_core::{Listing, Phase, Round, StudentView};
+use portal_rules::{Listing, Phase, Round, StudentView};
 use portal_tables::cells::key_at;
 use portal_tables::list_table::Lists;
 use portal_tables::{TableFault, list_in, result_in};

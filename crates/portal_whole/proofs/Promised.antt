@@ -2,10 +2,10 @@
 use Rattle.std.proofs.Common.{◌≡◌, ℕ, List, [], ◌∷◌, refl, sym, ap, ◌∙◌, subst, inl, inr, map}
 use Rattle.std.specs.Prelude.{Option, Some, None, IfSome}
 use Rattle.std.specs.List.{AllByRecursion, AllZip}
-use Rattle.portal_core.specs.World.{World}
-use Rattle.portal_core.specs.Good.{Good}
+use Rattle.portal_rules.specs.World.{World}
+use Rattle.portal_rules.specs.Good.{Good}
 use Rattle.portal_wire.specs.Conversation.{Last}
-use Rattle.portal_core.specs.Keeping.{KeeperState}
+use Rattle.portal_rules.specs.Keeping.{KeeperState}
 use Rattle.std.specs.Io.KnownBytes.{Appends}
 use Rattle.portal_desk.specs.Session.{Finish, Ended, Stopped, Session}
 use Rattle.portal_desk.specs.Headline.{Visit, TellsOf, AreServedOn}

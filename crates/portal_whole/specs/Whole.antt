@@ -1,7 +1,7 @@
 -- The promise for streams that are served from a world.
 use Rattle.std.specs.Prelude.{◌≡◌, ℕ, List, map}
 use Rattle.std.specs.List.{AllByRecursion}
-use Rattle.portal_core.specs.World.{World}
+use Rattle.portal_rules.specs.World.{World}
 use Rattle.portal_wire.specs.Conversation.{Last}
 use Rattle.portal_desk.specs.Session.{Ended}
 use Rattle.portal_desk.specs.Headline.{Visit, AreAnswered, IsLikeAll, IsUpheld}

@@ -13,7 +13,7 @@ pub use Rattle.std.specs.Str.{bytes_eq, is_utf8}
 pub use Rattle.std.specs.declared.alloc.Global.{Global}
 pub use Rattle.matchit.specs.Rows.{RowsOf, param_token, catch_all_token}
 pub use Rattle.matchit.specs.Seek.{step, own, or_else, has_slash, first}
-pub use Rattle.portal_core.specs.Run.{Request}
+pub use Rattle.portal_rules.specs.Run.{Request}
 pub use Rattle.portal_frame.specs.Stream.{Asked, Item, Opens, fault, over, whole, Refuses, asked_of, after_lines, body_length, fields_of, bad_length, bad_head, is_head}
 pub use Rattle.portal_wire.specs.Conversation.{End, Ends, Last, Leads, Refused, Rest, closes_at, more, request_of, shut, reply_text, Closed, Limit}
 pub use Rattle.portal_wire.specs.Wish.{answer_to, method_of, look_up, members_len, member_among, phase_of, empty_object, item_texts, json_in}

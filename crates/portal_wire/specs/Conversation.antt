@@ -1,10 +1,10 @@
 -- The bytes of a reply, the requests of a whole stream with its ending, and the replies to them.
 use Rattle.std.specs.Prelude.{ℕ, Bool, if◌then◌else◌, ◌==◌, List, [], ◌∷◌, ◌++◌, length, codes, decimal, ◌≡◌, ◌-◌, true, false, ◌||◌, nat_le}
 use Rattle.serde_json.specs.Written.{compact_text}
-use Rattle.portal_core.specs.Answer.{Answer, Said, Json, Csv, Plain, Unavailable}
+use Rattle.portal_rules.specs.Answer.{Answer, Said, Json, Csv, Plain, Unavailable}
 use Rattle.std.specs.Bool.{MatchBool}
-use Rattle.portal_core.specs.World.{World}
-use Rattle.portal_core.specs.Run.{Request, Run, end_of}
+use Rattle.portal_rules.specs.World.{World}
+use Rattle.portal_rules.specs.Run.{Request, Run, end_of}
 use Rattle.portal_frame.specs.Stream.{Asked, Refuses, whole, fault, over, Opens, is_head}
 use Rattle.portal_wire.specs.declared.Ending.{Ending}
 use Rattle.portal_wire.specs.declared.Ending.TheVariants as ending

@@ -6,20 +6,20 @@ use Rattle.std.specs.Str.{bytes_eq, is_utf8}
 use Rattle.serde_json.specs.Read.{read as read_text}
 use Rattle.serde_json.specs.Find.{get_member, as_number, as_u64}
 use Rattle.serde_json.specs.Data.{Data, string, array, object, item, no_items, member, no_members, Items, Members}
-use Rattle.portal_core.specs.World.{phase_word}
-use Rattle.portal_core.specs.declared.phase.Phase.{Phase}
-use Rattle.portal_core.specs.declared.phase.Phase.TheVariants.{Setup, Choosing, Ranking, Published}
-use Rattle.portal_core.specs.declared.phase.Round.{Round}
-use Rattle.portal_core.specs.declared.phase.Round.TheVariants.{First, Second}
+use Rattle.portal_rules.specs.World.{phase_word}
+use Rattle.portal_rules.specs.declared.phase.Phase.{Phase}
+use Rattle.portal_rules.specs.declared.phase.Phase.TheVariants.{Setup, Choosing, Ranking, Published}
+use Rattle.portal_rules.specs.declared.phase.Round.{Round}
+use Rattle.portal_rules.specs.declared.phase.Round.TheVariants.{First, Second}
 use Rattle.portal_wire.specs.declared.routes.Method.{Method}
 use Rattle.portal_wire.specs.declared.routes.Method.TheVariants.{Get, Head, Put, Post, Other}
 use Rattle.portal_wire.specs.declared.routes.Route.{Route}
 use Rattle.portal_wire.specs.declared.routes.Route.TheVariants as route
-use Rattle.portal_core.specs.Bodies.{dictionary, count}
-use Rattle.portal_core.specs.Answer.{Answer, Json}
-use Rattle.portal_core.specs.Run.{unavailable, Wish, Calls, Refused}
+use Rattle.portal_rules.specs.Bodies.{dictionary, count}
+use Rattle.portal_rules.specs.Answer.{Answer, Json}
+use Rattle.portal_rules.specs.Run.{unavailable, Wish, Calls, Refused}
 use Rattle.portal_frame.specs.Stream.{Refuses, plain, Asked}
-use Rattle.portal_core.specs.Sight.{AbstractCall}
+use Rattle.portal_rules.specs.Sight.{AbstractCall}
 use Rattle.portal_rolls.specs.declared.fault.RollFault.{RollFault}
 use Rattle.portal_rolls.specs.declared.fault.RollFault.TheVariants as fault
 use Rattle.portal_rolls.specs.Lines.{lecturers, projects, students}

@@ -8,7 +8,7 @@ ghost use Rattle.portal_wire.specs.Wish.{move_named, empty_object, listed_in, mo
 ghost use Rattle.portal_wire.specs.inner.Calls.{GivesBody};
 ghost use Rattle.portal_wire.specs.declared.bodies.BodyFault.TheVariants.{Memory as OutOfMemory};
 
-use portal_core::{Phase, Round};
+use portal_rules::{Phase, Round};
 use serde_json::Value;
 use serde_json::error::Category;
 use std::alloc::{AllocError, AllocFailed, Global};

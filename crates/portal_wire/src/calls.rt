@@ -1,10 +1,10 @@
 //! Turns a request into a call, or refuses it.
 
 ghost use Rattle.std.specs.Prelude.{◌≡◌, ◌⊎◌, IfOk, IfErr};
-ghost use Rattle.portal_core.specs.Meaning.{call_model};
-ghost use Rattle.portal_core.specs.Run.{HasForm, Calls};
+ghost use Rattle.portal_rules.specs.Meaning.{call_model};
+ghost use Rattle.portal_rules.specs.Run.{HasForm, Calls};
 ghost use Rattle.portal_frame.specs.Stream.{seen, refused};
-ghost use Rattle.portal_core.specs.Sight.{AbstractCall};
+ghost use Rattle.portal_rules.specs.Sight.{AbstractCall};
 ghost use Rattle.portal_wire.specs.declared.calls.CallFault.TheVariants as why;
 ghost use Rattle.portal_wire.specs.Wish.{no_memory, turned_away, get_at, put_at, post_at, to_move};
 ghost use Rattle.portal_wire.specs.Wish.{wish_at, wish_of, by_body, move_in, nothing_in};
@@ -13,9 +13,9 @@ ghost use Rattle.portal_wire.specs.inner.Calls.{IsCallOf, told_by, of_body, of_r
 use crate::bodies::{BodyFault, read_empty, read_list, read_move};
 use crate::routes::{Method, Route, allow_at, method_in, route_in};
 use matchit::InsertError;
-use portal_core::Call;
 use portal_frame::{Refusal, Request};
 use portal_rolls::{RollFault, read_lecturers, read_projects, read_students};
+use portal_rules::Call;
 use std::alloc::{AllocError, Global};
 
 /// Why a request makes no call.

@@ -1,7 +1,7 @@
 //! Laws: each stream has exactly one sequence of requests and one ending.
 
 ghost use Rattle.std.specs.Prelude.{◌≡◌, ℕ, List};
-ghost use Rattle.portal_core.specs.Run.{Request};
+ghost use Rattle.portal_rules.specs.Run.{Request};
 ghost use Rattle.portal_wire.specs.Conversation.{Last, Requests, connection_limit};
 
 use crate::MOST_REQUESTS;

@@ -2,15 +2,15 @@
 
 ghost use Rattle.std.specs.Prelude.{◌≡◌, IfOk, OnOk, ◌++◌, string_bytes};
 ghost use Rattle.serde_json.specs.View.{view};
-ghost use Rattle.portal_core.specs.Answer.{HasWholeNumbers};
-ghost use Rattle.portal_core.specs.Meaning.{reply_model, body_model};
+ghost use Rattle.portal_rules.specs.Answer.{HasWholeNumbers};
+ghost use Rattle.portal_rules.specs.Meaning.{reply_model, body_model};
 ghost use Rattle.portal_frame.specs.Stream.{refused};
 ghost use Rattle.portal_wire.specs.Wish.{answer_to, fault_body};
 ghost use Rattle.portal_wire.specs.Conversation.{reply_text, phrase_of, type_of, body_bytes};
 ghost use Rattle.portal_wire.specs.Conversation.{reply_lines, common_lines, allow_line, close_line};
 
-use portal_core::{Body, Reply};
 use portal_frame::Refusal;
+use portal_rules::{Body, Reply};
 use serde_json::{Map, Value, put};
 use std::alloc::{AllocError, Global};
 

@@ -1,7 +1,7 @@
 //! Tests a desk over a keeper that fails.
 
 ghost use Rattle.std.specs.Prelude.{Err};
-ghost use Rattle.portal_core.specs.Keeping.{CountsFaults};
+ghost use Rattle.portal_rules.specs.Keeping.{CountsFaults};
 
 use crate::tests::conversation::put;
 use crate::tests::devices::{is_text, served_by, stopped};

@@ -1,6 +1,6 @@
 //! Makes desks over a keeper in lists, and checks their output.
 
-ghost use Rattle.portal_core.specs.Good.{Good};
+ghost use Rattle.portal_rules.specs.Good.{Good};
 
 use crate::tests::devices::{ended, is_text, served_by};
 use portal_core::Keeper;

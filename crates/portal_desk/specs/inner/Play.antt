@@ -2,17 +2,17 @@
 use Rattle.std.specs.Prelude.{◌≡◌, ℕ, List, Option, false}
 use Rattle.serde_json.specs.Written.{has_float}
 use Rattle.spa_model.specs.Spa.{Spa, IsBest}
-use Rattle.portal_core.specs.Words.{Key}
-use Rattle.portal_core.specs.World.{World, changed}
-use Rattle.portal_core.specs.Bodies.{csv_text, report_text}
-use Rattle.portal_core.specs.Sight.{OfficeSees}
-use Rattle.portal_core.specs.declared.view.View.{View as Sight}
-use Rattle.portal_core.specs.declared.view.View.TheVariants.{Office}
-use Rattle.portal_core.specs.declared.decision.Sheet.{Sheet}
-use Rattle.portal_core.specs.declared.decision.Sheet.TheVariants as sheet
-use Rattle.portal_core.specs.inner.Room.{pairs_by}
-use Rattle.portal_core.specs.Answer.{Answer, Said, Json, Csv, Plain, Unavailable, Act, Nothing, Apply, Publish, Render}
-use Rattle.portal_core.specs.Good.{Good, CanPublish}
+use Rattle.portal_rules.specs.Words.{Key}
+use Rattle.portal_rules.specs.World.{World, changed}
+use Rattle.portal_rules.specs.Bodies.{csv_text, report_text}
+use Rattle.portal_rules.specs.Sight.{OfficeSees}
+use Rattle.portal_rules.specs.declared.view.View.{View as Sight}
+use Rattle.portal_rules.specs.declared.view.View.TheVariants.{Office}
+use Rattle.portal_rules.specs.declared.decision.Sheet.{Sheet}
+use Rattle.portal_rules.specs.declared.decision.Sheet.TheVariants as sheet
+use Rattle.portal_rules.specs.inner.Room.{pairs_by}
+use Rattle.portal_rules.specs.Answer.{Answer, Said, Json, Csv, Plain, Unavailable, Act, Nothing, Apply, Publish, Render}
+use Rattle.portal_rules.specs.Good.{Good, CanPublish}
 
 -- an act that leaves a good world
 abbrev pub CanDo : World → Act → Type 0

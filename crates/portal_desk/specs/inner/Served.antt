@@ -1,6 +1,6 @@
 -- Sessions of a keeper that stays clean, and streams that are served to their ends.
 use Rattle.std.specs.Prelude.{◌≡◌, ℕ, List, [], ◌∷◌, Some}
-use Rattle.portal_core.specs.Keeping.{KeeperState}
+use Rattle.portal_rules.specs.Keeping.{KeeperState}
 use Rattle.portal_desk.specs.Session.{Finish, Ended, Stopped, Session, IsSession}
 use Rattle.portal_desk.specs.Headline.{AreServedOn, left_by}
 

@@ -1,16 +1,16 @@
 -- What a desk did for one request.
 use Rattle.std.specs.Prelude.{◌≡◌, ◌≢◌, ℕ, Bool, true, ◌||◌, List, [], take, Option, ◌⊎◌, false, Result, Ok, Err}
 use Rattle.std.specs.Io.KnownBytes.{Appends}
-use Rattle.portal_core.specs.Keeping.{KeeperState}
-use Rattle.portal_core.specs.Answer.{Answer}
-use Rattle.portal_core.specs.Run.{Request, unavailable}
+use Rattle.portal_rules.specs.Keeping.{KeeperState}
+use Rattle.portal_rules.specs.Answer.{Answer}
+use Rattle.portal_rules.specs.Run.{Request, unavailable}
 use Rattle.portal_desk.specs.declared.served.Cause.{Cause}
 use Rattle.portal_desk.specs.declared.served.Cause.TheVariants as cause
 use Rattle.portal_wire.specs.Conversation.{reply_text}
 use Rattle.portal_desk.specs.Kept.{Acted, FailsAfter}
-use Rattle.portal_core.specs.declared.decision.Reply.{Reply}
-use Rattle.portal_core.specs.declared.keeper.KeepFault.{KeepFault}
-use Rattle.portal_core.specs.declared.keeper.KeepFault.TheVariants.{Memory, Store}
+use Rattle.portal_rules.specs.declared.decision.Reply.{Reply}
+use Rattle.portal_rules.specs.declared.keeper.KeepFault.{KeepFault}
+use Rattle.portal_rules.specs.declared.keeper.KeepFault.TheVariants.{Memory, Store}
 use Rattle.portal_frame.specs.declared.types.Refusal.{Refusal}
 use Rattle.portal_frame.specs.Stream.{refused}
 use Rattle.portal_wire.specs.Wish.{answer_to}

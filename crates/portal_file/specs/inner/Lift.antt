@@ -10,7 +10,7 @@ use Rattle.sqlite.specs.Held.{Held}
 use Rattle.sqlite.specs.State.{State, HasCleanDisk}
 use Rattle.sqlite.specs.Files.{file_state, IsOpened}
 use Rattle.sqlite.specs.Start.{FindsIn}
-use Rattle.portal_core.specs.World.{World}
+use Rattle.portal_rules.specs.World.{World}
 use Rattle.portal_store.specs.declared.store.OpenFault.{OpenFault}
 use Rattle.portal_file.specs.Tables.{Work, work_of, Current}
 use Rattle.portal_file.specs.Jobs.{IsOfStore}

@@ -6,8 +6,8 @@ use Rattle.std.specs.List.{list_any}
 use Rattle.std.specs.HashMap as map
 use Rattle.std.specs.HashMap.{HashMap}
 use Rattle.spa_rows.specs.inner.Index.{text_eq}
-use Rattle.portal_core.specs.Words.{Key, has}
-use Rattle.portal_core.specs.World.{Student}
+use Rattle.portal_rules.specs.Words.{Key, has}
+use Rattle.portal_rules.specs.World.{Student}
 
 -- there is an element at the place, and it passes
 abbrev pub passes_at : {X : Type 0} → (X → Bool) → List X → ℕ → Bool

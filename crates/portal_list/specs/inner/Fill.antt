@@ -1,8 +1,8 @@
 -- The rankings that a fill makes.
 use Rattle.std.specs.Prelude.{if◌then◌else◌, List, Option, Some, None, is_none, map, filter}
-use Rattle.portal_core.specs.declared.rows.ProjectRow.{ProjectRow}
-use Rattle.portal_core.specs.Words.{Key, is_empty}
-use Rattle.portal_core.specs.World.{World, Lecturer, Student, student_key, applicants_of, is_still_to_rank}
+use Rattle.portal_rules.specs.declared.rows.ProjectRow.{ProjectRow}
+use Rattle.portal_rules.specs.Words.{Key, is_empty}
+use Rattle.portal_rules.specs.World.{World, Lecturer, Student, student_key, applicants_of, is_still_to_rank}
 use Rattle.portal_list.specs.inner.Parts.{applicant_keys}
 
 -- the applicants by key, where there is one

@@ -1,13 +1,13 @@
 -- Rows put together to entries: each roll in its order takes what stands next for it, until nothing
 -- is left.
 use Rattle.std.specs.Prelude.{◌&&◌, if◌then◌else◌, List, [], ◌∷◌, Option, Some, None, option_map, ◌≡◌}
-use Rattle.portal_core.specs.declared.phase.Round.{Round}
-use Rattle.portal_core.specs.declared.phase.Round.TheVariants.{First, Second}
-use Rattle.portal_core.specs.declared.rows.LecturerRow.{LecturerRow}
-use Rattle.portal_core.specs.declared.rows.StudentRow.{StudentRow}
-use Rattle.portal_core.specs.Words.{Key, equals, is_empty}
-use Rattle.portal_core.specs.World.{Lecturer, Student, World}
-use Rattle.portal_core.specs.Good.{Sound}
+use Rattle.portal_rules.specs.declared.phase.Round.{Round}
+use Rattle.portal_rules.specs.declared.phase.Round.TheVariants.{First, Second}
+use Rattle.portal_rules.specs.declared.rows.LecturerRow.{LecturerRow}
+use Rattle.portal_rules.specs.declared.rows.StudentRow.{StudentRow}
+use Rattle.portal_rules.specs.Words.{Key, equals, is_empty}
+use Rattle.portal_rules.specs.World.{Lecturer, Student, World}
+use Rattle.portal_rules.specs.Good.{Sound}
 use Rattle.portal_list.specs.inner.Rows.{RowsOfWorld, world_rows}
 
 -- what stands next, if it is for this key

@@ -2,8 +2,8 @@
 use Rattle.std.specs.Prelude.{[], map, unwrap_or}
 use Rattle.spa_rows.specs.Lines
 use Rattle.spa_rows.specs.Lines.{Rows}
-use Rattle.portal_core.specs.World.{Lecturer, Student}
-use Rattle.portal_core.specs.declared.rows.ProjectRow.{ProjectRow}
+use Rattle.portal_rules.specs.World.{Lecturer, Student}
+use Rattle.portal_rules.specs.declared.rows.ProjectRow.{ProjectRow}
 use Rattle.portal_list.specs.inner.Rows.{AllEntries}
 
 -- no fault of these lines is ever told, so that they need no row

@@ -1,16 +1,16 @@
 -- Who takes part in the second round, as a world of a single round: with the room that the first
 -- left, and nothing before it.
 use Rattle.std.specs.Prelude.{Bool, true, if◌then◌else◌, List, map, Option, None, option_map, false}
-use Rattle.portal_core.specs.declared.phase.Round.{Round}
-use Rattle.portal_core.specs.declared.phase.Round.TheVariants.{First, Second}
-use Rattle.portal_core.specs.declared.rows.ProjectRow.{ProjectRow}
+use Rattle.portal_rules.specs.declared.phase.Round.{Round}
+use Rattle.portal_rules.specs.declared.phase.Round.TheVariants.{First, Second}
+use Rattle.portal_rules.specs.declared.rows.ProjectRow.{ProjectRow}
 use Rattle.std.specs.List.{list_any}
-use Rattle.portal_core.specs.Words.{Key, equals}
-use Rattle.portal_core.specs.inner.Room.{lecturer_left, project_left}
-use Rattle.portal_core.specs.World.{Lecturer, Student, is_left, lecturers_left, projects_left, students_left, World, Change, Choices, Ranks, Lecturers, Projects, Students, To, Placements, Fill, SecondRound}
-use Rattle.portal_core.specs.Alone.{alone_lecturer, alone_student}
+use Rattle.portal_rules.specs.Words.{Key, equals}
+use Rattle.portal_rules.specs.inner.Room.{lecturer_left, project_left}
+use Rattle.portal_rules.specs.World.{Lecturer, Student, is_left, lecturers_left, projects_left, students_left, World, Change, Choices, Ranks, Lecturers, Projects, Students, To, Placements, Fill, SecondRound}
+use Rattle.portal_rules.specs.Alone.{alone_lecturer, alone_student}
 use Rattle.portal_list.specs.inner.Rows.{AllEntries}
-use Rattle.portal_core.specs.declared.phase.Phase.{Phase}
+use Rattle.portal_rules.specs.declared.phase.Phase.{Phase}
 
 -- the lecturer, if room is left
 abbrev pub lecturer_played : List ProjectRow → List (Key × Key) → Lecturer → Option Lecturer

@@ -1,15 +1,15 @@
 -- A world as entries (the rows of the rolls with their owners' lists) and as the rows of tables.
 use Rattle.std.specs.Prelude.{◌≡◌, true, List, [], map, Option, option_map}
-use Rattle.portal_core.specs.World.{World, Lecturer, Student, pairs_with, first, is_second}
-use Rattle.portal_core.specs.Good.{Sound}
-use Rattle.portal_core.specs.declared.phase.Round.{Round}
-use Rattle.portal_core.specs.declared.rows.ProjectRow.{ProjectRow}
+use Rattle.portal_rules.specs.World.{World, Lecturer, Student, pairs_with, first, is_second}
+use Rattle.portal_rules.specs.Good.{Sound}
+use Rattle.portal_rules.specs.declared.phase.Round.{Round}
+use Rattle.portal_rules.specs.declared.rows.ProjectRow.{ProjectRow}
 use Rattle.std.specs.List.{filter_map}
-use Rattle.portal_core.specs.declared.phase.Phase.{Phase}
-use Rattle.portal_core.specs.declared.phase.Round.TheVariants.{First, Second}
-use Rattle.portal_core.specs.declared.rows.LecturerRow.{LecturerRow}
-use Rattle.portal_core.specs.declared.rows.StudentRow.{StudentRow}
-use Rattle.portal_core.specs.Words.{Key}
+use Rattle.portal_rules.specs.declared.phase.Phase.{Phase}
+use Rattle.portal_rules.specs.declared.phase.Round.TheVariants.{First, Second}
+use Rattle.portal_rules.specs.declared.rows.LecturerRow.{LecturerRow}
+use Rattle.portal_rules.specs.declared.rows.StudentRow.{StudentRow}
+use Rattle.portal_rules.specs.Words.{Key}
 
 pub record AllEntries : Type 0 where
   pub round : Round

@@ -1,13 +1,13 @@
 -- What is read of lists of rows.
 use Rattle.std.specs.Prelude.{Bool, if◌then◌else◌, ◌&&◌, List, [], map, filter, is_none}
 use Rattle.std.specs.List.{list_any}
-use Rattle.portal_core.specs.Words.{Key, equals, has}
-use Rattle.portal_core.specs.World.{Student, Lecturer, is_at, shown_placement, lecturers_in, projects_in}
-use Rattle.portal_core.specs.View.{persons, listings}
-use Rattle.portal_core.specs.declared.phase.Phase.{Phase}
-use Rattle.portal_core.specs.declared.rows.Listing.{Listing}
-use Rattle.portal_core.specs.declared.rows.ProjectRow.{ProjectRow}
-use Rattle.portal_core.specs.declared.rows.Person.{Person}
+use Rattle.portal_rules.specs.Words.{Key, equals, has}
+use Rattle.portal_rules.specs.World.{Student, Lecturer, is_at, shown_placement, lecturers_in, projects_in}
+use Rattle.portal_rules.specs.View.{persons, listings}
+use Rattle.portal_rules.specs.declared.phase.Phase.{Phase}
+use Rattle.portal_rules.specs.declared.rows.Listing.{Listing}
+use Rattle.portal_rules.specs.declared.rows.ProjectRow.{ProjectRow}
+use Rattle.portal_rules.specs.declared.rows.Person.{Person}
 use Rattle.portal_list.specs.inner.Rows.{AllEntries}
 
 -- a lecturer's projects, with the applicants once the lists are closed

@@ -2,8 +2,8 @@
 //! the entries, and `Entries::fills` returns them for the store.
 
 ghost use Rattle.std.specs.Prelude.{◌≡◌, IfOk, OnOk, OnErr, List, map};
-ghost use Rattle.portal_core.specs.Words as words;
-ghost use Rattle.portal_core.specs.World.{World};
+ghost use Rattle.portal_rules.specs.Words as words;
+ghost use Rattle.portal_rules.specs.World.{World};
 ghost use Rattle.portal_list.specs.inner.Rows.{HasEntries};
 ghost use Rattle.portal_list.specs.inner.Parts.{applicant_keys};
 ghost use Rattle.portal_list.specs.inner.Fill.{missing, with_missing, filled, fill_missing};
@@ -12,7 +12,7 @@ use crate::applicant_index::ApplicantIndex;
 use crate::entries::{Entries, LecturerEntry, StudentEntry};
 use crate::list_checks::applicants;
 use crate::views::waiting;
-use portal_core::{ProjectRow, try_map};
+use portal_rules::{ProjectRow, try_map};
 use spa_rows::Key;
 use std::alloc::{AllocError, Global};
 use std::marker::Model;
@@ -25,7 +25,7 @@ struct Ranking {
 
 impl Model for Ranking {
     ghost use Rattle.std.specs.Prelude.{List};
-    ghost use Rattle.portal_core.specs.Words.{Key};
+    ghost use Rattle.portal_rules.specs.Words.{Key};
 
     ghost Value = { List Key };
 

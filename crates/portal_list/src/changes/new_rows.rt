@@ -1,12 +1,12 @@
 //! Adds rows to a roll, keeping key order; makes entries without a list or ranking.
 
 ghost use Rattle.std.specs.Prelude.{◌≡◌, IfOk, OnOk, OnErr, map};
-ghost use Rattle.portal_core.specs.Words.{put_all};
-ghost use Rattle.portal_core.specs.World.{new_lecturer, new_student};
+ghost use Rattle.portal_rules.specs.Words.{put_all};
+ghost use Rattle.portal_rules.specs.World.{new_lecturer, new_student};
 
 use crate::entries::{LecturerEntry, StudentEntry};
 use crate::keys::put_rows;
-use portal_core::{Keyed, LecturerRow, StudentRow, try_map};
+use portal_rules::{Keyed, LecturerRow, StudentRow, try_map};
 use std::alloc::{AllocError, Global};
 
 /// Makes the entries of new lecturers, without rankings.

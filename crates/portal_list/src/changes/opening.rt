@@ -1,7 +1,7 @@
 //! Opens the second round: moves lists, rankings and placements to the first round's fields.
 
 ghost use Rattle.std.specs.Prelude.{◌≡◌, map};
-ghost use Rattle.portal_core.specs.World.{ranked_before, placed_before};
+ghost use Rattle.portal_rules.specs.World.{ranked_before, placed_before};
 
 use crate::entries::{LecturerEntry, StudentEntry};
 use std::alloc::Global;

@@ -1,12 +1,12 @@
 //! Stores a result in the entries: sets the project of each student who takes part in the round.
 
 ghost use Rattle.std.specs.Prelude.{◌≡◌, IfOk, OnOk, OnErr, map};
-ghost use Rattle.portal_core.specs.World.{placement_in, with_place};
+ghost use Rattle.portal_rules.specs.World.{placement_in, with_place};
 ghost use Rattle.portal_list.specs.inner.Played.{placed_now};
 
 use crate::copies::place_copy;
 use crate::entries::StudentEntry;
-use portal_core::{Pairs, try_map};
+use portal_rules::{Pairs, try_map};
 use spa_rows::Key;
 use std::alloc::{AllocError, Global};
 

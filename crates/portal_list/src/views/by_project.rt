@@ -1,15 +1,15 @@
 //! Finds a lecturer's applicants and placed students in the entries, project by project.
 
 ghost use Rattle.std.specs.Prelude.{◌≡◌, IfOk, map, filter, [], if◌then◌else◌};
-ghost use Rattle.portal_core.specs.Words.{has};
-ghost use Rattle.portal_core.specs.World.{is_at, shown_placement};
-ghost use Rattle.portal_core.specs.View.{persons};
+ghost use Rattle.portal_rules.specs.Words.{has};
+ghost use Rattle.portal_rules.specs.World.{is_at, shown_placement};
+ghost use Rattle.portal_rules.specs.View.{persons};
 ghost use Rattle.portal_list.specs.inner.Shown.{applicants_shown, placements_shown};
 
 use super::placements::placement_shown;
 use crate::copies::{holds, person_of};
 use crate::entries::StudentEntry;
-use portal_core::{Person, Phase, ProjectRow, try_map_where};
+use portal_rules::{Person, Phase, ProjectRow, try_map_where};
 use spa_rows::Key;
 use std::alloc::{AllocError, Global};
 

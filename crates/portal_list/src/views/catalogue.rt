@@ -5,7 +5,7 @@ ghost use Rattle.portal_list.specs.inner.Shown.{catalogue_in};
 
 use crate::entries::{Entries, LecturerEntry};
 use crate::second_round::played;
-use portal_core::{HasLecturerRow, LecturerRow, Listing, Round, listings_of};
+use portal_rules::{HasLecturerRow, LecturerRow, Listing, Round, listings_of};
 use std::alloc::{AllocError, Global};
 
 impl HasLecturerRow for LecturerEntry {

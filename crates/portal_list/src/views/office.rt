@@ -2,14 +2,14 @@
 
 ghost use Rattle.std.specs.Prelude.{◌≡◌, IfOk, map, filter, ◌&&◌, [], if◌then◌else◌};
 ghost use Rattle.std.specs.List.{list_any};
-ghost use Rattle.portal_core.specs.Words.{has, is_empty};
+ghost use Rattle.portal_rules.specs.Words.{has, is_empty};
 ghost use Rattle.portal_list.specs.inner.Played.{takes_part};
 ghost use Rattle.portal_list.specs.inner.Shown.{is_wanted, is_waiting};
 
 use crate::copies::holds;
 use crate::entries::{LecturerEntry, StudentEntry};
 use crate::second_round::takes_part;
-use portal_core::{LecturerRow, ProjectRow, Round, StudentRow, try_map, try_map_where};
+use portal_rules::{LecturerRow, ProjectRow, Round, StudentRow, try_map, try_map_where};
 use spa_rows::Key;
 use std::alloc::{AllocError, Global};
 

@@ -1,11 +1,11 @@
 //! Finds in the entries the placements that callers may see in a phase.
 
 ghost use Rattle.std.specs.Prelude.{◌≡◌, IfOk, option_map};
-ghost use Rattle.portal_core.specs.World.{shown_placement, pairs_with};
+ghost use Rattle.portal_rules.specs.World.{shown_placement, pairs_with};
 
 use crate::copies::pair_copy;
 use crate::entries::StudentEntry;
-use portal_core::{Phase, try_filter_map};
+use portal_rules::{Phase, try_filter_map};
 use spa_rows::Key;
 use std::alloc::{AllocError, Global};
 

@@ -1,6 +1,6 @@
 -- New rows of a roll.
-use Rattle.portal_core.specs.World.{Change}
-use Rattle.portal_core.specs.World as changes
+use Rattle.portal_rules.specs.World.{Change}
+use Rattle.portal_rules.specs.World as changes
 use Rattle.portal_store.specs.declared.add_rows.NewRows.{NewRows}
 use Rattle.portal_store.specs.declared.add_rows.NewRows.TheVariants.{Lecturers, Projects, Students}
 

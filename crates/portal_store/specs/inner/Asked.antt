@@ -1,7 +1,7 @@
 -- What a refusal to open or to upgrade says of the tables.
 use Rattle.std.specs.Prelude.{ℕ, ◌++◌}
 use Rattle.sqlite.specs.Tree.{Trees}
-use Rattle.portal_core.specs.Good.{Good}
+use Rattle.portal_rules.specs.Good.{Good}
 use Rattle.portal_tables.specs.Tables.{portal_tree, first_trees, own_trees, version}
 use Rattle.portal_tables.specs.Rows.{HasOffice}
 use Rattle.portal_store.specs.World.{round_in, world_of}

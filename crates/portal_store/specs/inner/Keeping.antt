@@ -6,11 +6,11 @@ use Rattle.sqlite.specs.State.{State, HasCleanDisk}
 use Rattle.sqlite.specs.Tree.{Trees}
 use Rattle.sqlite.specs.Store.{Ghosts}
 use Rattle.sqlite.specs.Held.{Held, held_code, state}
-use Rattle.portal_core.specs.declared.phase.Round.{Round}
-use Rattle.portal_core.specs.World.{World, Change, changed}
-use Rattle.portal_core.specs.Good.{Good}
-use Rattle.portal_core.specs.inner.ViewCache.{IsCacheOf}
-use Rattle.portal_core.specs.declared.view_cache.ViewCache.{ViewCache}
+use Rattle.portal_rules.specs.declared.phase.Round.{Round}
+use Rattle.portal_rules.specs.World.{World, Change, changed}
+use Rattle.portal_rules.specs.Good.{Good}
+use Rattle.portal_rules.specs.inner.ViewCache.{IsCacheOf}
+use Rattle.portal_rules.specs.declared.view_cache.ViewCache.{ViewCache}
 use Rattle.portal_list.specs.inner.Rows.{AllEntries, HasEntries}
 use Rattle.portal_tables.specs.Tables.{lecturer_tree, project_tree, student_tree, choice_tree, ranking_tree}
 use Rattle.portal_store.specs.World.{world_in, world_of}

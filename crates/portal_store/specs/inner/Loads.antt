@@ -2,16 +2,16 @@
 use Rattle.std.specs.Prelude.{◌≡◌, ℕ, List, [], None}
 use Rattle.std.specs.List.{AllByRecursion}
 use Rattle.sqlite.specs.Tree.{Trees}
-use Rattle.portal_core.specs.declared.phase.Phase.{Phase}
-use Rattle.portal_core.specs.Words.{Key}
-use Rattle.portal_core.specs.World.{Student, World}
+use Rattle.portal_rules.specs.declared.phase.Phase.{Phase}
+use Rattle.portal_rules.specs.Words.{Key}
+use Rattle.portal_rules.specs.World.{Student, World}
 use Rattle.portal_list.specs.inner.Rows.{RowsOfWorld, world_rows}
 use Rattle.portal_views.specs.inner.Contents.{AllRows}
 use Rattle.portal_tables.specs.Tables.{portal_tree, version}
 use Rattle.portal_store.specs.World.{world_in}
 use Rattle.portal_tables.specs.Rows.{HasOffice}
-use Rattle.portal_core.specs.declared.phase.Round.{Round}
-use Rattle.portal_core.specs.declared.phase.Round.TheVariants.{Second}
+use Rattle.portal_rules.specs.declared.phase.Round.{Round}
+use Rattle.portal_rules.specs.declared.phase.Round.TheVariants.{Second}
 use Rattle.portal_store.specs.Kept.{AreWhole}
 
 -- these are the rows of the world that tables of this version and round stand for

@@ -1,9 +1,9 @@
 -- The opening of the second round.
 use Rattle.std.specs.Prelude.{◌≡◌, Bool, true, false}
 use Rattle.sqlite.specs.Effect.{Database}
-use Rattle.portal_core.specs.declared.phase.Phase.TheVariants.{Published}
-use Rattle.portal_core.specs.declared.phase.Round.TheVariants.{First}
-use Rattle.portal_core.specs.World.{Change, SecondRound}
+use Rattle.portal_rules.specs.declared.phase.Phase.TheVariants.{Published}
+use Rattle.portal_rules.specs.declared.phase.Round.TheVariants.{First}
+use Rattle.portal_rules.specs.World.{Change, SecondRound}
 use Rattle.portal_store.specs.World.{phase_in}
 use Rattle.portal_store.specs.Kept.{IsConsistentIn}
 use Rattle.portal_store.specs.inner.Keeping.{HasChangedFrom}

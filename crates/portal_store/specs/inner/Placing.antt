@@ -2,15 +2,15 @@
 use Rattle.std.specs.Prelude.{◌≡◌, if◌then◌else◌, is_none, Option, None, option_map, List, [], ◌∷◌}
 use Rattle.sqlite.specs.Order.{Row, column}
 use Rattle.sqlite.specs.Effect.{Database}
-use Rattle.portal_core.specs.Words.{Key}
-use Rattle.portal_core.specs.World.{Placements, placement_in}
+use Rattle.portal_rules.specs.Words.{Key}
+use Rattle.portal_rules.specs.World.{Placements, placement_in}
 use Rattle.portal_tables.specs.Tables.{student_tree}
 use Rattle.portal_tables.specs.inner.Changes.{ListsBy, every, columns}
 use Rattle.portal_tables.specs.Rows.{Assigned, text_or_none}
 use Rattle.portal_tables.specs.inner.Shown.{first_cell}
 use Rattle.std.specs.List.{filter_map}
-use Rattle.portal_core.specs.declared.phase.Round.{Round}
-use Rattle.portal_core.specs.declared.phase.Round.TheVariants.{Second}
+use Rattle.portal_rules.specs.declared.phase.Round.{Round}
+use Rattle.portal_rules.specs.declared.phase.Round.TheVariants.{Second}
 use Rattle.portal_store.specs.inner.Keeping.{IsTransitionIn}
 
 -- what the pairs say of the student of whom a row is shown

@@ -2,10 +2,10 @@
 use Rattle.std.specs.Prelude.{◌≡◌, true, List, [], ◌∷◌, map}
 use Rattle.std.specs.List.{AllByRecursion}
 use Rattle.sqlite.specs.Effect.{Database}
-use Rattle.portal_core.specs.Words.{Key, has, Rise}
-use Rattle.portal_core.specs.World.{World, lecturer_key, Ranks, changed}
+use Rattle.portal_rules.specs.Words.{Key, has, Rise}
+use Rattle.portal_rules.specs.World.{World, lecturer_key, Ranks, changed}
 use Rattle.portal_tables.specs.Tables.{lecturer_tree}
-use Rattle.portal_core.specs.declared.phase.Round.{Round}
+use Rattle.portal_rules.specs.declared.phase.Round.{Round}
 use Rattle.portal_store.specs.World.{world_in}
 use Rattle.portal_tables.specs.Rows.{row_key}
 use Rattle.portal_store.specs.Kept.{IsConsistentIn}

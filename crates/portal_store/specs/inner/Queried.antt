@@ -2,10 +2,10 @@
 use Rattle.std.specs.Prelude.{List, [], Option, None}
 use Rattle.sqlite.specs.Order.{Row}
 use Rattle.sqlite.specs.Tree.{Trees}
-use Rattle.portal_core.specs.declared.phase.Round.{Round}
-use Rattle.portal_core.specs.declared.phase.Round.TheVariants.{First, Second}
-use Rattle.portal_core.specs.Words.{Key}
-use Rattle.portal_core.specs.World.{Lecturer, Student}
+use Rattle.portal_rules.specs.declared.phase.Round.{Round}
+use Rattle.portal_rules.specs.declared.phase.Round.TheVariants.{First, Second}
+use Rattle.portal_rules.specs.Words.{Key}
+use Rattle.portal_rules.specs.World.{Lecturer, Student}
 use Rattle.portal_tables.specs.inner.Owners.{choice_shown, ranking_shown}
 use Rattle.portal_tables.specs.inner.Placements.{placement_shown, placement_before}
 use Rattle.portal_tables.specs.inner.Shown.{shown_lecturer, shown_student}

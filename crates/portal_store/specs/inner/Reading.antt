@@ -6,11 +6,11 @@ use Rattle.sqlite.specs.Held.{Held, state}
 use Rattle.sqlite.specs.State.{State, HasCleanDisk, IsLive}
 use Rattle.sqlite.specs.Store.{Ghosts}
 use Rattle.sqlite.specs.Tree.{Trees}
-use Rattle.portal_core.specs.declared.phase.Round.{Round}
-use Rattle.portal_core.specs.World.{World}
-use Rattle.portal_core.specs.inner.ViewCache.{IsCacheOf}
-use Rattle.portal_core.specs.declared.view_cache.ViewCache.{ViewCache}
-use Rattle.portal_core.specs.Good.{Good}
+use Rattle.portal_rules.specs.declared.phase.Round.{Round}
+use Rattle.portal_rules.specs.World.{World}
+use Rattle.portal_rules.specs.inner.ViewCache.{IsCacheOf}
+use Rattle.portal_rules.specs.declared.view_cache.ViewCache.{ViewCache}
+use Rattle.portal_rules.specs.Good.{Good}
 use Rattle.portal_list.specs.inner.Rows.{AllEntries}
 use Rattle.portal_tables.specs.Tables.{HasRound}
 use Rattle.portal_tables.specs.inner.Changes.{every}

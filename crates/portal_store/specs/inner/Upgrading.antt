@@ -3,7 +3,7 @@ use Rattle.std.specs.Prelude.{◌≡◌, false}
 use Rattle.sqlite.specs.Held.{Held, state}
 use Rattle.sqlite.specs.State.{HasCleanDisk, Survives}
 use Rattle.sqlite.specs.Store.{Ghosts}
-use Rattle.portal_core.specs.declared.phase.Round.TheVariants.{First}
+use Rattle.portal_rules.specs.declared.phase.Round.TheVariants.{First}
 use Rattle.portal_list.specs.inner.Rows.{AllEntries, HasEntries}
 use Rattle.portal_tables.specs.Making.{Upgrades, has_names}
 use Rattle.portal_tables.specs.Steps.{Commits, LeavesOnly}

@@ -1,13 +1,13 @@
 -- Names from below that the contracts use.
 pub use Rattle.portal_tables.specs.Base.{Key, equals, put_all, Phase, Round, First, Second, Binary, id_in, Database, IsDatabase, Held, state, Integer, Row, bytes, column, value_cmp, Schema, HasCleanDisk, IsRolledBack, IsUnchanged, State, Survives, Ghosts, Table, Term, col, lit, op2, Trees, rowid, Value, Int, Null, Words, Column, Index, Reference, Compare, Eq, number_in, Order, AllByRecursion, AllZip, find, list_any, is_eq, Bool, IfOk, IsTrue, List, None, OnErr, OnOk, Option, Result, Some, [], codes, false, filter, map, option_map, pos, take, true, ℕ, ℤ, ⊤}
-pub use Rattle.portal_core.specs.Words.{is_code, is_name, Rise, has, is_before, is_empty, put}
-pub use Rattle.portal_core.specs.Good.{IsLecturer, IsProject, IsStudent}
-pub use Rattle.portal_core.specs.World.{is_published}
-pub use Rattle.portal_core.specs.declared.phase.Phase.{Phase as ThePhase}
-pub use Rattle.portal_core.specs.declared.phase.Round.TheVariants.{Second as InSecond}
-pub use Rattle.portal_core.specs.declared.rows.LecturerRow.{LecturerRow}
-pub use Rattle.portal_core.specs.declared.rows.ProjectRow.{ProjectRow}
-pub use Rattle.portal_core.specs.declared.rows.StudentRow.{StudentRow}
+pub use Rattle.portal_rules.specs.Words.{is_code, is_name, Rise, has, is_before, is_empty, put}
+pub use Rattle.portal_rules.specs.Good.{IsLecturer, IsProject, IsStudent}
+pub use Rattle.portal_rules.specs.World.{is_published}
+pub use Rattle.portal_rules.specs.declared.phase.Phase.{Phase as ThePhase}
+pub use Rattle.portal_rules.specs.declared.phase.Round.TheVariants.{Second as InSecond}
+pub use Rattle.portal_rules.specs.declared.rows.LecturerRow.{LecturerRow}
+pub use Rattle.portal_rules.specs.declared.rows.ProjectRow.{ProjectRow}
+pub use Rattle.portal_rules.specs.declared.rows.StudentRow.{StudentRow}
 pub use Rattle.spa_rows.specs.Lines.{is_key}
 pub use Rattle.sqlite.specs.Change.{created}
 pub use Rattle.sqlite.specs.Edit.{is_taken, next_rowid}

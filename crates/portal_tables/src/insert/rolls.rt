@@ -5,7 +5,7 @@ ghost use Rattle.portal_tables.specs.inner.RowChanges.{lecturer_new, lecturer_va
 ghost use Rattle.portal_tables.specs.inner.RowChanges.{student_new, student_values};
 
 use super::Target;
-use portal_core::{LecturerRow, ProjectRow, StudentRow};
+use portal_rules::{LecturerRow, ProjectRow, StudentRow};
 use sqlite::Alter;
 use sqlite::types::{ToSql, ValueRef};
 use std::alloc::AllocError;

@@ -1,7 +1,7 @@
 //! Makes calls to a keeper of a good world, and checks the replies.
 
-ghost use Rattle.portal_core.specs.Meaning.{call_model};
-ghost use Rattle.portal_core.specs.Run.{HasForm};
+ghost use Rattle.portal_rules.specs.Meaning.{call_model};
+ghost use Rattle.portal_rules.specs.Run.{HasForm};
 
 use crate::tests::readers::same;
 use crate::tests::rows::{Sketch, rows_of};
@@ -18,8 +18,8 @@ pub(crate) struct Portal {
 }
 
 impl Model for Portal {
-    ghost use Rattle.portal_core.specs.World.{World};
-    ghost use Rattle.portal_core.specs.Good.{Good};
+    ghost use Rattle.portal_rules.specs.World.{World};
+    ghost use Rattle.portal_rules.specs.Good.{Good};
 
     ghost Value = { World };
 

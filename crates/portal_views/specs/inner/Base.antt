@@ -1,19 +1,19 @@
 -- Names from below that the definitions and the contracts use, and what a fault refutes.
 use Rattle.portal_tables.specs.inner.Reads.{Blames}
 use Rattle.portal_tables.specs.declared.fault.TableFault.{TableFault}
-pub use Rattle.portal_core.specs.Good.{IsLecturer, IsProject, IsStudent}
-pub use Rattle.portal_core.specs.Sight.{LecturerSees, StudentSees}
-pub use Rattle.portal_core.specs.View.{listing_with}
-pub use Rattle.portal_core.specs.Words.{Key, Rise, has, equals, put, put_all}
-pub use Rattle.portal_core.specs.World.{is_at, is_from_ranking, is_published}
-pub use Rattle.portal_core.specs.declared.phase.Phase.{Phase}
-pub use Rattle.portal_core.specs.declared.phase.Round.{Round}
-pub use Rattle.portal_core.specs.declared.phase.Round.TheVariants.{First, Second}
-pub use Rattle.portal_core.specs.declared.rows.LecturerRow.{LecturerRow}
-pub use Rattle.portal_core.specs.declared.rows.Listing.{Listing}
-pub use Rattle.portal_core.specs.declared.rows.Person.{Person}
-pub use Rattle.portal_core.specs.declared.rows.ProjectRow.{ProjectRow}
-pub use Rattle.portal_core.specs.declared.rows.StudentRow.{StudentRow}
+pub use Rattle.portal_rules.specs.Good.{IsLecturer, IsProject, IsStudent}
+pub use Rattle.portal_rules.specs.Sight.{LecturerSees, StudentSees}
+pub use Rattle.portal_rules.specs.View.{listing_with}
+pub use Rattle.portal_rules.specs.Words.{Key, Rise, has, equals, put, put_all}
+pub use Rattle.portal_rules.specs.World.{is_at, is_from_ranking, is_published}
+pub use Rattle.portal_rules.specs.declared.phase.Phase.{Phase}
+pub use Rattle.portal_rules.specs.declared.phase.Round.{Round}
+pub use Rattle.portal_rules.specs.declared.phase.Round.TheVariants.{First, Second}
+pub use Rattle.portal_rules.specs.declared.rows.LecturerRow.{LecturerRow}
+pub use Rattle.portal_rules.specs.declared.rows.Listing.{Listing}
+pub use Rattle.portal_rules.specs.declared.rows.Person.{Person}
+pub use Rattle.portal_rules.specs.declared.rows.ProjectRow.{ProjectRow}
+pub use Rattle.portal_rules.specs.declared.rows.StudentRow.{StudentRow}
 pub use Rattle.sqlite.specs.Effect.{Database, IsDatabase}
 pub use Rattle.sqlite.specs.Held.{state}
 pub use Rattle.sqlite.specs.Order.{Row, bytes, column}

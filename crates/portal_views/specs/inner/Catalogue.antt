@@ -1,7 +1,7 @@
 -- The catalogue of the projects, of the rows of the rolls.
 use Rattle.std.specs.Prelude.{◌≡◌, ⊤}
-use Rattle.portal_core.specs.inner.Room.{lecturer_left, project_left}
-use Rattle.portal_core.specs.inner.Offers.{offered}
+use Rattle.portal_rules.specs.inner.Room.{lecturer_left, project_left}
+use Rattle.portal_rules.specs.inner.Offers.{offered}
 use Rattle.portal_views.specs.inner.Base.{List, map, filter, filter_map, AllByRecursion, Trees, Database, IsDatabase, Round, First, Second, LecturerRow, ProjectRow, Listing, Key, equals, IsLecturer, IsProject}
 use Rattle.portal_tables.specs.declared.select.RollTable.TheVariants.{Lecturers, Projects, Students}
 use Rattle.portal_tables.specs.inner.Placements.{first_pairs, places_shown, HasKeys}

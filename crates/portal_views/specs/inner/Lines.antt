@@ -1,6 +1,6 @@
 -- What may be told of students, of the rows of the tables.
 use Rattle.std.specs.Prelude.{◌≡◌, true}
-use Rattle.portal_core.specs.Words.{is_name}
+use Rattle.portal_rules.specs.Words.{is_name}
 use Rattle.spa_rows.specs.Lines.{is_key}
 use Rattle.portal_views.specs.inner.Base.{IfSome, Round, First, Second, List, map, filter, Option, option_map, AllByRecursion, find, Row, column, bytes, Trees, Database, IsDatabase, Key, equals, has}
 use Rattle.portal_tables.specs.Tables.{own_trees, HasFirstSchema, IsCurrentSchema}

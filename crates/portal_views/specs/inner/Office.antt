@@ -1,8 +1,8 @@
 -- What the office sees, of the rolls and of what the tables hold.
 use Rattle.std.specs.Prelude.{◌&&◌, if◌then◌else◌, Bool, is_none}
 use Rattle.std.specs.List.{list_any}
-use Rattle.portal_core.specs.Sight.{OfficeSees}
-use Rattle.portal_core.specs.Words.{is_empty}
+use Rattle.portal_rules.specs.Sight.{OfficeSees}
+use Rattle.portal_rules.specs.Words.{is_empty}
 use Rattle.portal_tables.specs.Tables.{choice_table, ranking_table, tree_of, student_tree}
 use Rattle.portal_tables.specs.Rows.{IsWhole, of_key, row_key}
 use Rattle.portal_tables.specs.inner.Owners.{has_list, choice_shown}

@@ -2,9 +2,9 @@
 use Rattle.std.specs.Prelude.{◌≡◌, Option, Some, None, Result, Ok, Err, Bool, if◌then◌else◌}
 use Rattle.portal_wire.specs.declared.bodies.BodyFault.{BodyFault}
 use Rattle.portal_wire.specs.declared.bodies.BodyFault.TheVariants.{Bad, Memory}
-use Rattle.portal_core.specs.declared.decision.Call.{Call}
-use Rattle.portal_core.specs.Meaning.{call_model}
-use Rattle.portal_core.specs.Run.{Wish, Calls}
+use Rattle.portal_rules.specs.declared.decision.Call.{Call}
+use Rattle.portal_rules.specs.Meaning.{call_model}
+use Rattle.portal_rules.specs.Run.{Wish, Calls}
 use Rattle.portal_frame.specs.Stream.{Refuses}
 use Rattle.portal_wire.specs.declared.calls.CallFault.{CallFault}
 use Rattle.portal_wire.specs.declared.calls.CallFault.TheVariants.{NoRoute, BadMethod, BadBody, BadRow, RollFull, Memory}

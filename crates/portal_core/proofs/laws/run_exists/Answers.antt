@@ -1,4 +1,4 @@
-use Rattle.portal_core.proofs.Base.{answer, view}
+use Rattle.portal_rules.proofs.Base.{answer, view}
 use Rattle.portal_core.proofs.Going.{step_there, run_there, run_only}
 use Rattle.portal_core.proofs.laws.run_exists.Goals as goal
 

@@ -1,6 +1,6 @@
 use Rattle.std.proofs.Common.{sym, ap, subst, ◌∙◌}
-use Rattle.portal_core.specs.Good.{Good}
-use Rattle.portal_core.specs.View.{office_sees}
+use Rattle.portal_rules.specs.Good.{Good}
+use Rattle.portal_rules.specs.View.{office_sees}
 use Rattle.portal_desk.proofs.InTurn.{uses_then}
 use Rattle.portal_serve.specs.Hall.{told_of}
 use Rattle.portal_file.proofs.Base.{if_ok}

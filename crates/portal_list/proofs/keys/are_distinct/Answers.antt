@@ -1,5 +1,5 @@
 use Rattle.portal_list.proofs.Base.{◌≡◌, get_or, Bor, [], sym, refl, ◌∙◌, ap, arith, not, get_or_default, false≢true, Text, IsEarlierKey, ℕ, zero, suc, ◌<◌, Bool, true, false, List, ◌∷◌, map, length, length-map, length-take, get_or-take, map_at, any_unmap, Key, has, AreDistinct, tree_more, tree_before}
-use Rattle.portal_core.proofs.Members.{there}
+use Rattle.portal_rules.proofs.Members.{there}
 use Rattle.portal_list.proofs.Members.{distinct_apart}
 use Rattle.portal_list.proofs.keys.are_distinct.Goals as goal
 

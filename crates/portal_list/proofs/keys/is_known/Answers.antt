@@ -3,7 +3,7 @@ use Rattle.std.proofs.lemmas.List.Sorted.{searchable_from_sorted}
 use Rattle.spa_model.proofs.Numbers.{sorted_rows}
 use Rattle.portal_list.proofs.Rising.{pairs_rise}
 use Rattle.std.proofs.lemmas.Map.Lookups.{exact_bytes}
-use Rattle.portal_core.proofs.Members.{there, has_it}
+use Rattle.portal_rules.proofs.Members.{there, has_it}
 use Rattle.portal_list.proofs.keys.is_known.Goals as goal
 
 -- Rows whose keys rise, and the search among them.

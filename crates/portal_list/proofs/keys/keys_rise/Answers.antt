@@ -1,5 +1,5 @@
 use Rattle.portal_list.proofs.Base.{rules, always_returns_same, is_before}
-use Rattle.portal_core.proofs.Adjacent.{adjacent_rise}
+use Rattle.portal_rules.proofs.Adjacent.{adjacent_rise}
 use Rattle.portal_list.proofs.keys.keys_rise.Goals as goal
 
 pub returns : goal.returns

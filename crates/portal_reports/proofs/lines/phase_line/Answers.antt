@@ -1,5 +1,5 @@
 use Rattle.portal_reports.proofs.Base.{◌++◌, ◌∙◌, codes, append_assoc, sym, refl, ap, styled_text, padded_left, said}
-use Rattle.portal_core.specs.World.{phase_word}
+use Rattle.portal_rules.specs.World.{phase_word}
 use Rattle.portal_reports.specs.Status.{phase_line}
 use Rattle.portal_reports.proofs.Padding.{left-is}
 use Rattle.portal_reports.proofs.lines.phase_line.Goals as goal

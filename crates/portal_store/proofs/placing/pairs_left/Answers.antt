@@ -1,5 +1,5 @@
 use Rattle.portal_store.proofs.Base.{◌∷◌, [], ◌++◌, sym, ap, ◌∙◌, pair_left}
-use Rattle.portal_core.proofs.Growing.{some_more, none_more}
+use Rattle.portal_rules.proofs.Growing.{some_more, none_more}
 use Rattle.portal_store.proofs.placing.pairs_left.Goals as goal
 use Rattle.portal_store.proofs.placing.pairs_left.Goals.{in-Some+in_ok-push, in_default}
 

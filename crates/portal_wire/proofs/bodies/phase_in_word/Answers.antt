@@ -1,8 +1,8 @@
 use Rattle.portal_wire.proofs.Base.{◌≡◌, ℕ, false, List, refl, sym, ap, ◌∙◌, codes, Option, Some, None, bytes_eq, bytes_decides, IfSome, IfNone, phase_of}
 use Rattle.std.proofs.lemmas.Bool.{false_from_ne_true}
-use Rattle.portal_core.specs.World.{phase_word}
-use Rattle.portal_core.specs.declared.phase.Phase.{Phase}
-use Rattle.portal_core.specs.declared.phase.Phase.TheVariants.{Setup, Choosing, Ranking, Published}
+use Rattle.portal_rules.specs.World.{phase_word}
+use Rattle.portal_rules.specs.declared.phase.Phase.{Phase}
+use Rattle.portal_rules.specs.declared.phase.Phase.TheVariants.{Setup, Choosing, Ranking, Published}
 use Rattle.portal_wire.proofs.bodies.phase_in_word.Goals as goal
 
 of_word : (p : Phase) → Some p ≡ phase_of (phase_word p)

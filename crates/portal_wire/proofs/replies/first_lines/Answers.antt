@@ -1,5 +1,5 @@
 use Rattle.portal_wire.proofs.Base.{refl}
-use Rattle.portal_core.proofs.Pieces.{said}
+use Rattle.portal_rules.proofs.Pieces.{said}
 use Rattle.portal_wire.specs.Conversation.{common_lines}
 use Rattle.portal_wire.proofs.replies.first_lines.Goals as goal
 

@@ -3,7 +3,7 @@ use Rattle.std.proofs.lemmas.Bool.{both_ways}
 use Rattle.sqlite.specs.Held.{state}
 use Rattle.sqlite.specs.State.{HasCleanDisk}
 use Rattle.portal_store.specs.declared.store.CreateFault.TheVariants.{Exists}
-use Rattle.portal_core.specs.Good.{Good}
+use Rattle.portal_rules.specs.Good.{Good}
 use Rattle.portal_store.specs.World.{first_world}
 use Rattle.portal_tables.proofs.InTurn.{clean_before}
 use Rattle.portal_file.specs.Tables.{AllStand, Current}

@@ -1,5 +1,5 @@
 use Rattle.portal_list.proofs.Base.{List, ◌∷◌, [], ◌++◌, map, take, ◌∙◌, ap, sym, map_push, Key, applicant_keys}
-use Rattle.portal_core.proofs.Growing.{grown}
+use Rattle.portal_rules.proofs.Growing.{grown}
 use Rattle.portal_list.proofs.changes.fill.fills_from.Goals as goal
 
 pub loop-lecturer-preserved : goal.loop-lecturer-preserved

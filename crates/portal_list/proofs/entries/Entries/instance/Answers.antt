@@ -1,6 +1,6 @@
 use Rattle.portal_list.proofs.Base.{◌≡◌, sym, ◌∙◌, ap, IfOk-weaker, Second, AllEntries, false, AllByRecursion, World, is_still_to_rank, instance, instance_of, Sound, all_weaker, HasEntries, all_played, rules, alone, all_map, left_of, second_plays}
-use Rattle.portal_core.proofs.InRound.{all_filter}
-use Rattle.portal_core.proofs.Alone.{alone_sound, still_alone, rows_alone}
+use Rattle.portal_rules.proofs.InRound.{all_filter}
+use Rattle.portal_rules.proofs.Alone.{alone_sound, still_alone, rows_alone}
 use Rattle.portal_list.proofs.entries.Entries.instance.Goals as goal
 
 -- The second round as a world of one round, with the same instance.

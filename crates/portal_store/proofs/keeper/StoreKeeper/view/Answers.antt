@@ -1,5 +1,5 @@
 use Rattle.portal_store.proofs.Base.{ap, sym, subst, ◌∙◌, Good, IsCacheOf, kept_world, AreEntries, rules}
-use Rattle.portal_core.specs.View as seen
+use Rattle.portal_rules.specs.View as seen
 use Rattle.portal_store.proofs.Ended.{told_if}
 use Rattle.portal_store.proofs.Keeps.{read_by, when_ok}
 use Rattle.portal_store.proofs.keeper.StoreKeeper.view.Goals as goal

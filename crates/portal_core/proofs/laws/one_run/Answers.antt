@@ -1,5 +1,0 @@
-use Rattle.portal_core.proofs.Only as only
-use Rattle.portal_core.proofs.laws.one_run.Goals as goal
-
-pub returns : goal.returns
-returns c = only.one_run

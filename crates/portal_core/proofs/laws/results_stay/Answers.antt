@@ -1,9 +1,0 @@
-use Rattle.portal_core.proofs.Lasting as lasting
-use Rattle.portal_core.proofs.laws.results_stay.Goals as goal
-
-pub returns : goal.returns
-returns c = record {
-  step = lasting.step_still;
-  run = λ w c asked told after good run. lasting.run_still c w asked told after good run;
-  first = lasting.first_still;
-}

@@ -1,0 +1,2 @@
+pub mod Persons
+pub mod Numbers

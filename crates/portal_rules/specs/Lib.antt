@@ -1,0 +1,16 @@
+pub mod Base
+pub mod Words
+pub mod World
+pub mod Alone
+pub mod Sight
+pub mod View
+pub mod Bodies
+pub mod Faults
+pub mod Answer
+pub mod Good
+pub mod Run
+pub mod Heard
+pub mod Meaning
+pub mod Keeping
+pub mod inner
+pub mod examples
