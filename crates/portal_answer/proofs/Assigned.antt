@@ -1,5 +1,7 @@
 -- The lines of the students, one after the other.
-use Rattle.portal_answer.proofs.Base.{◌≡◌, ◌+◌, ◌<◌, ◌++◌, ℕ, List, [], length, take, get_or, Option, Some, None, is_some, is_none, inl, inr, ◌∷◌, ◌∙◌, refl, arith, flat_map, zip, count_by, Spa, Text, assign_line, take_more, append-nil, take_all}
+use Rattle.portal_answer.proofs.Base.{◌≡◌, ◌+◌, ◌<◌, ◌++◌, ℕ, List, [], length, take, get_or, Option, Some, None}
+use Rattle.portal_answer.proofs.Base.{is_some, is_none, inl, inr, ◌∷◌, ◌∙◌, refl, arith, flat_map, zip, count_by, Spa}
+use Rattle.portal_answer.proofs.Base.{Text, assign_line, take_more, append-nil, take_all}
 use mir.Val.{bool_byte}
 use Rattle.std.proofs.lemmas.Bool.{cases_Bool}
 use Rattle.std.proofs.lemmas.List.Sums.{count_by_more_yes, count_by_more_no}

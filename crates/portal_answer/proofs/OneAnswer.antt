@@ -1,5 +1,10 @@
 -- To the bytes of a file one text alone is told.
-use Rattle.portal_answer.proofs.Base.{◌≡◌, ◌∙◌, inl, inr, ℕ, ◌<◌, ◌≤◌, Bool, true, false, Result, Ok, Err, List, [], length, get_or, Option, Some, None, refl, sym, subst, ap, arith, Pair, InstanceFault, File, rows, RollFault, Spa, Text, Told, refused_instance, Tells, OfPairs, OfRead, IfLonger, IsAnswer, Task, Check, Solve, ◌⊎◌, zero, suc, ◌∷◌, ext_get_or, Rows, Blocks, project_of, refused_matching, blocking, assignment, OfFile, file_rows, limit}
+use Rattle.portal_answer.proofs.Base.{◌≡◌, ◌∙◌, inl, inr, ℕ, ◌<◌, ◌≤◌, Bool, true, false, Result, Ok, Err, List, []}
+use Rattle.portal_answer.proofs.Base.{length, get_or, Option, Some, None, refl, sym, subst, ap, arith, Pair}
+use Rattle.portal_answer.proofs.Base.{InstanceFault, File, rows, RollFault, Spa, Text, Told, refused_instance, Tells}
+use Rattle.portal_answer.proofs.Base.{OfPairs, OfRead, IfLonger, IsAnswer, Task, Check, Solve, ◌⊎◌, zero, suc, ◌∷◌}
+use Rattle.portal_answer.proofs.Base.{ext_get_or, Rows, Blocks, project_of, refused_matching, blocking, assignment}
+use Rattle.portal_answer.proofs.Base.{OfFile, file_rows, limit}
 use Rattle.std.specs.Prelude.{AllPairs, Contains, nat_lt}
 use Rattle.std.proofs.lemmas.Bool.{cases_lt}
 use Rattle.spa_rows.specs.Faults.{HasFault, HasNoneBefore, IsFirstFault, number_of}

@@ -1,5 +1,8 @@
 -- The status of an answer is at most 2.
-use Rattle.portal_answer.proofs.Base.{◌≡◌, ℕ, Bool, true, false, List, Option, Result, Ok, Err, refl, sym, subst, inl, inr, arith, length, InstanceFault, File, rows, RollFault, Spa, Pair, Text, Told, refused_instance, Tells, OfPairs, OfRead, IfLonger, IsAnswer, Task, Check, Solve, ◌≤◌, ◌==◌, if◌then◌else◌, refused_file}
+use Rattle.portal_answer.proofs.Base.{◌≡◌, ℕ, Bool, true, false, List, Option, Result, Ok, Err, refl, sym, subst, inl}
+use Rattle.portal_answer.proofs.Base.{inr, arith, length, InstanceFault, File, rows, RollFault, Spa, Pair, Text, Told}
+use Rattle.portal_answer.proofs.Base.{refused_instance, Tells, OfPairs, OfRead, IfLonger, IsAnswer, Task, Check, Solve}
+use Rattle.portal_answer.proofs.Base.{◌≤◌, ◌==◌, if◌then◌else◌, refused_file}
 use Rattle.spa_rows.specs.declared.faults.InstanceFault.TheVariants as instance
 use Rattle.portal_rolls.specs.declared.fault.RollFault.TheVariants as file
 

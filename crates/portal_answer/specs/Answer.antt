@@ -1,5 +1,6 @@
 -- The answers of `portal check` and `portal solve` to the bytes of an instance file.
-use Rattle.std.specs.Prelude.{ℕ, List, codes, ◌++◌, [], ◌≡◌, Option, length, slice_index_or, ◌==◌, if◌then◌else◌, Some, None, count_by, is_some, is_none, ◌⊎◌, Result, Ok, Err, Bool, true, false, nat_lt}
+use Rattle.std.specs.Prelude.{ℕ, List, codes, ◌++◌, [], ◌≡◌, Option, length, slice_index_or, ◌==◌, if◌then◌else◌, Some}
+use Rattle.std.specs.Prelude.{None, count_by, is_some, is_none, ◌⊎◌, Result, Ok, Err, Bool, true, false, nat_lt}
 use Rattle.std.specs.Fmt.{decimal}
 use Rattle.spa_rows.specs.declared.faults.InstanceFault.{InstanceFault}
 use Rattle.spa_rows.specs.declared.faults.InstanceFault.TheVariants as instance

@@ -1,5 +1,9 @@
 -- What is published is the best for the students.
-use Rattle.portal_rules.proofs.Base.{◌≡◌, ◌⊎◌, inl, inr, Bool, true, false, List, refl, sym, ◌∙◌, ap, subst, AllByRecursion, IsBest, Key, World, is_published, is_second, first, changed, instance, matching_of, Caller, caller, sight_of, AbstractCall, Answer, Decision, decision, Good, StepLeaves, Step, Request, Calls, Run, OpensSecond, arith, Placements}
+use Rattle.portal_rules.proofs.Base.{◌≡◌, ◌⊎◌, inl, inr, Bool, true, false, List, refl, sym, ◌∙◌, ap, subst}
+use Rattle.portal_rules.proofs.Base.{AllByRecursion, IsBest, Key, World, is_published, is_second, first, changed}
+use Rattle.portal_rules.proofs.Base.{instance, matching_of, Caller, caller, sight_of, AbstractCall, Answer, Decision}
+use Rattle.portal_rules.proofs.Base.{decision, Good, StepLeaves, Step, Request, Calls, Run, OpensSecond, arith}
+use Rattle.portal_rules.proofs.Base.{Placements}
 use Rattle.portal_core.specs.Honest.{HasBest, ShowsBest}
 use Rattle.portal_rules.proofs.Kept.{instance_placed}
 use Rattle.portal_rules.proofs.Steps.{run_keeps, step_good}

@@ -1,5 +1,10 @@
 -- Students who submit no list harm nobody else: of worlds.
-use Rattle.portal_rules.proofs.Base.{◌≡◌, ℕ, ◌<◌, true, false, List, [], map, length, get_or, sym, ◌∙◌, ap, subst, arith, filter, AllByRecursion, get_or-map, length-map, AllZip-get_or, AllZip-long, IsOn, IsAcceptable, IsAsGood, choices_of, project_of, number_in, number_is, Round, First, Second, Key, has, World, project_key, student_key, is_left, is_published, students_in, in_play, instance_of, places_of, project_keys, student_keys, StudentSees, view, Good, alone, alone_student, ◌∷◌}
+use Rattle.portal_rules.proofs.Base.{◌≡◌, ℕ, ◌<◌, true, false, List, [], map, length, get_or, sym, ◌∙◌, ap, subst}
+use Rattle.portal_rules.proofs.Base.{arith, filter, AllByRecursion, get_or-map, length-map, AllZip-get_or, AllZip-long}
+use Rattle.portal_rules.proofs.Base.{IsOn, IsAcceptable, IsAsGood, choices_of, project_of, number_in, number_is, Round}
+use Rattle.portal_rules.proofs.Base.{First, Second, Key, has, World, project_key, student_key, is_left, is_published}
+use Rattle.portal_rules.proofs.Base.{students_in, in_play, instance_of, places_of, project_keys, student_keys}
+use Rattle.portal_rules.proofs.Base.{StudentSees, view, Good, alone, alone_student, ◌∷◌}
 use Rattle.portal_core.specs.Honest.{HasBest, DifferInLists, ListAlike, IsNoWorse}
 use Rattle.spa_honest.proofs.Fewer.{fewer_never_harm as fewer_by_number, as_good_alike as alike_by_number}
 use Rattle.spa_honest.specs.Honest as instances
@@ -7,7 +12,8 @@ use Rattle.portal_rules.specs.declared.view.View.TheVariants as sees
 use Rattle.portal_rules.specs.World.{Student}
 use Rattle.portal_rules.proofs.AllLaws.{all_at, all_map}
 use Rattle.portal_rules.proofs.InRound.{all_filter}
-use Rattle.portal_core.proofs.HonestLists.{has_number, key_of, no_student, IsBestRound, IsStableRound, best_alone, stable_alone, world_ranked, differ_by_number, differ_alone}
+use Rattle.portal_core.proofs.HonestLists.{has_number, key_of, no_student, IsBestRound, IsStableRound, best_alone}
+use Rattle.portal_core.proofs.HonestLists.{stable_alone, world_ranked, differ_by_number, differ_alone}
 use Rattle.portal_rules.proofs.Zips.{zip_same}
 use Rattle.portal_core.proofs.HonestGroups.{was_key, of_group, gains_nothing, own_group, one_gains_nothing, if_playing}
 

@@ -1,5 +1,13 @@
 -- From each good world each call has a step, and requests that have replies have a run without a 503.
-use Rattle.portal_rules.proofs.Base.{◌≡◌, ◌≢◌, ◌∙◌, false, List, [], ◌∷◌, refl, sym, ap, subst, inl, inr, arith, AllByRecursion, Key, World, is_setup, is_from_ranking, is_still_to_rank, in_play, changed, Round, First, Second, Choices, Ranks, Lecturers, Projects, Students, To, Placements, Fill, SecondRound, Choosing, Ranking, Caller, NoCaller, OfficeCaller, LecturerCaller, StudentCaller, caller, sight_of, view, office_sees, lecturer_sees, student_sees, AbstractCall, Answer, Decision, refuses, decision, answer, Good, Sound, IsBest, instance, instance_of, matching_of, student_keys, project_keys, StepLeaves, Step, HasForm, Wish, Calls, Refused, Request, Answers, Serves, Run, AllAnswered, unavailable, Sight, pairs_by}
+use Rattle.portal_rules.proofs.Base.{◌≡◌, ◌≢◌, ◌∙◌, false, List, [], ◌∷◌, refl, sym, ap, subst, inl, inr, arith}
+use Rattle.portal_rules.proofs.Base.{AllByRecursion, Key, World, is_setup, is_from_ranking, is_still_to_rank, in_play}
+use Rattle.portal_rules.proofs.Base.{changed, Round, First, Second, Choices, Ranks, Lecturers, Projects, Students, To}
+use Rattle.portal_rules.proofs.Base.{Placements, Fill, SecondRound, Choosing, Ranking, Caller, NoCaller, OfficeCaller}
+use Rattle.portal_rules.proofs.Base.{LecturerCaller, StudentCaller, caller, sight_of, view, office_sees, lecturer_sees}
+use Rattle.portal_rules.proofs.Base.{student_sees, AbstractCall, Answer, Decision, refuses, decision, answer, Good}
+use Rattle.portal_rules.proofs.Base.{Sound, IsBest, instance, instance_of, matching_of, student_keys, project_keys}
+use Rattle.portal_rules.proofs.Base.{StepLeaves, Step, HasForm, Wish, Calls, Refused, Request, Answers, Serves, Run}
+use Rattle.portal_rules.proofs.Base.{AllAnswered, unavailable, Sight, pairs_by}
 use Rattle.portal_core.specs.Replies.{HasReply}
 use Rattle.spa_honest.proofs.Exists.{best_of}
 use Rattle.spa_student.specs.inner.Machine.{IsRanked}

@@ -1,5 +1,17 @@
 -- Instances and worlds that differ in lists: from numbers to keys, and from a round to its world.
-use Rattle.portal_rules.proofs.Base.{◌≡◌, ℕ, zero, suc, ◌-◌, ◌<◌, ◌≤◌, Bool, true, false, not, inl, inr, List, [], ◌∷◌, map, length, get_or, refl, sym, ◌∙◌, ap, subst, arith, Option, Some, None, IfSome, option_map, unwrap_or, is_none, nat_lt, ◌&&◌, filter, AllByRecursion, AllZip, list_any, find, eqb-true, get_or-map, length-map, AllZip-get_or, AllZip-long, list_any_at, IsBest, IsStable, place, project_of, lecturer_of, IsOn, IsAcceptable, number_in, number_is, number_known, ProjectRow, Key, equals, has, is_empty, AreDistinct, World, lecturer_key, project_key, student_key, projects_of, applicants_of, is_published, is_left, given_with, lowered_lecturer, lowered_project, lecturers_left, students_left, lecturers_in, projects_in, students_in, in_play, alone, alone_lecturer, alone_student, Round, First, Second, instance, instance_of, places_of, lecturer_keys, project_keys, student_keys, student_with, view, student_sees, Good, Sound, IsChoice, IsRanking, StudentSees, cases_lt, get_or_past, choices_of, ranking_of, IsAsGood, IsDistinct, and_from}
+use Rattle.portal_rules.proofs.Base.{◌≡◌, ℕ, zero, suc, ◌-◌, ◌<◌, ◌≤◌, Bool, true, false, not, inl, inr, List, [], ◌∷◌}
+use Rattle.portal_rules.proofs.Base.{map, length, get_or, refl, sym, ◌∙◌, ap, subst, arith, Option, Some, None, IfSome}
+use Rattle.portal_rules.proofs.Base.{option_map, unwrap_or, is_none, nat_lt, ◌&&◌, filter, AllByRecursion, AllZip}
+use Rattle.portal_rules.proofs.Base.{list_any, find, eqb-true, get_or-map, length-map, AllZip-get_or, AllZip-long}
+use Rattle.portal_rules.proofs.Base.{list_any_at, IsBest, IsStable, place, project_of, lecturer_of, IsOn, IsAcceptable}
+use Rattle.portal_rules.proofs.Base.{number_in, number_is, number_known, ProjectRow, Key, equals, has, is_empty}
+use Rattle.portal_rules.proofs.Base.{AreDistinct, World, lecturer_key, project_key, student_key, projects_of}
+use Rattle.portal_rules.proofs.Base.{applicants_of, is_published, is_left, given_with, lowered_lecturer}
+use Rattle.portal_rules.proofs.Base.{lowered_project, lecturers_left, students_left, lecturers_in, projects_in}
+use Rattle.portal_rules.proofs.Base.{students_in, in_play, alone, alone_lecturer, alone_student, Round, First, Second}
+use Rattle.portal_rules.proofs.Base.{instance, instance_of, places_of, lecturer_keys, project_keys, student_keys}
+use Rattle.portal_rules.proofs.Base.{student_with, view, student_sees, Good, Sound, IsChoice, IsRanking, StudentSees}
+use Rattle.portal_rules.proofs.Base.{cases_lt, get_or_past, choices_of, ranking_of, IsAsGood, IsDistinct, and_from}
 use Rattle.portal_core.specs.Honest.{HasBest, ListAlike, DifferInLists, OrderAlike, RankAlike}
 use Rattle.spa_student.specs.inner.Machine.{IsRanked}
 use Rattle.spa_student.proofs.CutSteps.{acceptable_in_range}

@@ -1,5 +1,16 @@
 -- What has room after the first round, and that nobody whom it left had listed it.
-use Rattle.portal_rules.proofs.Base.{◌≡◌, ℕ, ◌-◌, ◌<◌, ◌≤◌, Bool, true, false, List, [], map, length, get_or, refl, sym, ◌∙◌, ap, subst, arith, Option, Some, None, option_map, is_none, nat_lt, count_by, ◌&&◌, AllByRecursion, list_any, eqb-true, nat_tests, get_or-map, length-map, list_any_at, IsStable, IsAcceptable, is_project, is_lecturer, at_project, at_lecturer, lecturer_of, project_of, number_in, number_is, count_by-map, Key, equals, has, World, lecturer_key, project_key, is_at, is_left, is_published, is_second, given_to, given_with, lowered_lecturer, lowered_project, lecturers_left, in_play, first, first_placed, first_published, First, Second, Listing, ProjectRow, instance, instance_of, matching_of, places_of, lecturer_keys, project_keys, in_catalogue, catalogue, Good, IsRound, Sound, IsChoice, placed_to, placed_with, count_at, count_with, ne_eqb, capacity_of, limit_of, All-from_get_or, Any-from_list_any, and_from, and_parts, filter, get_or_default, recursion_from_All}
+use Rattle.portal_rules.proofs.Base.{◌≡◌, ℕ, ◌-◌, ◌<◌, ◌≤◌, Bool, true, false, List, [], map, length, get_or, refl, sym}
+use Rattle.portal_rules.proofs.Base.{◌∙◌, ap, subst, arith, Option, Some, None, option_map, is_none, nat_lt, count_by}
+use Rattle.portal_rules.proofs.Base.{◌&&◌, AllByRecursion, list_any, eqb-true, nat_tests, get_or-map, length-map}
+use Rattle.portal_rules.proofs.Base.{list_any_at, IsStable, IsAcceptable, is_project, is_lecturer, at_project}
+use Rattle.portal_rules.proofs.Base.{at_lecturer, lecturer_of, project_of, number_in, number_is, count_by-map, Key}
+use Rattle.portal_rules.proofs.Base.{equals, has, World, lecturer_key, project_key, is_at, is_left, is_published}
+use Rattle.portal_rules.proofs.Base.{is_second, given_to, given_with, lowered_lecturer, lowered_project, lecturers_left}
+use Rattle.portal_rules.proofs.Base.{in_play, first, first_placed, first_published, First, Second, Listing, ProjectRow}
+use Rattle.portal_rules.proofs.Base.{instance, instance_of, matching_of, places_of, lecturer_keys, project_keys}
+use Rattle.portal_rules.proofs.Base.{in_catalogue, catalogue, Good, IsRound, Sound, IsChoice, placed_to, placed_with}
+use Rattle.portal_rules.proofs.Base.{count_at, count_with, ne_eqb, capacity_of, limit_of, All-from_get_or}
+use Rattle.portal_rules.proofs.Base.{Any-from_list_any, and_from, and_parts, filter, get_or_default, recursion_from_All}
 use Rattle.spa_honest.proofs.Waits.{left_finds_none as left_by_number}
 use Rattle.spa_honest.specs.Honest.{HasRoom}
 use Rattle.portal_rules.specs.World.{Lecturer, Student}
@@ -9,7 +20,8 @@ use Rattle.portal_rules.proofs.Published.{number_back}
 use Rattle.portal_rules.proofs.Capacities.{count_mono, count_none, known_in, first_plays, second_plays}
 use Rattle.portal_rules.proofs.Opened.{the_second}
 use Rattle.portal_rules.proofs.InRound.{catalogue_whole}
-use Rattle.portal_core.proofs.HonestLists.{no_student, no_project, no_lecturer, has_number, on_number, lecturer_at, lecturer_known, choice, choices, given}
+use Rattle.portal_core.proofs.HonestLists.{no_student, no_project, no_lecturer, has_number, on_number, lecturer_at}
+use Rattle.portal_core.proofs.HonestLists.{lecturer_known, choice, choices, given}
 
 -- lists and tests
 

@@ -1,5 +1,13 @@
 -- No group of students gains over both rounds, nor does one student: of worlds.
-use Rattle.portal_rules.proofs.Base.{◌≡◌, inl, inr, ℕ, zero, suc, ◌+◌, ◌<◌, ◌≤◌, Bool, true, false, List, [], ◌∷◌, map, length, get_or, refl, sym, ◌∙◌, ap, subst, arith, Option, Some, None, option_map, is_none, filter, count_by, ◌&&◌, ◌||◌, AllByRecursion, list_any, get_or-map, length-map, length-filter, cases_lt, IsOn, project_of, number_in, Second, Phase, Key, equals, has, World, project_key, is_at, is_left, is_published, is_second, shown_placement, students_in, in_play, first, first_placed, first_published, instance_of, places_of, project_keys, student_keys, view, student_sees, Good, Sound, at_lecturer, count_with, KeepsCapacities, given_to, given_with, placed_to, placed_with, limit_of, First, IsBest, StudentSees}
+use Rattle.portal_rules.proofs.Base.{◌≡◌, inl, inr, ℕ, zero, suc, ◌+◌, ◌<◌, ◌≤◌, Bool, true, false, List, [], ◌∷◌, map}
+use Rattle.portal_rules.proofs.Base.{length, get_or, refl, sym, ◌∙◌, ap, subst, arith, Option, Some, None, option_map}
+use Rattle.portal_rules.proofs.Base.{is_none, filter, count_by, ◌&&◌, ◌||◌, AllByRecursion, list_any, get_or-map}
+use Rattle.portal_rules.proofs.Base.{length-map, length-filter, cases_lt, IsOn, project_of, number_in, Second, Phase}
+use Rattle.portal_rules.proofs.Base.{Key, equals, has, World, project_key, is_at, is_left, is_published, is_second}
+use Rattle.portal_rules.proofs.Base.{shown_placement, students_in, in_play, first, first_placed, first_published}
+use Rattle.portal_rules.proofs.Base.{instance_of, places_of, project_keys, student_keys, view, student_sees, Good}
+use Rattle.portal_rules.proofs.Base.{Sound, at_lecturer, count_with, KeepsCapacities, given_to, given_with, placed_to}
+use Rattle.portal_rules.proofs.Base.{placed_with, limit_of, First, IsBest, StudentSees}
 use Rattle.portal_core.specs.Honest.{HasBest, DifferInLists, ListAlike, IsNoWorse, OneGainsNothing, DifferInOneList}
 use Rattle.spa_honest.proofs.Gains.{no_group_gains_over_both as no_group_over_by_number}
 use Rattle.spa_honest.specs.inner.ByNumber as instances
@@ -11,8 +19,10 @@ use Rattle.portal_rules.proofs.Named.{students_named}
 use Rattle.portal_rules.proofs.InPlay.{given_none}
 use Rattle.portal_rules.proofs.Opened.{the_second}
 use Rattle.portal_rules.proofs.Capacities.{number_has, known_in, keeps, first_plays}
-use Rattle.portal_core.proofs.HonestLists.{has_number, no_student, no_project, no_lecturer, IsBestRound, IsStableRound, world_ranked, differ_by_number, shown, shown_student}
-use Rattle.portal_core.proofs.HonestGroups.{kept_key, of_group, IsShown, of_number, own_group, differ_in_group, one_gains_nothing, found_has}
+use Rattle.portal_core.proofs.HonestLists.{has_number, no_student, no_project, no_lecturer, IsBestRound, IsStableRound}
+use Rattle.portal_core.proofs.HonestLists.{world_ranked, differ_by_number, shown, shown_student}
+use Rattle.portal_core.proofs.HonestGroups.{kept_key, of_group, IsShown, of_number, own_group, differ_in_group}
+use Rattle.portal_core.proofs.HonestGroups.{one_gains_nothing, found_has}
 use Rattle.portal_core.proofs.LeftOver.{few_at, few_with, none_at, none_with, placed_known, plays_known, stable_rows}
 use Rattle.portal_rules.proofs.Zips.{zip_same}
 

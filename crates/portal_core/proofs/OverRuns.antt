@@ -1,5 +1,8 @@
 -- From a published first round a run reaches that world, or a second round that opened from it.
-use Rattle.portal_rules.proofs.Base.{has, student_keys, ◌≡◌, ◌⊎◌, inl, inr, true, false, List, refl, sym, ◌∙◌, ap, subst, AllByRecursion, Key, World, is_second, first, SecondRound, changed, Published, First, StudentSees, Caller, caller, sight_of, view, AbstractCall, Answer, Decision, decision, Good, StepLeaves, Step, Request, Run, arith}
+use Rattle.portal_rules.proofs.Base.{has, student_keys, ◌≡◌, ◌⊎◌, inl, inr, true, false, List, refl, sym, ◌∙◌, ap}
+use Rattle.portal_rules.proofs.Base.{subst, AllByRecursion, Key, World, is_second, first, SecondRound, changed}
+use Rattle.portal_rules.proofs.Base.{Published, First, StudentSees, Caller, caller, sight_of, view, AbstractCall}
+use Rattle.portal_rules.proofs.Base.{Answer, Decision, decision, Good, StepLeaves, Step, Request, Run, arith}
 use Rattle.portal_core.specs.Honest.{DifferInLists, OneGainsNothing, HasBest, DifferInOneList, IsNoWorse}
 use Rattle.portal_rules.specs.declared.view.View.TheVariants as sees
 use Rattle.portal_rules.proofs.Steps.{run_keeps, step_good}

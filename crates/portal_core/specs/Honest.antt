@@ -3,7 +3,8 @@ use Rattle.portal_rules.specs.Base.{list_any, AllZip, AllByRecursion, IsBest, nu
 use Rattle.std.specs.Prelude.{◌≡◌, ◌⊎◌, ◌&&◌, ◌<◌, ◌≤◌, true, false, List, [], Option, Some, unwrap_or}
 use Rattle.portal_rules.specs.declared.view.View.TheVariants as sees
 use Rattle.portal_rules.specs.Words.{Key, equals, has}
-use Rattle.portal_rules.specs.World.{World, Lecturer, ProjectRow, Student, is_at, first, is_left, is_second, is_published, in_play}
+use Rattle.portal_rules.specs.World.{World, Lecturer, ProjectRow, Student, is_at, first, is_left, is_second}
+use Rattle.portal_rules.specs.World.{is_published, in_play}
 use Rattle.portal_rules.specs.Good.{instance, matching_of, student_keys, placed_to, placed_with, Good}
 use Rattle.portal_rules.specs.Sight.{StudentSees}
 use Rattle.portal_rules.specs.View.{catalogue, view}

@@ -1,5 +1,10 @@
 -- Each body is JSON with whole numbers, or a sheet.
-use Rattle.portal_rules.proofs.Base.{◌≡◌, ℕ, Bool, false, List, [], ◌∷◌, refl, sym, subst, Option, Some, None, map, codes, Data, string, Phase, Round, Person, Key, has_result, StudentSees, LecturerSees, OfficeSees, AbstractCall, dictionary, several, person, phase_body, Said, Act, Decision, to_student, to_lecturer, to_office, arith, items_of, texts_or_null, text_or_null, members, listing, round_member, status_body, applicants_body, placed_body, allocation_body, unwritten, emptied, HasWholeNumbers}
+use Rattle.portal_rules.proofs.Base.{◌≡◌, ℕ, Bool, false, List, [], ◌∷◌, refl, sym, subst, Option, Some, None, map}
+use Rattle.portal_rules.proofs.Base.{codes, Data, string, Phase, Round, Person, Key, has_result, StudentSees}
+use Rattle.portal_rules.proofs.Base.{LecturerSees, OfficeSees, AbstractCall, dictionary, several, person, phase_body}
+use Rattle.portal_rules.proofs.Base.{Said, Act, Decision, to_student, to_lecturer, to_office, arith, items_of}
+use Rattle.portal_rules.proofs.Base.{texts_or_null, text_or_null, members, listing, round_member, status_body}
+use Rattle.portal_rules.proofs.Base.{applicants_body, placed_body, allocation_body, unwritten, emptied, HasWholeNumbers}
 use Rattle.serde_json.specs.Written.{has_float, items_have_float, members_have_float}
 
 -- no body has a number that is not whole

@@ -1,5 +1,10 @@
 -- What a frame of the buffer says of the stream.
-use Rattle.portal_desk.proofs.Base.{◌≡◌, ℕ, ◌<◌, inl, inr, Bool, true, false, List, [], ◌++◌, length, take, drop, refl, sym, ap, ◌∙◌, subst, append-nil, arith, Option, Some, None, nat_le, if◌then◌else◌, Frame, Opens, whole, fault, seen, refused, Asked, is_head, ReadsMore, Heads, Follows, NoneWhole, IsTrue, ◌≢◌, Ok, Err, leb-true, not_headless, Framed, IsWithinLimits, over, item_of, after_lines, asked_of, fields_of, body_length, bad_length, IsWithin, Cause, Result, IfErr}
+use Rattle.portal_desk.proofs.Base.{◌≡◌, ℕ, ◌<◌, inl, inr, Bool, true, false, List, [], ◌++◌, length, take, drop, refl}
+use Rattle.portal_desk.proofs.Base.{sym, ap, ◌∙◌, subst, append-nil, arith, Option, Some, None, nat_le, if◌then◌else◌}
+use Rattle.portal_desk.proofs.Base.{Frame, Opens, whole, fault, seen, refused, Asked, is_head, ReadsMore, Heads}
+use Rattle.portal_desk.proofs.Base.{Follows, NoneWhole, IsTrue, ◌≢◌, Ok, Err, leb-true, not_headless, Framed}
+use Rattle.portal_desk.proofs.Base.{IsWithinLimits, over, item_of, after_lines, asked_of, fields_of, body_length}
+use Rattle.portal_desk.proofs.Base.{bad_length, IsWithin, Cause, Result, IfErr}
 use Rattle.httparse.specs.Grammar.{RequestHead}
 use Rattle.httparse.proofs.GrammarLemmas.{request_unique}
 use Rattle.portal_frame.specs.declared.types.Frame.TheVariants as frame

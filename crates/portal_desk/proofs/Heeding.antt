@@ -1,6 +1,11 @@
 -- The bytes of the replies to one caller.
-use Rattle.portal_desk.proofs.Base.{◌≡◌, ℕ, inl, inr, Bool, true, false, List, [], ◌∷◌, ◌++◌, refl, sym, ap, ◌∙◌, subst, if◌then◌else◌, Key, World, view, Answer, Run, end_of, reply_text, Exchange, asked_in, told_in, exchange_text, KeeperState, Visit, AreVisits, exchanges_of, worlds_of, Session, AreServed, TellsOf, AllZip, equals, Sight, IsVisit, AreAnswered, Hears, texts_to, replies_in, AlikeTexts}
-use Rattle.portal_rules.specs.Heard.{HeardItem, Asked, Sees, own_item, SeenIf, Heard, replies_to, SameButPlaces, SameRequest, AlikeUntilPublished, has_places, moves_to_published}
+use Rattle.portal_desk.proofs.Base.{◌≡◌, ℕ, inl, inr, Bool, true, false, List, [], ◌∷◌, ◌++◌, refl, sym, ap, ◌∙◌, subst}
+use Rattle.portal_desk.proofs.Base.{if◌then◌else◌, Key, World, view, Answer, Run, end_of, reply_text, Exchange}
+use Rattle.portal_desk.proofs.Base.{asked_in, told_in, exchange_text, KeeperState, Visit, AreVisits, exchanges_of}
+use Rattle.portal_desk.proofs.Base.{worlds_of, Session, AreServed, TellsOf, AllZip, equals, Sight, IsVisit, AreAnswered}
+use Rattle.portal_desk.proofs.Base.{Hears, texts_to, replies_in, AlikeTexts}
+use Rattle.portal_rules.specs.Heard.{HeardItem, Asked, Sees, own_item, SeenIf, Heard, replies_to, SameButPlaces}
+use Rattle.portal_rules.specs.Heard.{SameRequest, AlikeUntilPublished, has_places, moves_to_published}
 use Rattle.portal_rules.proofs.Hearing.{same_replies}
 use Rattle.portal_rules.proofs.Disclosed.{places_unseen, unless_map}
 use Rattle.portal_desk.proofs.Steps.{Run-append}

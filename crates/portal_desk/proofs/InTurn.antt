@@ -1,5 +1,6 @@
 -- One call of a keeper after another.
-use Rattle.portal_desk.proofs.Base.{◌≡◌, ◌∙◌, true, false, inl, inr, subst, World, KeeperState, StaysClean, LastsOrBreaks, CountsFaults, Uses, Looks, Changes, Result, Ok, Err}
+use Rattle.portal_desk.proofs.Base.{◌≡◌, ◌∙◌, true, false, inl, inr, subst, World, KeeperState, StaysClean}
+use Rattle.portal_desk.proofs.Base.{LastsOrBreaks, CountsFaults, Uses, Looks, Changes, Result, Ok, Err}
 use Rattle.std.specs.Prelude.{OnOk, IsErr}
 use Rattle.std.proofs.lemmas.Result.{on_ok_weaker, on_err_weaker}
 use Rattle.portal_rules.specs.declared.keeper.KeepFault.{KeepFault}

@@ -1,5 +1,8 @@
 -- What one exchange more does to a keeper, and what a stop may leave after it.
-use Rattle.portal_desk.proofs.Base.{inl, inr, List, [], ◌∷◌, ◌++◌, refl, sym, ap, ◌∙◌, subst, append_assoc, World, Answer, Wanted, Serves, Exchange, Reaches, KeeperState, Kept, Moves, Worked, FailsByCount, MayReach, Acted, LastsOrBreaks, LeavesBy, MayLeave, Bool, Asked, request_of}
+use Rattle.portal_desk.proofs.Base.{inl, inr, List, [], ◌∷◌, ◌++◌, refl, sym, ap, ◌∙◌, subst, append_assoc, World}
+use Rattle.portal_desk.proofs.Base.{Answer, Wanted, Serves, Exchange, Reaches, KeeperState, Kept, Moves, Worked}
+use Rattle.portal_desk.proofs.Base.{FailsByCount, MayReach, Acted, LastsOrBreaks, LeavesBy, MayLeave, Bool, Asked}
+use Rattle.portal_desk.proofs.Base.{request_of}
 use Rattle.portal_desk.proofs.Failing.{fails_then, fails_none}
 use Rattle.portal_desk.proofs.InTurn.{lasts_then, breaks_then}
 use Rattle.portal_desk.proofs.Steps.{Reaches-append, answered_apart}

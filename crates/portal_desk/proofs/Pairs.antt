@@ -1,5 +1,6 @@
 -- The pairs of a matching, one student after the other.
-use Rattle.portal_desk.proofs.Base.{◌≡◌, ℕ, ◌+◌, ◌<◌, List, [], ◌∷◌, ◌++◌, length, get_or, drop, Option, Some, None, refl, sym, ◌∙◌, ap, add-one, append_assoc, Key, pairs_by, drop-cons}
+use Rattle.portal_desk.proofs.Base.{◌≡◌, ℕ, ◌+◌, ◌<◌, List, [], ◌∷◌, ◌++◌, length, get_or, drop, Option, Some, None}
+use Rattle.portal_desk.proofs.Base.{refl, sym, ◌∙◌, ap, add-one, append_assoc, Key, pairs_by, drop-cons}
 
 module _ (keys projects : List Key) (places : List (Option ℕ)) where
   abbrev rest : ℕ → List (Key × Key)

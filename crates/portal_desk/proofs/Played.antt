@@ -1,5 +1,10 @@
 -- What was decided in a good world may be done, and leaves a good world.
-use Rattle.portal_desk.proofs.Base.{◌≡◌, List, sym, ◌∙◌, ap, subst, Key, World, pairs_by, AbstractCall, Nothing, Apply, Decision, decision, Good, Step, view, is_setup, Placements, changed, instance, matching_of, CanPublish, Act, Publish, Render, HasForm, StepLeaves, CanDo, IsSolved, Result, Ok, Err, inl, inr, refl, Bool, Answer, Asked, Answers, Calls, Serves, Wanted, request_of, reply_model, unavailable, KeeperState, IsAlive, Uses, Looks, Changes, MayLeave, Acted}
+use Rattle.portal_desk.proofs.Base.{◌≡◌, List, sym, ◌∙◌, ap, subst, Key, World, pairs_by, AbstractCall, Nothing, Apply}
+use Rattle.portal_desk.proofs.Base.{Decision, decision, Good, Step, view, is_setup, Placements, changed, instance}
+use Rattle.portal_desk.proofs.Base.{matching_of, CanPublish, Act, Publish, Render, HasForm, StepLeaves, CanDo, IsSolved}
+use Rattle.portal_desk.proofs.Base.{Result, Ok, Err, inl, inr, refl, Bool, Answer, Asked, Answers, Calls, Serves}
+use Rattle.portal_desk.proofs.Base.{Wanted, request_of, reply_model, unavailable, KeeperState, IsAlive, Uses, Looks}
+use Rattle.portal_desk.proofs.Base.{Changes, MayLeave, Acted}
 use Rattle.std.specs.Prelude.{IfOk, OnOk, OnErr, MatchResult}
 use Rattle.portal_rules.specs.declared.keeper.KeepFault.{KeepFault}
 use Rattle.portal_rules.specs.declared.decision.Reply.{Reply}

@@ -1,5 +1,12 @@
 -- The main promise, from what each call of `serve` tells.
-use Rattle.portal_desk.proofs.Base.{AllZip, Some, ◌≡◌, ℕ, ◌+◌, ◌<◌, length, take, map, get_or, add-one, inl, inr, true, false, List, [], ◌∷◌, ◌++◌, refl, sym, ap, ◌∙◌, subst, both_ways, Key, World, view, AbstractCall, Answer, Good, Request, Step, Run, Serves, AllAnswered, asked_in, told_in, KeeperState, Ended, Visit, AreVisits, exchanges_of, worlds_of, Session, IsSession, AreServed, TellsOf, ServesEach, take-suc, map-append, AllByRecursion, is_published, Wish, Calls, Refused, Answers, Last, AreServedOn, left_by, exchanges_in, IsServed, IsUnseen, AreUnseen, PublishesBest, IsUpheld, MainPromise, IsEnded, AreOf}
+use Rattle.portal_desk.proofs.Base.{AllZip, Some, ◌≡◌, ℕ, ◌+◌, ◌<◌, length, take, map, get_or, add-one, inl, inr, true}
+use Rattle.portal_desk.proofs.Base.{false, List, [], ◌∷◌, ◌++◌, refl, sym, ap, ◌∙◌, subst, both_ways, Key, World, view}
+use Rattle.portal_desk.proofs.Base.{AbstractCall, Answer, Good, Request, Step, Run, Serves, AllAnswered, asked_in}
+use Rattle.portal_desk.proofs.Base.{told_in, KeeperState, Ended, Visit, AreVisits, exchanges_of, worlds_of, Session}
+use Rattle.portal_desk.proofs.Base.{IsSession, AreServed, TellsOf, ServesEach, take-suc, map-append, AllByRecursion}
+use Rattle.portal_desk.proofs.Base.{is_published, Wish, Calls, Refused, Answers, Last, AreServedOn, left_by}
+use Rattle.portal_desk.proofs.Base.{exchanges_in, IsServed, IsUnseen, AreUnseen, PublishesBest, IsUpheld, MainPromise}
+use Rattle.portal_desk.proofs.Base.{IsEnded, AreOf}
 use Rattle.portal_core.specs.Honest.{HasBest, ShowsBest}
 use Rattle.portal_rules.proofs.Unseen.{others}
 use Rattle.portal_desk.proofs.Heeding.{are_visits, whole_run, same_bytes}

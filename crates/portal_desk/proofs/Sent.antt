@@ -1,5 +1,6 @@
 -- What was written of one reply.
-use Rattle.portal_desk.proofs.Base.{◌≡◌, ℕ, Bool, true, false, List, subst, Option, ◌||◌, Appends, Answer, Cause, reply_text, Partly, Broke}
+use Rattle.portal_desk.proofs.Base.{◌≡◌, ℕ, Bool, true, false, List, subst, Option, ◌||◌, Appends, Answer, Cause}
+use Rattle.portal_desk.proofs.Base.{reply_text, Partly, Broke}
 use Rattle.portal_desk.specs.declared.served.Cause.TheVariants as cause
 
 pub broke : (why : Cause) (failed : Bool) (reply : Answer) (head closes : Bool) (before after : Option (List ℕ))

@@ -1,12 +1,19 @@
 -- A decision whose sheet is written is the whole decision.
-use Rattle.portal_desk.proofs.Base.{◌≡◌, ℕ, Bool, true, false, List, [], refl, ◌∙◌, ap, Option, Some, None, if◌then◌else◌, AbstractCall, Answer, Nothing, Apply, Decision, decision, is_none, is_empty, is_choosing, is_ranking, is_from_ranking, has_result, Change, Lecturers, Projects, Students, Fill, StudentSees, LecturerSees, OfficeSees, Sight, Said, Json, Unavailable, emptied, open_where, unless_faulty, added, row_fault, already_placed, moves_on, opens, moves_in, moves, publishes, is_open_to_rolls, to_student, to_lecturer, to_office, with_sheet}
+use Rattle.portal_desk.proofs.Base.{◌≡◌, ℕ, Bool, true, false, List, [], refl, ◌∙◌, ap, Option, Some, None}
+use Rattle.portal_desk.proofs.Base.{if◌then◌else◌, AbstractCall, Answer, Nothing, Apply, Decision, decision, is_none}
+use Rattle.portal_desk.proofs.Base.{is_empty, is_choosing, is_ranking, is_from_ranking, has_result, Change, Lecturers}
+use Rattle.portal_desk.proofs.Base.{Projects, Students, Fill, StudentSees, LecturerSees, OfficeSees, Sight, Said, Json}
+use Rattle.portal_desk.proofs.Base.{Unavailable, emptied, open_where, unless_faulty, added, row_fault, already_placed}
+use Rattle.portal_desk.proofs.Base.{moves_on, opens, moves_in, moves, publishes, is_open_to_rolls, to_student}
+use Rattle.portal_desk.proofs.Base.{to_lecturer, to_office, with_sheet}
 use Rattle.serde_json.specs.Data.{Data}
 use Rattle.portal_rules.specs.declared.phase.Phase.{Phase}
 use Rattle.portal_rules.specs.declared.phase.Phase.TheVariants.{Setup, Choosing, Ranking, Published}
 use Rattle.portal_rules.specs.declared.phase.Round.{Round}
 use Rattle.portal_rules.specs.declared.phase.Round.TheVariants.{First, Second}
 use Rattle.portal_rules.specs.declared.view.View.TheVariants.{Nobody, Office, Lecturer, Student}
-use Rattle.portal_rules.specs.Faults.{ListFault, choice_fault, ranking_fault, Taken, Faulty, Took, take_rows, lecturer_roll, project_roll, student_roll}
+use Rattle.portal_rules.specs.Faults.{ListFault, choice_fault, ranking_fault, Taken, Faulty, Took, take_rows}
+use Rattle.portal_rules.specs.Faults.{lecturer_roll, project_roll, student_roll}
 
 -- another body than that of 503
 abbrev pub IsSaid : Said → Type 0

@@ -1,5 +1,8 @@
 -- One exchange more.
-use Rattle.portal_desk.proofs.Base.{◌≡◌, ℕ, ◌-◌, Bool, true, false, List, [], ◌∷◌, ◌++◌, length, refl, sym, ap, ◌∙◌, subst, arith, append-nil, append_assoc, World, Request, Run, AllAnswered, end_of, Asked, Opens, whole, request_of, closes_at, Rest, more, shut, Leads, Exchange, asked_in, told_in, text, exchange_text, Reaches}
+use Rattle.portal_desk.proofs.Base.{◌≡◌, ℕ, ◌-◌, Bool, true, false, List, [], ◌∷◌, ◌++◌, length, refl, sym, ap, ◌∙◌}
+use Rattle.portal_desk.proofs.Base.{subst, arith, append-nil, append_assoc, World, Request, Run, AllAnswered, end_of}
+use Rattle.portal_desk.proofs.Base.{Asked, Opens, whole, request_of, closes_at, Rest, more, shut, Leads, Exchange}
+use Rattle.portal_desk.proofs.Base.{asked_in, told_in, text, exchange_text, Reaches}
 use Rattle.std.specs.Bool.{MatchBool}
 
 pub text-snoc : (es : List Exchange) (e : Exchange) → text (es ++ e ∷ []) ≡ text es ++ exchange_text e

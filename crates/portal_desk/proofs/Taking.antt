@@ -1,5 +1,8 @@
 -- How many bytes a reader gave.
-use Rattle.portal_desk.proofs.Base.{◌≡◌, ℕ, Bool, ◌+◌, ◌-◌, ◌<◌, ◌≤◌, List, ◌++◌, length, drop, refl, sym, ap, ◌∙◌, subst, arith, Option, Some, None, Result, Ok, Err, length-append, Frame, Follows, ◌*◌, length-drop, TakesAtMost, ReadsMore, request_limit, connection_limit, taken_limit}
+use Rattle.portal_desk.proofs.Base.{◌≡◌, ℕ, Bool, ◌+◌, ◌-◌, ◌<◌, ◌≤◌, List, ◌++◌, length, drop, refl, sym, ap, ◌∙◌}
+use Rattle.portal_desk.proofs.Base.{subst, arith, Option, Some, None, Result, Ok, Err, length-append, Frame, Follows}
+use Rattle.portal_desk.proofs.Base.{◌*◌, length-drop, TakesAtMost, ReadsMore, request_limit, connection_limit}
+use Rattle.portal_desk.proofs.Base.{taken_limit}
 use Rattle.portal_desk.specs.declared.served.Cause.{Cause}
 use Rattle.portal_desk.specs.inner.Reading.{IsFailedRead, KeepsStream}
 use Rattle.std.specs.Prelude.{IfErr, IsErrAnd}

@@ -1,5 +1,12 @@
 -- What is known at each exit of the serving loop.
-use Rattle.portal_desk.proofs.Base.{◌≡◌, ℕ, ◌+◌, ◌-◌, ◌<◌, inl, inr, Bool, true, false, List, [], ◌∷◌, ◌++◌, length, drop, take, refl, sym, ap, ◌∙◌, subst, arith, append-nil, Option, Some, None, nat_le, ◌||◌, Appends, length-append, both_ways, Answer, Frame, Asked, Opens, whole, is_head, seen, refused, Cause, reply_text, Heads, Follows, request_of, closes_at, Rest, more, shut, Leads, Exchange, asked_in, text, exchange_text, Partly, Broke, unavailable, KeeperState, Moves, IfSome, leb-false, shut_ends, Kept, Acted, Replied, KeepsStream, NoneWhole, ◌⊎◌, IsSession, Finish, Ended, Stopped, Tells, fault, connection_limit}
+use Rattle.portal_desk.proofs.Base.{◌≡◌, ℕ, ◌+◌, ◌-◌, ◌<◌, inl, inr, Bool, true, false, List, [], ◌∷◌, ◌++◌, length}
+use Rattle.portal_desk.proofs.Base.{drop, take, refl, sym, ap, ◌∙◌, subst, arith, append-nil, Option, Some, None}
+use Rattle.portal_desk.proofs.Base.{nat_le, ◌||◌, Appends, length-append, both_ways, Answer, Frame, Asked, Opens, whole}
+use Rattle.portal_desk.proofs.Base.{is_head, seen, refused, Cause, reply_text, Heads, Follows, request_of, closes_at}
+use Rattle.portal_desk.proofs.Base.{Rest, more, shut, Leads, Exchange, asked_in, text, exchange_text, Partly, Broke}
+use Rattle.portal_desk.proofs.Base.{unavailable, KeeperState, Moves, IfSome, leb-false, shut_ends, Kept, Acted, Replied}
+use Rattle.portal_desk.proofs.Base.{KeepsStream, NoneWhole, ◌⊎◌, IsSession, Finish, Ended, Stopped, Tells, fault}
+use Rattle.portal_desk.proofs.Base.{connection_limit}
 use Rattle.portal_frame.specs.declared.types.Frame.TheVariants as frame
 use Rattle.portal_frame.specs.declared.types.Refusal.{Refusal}
 use Rattle.portal_frame.specs.declared.types.Request.{Request}

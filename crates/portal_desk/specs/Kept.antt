@@ -1,6 +1,7 @@
 -- What a desk, a metered device and a keeper hold, how they count failed calls, and what requests
 -- with their replies do to a keeper.
-use Rattle.std.specs.Prelude.{ℕ, Bool, ◌≡◌, ◌≢◌, ◌⊎◌, ◌+◌, ◌-◌, ◌^◌, ◌<◌, ◌≤◌, min, List, length, Option, Some, IfSome, Result, MatchResult, true, false, ◌∷◌, ◌++◌}
+use Rattle.std.specs.Prelude.{ℕ, Bool, ◌≡◌, ◌≢◌, ◌⊎◌, ◌+◌, ◌-◌, ◌^◌, ◌<◌, ◌≤◌, min, List, length, Option, Some, IfSome}
+use Rattle.std.specs.Prelude.{Result, MatchResult, true, false, ◌∷◌, ◌++◌}
 use Rattle.portal_rules.specs.World.{World}
 use Rattle.portal_rules.specs.Answer.{Answer}
 use Rattle.portal_rules.specs.Keeping.{KeeperState, IsSettled, StaysClean, LastsOrBreaks, LeavesBy}

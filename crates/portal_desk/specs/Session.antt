@@ -1,9 +1,11 @@
 -- What one call of `serve` does: the requests of its stream, what is written, and how it ends.
-use Rattle.std.specs.Prelude.{ℕ, Bool, ◌≡◌, ◌⊎◌, ◌||◌, true, List, [], ◌∷◌, ◌++◌, length, take, Option, Some, IfSome, Result, Ok, Err}
+use Rattle.std.specs.Prelude.{ℕ, Bool, ◌≡◌, ◌⊎◌, ◌||◌, true, List, [], ◌∷◌, ◌++◌, length, take, Option, Some, IfSome}
+use Rattle.std.specs.Prelude.{Result, Ok, Err}
 use Rattle.std.specs.Io.KnownBytes.{Appends}
 use Rattle.portal_rules.specs.Run.{unavailable}
 use Rattle.portal_frame.specs.Stream.{Asked, Opens, whole}
-use Rattle.portal_wire.specs.Conversation.{connection_limit, reply_text, Rest, more, Leads, Last, last, Ends, Requests, Exchange, asked_in, text}
+use Rattle.portal_wire.specs.Conversation.{connection_limit, reply_text, Rest, more, Leads, Last, last, Ends, Requests}
+use Rattle.portal_wire.specs.Conversation.{Exchange, asked_in, text}
 use Rattle.portal_desk.specs.declared.served.Cause.{Cause}
 use Rattle.portal_desk.specs.declared.served.Cause.TheVariants as cause
 use Rattle.portal_desk.specs.declared.served.Served.{Served}

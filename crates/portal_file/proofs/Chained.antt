@@ -14,7 +14,8 @@ use Rattle.portal_desk.proofs.Promised.{RunsGood, StepsBest, RunsBest, are_unsee
 use Rattle.portal_desk.proofs.Heeding.{same_bytes}
 use Rattle.portal_file.specs.Tables.{Stream, TellsIn, Either}
 use Rattle.portal_file.specs.Files.{HoldsSome, HoldsWorld}
-use Rattle.portal_file.specs.Chain.{Process, IsProcess, AreProcesses, left_after, exchanges_by, MayStandFor, IsKeptRun, KeptOverFiles, AllTellOfProcesses, IsKnown, PromisedOverFiles}
+use Rattle.portal_file.specs.Chain.{Process, IsProcess, AreProcesses, left_after, exchanges_by, MayStandFor, IsKeptRun}
+use Rattle.portal_file.specs.Chain.{KeptOverFiles, AllTellOfProcesses, IsKnown, PromisedOverFiles}
 
 end_more : (w : World) (us vs : List World) → end_of (end_of w us) vs ≡ end_of w (us ++ vs)
 end_more w [] vs = refl

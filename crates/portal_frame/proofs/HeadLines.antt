@@ -1,5 +1,8 @@
 -- What is counted by bytes is the number of the lines of a head.
-use Rattle.portal_frame.proofs.Base.{◌≡◌, ℕ, ◌+◌, true, false, inl, inr, List, [], ◌∷◌, ◌++◌, length, refl, sym, ap, ◌∙◌, arith, zero-add, ◌==◌, Leading, Fresh, Inside, lines_from, header_lines, cases_Bool, LeadingCr, FreshCr, is_empty_line, lines_after, without_leading, before_empty}
+use Rattle.portal_frame.proofs.Base.{◌≡◌, ℕ, ◌+◌, true, false, inl, inr, List, [], ◌∷◌, ◌++◌, length, refl, sym, ap}
+use Rattle.portal_frame.proofs.Base.{◌∙◌, arith, zero-add, ◌==◌, Leading, Fresh, Inside, lines_from, header_lines}
+use Rattle.portal_frame.proofs.Base.{cases_Bool, LeadingCr, FreshCr, is_empty_line, lines_after, without_leading}
+use Rattle.portal_frame.proofs.Base.{before_empty}
 
 -- a line that is not empty stays so
 longer : (line : List ℕ) (b : ℕ) → is_empty_line line ≡ false → is_empty_line (line ++ b ∷ []) ≡ false

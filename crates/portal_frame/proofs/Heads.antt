@@ -1,5 +1,14 @@
 -- Heads at the front of a stream, cut and continued.
-use Rattle.portal_frame.proofs.Base.{◌≡◌, ℕ, ◌+◌, ◌-◌, ◌<◌, ◌≤◌, inl, inr, true, false, List, [], ◌∷◌, ◌++◌, length, take, drop, refl, sym, ap, ◌∙◌, arith, rules, append_assoc, subst, ◌==◌, ◌&&◌, Ok, eqb-true, common_steps, take-append-drop, length-append, IsTrue, nat_lt, nat_le, RequestHead, IsRequestHead, HasNoRequest, print_request, LineEnd, lf, crlf, print_blank, print_version, is_token_byte, is_uri_byte, IsField, RequestOverflows, body_length, bad_head, whole, fault, asked_of, fields_of, Opens, is_blank, append-nil, min, le-leb, cases_lt, take-append-le, drop-append-le, drop-drop, length-take-le, length-take, length-map, take_all, All-cons, All-nil, ReadsRequest, ReadsRequest-append, print_request-append, Takes, HasNoHead, IsHead, IsRequestAt, IsRequestWithin, head_limit}
+use Rattle.portal_frame.proofs.Base.{◌≡◌, ℕ, ◌+◌, ◌-◌, ◌<◌, ◌≤◌, inl, inr, true, false, List, [], ◌∷◌, ◌++◌, length}
+use Rattle.portal_frame.proofs.Base.{take, drop, refl, sym, ap, ◌∙◌, arith, rules, append_assoc, subst, ◌==◌, ◌&&◌, Ok}
+use Rattle.portal_frame.proofs.Base.{eqb-true, common_steps, take-append-drop, length-append, IsTrue, nat_lt, nat_le}
+use Rattle.portal_frame.proofs.Base.{RequestHead, IsRequestHead, HasNoRequest, print_request, LineEnd, lf, crlf}
+use Rattle.portal_frame.proofs.Base.{print_blank, print_version, is_token_byte, is_uri_byte, IsField, RequestOverflows}
+use Rattle.portal_frame.proofs.Base.{body_length, bad_head, whole, fault, asked_of, fields_of, Opens, is_blank}
+use Rattle.portal_frame.proofs.Base.{append-nil, min, le-leb, cases_lt, take-append-le, drop-append-le, drop-drop}
+use Rattle.portal_frame.proofs.Base.{length-take-le, length-take, length-map, take_all, All-cons, All-nil, ReadsRequest}
+use Rattle.portal_frame.proofs.Base.{ReadsRequest-append, print_request-append, Takes, HasNoHead, IsHead, IsRequestAt}
+use Rattle.portal_frame.proofs.Base.{IsRequestWithin, head_limit}
 use Rattle.std.proofs.Math.Seq.{take-append-add}
 use Rattle.std.proofs.lemmas.Bool.{and_parts, cases_Bool, or_cases}
 use Rattle.std.specs.Char.{encode_utf8}

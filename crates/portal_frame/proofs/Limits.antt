@@ -1,5 +1,8 @@
 -- How long what is waited for can be.
-use Rattle.portal_frame.proofs.Base.{◌≡◌, ℕ, ◌+◌, ◌<◌, ◌≤◌, Bool, true, false, List, [], ◌∷◌, length, refl, arith, Result, Ok, if◌then◌else◌, nat_lt, codes, digits_value, length-append, RequestHead, print_request, Fault, values_of, body_length, fields_of, Err, ltb-false, is_length, has_bad_host, has_any, length_of, body_limit, head_limit, request_limit}
+use Rattle.portal_frame.proofs.Base.{◌≡◌, ℕ, ◌+◌, ◌<◌, ◌≤◌, Bool, true, false, List, [], ◌∷◌, length, refl, arith}
+use Rattle.portal_frame.proofs.Base.{Result, Ok, if◌then◌else◌, nat_lt, codes, digits_value, length-append, RequestHead}
+use Rattle.portal_frame.proofs.Base.{print_request, Fault, values_of, body_length, fields_of, Err, ltb-false, is_length}
+use Rattle.portal_frame.proofs.Base.{has_bad_host, has_any, length_of, body_limit, head_limit, request_limit}
 use Rattle.portal_frame.specs.declared.types.Fault.TheVariants as faults
 
 pick : (is_len over : Bool) (d n : ℕ) → nat_lt body_limit d ≡ over

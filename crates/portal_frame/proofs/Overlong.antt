@@ -1,5 +1,11 @@
 -- A head of at most 32 fields has an empty line among its first 34.
-use Rattle.portal_frame.proofs.Base.{◌≡◌, ℕ, ◌+◌, ◌<◌, ◌≤◌, Bool, true, false, List, [], ◌∷◌, ◌++◌, length, refl, sym, ap, ◌∙◌, subst, arith, rules, append_assoc, zero-add, if◌then◌else◌, ◌==◌, IsTrue, RequestHead, IsRequestHead, print_request, print_blank, print_end, print_version, print_section, LineEnd, crlf, lf, Field, IsField, is_token_byte, is_uri_byte, RequestOverflows, Opens, fault, bad_head, Leading, Fresh, Inside, lines_from, header_lines, All, flat_map, AllByRecursion, leb-true, All-head, All-tail, print_field, AllPass, is_value_byte, step, stops, counts, is_overlong}
+use Rattle.portal_frame.proofs.Base.{◌≡◌, ℕ, ◌+◌, ◌<◌, ◌≤◌, Bool, true, false, List, [], ◌∷◌, ◌++◌, length, refl, sym}
+use Rattle.portal_frame.proofs.Base.{ap, ◌∙◌, subst, arith, rules, append_assoc, zero-add, if◌then◌else◌, ◌==◌, IsTrue}
+use Rattle.portal_frame.proofs.Base.{RequestHead, IsRequestHead, print_request, print_blank, print_end, print_version}
+use Rattle.portal_frame.proofs.Base.{print_section, LineEnd, crlf, lf, Field, IsField, is_token_byte, is_uri_byte}
+use Rattle.portal_frame.proofs.Base.{RequestOverflows, Opens, fault, bad_head, Leading, Fresh, Inside, lines_from}
+use Rattle.portal_frame.proofs.Base.{header_lines, All, flat_map, AllByRecursion, leb-true, All-head, All-tail}
+use Rattle.portal_frame.proofs.Base.{print_field, AllPass, is_value_byte, step, stops, counts, is_overlong}
 use Rattle.std.proofs.lemmas.Bool.{ne_eqb}
 use Rattle.portal_frame.proofs.Heads.{opens_never}
 use Rattle.portal_frame.specs.declared.counting.At.{At}

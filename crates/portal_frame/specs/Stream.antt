@@ -1,9 +1,12 @@
 -- What the lines of a request's head say, and the requests of a stream.
-use Rattle.std.specs.Prelude.{ℕ, Bool, true, false, ◌&&◌, nat_lt, nat_le, ◌==◌, if◌then◌else◌, List, [], ◌∷◌, length, map, ◌||◌, codes, take, drop, ◌++◌, ◌≡◌, ◌<◌, ◌≤◌, ◌⊎◌, Option, None, Result, Ok, Err, IsTrue, IsFalse}
+use Rattle.std.specs.Prelude.{ℕ, Bool, true, false, ◌&&◌, nat_lt, nat_le, ◌==◌, if◌then◌else◌, List, [], ◌∷◌, length}
+use Rattle.std.specs.Prelude.{map, ◌||◌, codes, take, drop, ◌++◌, ◌≡◌, ◌<◌, ◌≤◌, ◌⊎◌, Option, None, Result, Ok, Err}
+use Rattle.std.specs.Prelude.{IsTrue, IsFalse}
 use Rattle.std.specs.List.{filter, list_all, list_any}
 use Rattle.std.specs.Char.{to_ascii_lowercase, is_ascii_digit}
 use Rattle.std.specs.Str.{bytes_eq}
-use Rattle.httparse.specs.Grammar.{skip_ows, RequestHead, ReadsRequest, MayBecomeRequest, NeverHasRequest, print_request}
+use Rattle.httparse.specs.Grammar.{skip_ows, RequestHead, ReadsRequest, MayBecomeRequest, NeverHasRequest}
+use Rattle.httparse.specs.Grammar.{print_request}
 use Rattle.std.specs.Str.Parse.{digits_value}
 use Rattle.httparse.specs.Spans.{RequestExceeds, name_and_value}
 use Rattle.portal_frame.specs.declared.types.Request.{Request}

@@ -1,5 +1,6 @@
 -- What `all` tells of a slice, where the closure tells whether a fact holds.
-use Rattle.portal_list.proofs.Base.{◌≡◌, ℕ, ◌<◌, Bool, true, false, List, [], ◌∷◌, length, refl, arith, suc, AllByRecursion, Option, all_at, at_place, IsTrue, ◌↔◌, false≢true, iff_false}
+use Rattle.portal_list.proofs.Base.{◌≡◌, ℕ, ◌<◌, Bool, true, false, List, [], ◌∷◌, length, refl, arith, suc}
+use Rattle.portal_list.proofs.Base.{AllByRecursion, Option, all_at, at_place, IsTrue, ◌↔◌, false≢true, iff_false}
 use Rattle.std.specs.Bool.{MatchBool}
 use Rattle.std.specs.Fn.{Called}
 use Rattle.std.specs.Iterator.{YieldsThen}

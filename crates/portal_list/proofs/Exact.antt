@@ -1,5 +1,8 @@
 -- What stands for the lines of a sound world is its instance.
-use Rattle.portal_list.proofs.Base.{rules, AllByRecursion, ◌≡◌, false, List, map, sym, ◌∙◌, subst, ap, HasNoneBefore, Memory, Spa, IsLawful, StandsFor, Key, Rise, World, is_still_to_rank, instance, instance_of, Sound, First, first_plays, AllEntries, HasEntries, entries_in, instance_lecturer, instance_project, instance_student, instance_rows}
+use Rattle.portal_list.proofs.Base.{rules, AllByRecursion, ◌≡◌, false, List, map, sym, ◌∙◌, subst, ap, HasNoneBefore}
+use Rattle.portal_list.proofs.Base.{Memory, Spa, IsLawful, StandsFor, Key, Rise, World, is_still_to_rank, instance}
+use Rattle.portal_list.proofs.Base.{instance_of, Sound, First, first_plays, AllEntries, HasEntries, entries_in}
+use Rattle.portal_list.proofs.Base.{instance_lecturer, instance_project, instance_student, instance_rows}
 use Rattle.spa_model.specs.Spa as spa
 use Rattle.portal_list.proofs.Rising.{map_map, pairs_rise}
 use Rattle.portal_list.proofs.Standing.{spa_of_rows, only_instance}

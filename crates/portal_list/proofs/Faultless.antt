@@ -1,5 +1,16 @@
 -- The lines of a sound world in which nobody is still to rank have no fault.
-use Rattle.portal_list.proofs.Base.{◌≡◌, inl, inr, ℕ, ◌<◌, ◌≤◌, Bool, true, false, List, [], ◌∷◌, map, length, get_or, Any, refl, sym, ◌∙◌, subst, arith, Option, Some, None, is_none, unwrap_or, IfSome, not, ◌&&◌, list_any, AllByRecursion, length-map, Any-from_list_any, list_any-from_Any, BadAt, Rows, HasNoneBefore, IsEarlierKey, IsKeyOf, Repeats, Memory, any_map, any_unmap, Key, equals, has, is_empty, Rise, World, Student, student_key, projects_of, applicants_of, is_still_to_rank, lecturer_keys, project_keys, First, Sound, IsChoice, IsRanking, IsLecturer, IsProject, IsStudent, ProjectRow, is_same, is_own, first_plays, entries_in, instance_lecturer, instance_project, instance_student, instance_rows, and_parts, and_from, is_key, IsRefusal, IsBadCapacity, NamesNone, FindsOne, IsApplicant, MissesOne, TooMany, BadKey, KeyTwice, BadCapacity, NoSuchLecturer, NoSuchProject, RepeatInList, ListTooLong, NotApplicant, ApplicantMissing}
+use Rattle.portal_list.proofs.Base.{◌≡◌, inl, inr, ℕ, ◌<◌, ◌≤◌, Bool, true, false, List, [], ◌∷◌, map, length, get_or}
+use Rattle.portal_list.proofs.Base.{Any, refl, sym, ◌∙◌, subst, arith, Option, Some, None, is_none, unwrap_or, IfSome}
+use Rattle.portal_list.proofs.Base.{not, ◌&&◌, list_any, AllByRecursion, length-map, Any-from_list_any}
+use Rattle.portal_list.proofs.Base.{list_any-from_Any, BadAt, Rows, HasNoneBefore, IsEarlierKey, IsKeyOf, Repeats}
+use Rattle.portal_list.proofs.Base.{Memory, any_map, any_unmap, Key, equals, has, is_empty, Rise, World, Student}
+use Rattle.portal_list.proofs.Base.{student_key, projects_of, applicants_of, is_still_to_rank, lecturer_keys}
+use Rattle.portal_list.proofs.Base.{project_keys, First, Sound, IsChoice, IsRanking, IsLecturer, IsProject, IsStudent}
+use Rattle.portal_list.proofs.Base.{ProjectRow, is_same, is_own, first_plays, entries_in, instance_lecturer}
+use Rattle.portal_list.proofs.Base.{instance_project, instance_student, instance_rows, and_parts, and_from, is_key}
+use Rattle.portal_list.proofs.Base.{IsRefusal, IsBadCapacity, NamesNone, FindsOne, IsApplicant, MissesOne, TooMany}
+use Rattle.portal_list.proofs.Base.{BadKey, KeyTwice, BadCapacity, NoSuchLecturer, NoSuchProject, RepeatInList}
+use Rattle.portal_list.proofs.Base.{ListTooLong, NotApplicant, ApplicantMissing}
 use Rattle.spa_rows.specs.declared.faults.InstanceFault.{InstanceFault}
 use Rattle.portal_rules.proofs.AllLaws as laws
 use Rattle.portal_list.proofs.Rising.{map_map}

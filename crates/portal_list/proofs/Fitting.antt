@@ -1,6 +1,12 @@
 -- Rows and entries that fit each other.
 use Rattle.std.proofs.Common.{append_assoc}
-use Rattle.portal_list.proofs.Base.{◌≡◌, Bool, true, false, cond, List, [], ◌∷◌, ◌++◌, map, refl, sym, ◌∙◌, ap, subst, Option, Some, None, option_map, ◌&&◌, filter_map, cons_option, AllByRecursion, LecturerRow, Key, equals, is_before, is_empty, Rise, Round, First, Second, Lecturer, Student, pairs_with, is_same, is_own, not_before_itself, HasNothingEarlier, lecturers_fitting, students_fitting, rules, is_second, choices_in, earlier_choices_in, rankings_with, next_for, rest_for, earlier_for, earlier_rest, with_lists}
+use Rattle.portal_list.proofs.Base.{◌≡◌, Bool, true, false, cond, List, [], ◌∷◌, ◌++◌, map, refl, sym, ◌∙◌, ap, subst}
+use Rattle.portal_list.proofs.Base.{Option, Some, None, option_map, ◌&&◌, filter_map, cons_option, AllByRecursion}
+use Rattle.portal_list.proofs.Base.{LecturerRow, Key, equals, is_before, is_empty, Rise, Round, First, Second, Lecturer}
+use Rattle.portal_list.proofs.Base.{Student, pairs_with, is_same, is_own, not_before_itself, HasNothingEarlier}
+use Rattle.portal_list.proofs.Base.{lecturers_fitting, students_fitting, rules, is_second, choices_in}
+use Rattle.portal_list.proofs.Base.{earlier_choices_in, rankings_with, next_for, rest_for, earlier_for, earlier_rest}
+use Rattle.portal_list.proofs.Base.{with_lists}
 use Rattle.portal_rules.specs.declared.rows.StudentRow.{StudentRow}
 
 pub next_map : {V W : Type 0} (f : V → W) (k : Key) (ps : List (Key × V)) → option_map f (next_for k ps) ≡ next_for k (map {B = Key × W} (λ (p : Key × V). (p.0, f p.1)) ps)

@@ -1,5 +1,10 @@
 -- The entries of a world after a change of it.
-use Rattle.portal_list.proofs.Base.{arith, ◌≡◌, true, List, map, refl, sym, ap, ◌∙◌, World, Lecturer, Student, catalogue, with_choice, with_ranking, changed, Choices, Ranks, Key, AllEntries, HasEntries, entries_in, filled, catalogue_in, Bool, cond, Some, None, is_none, not, ◌&&◌, is_empty, student_key, applicants_of, with_missing, rules, Change, To, Fill, with_fill, catalogue_chosen, catalogue_ranked, catalogue_filled, is_followed, unless_empty}
+use Rattle.portal_list.proofs.Base.{arith, ◌≡◌, true, List, map, refl, sym, ap, ◌∙◌, World, Lecturer, Student}
+use Rattle.portal_list.proofs.Base.{catalogue, with_choice, with_ranking, changed, Choices, Ranks, Key, AllEntries}
+use Rattle.portal_list.proofs.Base.{HasEntries, entries_in, filled, catalogue_in, Bool, cond, Some, None, is_none, not}
+use Rattle.portal_list.proofs.Base.{◌&&◌, is_empty, student_key, applicants_of, with_missing, rules, Change, To, Fill}
+use Rattle.portal_list.proofs.Base.{with_fill, catalogue_chosen, catalogue_ranked, catalogue_filled, is_followed}
+use Rattle.portal_list.proofs.Base.{unless_empty}
 use Rattle.portal_rules.proofs.Kept.{empty_map}
 use Rattle.portal_list.proofs.Parted.{applicants_are}
 

@@ -1,5 +1,7 @@
 -- The catalogue of lecturers is that of their rows.
-use Rattle.portal_list.proofs.Base.{◌≡◌, Option, Some, None, option_map, List, map, refl, ap, ◌∙◌, find, filter_map, LecturerRow, ProjectRow, Key, equals, Lecturer, name_of, offered, name_in, listing_with, listings, find_map}
+use Rattle.portal_list.proofs.Base.{◌≡◌, Option, Some, None, option_map, List, map, refl, ap, ◌∙◌, find, filter_map}
+use Rattle.portal_list.proofs.Base.{LecturerRow, ProjectRow, Key, equals, Lecturer, name_of, offered, name_in}
+use Rattle.portal_list.proofs.Base.{listing_with, listings, find_map}
 
 abbrev pub row_of : Lecturer → LecturerRow
 row_of l = l.row

@@ -1,5 +1,9 @@
 -- What stands in a list, in a list made of it, and in a part of it.
-use Rattle.portal_list.proofs.Base.{◌≡◌, ℕ, zero, suc, ◌<◌, true, List, [], ◌∷◌, map, length, get_or, Any, Less, sym, ◌∙◌, subst, arith, AllByRecursion, nat_cmp, slice_cmp, get_or_default, get_or-take, length-take, length-map, Any-from_list_any, list_any-from_Any, BadAt, IsEarlierKey, IsKeyOf, Repeats, at_place, map_at, any_map, any_unmap, Key, equals, has, Rise, AreDistinct, is_same, is_own, all_at, rules, list_any_at, never_itself}
+use Rattle.portal_list.proofs.Base.{◌≡◌, ℕ, zero, suc, ◌<◌, true, List, [], ◌∷◌, map, length, get_or, Any, Less, sym}
+use Rattle.portal_list.proofs.Base.{◌∙◌, subst, arith, AllByRecursion, nat_cmp, slice_cmp, get_or_default, get_or-take}
+use Rattle.portal_list.proofs.Base.{length-take, length-map, Any-from_list_any, list_any-from_Any, BadAt, IsEarlierKey}
+use Rattle.portal_list.proofs.Base.{IsKeyOf, Repeats, at_place, map_at, any_map, any_unmap, Key, equals, has, Rise}
+use Rattle.portal_list.proofs.Base.{AreDistinct, is_same, is_own, all_at, rules, list_any_at, never_itself}
 use Rattle.portal_rules.proofs.Members.{there}
 use Rattle.portal_list.proofs.Rising.{pairs_rise}
 

@@ -1,5 +1,11 @@
 -- Places noted at projects, and marked.
-use Rattle.portal_list.proofs.Base.{◌≡◌, ℕ, zero, suc, ◌+◌, ◌<◌, ◌≤◌, Bool, true, false, cond, List, [], ◌∷◌, ◌++◌, map, take, length, get_or, Bor, Vec, Global, Option, Some, None, refl, sym, ◌∙◌, ap, arith, ◌==◌, ◌||◌, ◌&&◌, slice_set, unwrap_or, list_any, or-true, or-false, length-take, map_push, text_eq, Key, equals, has, Student, is_same, passes_at, is_among, is_noted_in, is_noted, IsIndexOf, rules, replicate, eq-eqb, ne_eqb, or_assoc, and-true, and-false, get_or-set_same, get_or-set_other, list_any_more, list_any-append, is_sym}
+use Rattle.portal_list.proofs.Base.{◌≡◌, ℕ, zero, suc, ◌+◌, ◌<◌, ◌≤◌, Bool, true, false, cond, List, [], ◌∷◌, ◌++◌, map}
+use Rattle.portal_list.proofs.Base.{take, length, get_or, Bor, Vec, Global, Option, Some, None, refl, sym, ◌∙◌, ap}
+use Rattle.portal_list.proofs.Base.{arith, ◌==◌, ◌||◌, ◌&&◌, slice_set, unwrap_or, list_any, or-true, or-false}
+use Rattle.portal_list.proofs.Base.{length-take, map_push, text_eq, Key, equals, has, Student, is_same, passes_at}
+use Rattle.portal_list.proofs.Base.{is_among, is_noted_in, is_noted, IsIndexOf, rules, replicate, eq-eqb, ne_eqb}
+use Rattle.portal_list.proofs.Base.{or_assoc, and-true, and-false, get_or-set_same, get_or-set_other, list_any_more}
+use Rattle.portal_list.proofs.Base.{list_any-append, is_sym}
 use Rattle.std.specs.HashMap as hash
 use Rattle.std.specs.HashMap.{HashMap}
 use Rattle.std.proofs.Math.Bool.{and-or_distrib_right}

@@ -1,5 +1,13 @@
 -- A world is sound exactly where its parts fit, and its rows say which world it is.
-use Rattle.portal_list.proofs.Base.{◌≡◌, true, false, List, [], ◌∷◌, ◌++◌, map, refl, sym, ◌∙◌, ap, subst, arith, Option, Some, None, is_none, option_map, not, ◌&&◌, filter, AllByRecursion, length-map, Key, has, is_empty, Rise, AreDistinct, World, Lecturer, Student, project_key, student_key, projects_of, applicants_of, is_still_to_rank, is_from_ranking, is_second, is_published, Round, Sound, IsLecturer, IsStudent, lecturer_keys, student_keys, all_unmap, IsFitted, lecturers_fitting, students_fitting, applicant_keys, HasRanking, RollsOf, ListsOf, rules, first, codes_of, RowsOfWorld, world_rows, codes_in, lecturer_row_keys, student_row_keys, RollsFit, HasNothingEarlier, IsOutIfPlaced}
+use Rattle.portal_list.proofs.Base.{◌≡◌, true, false, List, [], ◌∷◌, ◌++◌, map, refl, sym, ◌∙◌, ap, subst, arith}
+use Rattle.portal_list.proofs.Base.{Option, Some, None, is_none, option_map, not, ◌&&◌, filter, AllByRecursion}
+use Rattle.portal_list.proofs.Base.{length-map, Key, has, is_empty, Rise, AreDistinct, World, Lecturer, Student}
+use Rattle.portal_list.proofs.Base.{project_key, student_key, projects_of, applicants_of, is_still_to_rank}
+use Rattle.portal_list.proofs.Base.{is_from_ranking, is_second, is_published, Round, Sound, IsLecturer, IsStudent}
+use Rattle.portal_list.proofs.Base.{lecturer_keys, student_keys, all_unmap, IsFitted, lecturers_fitting}
+use Rattle.portal_list.proofs.Base.{students_fitting, applicant_keys, HasRanking, RollsOf, ListsOf, rules, first}
+use Rattle.portal_list.proofs.Base.{codes_of, RowsOfWorld, world_rows, codes_in, lecturer_row_keys, student_row_keys}
+use Rattle.portal_list.proofs.Base.{RollsFit, HasNothingEarlier, IsOutIfPlaced}
 use Rattle.portal_rules.specs.World.{is_setup}
 use Rattle.portal_rules.specs.declared.phase.Phase.{Phase}
 use Rattle.portal_list.specs.inner.Parts.{StudentFits, LecturerFits}

@@ -1,5 +1,7 @@
 -- Lists without repeats that hold the same keys are as long as each other.
-use Rattle.portal_list.proofs.Base.{◌≡◌, ◌+◌, ◌≤◌, Bool, true, false, cond, List, [], ◌∷◌, length, refl, arith, AllByRecursion, or-true, Key, equals, has, Rise, AreDistinct, IsRanking, is_same, is_own, all_weaker, all_both, none_of, rise_distinct}
+use Rattle.portal_list.proofs.Base.{◌≡◌, ◌+◌, ◌≤◌, Bool, true, false, cond, List, [], ◌∷◌, length, refl, arith}
+use Rattle.portal_list.proofs.Base.{AllByRecursion, or-true, Key, equals, has, Rise, AreDistinct, IsRanking, is_same}
+use Rattle.portal_list.proofs.Base.{is_own, all_weaker, all_both, none_of, rise_distinct}
 
 -- the keys without the first that is k
 without : Key → List Key → List Key

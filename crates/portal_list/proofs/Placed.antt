@@ -1,5 +1,6 @@
 -- Places given to rows one by one.
-use Rattle.portal_list.proofs.Base.{◌≡◌, ℕ, suc, zero, ◌+◌, ◌<◌, List, [], ◌∷◌, ◌++◌, length, get_or, take, drop, refl, sym, ◌∙◌, ap, arith, map, add-one, slice_set, drop-set-lt, map_over_more}
+use Rattle.portal_list.proofs.Base.{◌≡◌, ℕ, suc, zero, ◌+◌, ◌<◌, List, [], ◌∷◌, ◌++◌, length, get_or, take, drop, refl}
+use Rattle.portal_list.proofs.Base.{sym, ◌∙◌, ap, arith, map, add-one, slice_set, drop-set-lt, map_over_more}
 use Rattle.std.proofs.Math.Seq.{drop-cons}
 
 -- the first of what is left, and the rest

@@ -1,5 +1,10 @@
 -- Who takes part in the second round, from the rows and the pairs of the first round's result.
-use Rattle.portal_list.proofs.Base.{◌≡◌, Bool, true, cond, List, [], ◌∷◌, map, refl, sym, ◌∙◌, ap, filter, nat_lt, arith, ◌&&◌, Option, Some, None, option_map, filter_map, Round, First, Second, ProjectRow, Key, has, Rise, Lecturer, Student, lecturer_key, project_key, pairs_with, lowered_lecturer, lecturers_left, projects_left, alone_lecturer, map_same, rise_kept, lecturer_played, project_played, takes_part, rules, lowered_project, students_in}
+use Rattle.portal_list.proofs.Base.{◌≡◌, Bool, true, cond, List, [], ◌∷◌, map, refl, sym, ◌∙◌, ap, filter, nat_lt}
+use Rattle.portal_list.proofs.Base.{arith, ◌&&◌, Option, Some, None, option_map, filter_map, Round, First, Second}
+use Rattle.portal_list.proofs.Base.{ProjectRow, Key, has, Rise, Lecturer, Student, lecturer_key, project_key}
+use Rattle.portal_list.proofs.Base.{pairs_with, lowered_lecturer, lecturers_left, projects_left, alone_lecturer}
+use Rattle.portal_list.proofs.Base.{map_same, rise_kept, lecturer_played, project_played, takes_part, rules}
+use Rattle.portal_list.proofs.Base.{lowered_project, students_in}
 use Rattle.portal_rules.proofs.AllLaws.{any_map}
 use Rattle.portal_rules.proofs.InPlay.{filter_kept}
 use Rattle.portal_rules.proofs.Rooms.{project_left_is, lecturer_left_is, each_left}

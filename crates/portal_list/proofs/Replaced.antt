@@ -1,5 +1,8 @@
 -- One row is replaced where the keys rise.
-use Rattle.portal_list.proofs.Base.{◌≡◌, ℕ, suc, zero, ◌<◌, true, false, cond, List, [], ◌∷◌, length, get_or, refl, sym, ◌∙◌, ap, subst, arith, map, slice_set, ◌||◌, Some, list_any, AllByRecursion, Key, equals, is_before, Rise, Student, Lecturer, with_choice, with_ranking, is_same, not_before_itself, all_unmap, all_at, or_parts, false_from_ne_true}
+use Rattle.portal_list.proofs.Base.{◌≡◌, ℕ, suc, zero, ◌<◌, true, false, cond, List, [], ◌∷◌, length, get_or, refl, sym}
+use Rattle.portal_list.proofs.Base.{◌∙◌, ap, subst, arith, map, slice_set, ◌||◌, Some, list_any, AllByRecursion, Key}
+use Rattle.portal_list.proofs.Base.{equals, is_before, Rise, Student, Lecturer, with_choice, with_ranking, is_same}
+use Rattle.portal_list.proofs.Base.{not_before_itself, all_unmap, all_at, or_parts, false_from_ne_true}
 -- a row without the key stays
 pub use Rattle.portal_rules.proofs.Unseen.{choice_other as choice_elsewhere, ranking_other as ranking_elsewhere}
 

@@ -1,5 +1,6 @@
 -- Keys that rise: as a recursion and as pairs say it.
-use Rattle.portal_list.proofs.Base.{◌≡◌, zero, suc, true, List, [], ◌∷◌, get_or, arith, nat_cmp, slice_cmp, Key, is_before, Rise, all_at}
+use Rattle.portal_list.proofs.Base.{◌≡◌, zero, suc, true, List, [], ◌∷◌, get_or, arith, nat_cmp, slice_cmp, Key}
+use Rattle.portal_list.proofs.Base.{is_before, Rise, all_at}
 pub use Rattle.std.proofs.lemmas.Simd.{map-map as map_map}
 use Rattle.spa_model.specs.Spa as spa
 use Rattle.portal_rules.proofs.Puts.{less_of}

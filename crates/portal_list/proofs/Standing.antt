@@ -1,5 +1,9 @@
 -- The only lawful instance that stands for rows whose keys rise.
-use Rattle.portal_list.proofs.Base.{◌≡◌, ℕ, ◌<◌, List, [], map, length, get_or, sym, ◌∙◌, ap, subst, arith, length-map, Rows, at_place, map_at, Spa, IsLawful, StandsFor, number_in, Contains, ext_get_or, Text, Project, choices_of, lecturer_of, capacity_of, ranking_of, limit_of, keys_at, own_number, numbers_back, choices_below, ranking_below, keys_one, student_there, project_there, lecturer_there, student_says, project_says, lecturer_says}
+use Rattle.portal_list.proofs.Base.{◌≡◌, ℕ, ◌<◌, List, [], map, length, get_or, sym, ◌∙◌, ap, subst, arith, length-map}
+use Rattle.portal_list.proofs.Base.{Rows, at_place, map_at, Spa, IsLawful, StandsFor, number_in, Contains, ext_get_or}
+use Rattle.portal_list.proofs.Base.{Text, Project, choices_of, lecturer_of, capacity_of, ranking_of, limit_of, keys_at}
+use Rattle.portal_list.proofs.Base.{own_number, numbers_back, choices_below, ranking_below, keys_one, student_there}
+use Rattle.portal_list.proofs.Base.{project_there, lecturer_there, student_says, project_says, lecturer_says}
 use Rattle.spa_rows.specs.Lines.{Lecturer, Student}
 use Rattle.spa_model.specs.Spa.{Rise}
 use Rattle.spa_model.specs.inner.Numbers.{student_keys, project_keys, lecturer_keys}

@@ -1,5 +1,8 @@
 -- A lecturer is still to rank.
-use Rattle.portal_list.proofs.Base.{◌≡◌, Bool, true, false, cond, List, [], ◌∷◌, refl, sym, ◌∙◌, ap, map, filter, is_none, not, ◌&&◌, ◌||◌, list_any, Key, equals, has, is_empty, World, Student, Lecturer, is_still_to_rank, ProjectRow, is_waiting, and_comm, any_or, any_nowhere, is_wanted, arith}
+use Rattle.portal_list.proofs.Base.{◌≡◌, Bool, true, false, cond, List, [], ◌∷◌, refl, sym, ◌∙◌, ap, map, filter}
+use Rattle.portal_list.proofs.Base.{is_none, not, ◌&&◌, ◌||◌, list_any, Key, equals, has, is_empty, World, Student}
+use Rattle.portal_list.proofs.Base.{Lecturer, is_still_to_rank, ProjectRow, is_waiting, and_comm, any_or, any_nowhere}
+use Rattle.portal_list.proofs.Base.{is_wanted, arith}
 
 -- some element passes
 any_left : {X : Type 0} (p : X → Bool) (xs : List X) → not (is_empty (filter p xs)) ≡ list_any p xs

@@ -1,5 +1,6 @@
 -- A key is short.
-use Rattle.portal_reports.proofs.Base.{◌≡◌, ℕ, true, List, [], ◌∷◌, refl, arith, IsTrue, nat_lt, list_all, and_parts, common_steps, is_short}
+use Rattle.portal_reports.proofs.Base.{◌≡◌, ℕ, true, List, [], ◌∷◌, refl, arith, IsTrue, nat_lt, list_all, and_parts}
+use Rattle.portal_reports.proofs.Base.{common_steps, is_short}
 use Rattle.spa_rows.specs.Lines.{is_key, is_key_byte}
 
 low : (b : ℕ) → is_key_byte b ≡ true → nat_lt b 128 ≡ true

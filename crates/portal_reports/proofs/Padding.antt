@@ -1,5 +1,9 @@
 -- What std writes for a place of a width is the padding of the definition.
-use Rattle.portal_reports.proofs.Base.{◌≡◌, ℕ, Bool, true, false, List, [], ◌∷◌, ◌++◌, length, refl, ap, ◌∙◌, arith, IsTrue, decimal, ◌&&◌, nat_lt, nat_le, list_all, styled_text, styled_decimal, and_parts, common_steps, padded_left, padded_right, is_short, zero, suc, ◌+◌, ◌-◌, ◌≤◌, replicate, append-nil, if◌then◌else◌, ◌||◌, ◌==◌, repeat, format_spec, is_char_start, leb-true}
+use Rattle.portal_reports.proofs.Base.{◌≡◌, ℕ, Bool, true, false, List, [], ◌∷◌, ◌++◌, length, refl, ap, ◌∙◌, arith}
+use Rattle.portal_reports.proofs.Base.{IsTrue, decimal, ◌&&◌, nat_lt, nat_le, list_all, styled_text, styled_decimal}
+use Rattle.portal_reports.proofs.Base.{and_parts, common_steps, padded_left, padded_right, is_short, zero, suc, ◌+◌}
+use Rattle.portal_reports.proofs.Base.{◌-◌, ◌≤◌, replicate, append-nil, if◌then◌else◌, ◌||◌, ◌==◌, repeat, format_spec}
+use Rattle.portal_reports.proofs.Base.{is_char_start, leb-true}
 use Rattle.std.specs.Char.{encode_utf8}
 use Rattle.std.specs.Fmt.{padded, padded_integral, take_chars, char_count}
 

@@ -1,5 +1,7 @@
 -- A row of four columns whose fourth is bad.
-use Rattle.portal_rolls.proofs.Base.{◌≡◌, arith, ℕ, Bool, not, [], ◌∷◌, Result, Ok, Err, position_from, Text, digits_value, is_capacity, unless_bad, Fails, unless, RollFault, by_columns, formed, limited}
+use Rattle.portal_rolls.proofs.Base.{◌≡◌, arith, ℕ, Bool, not, [], ◌∷◌, Result, Ok, Err, position_from, Text}
+use Rattle.portal_rolls.proofs.Base.{digits_value, is_capacity, unless_bad, Fails, unless, RollFault, by_columns}
+use Rattle.portal_rolls.proofs.Base.{formed, limited}
 use Rattle.portal_rolls.specs.declared.fault.RollFault.TheVariants as fault
 
 -- what is an error fails so

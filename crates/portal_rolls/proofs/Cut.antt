@@ -1,5 +1,10 @@
 -- Cutting a list field byte by byte, and the fields of a record.
-use Rattle.portal_rolls.proofs.Base.{Bor, add-one, ◌≡◌, ◌≢◌, ◌∙◌, ◌+◌, ◌*◌, ◌^◌, ◌<◌, ◌≤◌, ℕ, zero, suc, Bool, true, false, cond, List, [], ◌∷◌, ◌++◌, length, drop, get_or, Some, None, Result, Ok, Err, refl, sym, ap, arith, append_assoc, inl, inr, is_utf8, list_all, nat_tests, eqb-true, le-leb, append-nil, drop_all, field_at, Text, digits_value, Record, rules, eqb, MatchResult, IsUtf8, is_ok, cases_Bool, cut_at_blanks, with_front, list_of, capacity_in}
+use Rattle.portal_rolls.proofs.Base.{Bor, add-one, ◌≡◌, ◌≢◌, ◌∙◌, ◌+◌, ◌*◌, ◌^◌, ◌<◌, ◌≤◌, ℕ, zero, suc, Bool, true}
+use Rattle.portal_rolls.proofs.Base.{false, cond, List, [], ◌∷◌, ◌++◌, length, drop, get_or, Some, None, Result, Ok}
+use Rattle.portal_rolls.proofs.Base.{Err, refl, sym, ap, arith, append_assoc, inl, inr, is_utf8, list_all, nat_tests}
+use Rattle.portal_rolls.proofs.Base.{eqb-true, le-leb, append-nil, drop_all, field_at, Text, digits_value, Record}
+use Rattle.portal_rolls.proofs.Base.{rules, eqb, MatchResult, IsUtf8, is_ok, cases_Bool, cut_at_blanks, with_front}
+use Rattle.portal_rolls.proofs.Base.{list_of, capacity_in}
 use Rattle.std.proofs.Math.Seq.{drop-cons}
 use Rattle.std.specs.Char.{is_ascii_digit}
 use Rattle.std.proofs.Math.Nat.{pow-suc}

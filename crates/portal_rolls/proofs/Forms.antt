@@ -1,5 +1,10 @@
 -- What is read of a roll has its form.
-use Rattle.portal_rolls.proofs.Base.{◌≡◌, ◌==◌, ◌+◌, ◌≤◌, ℕ, Bool, true, false, not, List, [], ◌∷◌, length, map, Result, Ok, Err, IfOk, refl, arith, cons_option, enumerate_from, filter_map, list_all, position_from, result_ok, is_utf8, nat_tests, is_code, is_name, ProjectRow, StudentRow, is_key, Text, digits_value, is_capacity, unless_bad, Format, first_or, line_of, lines_of, reading, unless, Record, RollFault, rules, nat_le, AllByRecursion, lecturer, project, student, Gives}
+use Rattle.portal_rolls.proofs.Base.{◌≡◌, ◌==◌, ◌+◌, ◌≤◌, ℕ, Bool, true, false, not, List, [], ◌∷◌, length, map, Result}
+use Rattle.portal_rolls.proofs.Base.{Ok, Err, IfOk, refl, arith, cons_option, enumerate_from, filter_map, list_all}
+use Rattle.portal_rolls.proofs.Base.{position_from, result_ok, is_utf8, nat_tests, is_code, is_name, ProjectRow}
+use Rattle.portal_rolls.proofs.Base.{StudentRow, is_key, Text, digits_value, is_capacity, unless_bad, Format, first_or}
+use Rattle.portal_rolls.proofs.Base.{line_of, lines_of, reading, unless, Record, RollFault, rules, nat_le}
+use Rattle.portal_rolls.proofs.Base.{AllByRecursion, lecturer, project, student, Gives}
 use Rattle.portal_rules.specs.Good.{IsLecturer, IsProject, IsStudent}
 use Rattle.portal_rules.specs.declared.rows.LecturerRow.{LecturerRow}
 use Rattle.portal_rolls.specs.declared.fault.RollFault.TheVariants as fault

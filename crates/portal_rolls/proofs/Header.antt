@@ -2,7 +2,9 @@
 use Rattle.std.proofs.Math.Bool.{and-false}
 use Rattle.std.proofs.Math.Seq.{drop-cons}
 use Rattle.std.proofs.lemmas.List.{drop-map}
-use Rattle.portal_rolls.proofs.Base.{length-map, sym, Bor, ◌≡◌, ◌+◌, ◌<◌, ◌≤◌, ℕ, zero, suc, true, false, not, ◌&&◌, List, [], ◌∷◌, length, map, drop, get_or, Some, refl, ap, add-one, arith, drop_all, list_all, is_utf8, field_at, Record, same_record, bytes_eq}
+use Rattle.portal_rolls.proofs.Base.{length-map, sym, Bor, ◌≡◌, ◌+◌, ◌<◌, ◌≤◌, ℕ, zero, suc, true, false, not, ◌&&◌}
+use Rattle.portal_rolls.proofs.Base.{List, [], ◌∷◌, length, map, drop, get_or, Some, refl, ap, add-one, arith, drop_all}
+use Rattle.portal_rolls.proofs.Base.{list_all, is_utf8, field_at, Record, same_record, bytes_eq}
 
 -- another count of fields
 pub other_count : (a b : Record) → (length a ≡ length b → ⊥) → false ≡ same_record a b

@@ -1,5 +1,8 @@
 -- The text of a record by the default writer is the text of the definition.
-use Rattle.portal_rolls.proofs.Base.{arith, ◌≤◌, length, ◌≡◌, ℕ, Bool, true, false, List, [], ◌∷◌, ◌++◌, refl, sym, ap, ◌∙◌, subst, Some, None, ◌≢◌, ◌==◌, Option, flat_map, eqb-true, default_writer, row_text, csv_record, ◌||◌, if◌then◌else◌, codes, list_any, needs_byte, field_text, needs_quotes, doubled, csv_field}
+use Rattle.portal_rolls.proofs.Base.{arith, ◌≤◌, length, ◌≡◌, ℕ, Bool, true, false, List, [], ◌∷◌, ◌++◌, refl, sym, ap}
+use Rattle.portal_rolls.proofs.Base.{◌∙◌, subst, Some, None, ◌≢◌, ◌==◌, Option, flat_map, eqb-true, default_writer}
+use Rattle.portal_rolls.proofs.Base.{row_text, csv_record, ◌||◌, if◌then◌else◌, codes, list_any, needs_byte, field_text}
+use Rattle.portal_rolls.proofs.Base.{needs_quotes, doubled, csv_field}
 use Rattle.std.specs.Io.KnownBytes.{Appends}
 use Rattle.csv.specs.Writing.{escaped, fields_text, is_blank}
 use Rattle.csv.specs.declared.writer.WriterBuilder.{WriterBuilder}

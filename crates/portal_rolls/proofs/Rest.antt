@@ -1,7 +1,10 @@
 -- The records that are left, and what one read does to them.
-use Rattle.portal_rolls.proofs.Base.{Bor, ◌≡◌, ◌∙◌, ◌+◌, ◌<◌, ℕ, zero, suc, Bool, true, false, cond, List, [], ◌∷◌, ◌++◌, length, Option, Some, None, refl, sym, ap, inl, inr, arith, add-one, Reader, Record, Has, TakesRecord, rules, ◌⊎◌, ap₂, rest_of}
+use Rattle.portal_rolls.proofs.Base.{Bor, ◌≡◌, ◌∙◌, ◌+◌, ◌<◌, ℕ, zero, suc, Bool, true, false, cond, List, [], ◌∷◌}
+use Rattle.portal_rolls.proofs.Base.{◌++◌, length, Option, Some, None, refl, sym, ap, inl, inr, arith, add-one, Reader}
+use Rattle.portal_rolls.proofs.Base.{Record, Has, TakesRecord, rules, ◌⊎◌, ap₂, rest_of}
 use Rattle.csv.specs.Machine.{Read, ends_at_end, fields_after, field_after, is_end, next_record, step}
-use Rattle.csv.specs.Reading.{NextIs, ReadRecord, ReadsNext, default_config, reader_state, records_from, records_next, source_of}
+use Rattle.csv.specs.Reading.{NextIs, ReadRecord, ReadsNext, default_config, reader_state, records_from, records_next}
+use Rattle.csv.specs.Reading.{source_of}
 use Rattle.csv.specs.declared.parser.State.{State}
 use Rattle.csv.specs.declared.parser.State.TheVariants as st
 use Rattle.csv.specs.declared.parser.Config.{Config}

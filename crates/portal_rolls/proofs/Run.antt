@@ -1,5 +1,9 @@
 -- How far the lines of a file were read.
-use Rattle.portal_rolls.proofs.Base.{Bor, ◌≡◌, ◌∙◌, ◌+◌, ◌<◌, ◌≤◌, ℕ, true, false, List, [], ◌∷◌, ◌++◌, map, Result, Ok, Err, refl, sym, ap, subst, append_assoc, cons_option, enumerate_from, filter_map, result_err, result_ok, le-leb, append-nil, Reader, Fails, Format, first_or, line_of, lines_of, reading, same_record, Record, Has, TakesRecord, RollFault, lt-leb}
+use Rattle.portal_rolls.proofs.Base.{Bor, ◌≡◌, ◌∙◌, ◌+◌, ◌<◌, ◌≤◌, ℕ, true, false, List, [], ◌∷◌, ◌++◌, map, Result, Ok}
+use Rattle.portal_rolls.proofs.Base.{Err, refl, sym, ap, subst, append_assoc, cons_option, enumerate_from, filter_map}
+use Rattle.portal_rolls.proofs.Base.{result_err, result_ok, le-leb, append-nil, Reader, Fails, Format, first_or}
+use Rattle.portal_rolls.proofs.Base.{line_of, lines_of, reading, same_record, Record, Has, TakesRecord, RollFault}
+use Rattle.portal_rolls.proofs.Base.{lt-leb}
 use Rattle.portal_rolls.specs.declared.fault.RollFault.TheVariants as fault
 
 module _ {X : Type 0} (format : Format X) where

@@ -1,5 +1,6 @@
 -- The records of a text, as `csv` reads them, and what the header and the records of a file say.
-use Rattle.std.specs.Prelude.{ℕ, List, ◌==◌, ◌&&◌, Bool, true, false, [], ◌∷◌, length, map, Result, Ok, Err, nat_le, if◌then◌else◌}
+use Rattle.std.specs.Prelude.{ℕ, List, ◌==◌, ◌&&◌, Bool, true, false, [], ◌∷◌, length, map, Result, Ok, Err, nat_le}
+use Rattle.std.specs.Prelude.{if◌then◌else◌}
 use Rattle.csv.specs.Reading.{default_config, records, strip_bom}
 use Rattle.std.specs.List.{enumerate_from, filter_map, list_all}
 use Rattle.std.specs.Result.{result_err, result_ok}

@@ -1,5 +1,12 @@
 -- What a list or ranking that is put leaves of a caller, and what one sees after one's own call.
-use Rattle.portal_rules.proofs.Base.{◌≡◌, true, false, cond, List, refl, ◌∙◌, ap, map, Some, option_map, find, filter_map, Key, equals, World, in_play, Choices, Ranks, Students, Placements, changed, in_first, with_students, with_choice, with_ranking, First, Second, StudentRow, Office, Lecturer, Student, Caller, NoCaller, OfficeCaller, LecturerCaller, StudentCaller, student_with, caller, sight_of, view, listing_with, listings, catalogue, student_sees, lecturer_sees, office_sees, AbstractCall, Decision, decision, StepLeaves, Calls, is_move_or_add, arith, Fill, [], Sight, with_own}
+use Rattle.portal_rules.proofs.Base.{◌≡◌, true, false, cond, List, refl, ◌∙◌, ap, map, Some, option_map, find}
+use Rattle.portal_rules.proofs.Base.{filter_map, Key, equals, World, in_play, Choices, Ranks, Students, Placements}
+use Rattle.portal_rules.proofs.Base.{changed, in_first, with_students, with_choice, with_ranking, First, Second}
+use Rattle.portal_rules.proofs.Base.{StudentRow, Office, Lecturer, Student, Caller, NoCaller, OfficeCaller}
+use Rattle.portal_rules.proofs.Base.{LecturerCaller, StudentCaller, student_with, caller, sight_of, view, listing_with}
+use Rattle.portal_rules.proofs.Base.{listings, catalogue, student_sees, lecturer_sees, office_sees, AbstractCall}
+use Rattle.portal_rules.proofs.Base.{Decision, decision, StepLeaves, Calls, is_move_or_add, arith, Fill, [], Sight}
+use Rattle.portal_rules.proofs.Base.{with_own}
 use Rattle.portal_rules.specs.World as rows
 use Rattle.portal_rules.proofs.Keys.{is_own, find_map}
 use Rattle.portal_rules.proofs.Reranked.{re_called, caller_kept, names_kept}

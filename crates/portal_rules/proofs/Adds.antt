@@ -1,5 +1,8 @@
 -- What a roll takes is new; and what each one new row keeps, the whole roll keeps.
-use Rattle.portal_rules.proofs.Base.{◌≡◌, [], ℕ, suc, ◌+◌, ◌≤◌, Bool, false, List, ◌∷◌, ◌++◌, length, refl, sym, ◌∙◌, ap, subst, arith, map, ◌||◌, None, nat_le, list_any, find, AllByRecursion, nat_tests, length-map, Key, equals, has, put, put_all, RollRules, Taken, Faulty, Took, Verdict, Present, New, Rejected, verdict, take_rows}
+use Rattle.portal_rules.proofs.Base.{◌≡◌, [], ℕ, suc, ◌+◌, ◌≤◌, Bool, false, List, ◌∷◌, ◌++◌, length, refl, sym, ◌∙◌}
+use Rattle.portal_rules.proofs.Base.{ap, subst, arith, map, ◌||◌, None, nat_le, list_any, find, AllByRecursion}
+use Rattle.portal_rules.proofs.Base.{nat_tests, length-map, Key, equals, has, put, put_all, RollRules, Taken, Faulty}
+use Rattle.portal_rules.proofs.Base.{Took, Verdict, Present, New, Rejected, verdict, take_rows}
 use Rattle.portal_rules.proofs.AllLaws.{any_map, any_alike, any_append, is_sym}
 use Rattle.portal_rules.proofs.Puts.{length_put, any_put}
 use Rattle.portal_rules.proofs.RowFaults.{next_row, took_present, took_new, is_fresh}

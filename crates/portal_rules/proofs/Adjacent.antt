@@ -1,5 +1,8 @@
 -- Rows that rise by their keys, each beside the next.
-use Rattle.portal_rules.proofs.Base.{◌≡◌, zero, suc, ◌+◌, ◌<◌, Bool, true, false, List, [], ◌∷◌, map, length, get_or, refl, sym, ◌∙◌, ap, ℕ, arith, nat_cmp, is_lt, ordering_reverse, slice_cmp, nat_list_cmp_total, length-map, get_or-map, Key, is_before, Rise, IsTrue, ◌↔◌, IsAllAdjacentAnswer, false≢true}
+use Rattle.portal_rules.proofs.Base.{◌≡◌, zero, suc, ◌+◌, ◌<◌, Bool, true, false, List, [], ◌∷◌, map, length, get_or}
+use Rattle.portal_rules.proofs.Base.{refl, sym, ◌∙◌, ap, ℕ, arith, nat_cmp, is_lt, ordering_reverse, slice_cmp}
+use Rattle.portal_rules.proofs.Base.{nat_list_cmp_total, length-map, get_or-map, Key, is_before, Rise, IsTrue, ◌↔◌}
+use Rattle.portal_rules.proofs.Base.{IsAllAdjacentAnswer, false≢true}
 use Rattle.std.proofs.Common.{Ordering, Less}
 use Rattle.std.specs.List.Sorted.{IsSortedBy, IsStrictlySortedBy}
 use Rattle.std.proofs.lemmas.Map.Keys.{sorted_from_all_adjacent}

@@ -1,5 +1,7 @@
 -- Laws of what holds of each element, and of tests.
-use Rattle.portal_rules.proofs.Base.{◌≡◌, ℕ, ◌<◌, Bool, true, false, List, [], ◌∷◌, ◌++◌, length, get_or, refl, ◌∙◌, ap, arith, map, filter, Option, Some, ◌&&◌, ◌||◌, list_any, filter_map, AllByRecursion, Key, equals, has, is_empty, AreDistinct, All-from_recursion}
+use Rattle.portal_rules.proofs.Base.{◌≡◌, ℕ, ◌<◌, Bool, true, false, List, [], ◌∷◌, ◌++◌, length, get_or, refl, ◌∙◌, ap}
+use Rattle.portal_rules.proofs.Base.{arith, map, filter, Option, Some, ◌&&◌, ◌||◌, list_any, filter_map, AllByRecursion}
+use Rattle.portal_rules.proofs.Base.{Key, equals, has, is_empty, AreDistinct, All-from_recursion}
 pub use Rattle.std.proofs.lemmas.List.Folds.{list_any-append as any_append}
 use Rattle.portal_rules.proofs.Keys.{is_same, is_own}
 

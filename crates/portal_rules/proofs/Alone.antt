@@ -1,8 +1,19 @@
 -- What a round is played in is a good world of one round.
-use Rattle.portal_rules.proofs.Base.{◌≡◌, ℕ, ◌≤◌, Bool, true, false, cond, List, [], ◌∷◌, ◌++◌, length, refl, sym, ◌∙◌, ap, subst, arith, map, filter, nat_lt, unwrap_or, option_map, not, ◌&&◌, ◌||◌, Option, None, IfSome, is_none, list_any, AllByRecursion, nat_tests, length-map, Key, equals, is_before, has, is_empty, Rise, AreDistinct, World, in_play, alone, alone_lecturer, alone_student, lecturer_key, project_key, student_key, applicants_of, projects_of, is_still_to_rank, is_left, lowered_lecturer, lowered_project, lecturers_left, students_left, instance, instance_of, places_of, lecturer_keys, project_keys, student_keys, ProjectRow, Round, First, Second, IsStable, number_in, Good, Sound, IsChoice, IsRanking, IsLecturer, IsProject, IsStudent, All-from_recursion, and_parts, count_by-le-length, length-filter, map_fixed}
+use Rattle.portal_rules.proofs.Base.{◌≡◌, ℕ, ◌≤◌, Bool, true, false, cond, List, [], ◌∷◌, ◌++◌, length, refl, sym, ◌∙◌}
+use Rattle.portal_rules.proofs.Base.{ap, subst, arith, map, filter, nat_lt, unwrap_or, option_map, not, ◌&&◌, ◌||◌}
+use Rattle.portal_rules.proofs.Base.{Option, None, IfSome, is_none, list_any, AllByRecursion, nat_tests, length-map}
+use Rattle.portal_rules.proofs.Base.{Key, equals, is_before, has, is_empty, Rise, AreDistinct, World, in_play, alone}
+use Rattle.portal_rules.proofs.Base.{alone_lecturer, alone_student, lecturer_key, project_key, student_key}
+use Rattle.portal_rules.proofs.Base.{applicants_of, projects_of, is_still_to_rank, is_left, lowered_lecturer}
+use Rattle.portal_rules.proofs.Base.{lowered_project, lecturers_left, students_left, instance, instance_of, places_of}
+use Rattle.portal_rules.proofs.Base.{lecturer_keys, project_keys, student_keys, ProjectRow, Round, First, Second}
+use Rattle.portal_rules.proofs.Base.{IsStable, number_in, Good, Sound, IsChoice, IsRanking, IsLecturer, IsProject}
+use Rattle.portal_rules.proofs.Base.{IsStudent, All-from_recursion, and_parts, count_by-le-length, length-filter}
+use Rattle.portal_rules.proofs.Base.{map_fixed}
 use Rattle.portal_rules.specs.World as rows
 use Rattle.portal_rules.proofs.Keys.{is_same, all_unmap}
-use Rattle.portal_rules.proofs.AllLaws.{all_map, all_weaker, all_both, map_same, any_map, any_nowhere, is_sym, kept_filtered}
+use Rattle.portal_rules.proofs.AllLaws.{all_map, all_weaker, all_both, map_same, any_map, any_nowhere, is_sym}
+use Rattle.portal_rules.proofs.AllLaws.{kept_filtered}
 use Rattle.portal_rules.proofs.Kept.{empty_map}
 use Rattle.portal_rules.proofs.InPlay.{filter_kept}
 use Rattle.portal_rules.proofs.InRound.{all_filter, known_left}

@@ -1,5 +1,14 @@
 -- The results of both rounds together keep the capacities of the rolls.
-use Rattle.portal_rules.proofs.Base.{◌≡◌, ℕ, suc, ◌-◌, ◌<◌, ◌≤◌, Bool, true, false, cond, List, [], ◌∷◌, map, length, get_or, refl, sym, ◌∙◌, ap, subst, arith, filter, count_by, nat_lt, ◌==◌, ◌&&◌, ◌||◌, Option, Some, None, option_map, list_any, AllByRecursion, length-filter, IsMatching, is_project, is_lecturer, at_project, at_lecturer, number_in, count_by-map, Key, equals, is_before, has, Rise, World, in_play, first, first_placed, first_published, lecturer_key, project_key, is_at, is_left, is_second, is_published, given_to, given_with, lowered_lecturer, lowered_project, lecturers_left, projects_left, students_left, instance, instance_of, matching_of, places_of, lecturer_keys, project_keys, ProjectRow, Round, First, Second, Good, IsRound, Sound, placed_to, placed_with, slice_index_or, KeepsCapacities, eq-eqb}
+use Rattle.portal_rules.proofs.Base.{◌≡◌, ℕ, suc, ◌-◌, ◌<◌, ◌≤◌, Bool, true, false, cond, List, [], ◌∷◌, map, length}
+use Rattle.portal_rules.proofs.Base.{get_or, refl, sym, ◌∙◌, ap, subst, arith, filter, count_by, nat_lt, ◌==◌, ◌&&◌}
+use Rattle.portal_rules.proofs.Base.{◌||◌, Option, Some, None, option_map, list_any, AllByRecursion, length-filter}
+use Rattle.portal_rules.proofs.Base.{IsMatching, is_project, is_lecturer, at_project, at_lecturer, number_in}
+use Rattle.portal_rules.proofs.Base.{count_by-map, Key, equals, is_before, has, Rise, World, in_play, first}
+use Rattle.portal_rules.proofs.Base.{first_placed, first_published, lecturer_key, project_key, is_at, is_left}
+use Rattle.portal_rules.proofs.Base.{is_second, is_published, given_to, given_with, lowered_lecturer, lowered_project}
+use Rattle.portal_rules.proofs.Base.{lecturers_left, projects_left, students_left, instance, instance_of, matching_of}
+use Rattle.portal_rules.proofs.Base.{places_of, lecturer_keys, project_keys, ProjectRow, Round, First, Second, Good}
+use Rattle.portal_rules.proofs.Base.{IsRound, Sound, placed_to, placed_with, slice_index_or, KeepsCapacities, eq-eqb}
 use Rattle.portal_rules.specs.World as rows
 use Rattle.portal_rules.proofs.Keys.{is_same, is_own, all_unmap}
 pub use Rattle.portal_rules.proofs.AllLaws.{each_one}

@@ -1,5 +1,12 @@
 -- Decisions, case by case: a fact of each decision follows from the cases that do something.
-use Rattle.portal_rules.proofs.Base.{◌≡◌, ℕ, true, false, List, length, Option, Some, None, is_none, Key, is_empty, is_choosing, is_ranking, Setup, Choosing, Ranking, Published, Round, First, Second, LecturerRow, ProjectRow, StudentRow, Choices, Ranks, Lecturers, Projects, Students, To, Fill, SecondRound, StudentSees, LecturerSees, OfficeSees, AbstractCall, projects_body, phase_body, choice_fault, ranking_fault, Took, take_rows, lecturer_roll, project_roll, student_roll, Answer, Said, Decision, Publish, refuses, applies, is_open_to_rolls, to_student, to_lecturer, to_office, Calls, is_move_or_add, arith, students_body, roll_body, filled_body, answered, renders}
+use Rattle.portal_rules.proofs.Base.{◌≡◌, ℕ, true, false, List, length, Option, Some, None, is_none, Key, is_empty}
+use Rattle.portal_rules.proofs.Base.{is_choosing, is_ranking, Setup, Choosing, Ranking, Published, Round, First, Second}
+use Rattle.portal_rules.proofs.Base.{LecturerRow, ProjectRow, StudentRow, Choices, Ranks, Lecturers, Projects, Students}
+use Rattle.portal_rules.proofs.Base.{To, Fill, SecondRound, StudentSees, LecturerSees, OfficeSees, AbstractCall}
+use Rattle.portal_rules.proofs.Base.{projects_body, phase_body, choice_fault, ranking_fault, Took, take_rows}
+use Rattle.portal_rules.proofs.Base.{lecturer_roll, project_roll, student_roll, Answer, Said, Decision, Publish}
+use Rattle.portal_rules.proofs.Base.{refuses, applies, is_open_to_rolls, to_student, to_lecturer, to_office, Calls}
+use Rattle.portal_rules.proofs.Base.{is_move_or_add, arith, students_body, roll_body, filled_body, answered, renders}
 use Rattle.portal_rules.specs.declared.decision.Sheet.{Sheet}
 
 -- a list that is taken

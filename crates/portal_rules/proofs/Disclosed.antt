@@ -1,5 +1,12 @@
 -- Replies do not tell the order within students' lists before the result is open.
-use Rattle.portal_rules.proofs.Base.{◌≡◌, [], Bool, true, false, cond, List, ◌∷◌, refl, sym, ◌∙◌, subst, inl, inr, ◌⊎◌, Option, Some, None, is_none, AllZip, Data, Key, World, is_choosing, Choices, changed, Listing, StudentSees, Student, view, AbstractCall, projects_body, ListFault, choice_fault, Answer, Act, Decision, Nothing, Apply, Publish, Render, open_where, unless_faulty, applies, already_placed, decision, answer, to_student, StepLeaves, Step, Wish, Calls, Refused, Request, Answers, Run, AllAnswered, Reordered, SameButPlaces, arith, Sight, SameWish, equal, sets, SameRequest, has_places, moves_to_published, Unless, AlikeUntilPublished}
+use Rattle.portal_rules.proofs.Base.{◌≡◌, [], Bool, true, false, cond, List, ◌∷◌, refl, sym, ◌∙◌, subst, inl, inr, ◌⊎◌}
+use Rattle.portal_rules.proofs.Base.{Option, Some, None, is_none, AllZip, Data, Key, World, is_choosing, Choices}
+use Rattle.portal_rules.proofs.Base.{changed, Listing, StudentSees, Student, view, AbstractCall, projects_body}
+use Rattle.portal_rules.proofs.Base.{ListFault, choice_fault, Answer, Act, Decision, Nothing, Apply, Publish, Render}
+use Rattle.portal_rules.proofs.Base.{open_where, unless_faulty, applies, already_placed, decision, answer, to_student}
+use Rattle.portal_rules.proofs.Base.{StepLeaves, Step, Wish, Calls, Refused, Request, Answers, Run, AllAnswered}
+use Rattle.portal_rules.proofs.Base.{Reordered, SameButPlaces, arith, Sight, SameWish, equal, sets, SameRequest}
+use Rattle.portal_rules.proofs.Base.{has_places, moves_to_published, Unless, AlikeUntilPublished}
 use Rattle.portal_rules.proofs.Hearing.{really}
 use Rattle.portal_rules.proofs.Reorder.{accepted_reordered, reordered_back}
 use Rattle.portal_rules.proofs.Similar.{SameSight, same_view, both_choose, both_changed}

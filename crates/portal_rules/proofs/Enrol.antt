@@ -1,5 +1,13 @@
 -- One new row keeps the rows sound, and so does a whole roll.
-use Rattle.portal_rules.proofs.Base.{◌≡◌, ℕ, ◌+◌, ◌≤◌, true, false, List, [], ◌∷◌, ◌++◌, length, refl, sym, ◌∙◌, ap, subst, arith, append-nil, map, ◌||◌, None, AllByRecursion, or_parts, map-id, Key, equals, has, AreDistinct, put, World, lecturer_key, project_key, student_key, applicants_of, is_from_ranking, is_published, is_left, in_play, projects_in, First, with_lecturers, with_projects, with_students, new_lecturer, new_student, lecturer_keys, project_keys, Phase, LecturerRow, ProjectRow, StudentRow, office_sees, Took, take_rows, lecturer_roll, project_roll, student_roll, Sound, IsLecturer, IsProject, IsStudent, IsChoice, IsRanking, codes_of, is_second, is_setup, is_still_to_rank, or_comm, not-false}
+use Rattle.portal_rules.proofs.Base.{◌≡◌, ℕ, ◌+◌, ◌≤◌, true, false, List, [], ◌∷◌, ◌++◌, length, refl, sym, ◌∙◌, ap}
+use Rattle.portal_rules.proofs.Base.{subst, arith, append-nil, map, ◌||◌, None, AllByRecursion, or_parts, map-id, Key}
+use Rattle.portal_rules.proofs.Base.{equals, has, AreDistinct, put, World, lecturer_key, project_key, student_key}
+use Rattle.portal_rules.proofs.Base.{applicants_of, is_from_ranking, is_published, is_left, in_play, projects_in, First}
+use Rattle.portal_rules.proofs.Base.{with_lecturers, with_projects, with_students, new_lecturer, new_student}
+use Rattle.portal_rules.proofs.Base.{lecturer_keys, project_keys, Phase, LecturerRow, ProjectRow, StudentRow}
+use Rattle.portal_rules.proofs.Base.{office_sees, Took, take_rows, lecturer_roll, project_roll, student_roll, Sound}
+use Rattle.portal_rules.proofs.Base.{IsLecturer, IsProject, IsStudent, IsChoice, IsRanking, codes_of, is_second}
+use Rattle.portal_rules.proofs.Base.{is_setup, is_still_to_rank, or_comm, not-false}
 use Rattle.std.proofs.lemmas.Simd.{map-map}
 use Rattle.portal_rules.specs.World as rows
 use Rattle.portal_rules.proofs.Kept.{none_ranked}

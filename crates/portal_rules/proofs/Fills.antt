@@ -1,5 +1,10 @@
 -- What the office's fill leaves of each caller, and that it keeps the rows sound.
-use Rattle.portal_rules.proofs.Base.{◌≡◌, Bool, true, false, cond, List, [], ◌∷◌, refl, ◌∙◌, ap, map, filter, Some, option_map, IfSome, ◌||◌, filter_map, AllByRecursion, or-true, Key, equals, has, is_before, Rise, AreDistinct, World, in_play, student_key, applicants_of, is_still_to_rank, is_ranking, is_from_ranking, Fill, changed, with_fill, Office, OfficeCaller, caller, sight_of, view, listing_with, listings, catalogue, office_sees, Sound, IsRanking, project_keys, arith, list_any, projects_of}
+use Rattle.portal_rules.proofs.Base.{◌≡◌, Bool, true, false, cond, List, [], ◌∷◌, refl, ◌∙◌, ap, map, filter, Some}
+use Rattle.portal_rules.proofs.Base.{option_map, IfSome, ◌||◌, filter_map, AllByRecursion, or-true, Key, equals, has}
+use Rattle.portal_rules.proofs.Base.{is_before, Rise, AreDistinct, World, in_play, student_key, applicants_of}
+use Rattle.portal_rules.proofs.Base.{is_still_to_rank, is_ranking, is_from_ranking, Fill, changed, with_fill, Office}
+use Rattle.portal_rules.proofs.Base.{OfficeCaller, caller, sight_of, view, listing_with, listings, catalogue}
+use Rattle.portal_rules.proofs.Base.{office_sees, Sound, IsRanking, project_keys, arith, list_any, projects_of}
 use Rattle.portal_rules.specs.World as rows
 use Rattle.portal_rules.proofs.Keys.{is_same, is_own, not_before_itself}
 use Rattle.portal_rules.proofs.InPlay.{fill_row, play_filled}

@@ -1,7 +1,9 @@
 -- Steps of loops over lists.
 use Rattle.std.proofs.lemmas.List.{map-append}
 use Rattle.std.proofs.lemmas.List.Elements.{filter-append, filter_map-append}
-use Rattle.portal_rules.proofs.Base.{◌≡◌, ℕ, ◌+◌, ◌<◌, Bool, true, false, cond, List, [], ◌∷◌, ◌++◌, map, take, length, get_or, append-nil, sym, ◌∙◌, ap, subst, filter, Option, Some, None, AllByRecursion, filter_map, cons_option, take_more}
+use Rattle.portal_rules.proofs.Base.{◌≡◌, ℕ, ◌+◌, ◌<◌, Bool, true, false, cond, List, [], ◌∷◌, ◌++◌, map, take, length}
+use Rattle.portal_rules.proofs.Base.{get_or, append-nil, sym, ◌∙◌, ap, subst, filter, Option, Some, None}
+use Rattle.portal_rules.proofs.Base.{AllByRecursion, filter_map, cons_option, take_more}
 use Rattle.portal_rules.proofs.AllLaws.{all_append}
 
 -- one more element

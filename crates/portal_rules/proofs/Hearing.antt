@@ -1,5 +1,9 @@
 -- What a caller is told is a function of the first view and of what is heard.
-use Rattle.portal_rules.proofs.Base.{◌≡◌, ◌≢◌, Bool, true, false, cond, List, [], ◌∷◌, ◌++◌, refl, sym, ◌∙◌, ap, subst, inl, inr, not, ◌||◌, Key, equals, World, view, Answer, answer, Wish, Calls, Refused, Request, Answers, Serves, Run, end_of, AllAnswered, HeardItem, Sees, is_move_or_add, ChangeSeen, SeenIf, Heard, replies_to, arith, Sight, own, unavailable, Asked, HeardOf}
+use Rattle.portal_rules.proofs.Base.{◌≡◌, ◌≢◌, Bool, true, false, cond, List, [], ◌∷◌, ◌++◌, refl, sym, ◌∙◌, ap, subst}
+use Rattle.portal_rules.proofs.Base.{inl, inr, not, ◌||◌, Key, equals, World, view, Answer, answer, Wish, Calls}
+use Rattle.portal_rules.proofs.Base.{Refused, Request, Answers, Serves, Run, end_of, AllAnswered, HeardItem, Sees}
+use Rattle.portal_rules.proofs.Base.{is_move_or_add, ChangeSeen, SeenIf, Heard, replies_to, arith, Sight, own}
+use Rattle.portal_rules.proofs.Base.{unavailable, Asked, HeardOf}
 use Rattle.portal_rules.proofs.Keys.{is_same}
 use Rattle.portal_rules.proofs.Acts.{own_kept, own_move}
 

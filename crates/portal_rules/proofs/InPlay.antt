@@ -1,5 +1,12 @@
 -- What a change leaves of those who take part in a round.
-use Rattle.portal_rules.proofs.Base.{◌≡◌, ◌-◌, Bool, true, false, cond, List, [], ◌∷◌, length, refl, sym, ◌∙◌, ap, map, filter, count_by, nat_lt, ◌&&◌, Some, None, is_none, length-filter, list_any, count_by-map, Key, equals, has, put, put_all, World, in_play, applicants_of, is_still_to_rank, lecturer_key, student_key, is_at, is_left, given_to, given_with, lowered_lecturer, lowered_project, lecturers_left, lecturers_in, projects_in, students_in, Choices, Ranks, Placements, Fill, changed, with_choice, with_ranking, with_place, with_fill, placement_in, new_student, with_students, Round, First, Second, ProjectRow, StudentRow, arith}
+use Rattle.portal_rules.proofs.Base.{◌≡◌, ◌-◌, Bool, true, false, cond, List, [], ◌∷◌, length, refl, sym, ◌∙◌, ap, map}
+use Rattle.portal_rules.proofs.Base.{filter, count_by, nat_lt, ◌&&◌, Some, None, is_none, length-filter, list_any}
+use Rattle.portal_rules.proofs.Base.{count_by-map, Key, equals, has, put, put_all, World, in_play, applicants_of}
+use Rattle.portal_rules.proofs.Base.{is_still_to_rank, lecturer_key, student_key, is_at, is_left, given_to, given_with}
+use Rattle.portal_rules.proofs.Base.{lowered_lecturer, lowered_project, lecturers_left, lecturers_in, projects_in}
+use Rattle.portal_rules.proofs.Base.{students_in, Choices, Ranks, Placements, Fill, changed, with_choice, with_ranking}
+use Rattle.portal_rules.proofs.Base.{with_place, with_fill, placement_in, new_student, with_students, Round, First}
+use Rattle.portal_rules.proofs.Base.{Second, ProjectRow, StudentRow, arith}
 use Rattle.portal_rules.specs.World as rows
 use Rattle.portal_rules.proofs.AllLaws.{map_same}
 

@@ -1,5 +1,10 @@
 -- What holds of those who take part in a round of a sound world. The catalogue shows each project.
-use Rattle.portal_rules.proofs.Base.{◌≡◌, Bool, true, false, List, [], ◌∷◌, refl, sym, ap, subst, map, filter, nat_lt, ◌&&◌, is_none, AllByRecursion, has, Rise, World, in_play, lecturer_key, project_key, student_key, is_left, is_second, lowered_project, lecturers_left, students_left, projects_in, students_in, project_keys, student_keys, Round, First, Second, ProjectRow, Sound, IsChoice, arith, cond, ◌∙◌, ◌||◌, Some, list_any, find, Key, equals, lecturers_in, Listing, listings, catalogue}
+use Rattle.portal_rules.proofs.Base.{◌≡◌, Bool, true, false, List, [], ◌∷◌, refl, sym, ap, subst, map, filter, nat_lt}
+use Rattle.portal_rules.proofs.Base.{◌&&◌, is_none, AllByRecursion, has, Rise, World, in_play, lecturer_key}
+use Rattle.portal_rules.proofs.Base.{project_key, student_key, is_left, is_second, lowered_project, lecturers_left}
+use Rattle.portal_rules.proofs.Base.{students_left, projects_in, students_in, project_keys, student_keys, Round, First}
+use Rattle.portal_rules.proofs.Base.{Second, ProjectRow, Sound, IsChoice, arith, cond, ◌∙◌, ◌||◌, Some, list_any, find}
+use Rattle.portal_rules.proofs.Base.{Key, equals, lecturers_in, Listing, listings, catalogue}
 use Rattle.portal_rules.specs.World as rows
 use Rattle.portal_rules.proofs.Fills.{rise_kept}
 use Rattle.portal_rules.proofs.AllLaws.{all_weaker, map_same, any_map, any_alike, is_sym}

@@ -1,12 +1,23 @@
 -- A change that is decided keeps the rows sound.
-use Rattle.portal_rules.proofs.Base.{◌≡◌, [], ◌≤◌, Bool, true, false, cond, List, ◌∷◌, ◌++◌, length, refl, sym, ◌∙◌, ap, subst, arith, map, filter, Some, None, IfSome, not, ◌||◌, ◌&&◌, is_none, unwrap_or, list_any, AllByRecursion, length-map, IsBest, IsStable, number_in, Key, equals, has, is_empty, Rise, AreDistinct, World, project_key, student_key, applicants_to, projects_of, applicants_of, is_still_to_rank, is_setup, is_choosing, is_ranking, is_published, is_from_ranking, is_second, is_left, in_play, first, first_placed, first_published, Choices, Ranks, To, Placements, changed, with_choice, with_ranking, with_place, placement_in, instance, instance_of, matching_of, project_keys, student_keys, Phase, Listing, Person, ProjectRow, catalogue, listings, office_sees, persons, choice_fault, ranking_fault, in_catalogue, Good, IsRound, Sound, IsChoice, IsRanking, IsStudent, Published, if◌then◌else◌}
+use Rattle.portal_rules.proofs.Base.{◌≡◌, [], ◌≤◌, Bool, true, false, cond, List, ◌∷◌, ◌++◌, length, refl, sym, ◌∙◌, ap}
+use Rattle.portal_rules.proofs.Base.{subst, arith, map, filter, Some, None, IfSome, not, ◌||◌, ◌&&◌, is_none, unwrap_or}
+use Rattle.portal_rules.proofs.Base.{list_any, AllByRecursion, length-map, IsBest, IsStable, number_in, Key, equals}
+use Rattle.portal_rules.proofs.Base.{has, is_empty, Rise, AreDistinct, World, project_key, student_key, applicants_to}
+use Rattle.portal_rules.proofs.Base.{projects_of, applicants_of, is_still_to_rank, is_setup, is_choosing, is_ranking}
+use Rattle.portal_rules.proofs.Base.{is_published, is_from_ranking, is_second, is_left, in_play, first, first_placed}
+use Rattle.portal_rules.proofs.Base.{first_published, Choices, Ranks, To, Placements, changed, with_choice}
+use Rattle.portal_rules.proofs.Base.{with_ranking, with_place, placement_in, instance, instance_of, matching_of}
+use Rattle.portal_rules.proofs.Base.{project_keys, student_keys, Phase, Listing, Person, ProjectRow, catalogue}
+use Rattle.portal_rules.proofs.Base.{listings, office_sees, persons, choice_fault, ranking_fault, in_catalogue, Good}
+use Rattle.portal_rules.proofs.Base.{IsRound, Sound, IsChoice, IsRanking, IsStudent, Published, if◌then◌else◌}
 use Rattle.portal_rules.specs.World as rows
 use Rattle.portal_rules.proofs.Keys.{is_same}
 use Rattle.portal_rules.proofs.ListFaults.{chosen, ranked}
 use Rattle.portal_rules.proofs.Reranked.{sound_kept}
 use Rattle.portal_rules.proofs.Acts.{choice_row}
 use Rattle.portal_rules.proofs.InPlay.{play_chosen, play_ranked, play_placed, ranking_row}
-use Rattle.portal_rules.proofs.AllLaws.{kept_filtered, all_map, all_both, all_weaker, map_same, is_sym, any_map, any_shown, any_alike, any_or, any_nowhere, filtered_any, none_passes}
+use Rattle.portal_rules.proofs.AllLaws.{kept_filtered, all_map, all_both, all_weaker, map_same, is_sym, any_map}
+use Rattle.portal_rules.proofs.AllLaws.{any_shown, any_alike, any_or, any_nowhere, filtered_any, none_passes}
 
 -- before the result is published nothing has to be stable
 pub not_published : (w : World) → Sound w → is_published w.phase ≡ false → (is_second w.round ≡ true → IsRound (first w)) → Good w

@@ -1,5 +1,7 @@
 -- Laws of the words on keys.
-use Rattle.portal_rules.proofs.Base.{◌≡◌, Bool, true, false, List, [], ◌∷◌, refl, sym, ◌∙◌, ap, subst, map, Some, option_map, find, bytes_decides, AllByRecursion, is_lt, nat_list_cmp_total, Key, equals, is_before, Rise, arith, tied_itself}
+use Rattle.portal_rules.proofs.Base.{◌≡◌, Bool, true, false, List, [], ◌∷◌, refl, sym, ◌∙◌, ap, subst, map, Some}
+use Rattle.portal_rules.proofs.Base.{option_map, find, bytes_decides, AllByRecursion, is_lt, nat_list_cmp_total, Key}
+use Rattle.portal_rules.proofs.Base.{equals, is_before, Rise, arith, tied_itself}
 
 pub is_same : (a b : Key) → equals a b ≡ true → a ≡ b
 is_same a b h = (bytes_decides a b).0 h

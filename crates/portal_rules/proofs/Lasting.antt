@@ -1,5 +1,18 @@
 -- What is shown of a result is shown in each world that comes after.
-use Rattle.portal_rules.proofs.Base.{◌≡◌, suc, Bool, true, false, cond, List, [], ◌∷◌, Contains, refl, sym, ◌∙◌, ap, subst, arith, map, filter, Option, Some, None, option_map, is_none, filter_map, cons_option, AllByRecursion, Key, equals, is_before, put, put_all, World, first, first_placed, first_published, is_at, is_choosing, is_published, is_second, shown_placement, pairs_of, placed_at, projects_of, lecturer_key, project_key, student_key, Phase, Setup, Choosing, Ranking, Published, Round, First, Second, Person, ProjectRow, Nobody, Office, Lecturer, Student, Choices, To, Placements, SecondRound, changed, ranked_before, placed_before, with_choice, with_ranking, with_place, with_fill, new_lecturer, new_student, in_first, Caller, NoCaller, OfficeCaller, LecturerCaller, StudentCaller, caller, sight_of, view, office_sees, lecturer_sees, student_sees, persons, lecturer_with, student_with, AbstractCall, Answer, Decision, decision, Good, StepLeaves, Step, Request, Run, All-contains, All-from_recursion, Sight, IsShownAt, ShowsStill, All-contains_itself, recursion_from_All}
+use Rattle.portal_rules.proofs.Base.{◌≡◌, suc, Bool, true, false, cond, List, [], ◌∷◌, Contains, refl, sym, ◌∙◌, ap}
+use Rattle.portal_rules.proofs.Base.{subst, arith, map, filter, Option, Some, None, option_map, is_none, filter_map}
+use Rattle.portal_rules.proofs.Base.{cons_option, AllByRecursion, Key, equals, is_before, put, put_all, World, first}
+use Rattle.portal_rules.proofs.Base.{first_placed, first_published, is_at, is_choosing, is_published, is_second}
+use Rattle.portal_rules.proofs.Base.{shown_placement, pairs_of, placed_at, projects_of, lecturer_key, project_key}
+use Rattle.portal_rules.proofs.Base.{student_key, Phase, Setup, Choosing, Ranking, Published, Round, First, Second}
+use Rattle.portal_rules.proofs.Base.{Person, ProjectRow, Nobody, Office, Lecturer, Student, Choices, To, Placements}
+use Rattle.portal_rules.proofs.Base.{SecondRound, changed, ranked_before, placed_before, with_choice, with_ranking}
+use Rattle.portal_rules.proofs.Base.{with_place, with_fill, new_lecturer, new_student, in_first, Caller, NoCaller}
+use Rattle.portal_rules.proofs.Base.{OfficeCaller, LecturerCaller, StudentCaller, caller, sight_of, view, office_sees}
+use Rattle.portal_rules.proofs.Base.{lecturer_sees, student_sees, persons, lecturer_with, student_with, AbstractCall}
+use Rattle.portal_rules.proofs.Base.{Answer, Decision, decision, Good, StepLeaves, Step, Request, Run, All-contains}
+use Rattle.portal_rules.proofs.Base.{All-from_recursion, Sight, IsShownAt, ShowsStill, All-contains_itself}
+use Rattle.portal_rules.proofs.Base.{recursion_from_All}
 use Rattle.portal_rules.specs.World as rows
 use Rattle.portal_rules.proofs.Keys.{is_same, found_passes, found_all, all_unmap}
 use Rattle.portal_rules.proofs.AllLaws.{all_map, all_weaker, all_both}

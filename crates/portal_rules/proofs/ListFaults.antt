@@ -1,5 +1,10 @@
 -- A submitted list or ranking: its first wrong key is told, and whether there is one.
-use Rattle.portal_rules.proofs.Base.{◌≡◌, [], ◌⊎◌, inl, inr, ℕ, ◌+◌, ◌<◌, ◌≤◌, Bool, true, false, List, ◌∷◌, ◌++◌, length, refl, sym, ◌∙◌, ap, subst, arith, append_assoc, append-nil, Option, Some, None, codes, nat_tests, AllByRecursion, Listing, Person, Key, equals, has, AreDistinct, in_catalogue, is_applicant, lacks_one, ListFault, fault_at, or_later, first_wrong, choice_fault, or_missing, ranking_fault, length-append, wrong_choice, wrong_rank, NoneWrong, IsFirstWrong}
+use Rattle.portal_rules.proofs.Base.{◌≡◌, [], ◌⊎◌, inl, inr, ℕ, ◌+◌, ◌<◌, ◌≤◌, Bool, true, false, List, ◌∷◌, ◌++◌}
+use Rattle.portal_rules.proofs.Base.{length, refl, sym, ◌∙◌, ap, subst, arith, append_assoc, append-nil, Option, Some}
+use Rattle.portal_rules.proofs.Base.{None, codes, nat_tests, AllByRecursion, Listing, Person, Key, equals, has}
+use Rattle.portal_rules.proofs.Base.{AreDistinct, in_catalogue, is_applicant, lacks_one, ListFault, fault_at, or_later}
+use Rattle.portal_rules.proofs.Base.{first_wrong, choice_fault, or_missing, ranking_fault, length-append, wrong_choice}
+use Rattle.portal_rules.proofs.Base.{wrong_rank, NoneWrong, IsFirstWrong}
 use Rattle.portal_rules.proofs.AllLaws.{all_weaker, all_both, none_after, none_is, not_first, split_append}
 
 -- the next key is wrong, or a later one is

@@ -1,5 +1,8 @@
 -- In a sound world each code names its own row, and another names nobody.
-use Rattle.portal_rules.proofs.Base.{◌≡◌, false, cond, List, [], ◌∷◌, ◌++◌, refl, sym, ◌∙◌, ap, map, ◌||◌, Option, Some, None, find, AllByRecursion, or_parts, Key, equals, has, AreDistinct, World, Nobody, Office, Lecturer, Student, OfficeCaller, caller_among, lecturer_with, student_with, sight_of, view, office_sees, lecturer_sees, student_sees, Sound, codes_of, arith}
+use Rattle.portal_rules.proofs.Base.{◌≡◌, false, cond, List, [], ◌∷◌, ◌++◌, refl, sym, ◌∙◌, ap, map, ◌||◌, Option, Some}
+use Rattle.portal_rules.proofs.Base.{None, find, AllByRecursion, or_parts, Key, equals, has, AreDistinct, World, Nobody}
+use Rattle.portal_rules.proofs.Base.{Office, Lecturer, Student, OfficeCaller, caller_among, lecturer_with, student_with}
+use Rattle.portal_rules.proofs.Base.{sight_of, view, office_sees, lecturer_sees, student_sees, Sound, codes_of, arith}
 use Rattle.portal_rules.specs.World as rows
 use Rattle.portal_rules.proofs.Keys.{is_own, all_unmap}
 use Rattle.portal_rules.proofs.AllLaws.{all_both, all_weaker, any_append, is_sym, none_of, none_yet}

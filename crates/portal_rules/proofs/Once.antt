@@ -1,5 +1,7 @@
 -- Each run has exactly one list of what a caller hears.
-use Rattle.portal_rules.proofs.Base.{◌≡◌, ◌≢◌, arith, Bool, true, false, List, [], ◌∷◌, ◌++◌, refl, sym, ◌∙◌, ap, inl, inr, ◌⊎◌, Key, World, view, Request, HeardItem, Sees, ChangeSeen, SeenIf, Heard, Sight, own_item, may_show}
+use Rattle.portal_rules.proofs.Base.{◌≡◌, ◌≢◌, arith, Bool, true, false, List, [], ◌∷◌, ◌++◌, refl, sym, ◌∙◌, ap, inl}
+use Rattle.portal_rules.proofs.Base.{inr, ◌⊎◌, Key, World, view, Request, HeardItem, Sees, ChangeSeen, SeenIf, Heard}
+use Rattle.portal_rules.proofs.Base.{Sight, own_item, may_show}
 use Rattle.std.specs.Coded.{Coded, codes}
 use base.Stored.{Gv, gnil, gnum, gcons}
 

@@ -1,5 +1,13 @@
 -- A step has one reply and one end, since there is one best matching; and so has a run.
-use Rattle.portal_rules.proofs.Base.{◌≡◌, ℕ, zero, suc, ◌<◌, ◌≤◌, true, false, cond, List, [], ◌∷◌, map, length, get_or, refl, sym, ◌∙◌, ap, subst, arith, Contains, Option, Some, None, option_map, AllByRecursion, eq-eqb, nat_tests, length-map, IsBest, IsMatching, IsOn, project_of, is_project, at_project, number_in, number_is, number_known, Key, equals, has, World, in_play, project_key, is_left, students_in, Round, First, Second, Placements, placement_in, with_place, changed, instance, matching_of, places_of, project_keys, view, AbstractCall, Answer, Act, Nothing, Apply, Publish, Render, decision, ProjectRow, IsChoice, StepLeaves, Step, Wish, Calls, Refused, Request, Answers, Run, AllAnswered, Any-from_list_any}
+use Rattle.portal_rules.proofs.Base.{◌≡◌, ℕ, zero, suc, ◌<◌, ◌≤◌, true, false, cond, List, [], ◌∷◌, map, length, get_or}
+use Rattle.portal_rules.proofs.Base.{refl, sym, ◌∙◌, ap, subst, arith, Contains, Option, Some, None, option_map}
+use Rattle.portal_rules.proofs.Base.{AllByRecursion, eq-eqb, nat_tests, length-map, IsBest, IsMatching, IsOn}
+use Rattle.portal_rules.proofs.Base.{project_of, is_project, at_project, number_in, number_is, number_known, Key}
+use Rattle.portal_rules.proofs.Base.{equals, has, World, in_play, project_key, is_left, students_in, Round, First}
+use Rattle.portal_rules.proofs.Base.{Second, Placements, placement_in, with_place, changed, instance, matching_of}
+use Rattle.portal_rules.proofs.Base.{places_of, project_keys, view, AbstractCall, Answer, Act, Nothing, Apply, Publish}
+use Rattle.portal_rules.proofs.Base.{Render, decision, ProjectRow, IsChoice, StepLeaves, Step, Wish, Calls, Refused}
+use Rattle.portal_rules.proofs.Base.{Request, Answers, Run, AllAnswered, Any-from_list_any}
 use Rattle.spa_model.proofs.Counts.{one_if, count_by-cons}
 use Rattle.spa_model.proofs.OneOnly.{best_is_one}
 use Rattle.portal_rules.specs.World as rows

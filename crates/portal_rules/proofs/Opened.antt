@@ -1,5 +1,14 @@
 -- The second round: what it opens with, and that the first stays as it was published.
-use Rattle.portal_rules.proofs.Base.{◌≡◌, Bool, true, false, cond, List, [], ◌∷◌, ◌++◌, length, refl, sym, ◌∙◌, ap, subst, arith, map, Some, None, IfSome, is_none, find, AllByRecursion, length-map, Key, equals, has, is_before, Rise, AreDistinct, World, lecturer_key, student_key, applicants_of, is_second, is_left, in_play, first, first_placed, first_published, shown_placement, Choices, Ranks, Fill, SecondRound, changed, opened, ranked_before, placed_before, with_choice, with_ranking, with_fill, Published, First, project_keys, Good, IsRound, Sound, IsChoice, IsRanking, IsLecturer, IsStudent, ProjectRow, ◌≤◌, is_still_to_rank, Round, Second, Caller, caller, sight_of, AbstractCall, Answer, Decision, decision, StepLeaves, Step, All-from_recursion, map_fixed}
+use Rattle.portal_rules.proofs.Base.{◌≡◌, Bool, true, false, cond, List, [], ◌∷◌, ◌++◌, length, refl, sym, ◌∙◌, ap}
+use Rattle.portal_rules.proofs.Base.{subst, arith, map, Some, None, IfSome, is_none, find, AllByRecursion, length-map}
+use Rattle.portal_rules.proofs.Base.{Key, equals, has, is_before, Rise, AreDistinct, World, lecturer_key, student_key}
+use Rattle.portal_rules.proofs.Base.{applicants_of, is_second, is_left, in_play, first, first_placed, first_published}
+use Rattle.portal_rules.proofs.Base.{shown_placement, Choices, Ranks, Fill, SecondRound, changed, opened, ranked_before}
+use Rattle.portal_rules.proofs.Base.{placed_before, with_choice, with_ranking, with_fill, Published, First}
+use Rattle.portal_rules.proofs.Base.{project_keys, Good, IsRound, Sound, IsChoice, IsRanking, IsLecturer, IsStudent}
+use Rattle.portal_rules.proofs.Base.{ProjectRow, ◌≤◌, is_still_to_rank, Round, Second, Caller, caller, sight_of}
+use Rattle.portal_rules.proofs.Base.{AbstractCall, Answer, Decision, decision, StepLeaves, Step, All-from_recursion}
+use Rattle.portal_rules.proofs.Base.{map_fixed}
 use Rattle.std.proofs.lemmas.Simd.{map-map}
 use Rattle.portal_rules.specs.World as rows
 use Rattle.portal_rules.proofs.Keys.{is_same, not_before_itself, found_all, all_unmap}

@@ -1,5 +1,10 @@
 -- The round changes where the second opens, and nowhere else.
-use Rattle.portal_rules.proofs.Base.{◌≡◌, cond, List, ◌∷◌, refl, sym, ◌∙◌, ap, subst, inl, inr, ◌⊎◌, Some, AllByRecursion, Key, equals, World, first, SecondRound, changed, Choosing, Published, First, Second, Caller, OfficeCaller, caller, caller_among, lecturer_with, student_with, sight_of, view, office_sees, AbstractCall, phase_body, Answer, Decision, decision, applies, opens, moves_in, Good, StepLeaves, Step, Request, Calls, Serves, Run, OpensSecond, arith, OpensOnce}
+use Rattle.portal_rules.proofs.Base.{◌≡◌, cond, List, ◌∷◌, refl, sym, ◌∙◌, ap, subst, inl, inr, ◌⊎◌, Some}
+use Rattle.portal_rules.proofs.Base.{AllByRecursion, Key, equals, World, first, SecondRound, changed, Choosing}
+use Rattle.portal_rules.proofs.Base.{Published, First, Second, Caller, OfficeCaller, caller, caller_among}
+use Rattle.portal_rules.proofs.Base.{lecturer_with, student_with, sight_of, view, office_sees, AbstractCall, phase_body}
+use Rattle.portal_rules.proofs.Base.{Answer, Decision, decision, applies, opens, moves_in, Good, StepLeaves, Step}
+use Rattle.portal_rules.proofs.Base.{Request, Calls, Serves, Run, OpensSecond, arith, OpensOnce}
 use Rattle.portal_rules.proofs.Keys.{is_own}
 use Rattle.portal_rules.proofs.Unseen.{is_office}
 use Rattle.portal_rules.proofs.Opened.{first_back, opens_to}

@@ -1,5 +1,7 @@
 -- A text that grows by a piece for each element, and a text that a `format!` made.
-use Rattle.portal_rules.proofs.Base.{◌≡◌, ◌∙◌, ◌+◌, ◌<◌, ◌++◌, ℕ, List, [], ◌∷◌, length, take, get_or, sym, ap, Some, IfSome, Global, IfOk, Ok, Err, string_bytes, Result, String, flat_map, flat_map_more, take_more}
+use Rattle.portal_rules.proofs.Base.{◌≡◌, ◌∙◌, ◌+◌, ◌<◌, ◌++◌, ℕ, List, [], ◌∷◌, length, take, get_or, sym, ap, Some}
+use Rattle.portal_rules.proofs.Base.{IfSome, Global, IfOk, Ok, Err, string_bytes, Result, String, flat_map}
+use Rattle.portal_rules.proofs.Base.{flat_map_more, take_more}
 
 pub one_more : {X : Type 0} (f : X → List ℕ) (front : List ℕ) (xs : List X) (i : ℕ) (x : X) → i < length xs → x ≡ get_or xs i x
     → (front ++ flat_map f (take i xs)) ++ f x ≡ front ++ flat_map f (take (i + 1) xs)

@@ -1,5 +1,7 @@
 -- What is decided in a good world may be done.
-use Rattle.portal_rules.proofs.Base.{◌≡◌, refl, sym, subst, Key, World, Change, changed, Caller, caller, sight_of, view, AbstractCall, Decision, Apply, Publish, decision, answer, Good, StepLeaves, HasForm, arith, CanPublish}
+use Rattle.portal_rules.proofs.Base.{◌≡◌, refl, sym, subst, Key, World, Change, changed, Caller, caller, sight_of, view}
+use Rattle.portal_rules.proofs.Base.{AbstractCall, Decision, Apply, Publish, decision, answer, Good, StepLeaves}
+use Rattle.portal_rules.proofs.Base.{HasForm, arith, CanPublish}
 use Rattle.portal_rules.proofs.Kept.{all_ranked}
 use Rattle.portal_rules.proofs.Steps.{step_good}
 

@@ -1,5 +1,9 @@
 -- The pairs of a matching by numbers place the students as the matching does.
-use Rattle.portal_rules.proofs.Base.{◌≡◌, ℕ, zero, suc, ◌+◌, ◌<◌, true, cond, List, [], ◌∷◌, map, length, get_or, refl, ◌∙◌, ap, arith, Option, Some, None, option_map, AllByRecursion, length-map, IsMatching, number_in, Key, is_before, Rise, World, in_play, is_left, student_key, Placements, placement_in, with_place, changed, instance, matching_of, places_of, project_keys, student_keys, Sound, pairs_by}
+use Rattle.portal_rules.proofs.Base.{◌≡◌, ℕ, zero, suc, ◌+◌, ◌<◌, true, cond, List, [], ◌∷◌, map, length, get_or, refl}
+use Rattle.portal_rules.proofs.Base.{◌∙◌, ap, arith, Option, Some, None, option_map, AllByRecursion, length-map}
+use Rattle.portal_rules.proofs.Base.{IsMatching, number_in, Key, is_before, Rise, World, in_play, is_left, student_key}
+use Rattle.portal_rules.proofs.Base.{Placements, placement_in, with_place, changed, instance, matching_of, places_of}
+use Rattle.portal_rules.proofs.Base.{project_keys, student_keys, Sound, pairs_by}
 use Rattle.portal_rules.specs.World as rows
 use Rattle.portal_rules.proofs.Keys.{is_own, all_unmap}
 use Rattle.portal_rules.proofs.AllLaws.{is_sym, all_at}

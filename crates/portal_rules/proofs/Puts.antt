@@ -1,5 +1,7 @@
 -- A new row put where its key belongs.
-use Rattle.portal_rules.proofs.Base.{◌≡◌, suc, Bool, true, false, cond, List, [], ◌∷◌, ◌++◌, length, refl, sym, ◌∙◌, ap, map, ◌||◌, list_any, AllByRecursion, is_lt, or_parts, Key, equals, has, is_before, Rise, AreDistinct, put, arith, texts_ties, or_from}
+use Rattle.portal_rules.proofs.Base.{◌≡◌, suc, Bool, true, false, cond, List, [], ◌∷◌, ◌++◌, length, refl, sym, ◌∙◌, ap}
+use Rattle.portal_rules.proofs.Base.{map, ◌||◌, list_any, AllByRecursion, is_lt, or_parts, Key, equals, has, is_before}
+use Rattle.portal_rules.proofs.Base.{Rise, AreDistinct, put, arith, texts_ties, or_from}
 use Rattle.std.specs.Cmp.Lexicographic.{nat_list_cmp_total}
 use Rattle.std.specs.declared.cmp.Ordering.{Ordering}
 use Rattle.std.specs.declared.cmp.Ordering.TheVariants.{Less}

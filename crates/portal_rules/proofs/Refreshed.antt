@@ -1,5 +1,9 @@
 -- What the office sees after a list or a ranking was put.
-use Rattle.portal_rules.proofs.Base.{◌≡◌, Bool, false, cond, List, [], ◌∷◌, refl, sym, ◌∙◌, ap, map, filter, Option, option_map, not, ◌&&◌, is_none, filter_map, Key, equals, is_empty, World, in_play, shown_placement, is_still_to_rank, applicants_of, is_from_ranking, pairs_of, Choices, Ranks, changed, with_choice, with_ranking, Choosing, Ranking, LecturerRow, OfficeSees, office_sees, arith}
+use Rattle.portal_rules.proofs.Base.{◌≡◌, Bool, false, cond, List, [], ◌∷◌, refl, sym, ◌∙◌, ap, map, filter, Option}
+use Rattle.portal_rules.proofs.Base.{option_map, not, ◌&&◌, is_none, filter_map, Key, equals, is_empty, World, in_play}
+use Rattle.portal_rules.proofs.Base.{shown_placement, is_still_to_rank, applicants_of, is_from_ranking, pairs_of}
+use Rattle.portal_rules.proofs.Base.{Choices, Ranks, changed, with_choice, with_ranking, Choosing, Ranking, LecturerRow}
+use Rattle.portal_rules.proofs.Base.{OfficeSees, office_sees, arith}
 use Rattle.portal_rules.specs.World as rows
 use Rattle.portal_rules.specs.declared.view.OfficeView.TheInside.{Inside}
 use Rattle.portal_rules.proofs.Acts.{choice_row, catalogue_chosen, catalogue_ranked}

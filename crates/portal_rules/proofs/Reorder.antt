@@ -1,5 +1,7 @@
 -- What does not depend on the order of a list.
-use Rattle.portal_rules.proofs.Base.{◌≡◌, [], suc, Bool, false, List, ◌∷◌, length, refl, sym, ◌∙◌, ap, arith, None, ◌||◌, list_any, AllByRecursion, or_parts, Key, equals, has, is_empty, AreDistinct, Listing, choice_fault, Reordered, none, front, turn, chain}
+use Rattle.portal_rules.proofs.Base.{◌≡◌, [], suc, Bool, false, List, ◌∷◌, length, refl, sym, ◌∙◌, ap, arith, None}
+use Rattle.portal_rules.proofs.Base.{◌||◌, list_any, AllByRecursion, or_parts, Key, equals, has, is_empty, AreDistinct}
+use Rattle.portal_rules.proofs.Base.{Listing, choice_fault, Reordered, none, front, turn, chain}
 use Rattle.portal_rules.proofs.AllLaws.{is_sym, or_swap}
 use Rattle.portal_rules.proofs.ListFaults.{chosen, choice_taken}
 

@@ -1,5 +1,10 @@
 -- A change that keeps lecturers' rows: whom a code names, the catalogue's names, and soundness.
-use Rattle.portal_rules.proofs.Base.{◌≡◌, true, false, List, ◌∷◌, ◌++◌, length, sym, ◌∙◌, ap, subst, arith, map, Option, None, option_map, IfSome, find, AllByRecursion, length-map, Key, equals, has, Rise, AreDistinct, World, in_play, lecturer_key, student_key, applicants_of, is_ranking, is_published, is_from_ranking, Phase, Caller, LecturerCaller, lecturer_with, caller, name_in, project_keys, Sound, IsChoice, IsRanking, IsLecturer, ProjectRow, is_second, is_still_to_rank, ◌≤◌}
+use Rattle.portal_rules.proofs.Base.{◌≡◌, true, false, List, ◌∷◌, ◌++◌, length, sym, ◌∙◌, ap, subst, arith, map, Option}
+use Rattle.portal_rules.proofs.Base.{None, option_map, IfSome, find, AllByRecursion, length-map, Key, equals, has, Rise}
+use Rattle.portal_rules.proofs.Base.{AreDistinct, World, in_play, lecturer_key, student_key, applicants_of, is_ranking}
+use Rattle.portal_rules.proofs.Base.{is_published, is_from_ranking, Phase, Caller, LecturerCaller, lecturer_with}
+use Rattle.portal_rules.proofs.Base.{caller, name_in, project_keys, Sound, IsChoice, IsRanking, IsLecturer, ProjectRow}
+use Rattle.portal_rules.proofs.Base.{is_second, is_still_to_rank, ◌≤◌}
 use Rattle.portal_rules.specs.World as rows
 use Rattle.portal_rules.proofs.Keys.{find_map}
 use Rattle.portal_rules.proofs.AllLaws.{all_map, all_weaker, map_same}

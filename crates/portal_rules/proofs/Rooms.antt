@@ -1,5 +1,9 @@
 -- What the pairs of the first round's result leave is what the world's students leave.
-use Rattle.portal_rules.proofs.Base.{◌≡◌, ℕ, ◌-◌, Bool, false, cond, List, [], ◌∷◌, map, length, refl, sym, ◌∙◌, filter, count_by, nat_lt, ◌&&◌, Option, Some, None, option_map, list_any, filter_map, length-filter, Key, equals, has, is_at, project_key, given_to, given_with, lowered_project, students_at, pairs_among, own_keys, LecturerRow, ProjectRow, arith, pairs_with, project_left, lecturer_left}
+use Rattle.portal_rules.proofs.Base.{◌≡◌, ℕ, ◌-◌, Bool, false, cond, List, [], ◌∷◌, map, length, refl, sym, ◌∙◌, filter}
+use Rattle.portal_rules.proofs.Base.{count_by, nat_lt, ◌&&◌, Option, Some, None, option_map, list_any, filter_map}
+use Rattle.portal_rules.proofs.Base.{length-filter, Key, equals, has, is_at, project_key, given_to, given_with}
+use Rattle.portal_rules.proofs.Base.{lowered_project, students_at, pairs_among, own_keys, LecturerRow, ProjectRow}
+use Rattle.portal_rules.proofs.Base.{arith, pairs_with, project_left, lecturer_left}
 use Rattle.portal_rules.specs.World.{Student}
 use Rattle.portal_rules.proofs.InPlay.{given_none}
 use Rattle.portal_rules.proofs.AllLaws.{any_map, filtered_any}

@@ -1,5 +1,9 @@
 -- A roll taken row by row: what each row adds, and which row is refused first.
-use Rattle.portal_rules.proofs.Base.{◌≡◌, [], ℕ, ◌+◌, ◌<◌, suc, Bool, true, false, List, ◌∷◌, ◌++◌, length, drop, reverse, get_or, refl, sym, ◌∙◌, ap, subst, arith, append_assoc, add-one, Option, None, nat_le, if◌then◌else◌, reverse-append, drop-cons, RollRules, RollRefusal, Taken, Faulty, Took, Verdict, Present, New, Rejected, verdict_beside, verdict, there_after, with_row, take_rows, with_new, IsFirstRefused}
+use Rattle.portal_rules.proofs.Base.{◌≡◌, [], ℕ, ◌+◌, ◌<◌, suc, Bool, true, false, List, ◌∷◌, ◌++◌, length, drop}
+use Rattle.portal_rules.proofs.Base.{reverse, get_or, refl, sym, ◌∙◌, ap, subst, arith, append_assoc, add-one, Option}
+use Rattle.portal_rules.proofs.Base.{None, nat_le, if◌then◌else◌, reverse-append, drop-cons, RollRules, RollRefusal}
+use Rattle.portal_rules.proofs.Base.{Taken, Faulty, Took, Verdict, Present, New, Rejected, verdict_beside, verdict}
+use Rattle.portal_rules.proofs.Base.{there_after, with_row, take_rows, with_new, IsFirstRefused}
 
 -- a row with this verdict, and then the later rows
 pub next_row : {X : Type 0} (rules : RollRules X) (at : ℕ) (there : List X) (row : X) (rows : List X) (v : Verdict) → verdict rules at there row ≡ v

@@ -1,5 +1,16 @@
 -- Worlds that differ in the order within students' lists show all but the lists alike, and stay so.
-use Rattle.portal_rules.proofs.Base.{◌≡◌, Bool, true, false, cond, List, [], ◌∷◌, refl, sym, ◌∙◌, ap, subst, map, filter, Option, Some, None, option_map, not, ◌&&◌, is_none, list_any, find, filter_map, cons_option, AllZip, Key, equals, has, is_empty, put, put_all, World, lecturer_key, project_key, student_key, projects_of, applicants_of, is_at, shown_placement, students_in, is_still_to_rank, is_from_ranking, Round, First, Second, Phase, Published, Change, Choices, Ranks, Lecturers, Projects, Students, To, Placements, Fill, SecondRound, changed, opened, ranked_before, placed_before, in_first, with_lecturers, with_projects, with_students, with_choice, with_ranking, with_place, with_fill, new_lecturer, new_student, Person, Office, Lecturer, Student, OfficeCaller, caller_among, lecturer_with, student_with, sight_of, view, student_sees, lecturer_sees, office_sees, listings, catalogue, Reordered, SameButPlaces, arith, Sight, SameStudent}
+use Rattle.portal_rules.proofs.Base.{◌≡◌, Bool, true, false, cond, List, [], ◌∷◌, refl, sym, ◌∙◌, ap, subst, map}
+use Rattle.portal_rules.proofs.Base.{filter, Option, Some, None, option_map, not, ◌&&◌, is_none, list_any, find}
+use Rattle.portal_rules.proofs.Base.{filter_map, cons_option, AllZip, Key, equals, has, is_empty, put, put_all, World}
+use Rattle.portal_rules.proofs.Base.{lecturer_key, project_key, student_key, projects_of, applicants_of, is_at}
+use Rattle.portal_rules.proofs.Base.{shown_placement, students_in, is_still_to_rank, is_from_ranking, Round, First}
+use Rattle.portal_rules.proofs.Base.{Second, Phase, Published, Change, Choices, Ranks, Lecturers, Projects, Students}
+use Rattle.portal_rules.proofs.Base.{To, Placements, Fill, SecondRound, changed, opened, ranked_before, placed_before}
+use Rattle.portal_rules.proofs.Base.{in_first, with_lecturers, with_projects, with_students, with_choice, with_ranking}
+use Rattle.portal_rules.proofs.Base.{with_place, with_fill, new_lecturer, new_student, Person, Office, Lecturer}
+use Rattle.portal_rules.proofs.Base.{Student, OfficeCaller, caller_among, lecturer_with, student_with, sight_of, view}
+use Rattle.portal_rules.proofs.Base.{student_sees, lecturer_sees, office_sees, listings, catalogue, Reordered}
+use Rattle.portal_rules.proofs.Base.{SameButPlaces, arith, Sight, SameStudent}
 use Rattle.portal_rules.specs.World as rows
 use Rattle.portal_rules.proofs.Zips.{zip_by, zip_same, zip_mapped, zip_in, zip_lecturers, zip_projects}
 use Rattle.portal_rules.proofs.Kept.{empty_map}

@@ -1,5 +1,12 @@
 -- A step from a good world leads to a good world, and so does a run.
-use Rattle.portal_rules.proofs.Base.{List, [], ◌∷◌, AllByRecursion, Request, Serves, Run, ◌≡◌, true, false, refl, sym, ◌∙◌, ap, subst, Key, World, is_setup, is_ranking, is_published, is_from_ranking, is_second, Round, First, Choices, Ranks, To, Placements, Fill, changed, opened, in_first, with_lecturers, with_projects, with_students, Phase, Choosing, Ranking, Published, Caller, NoCaller, OfficeCaller, LecturerCaller, StudentCaller, caller, sight_of, office_sees, lecturer_sees, student_sees, AbstractCall, Answer, Decision, is_open_to_rolls, refuses, decision, Good, IsRound, Sound, IsBest, instance, matching_of, StepLeaves, Step, HasForm, arith}
+use Rattle.portal_rules.proofs.Base.{List, [], ◌∷◌, AllByRecursion, Request, Serves, Run, ◌≡◌, true, false, refl, sym}
+use Rattle.portal_rules.proofs.Base.{◌∙◌, ap, subst, Key, World, is_setup, is_ranking, is_published, is_from_ranking}
+use Rattle.portal_rules.proofs.Base.{is_second, Round, First, Choices, Ranks, To, Placements, Fill, changed, opened}
+use Rattle.portal_rules.proofs.Base.{in_first, with_lecturers, with_projects, with_students, Phase, Choosing, Ranking}
+use Rattle.portal_rules.proofs.Base.{Published, Caller, NoCaller, OfficeCaller, LecturerCaller, StudentCaller, caller}
+use Rattle.portal_rules.proofs.Base.{sight_of, office_sees, lecturer_sees, student_sees, AbstractCall, Answer, Decision}
+use Rattle.portal_rules.proofs.Base.{is_open_to_rolls, refuses, decision, Good, IsRound, Sound, IsBest, instance}
+use Rattle.portal_rules.proofs.Base.{matching_of, StepLeaves, Step, HasForm, arith}
 use Rattle.portal_rules.proofs.Cases.{by_student, by_lecturer, by_office}
 use Rattle.portal_rules.proofs.Unseen.{choosing_open, student_found}
 use Rattle.portal_rules.proofs.Kept.{not_published, to_phase, to_published, all_ranked, choosing, ranking}

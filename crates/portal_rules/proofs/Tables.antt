@@ -1,5 +1,9 @@
 -- A table after one more text or row was put in.
-use Rattle.portal_rules.proofs.Base.{◌≡◌, ℕ, ◌+◌, ◌<◌, Bool, true, List, [], ◌∷◌, ◌++◌, map, reverse, length, take, get_or, Option, Some, refl, sym, ◌∙◌, ap, subst, append_assoc, append-nil, add-one, reverse-append, list_any_more, ◌||◌, not, option_map, list_any, find, text_eq, Key, equals, has, Person, is_assigned, placement_in, HasTexts, HasRows, HasKeys, arith, Bor, or_assoc, map-append, map-id, is_some}
+use Rattle.portal_rules.proofs.Base.{◌≡◌, ℕ, ◌+◌, ◌<◌, Bool, true, List, [], ◌∷◌, ◌++◌, map, reverse, length, take}
+use Rattle.portal_rules.proofs.Base.{get_or, Option, Some, refl, sym, ◌∙◌, ap, subst, append_assoc, append-nil, add-one}
+use Rattle.portal_rules.proofs.Base.{reverse-append, list_any_more, ◌||◌, not, option_map, list_any, find, text_eq, Key}
+use Rattle.portal_rules.proofs.Base.{equals, has, Person, is_assigned, placement_in, HasTexts, HasRows, HasKeys, arith}
+use Rattle.portal_rules.proofs.Base.{Bor, or_assoc, map-append, map-id, is_some}
 use Rattle.std.proofs.Math.Seq.{take-suc, take-length}
 use Rattle.std.specs.HashMap as hash
 use Rattle.std.specs.HashMap.{HashMap}

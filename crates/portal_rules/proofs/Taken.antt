@@ -1,5 +1,9 @@
 -- What is legal is taken.
-use Rattle.portal_rules.proofs.Base.{◌≡◌, [], ℕ, ◌+◌, ◌<◌, Bool, true, false, List, ◌∷◌, length, refl, sym, ◌∙◌, ap, subst, arith, map, None, not, ◌||◌, nat_le, list_any, find, AllByRecursion, nat_tests, Key, equals, has, World, student_key, applicants_of, projects_of, is_from_ranking, Listing, Person, lecturer_sees, choice_fault, ranking_fault, RollRules, Took, take_rows, IsChoice, IsRanking, AreFresh}
+use Rattle.portal_rules.proofs.Base.{◌≡◌, [], ℕ, ◌+◌, ◌<◌, Bool, true, false, List, ◌∷◌, length, refl, sym, ◌∙◌, ap}
+use Rattle.portal_rules.proofs.Base.{subst, arith, map, None, not, ◌||◌, nat_le, list_any, find, AllByRecursion}
+use Rattle.portal_rules.proofs.Base.{nat_tests, Key, equals, has, World, student_key, applicants_of, projects_of}
+use Rattle.portal_rules.proofs.Base.{is_from_ranking, Listing, Person, lecturer_sees, choice_fault, ranking_fault}
+use Rattle.portal_rules.proofs.Base.{RollRules, Took, take_rows, IsChoice, IsRanking, AreFresh}
 use Rattle.portal_rules.specs.World as rows
 use Rattle.portal_rules.proofs.AllLaws.{all_weaker, any_map, any_alike, is_sym, none_yet}
 use Rattle.portal_rules.proofs.Kept.{shown_sets, union_any}

@@ -1,5 +1,6 @@
 -- Codes are ASCII, and so they are texts.
-use Rattle.portal_rules.proofs.Base.{◌≡◌, ℕ, ◌<◌, Bool, true, false, List, [], ◌∷◌, refl, arith, nat_tests, list_all, and_parts, is_code_byte}
+use Rattle.portal_rules.proofs.Base.{◌≡◌, ℕ, ◌<◌, Bool, true, false, List, [], ◌∷◌, refl, arith, nat_tests, list_all}
+use Rattle.portal_rules.proofs.Base.{and_parts, is_code_byte}
 use Rattle.std.specs.Str.{IsUtf8, IsAscii, is_utf8}
 use Rattle.std.proofs.lemmas.Str.{is_utf8-from_IsUtf8, IsUtf8-from_is_utf8, IsUtf8-from_ascii}
 use Rattle.std.proofs.lemmas.Str.Ascii.{IsAscii-nil, IsAscii-cons}

@@ -1,9 +1,18 @@
 -- What others do is not seen.
-use Rattle.portal_rules.proofs.Base.{◌≡◌, Bool, true, false, cond, List, [], ◌∷◌, ◌++◌, refl, sym, ◌∙◌, ap, subst, map, Some, find, Key, equals, Rise, Choices, Ranks, changed, with_choice, with_ranking, World, is_choosing, is_published, is_from_ranking, shown_placement, is_at, lecturer_key, student_key, applicants_to, placed_at, projects_of, Phase, Person, LecturerSees, Lecturer, Student, Caller, NoCaller, OfficeCaller, LecturerCaller, StudentCaller, lecturer_with, student_with, caller, sight_of, view, student_sees, lecturer_sees, persons, AbstractCall, Answer, Decision, refuses, decision, Good, StepLeaves, Step, Serves, Run, Request, end_of, replies_to, arith, IsMember, IsIdle}
+use Rattle.portal_rules.proofs.Base.{◌≡◌, Bool, true, false, cond, List, [], ◌∷◌, ◌++◌, refl, sym, ◌∙◌, ap, subst, map}
+use Rattle.portal_rules.proofs.Base.{Some, find, Key, equals, Rise, Choices, Ranks, changed, with_choice, with_ranking}
+use Rattle.portal_rules.proofs.Base.{World, is_choosing, is_published, is_from_ranking, shown_placement, is_at}
+use Rattle.portal_rules.proofs.Base.{lecturer_key, student_key, applicants_to, placed_at, projects_of, Phase, Person}
+use Rattle.portal_rules.proofs.Base.{LecturerSees, Lecturer, Student, Caller, NoCaller, OfficeCaller, LecturerCaller}
+use Rattle.portal_rules.proofs.Base.{StudentCaller, lecturer_with, student_with, caller, sight_of, view, student_sees}
+use Rattle.portal_rules.proofs.Base.{lecturer_sees, persons, AbstractCall, Answer, Decision, refuses, decision, Good}
+use Rattle.portal_rules.proofs.Base.{StepLeaves, Step, Serves, Run, Request, end_of, replies_to, arith, IsMember}
+use Rattle.portal_rules.proofs.Base.{IsIdle}
 use Rattle.portal_rules.specs.World as rows
 use Rattle.portal_rules.proofs.Keys.{is_same, is_own, found_passes, one_row}
 use Rattle.portal_rules.proofs.Reranked.{re_called}
-use Rattle.portal_rules.proofs.Acts.{caller_chosen, caller_ranked, re_chosen, choice_row, catalogue_chosen, catalogue_ranked}
+use Rattle.portal_rules.proofs.Acts.{caller_chosen, caller_ranked, re_chosen, choice_row, catalogue_chosen}
+use Rattle.portal_rules.proofs.Acts.{catalogue_ranked}
 use Rattle.portal_rules.proofs.AllLaws.{kept_filtered}
 
 -- whom a code names was found by that code

@@ -1,5 +1,7 @@
 -- Lemmas on two lists whose elements are alike place by place.
-use Rattle.portal_rules.proofs.Base.{◌≡◌, Bool, List, [], ◌∷◌, arith, refl, sym, ◌∙◌, ap, map, filter, count_by, count_by-map, list_any, is_none, ◌&&◌, Option, AllZip, Key, equals, is_at, is_left, students_in, lecturers_in, projects_in, Round, First, Second, ProjectRow}
+use Rattle.portal_rules.proofs.Base.{◌≡◌, Bool, List, [], ◌∷◌, arith, refl, sym, ◌∙◌, ap, map, filter, count_by}
+use Rattle.portal_rules.proofs.Base.{count_by-map, list_any, is_none, ◌&&◌, Option, AllZip, Key, equals, is_at, is_left}
+use Rattle.portal_rules.proofs.Base.{students_in, lecturers_in, projects_in, Round, First, Second, ProjectRow}
 use Rattle.portal_rules.specs.World.{Lecturer, Student}
 use Rattle.portal_rules.proofs.InPlay.{lecturers_given, projects_given}
 

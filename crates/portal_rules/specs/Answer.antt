@@ -1,16 +1,22 @@
 -- The reply to a call, and its act. Both depend only on the caller's view and the call.
 use Rattle.portal_rules.specs.Base.{Data, string, Phase, Setup, Choosing, Ranking, Published, Round, First, Second}
-use Rattle.std.specs.Prelude.{◌≡◌, ℕ, Bool, false, not, if◌then◌else◌, codes, List, [], ◌∷◌, length, Option, Some, None, is_none}
+use Rattle.std.specs.Prelude.{◌≡◌, ℕ, Bool, false, not, if◌then◌else◌, codes, List, [], ◌∷◌, length, Option, Some, None}
+use Rattle.std.specs.Prelude.{is_none}
 use Rattle.serde_json.specs.Written.{has_float}
 use Rattle.portal_rules.specs.Words.{Key, is_empty}
-use Rattle.portal_rules.specs.World.{is_choosing, is_ranking, is_from_ranking, has_result, Change, Choices, Ranks, Lecturers, Projects, Students, To, Fill, SecondRound}
+use Rattle.portal_rules.specs.World.{is_choosing, is_ranking, is_from_ranking, has_result, Change, Choices, Ranks}
+use Rattle.portal_rules.specs.World.{Lecturers, Projects, Students, To, Fill, SecondRound}
 use Rattle.portal_rules.specs.Sight.{StudentSees, LecturerSees, OfficeSees, AbstractCall}
 use Rattle.portal_rules.specs.declared.view.View.{View as Sight}
 use Rattle.portal_rules.specs.declared.view.View.TheVariants.{Nobody, Office, Lecturer, Student}
 use Rattle.portal_rules.specs.declared.decision.Sheet.{Sheet}
 use Rattle.portal_rules.specs.declared.decision.Sheet.TheVariants as sheet
-use Rattle.portal_rules.specs.Bodies.{dictionary, texts, count, catalogue_body, projects_body, students_body, applicants_body, placed_body, project_body, phase_body, student_me, lecturer_me, office_me, roll_body, status_body, allocation_body, filled_body, csv_text, report_text}
-use Rattle.portal_rules.specs.Faults.{ListFault, choice_fault, ranking_fault, Taken, Faulty, Took, take_rows, lecturer_roll, project_roll, student_roll}
+use Rattle.portal_rules.specs.Bodies.{dictionary, texts, count, catalogue_body, projects_body, students_body}
+use Rattle.portal_rules.specs.Bodies.{applicants_body, placed_body, project_body, phase_body, student_me, lecturer_me}
+use Rattle.portal_rules.specs.Bodies.{office_me, roll_body, status_body, allocation_body, filled_body, csv_text}
+use Rattle.portal_rules.specs.Bodies.{report_text}
+use Rattle.portal_rules.specs.Faults.{ListFault, choice_fault, ranking_fault, Taken, Faulty, Took, take_rows}
+use Rattle.portal_rules.specs.Faults.{lecturer_roll, project_roll, student_roll}
 
 pub data Said : Type 0 where
   Json : Data → Said

@@ -1,6 +1,8 @@
 -- The bodies of replies as JSON, and the office's two texts of the result: CSV and the report.
-use Rattle.portal_rules.specs.Base.{Data, null, number, unsigned, string, array, object, Members, no_members, member, list_any, find, flat_map, join_by, Phase, Round, First, Second}
-use Rattle.std.specs.Prelude.{ℕ, List, [], ◌∷◌, map, Option, Some, None, Bool, not, if◌then◌else◌, codes, ◌++◌, filter, length, ◌-◌, ◌||◌, ◌==◌, decimal, replicate}
+use Rattle.portal_rules.specs.Base.{Data, null, number, unsigned, string, array, object, Members, no_members, member}
+use Rattle.portal_rules.specs.Base.{list_any, find, flat_map, join_by, Phase, Round, First, Second}
+use Rattle.std.specs.Prelude.{ℕ, List, [], ◌∷◌, map, Option, Some, None, Bool, not, if◌then◌else◌, codes, ◌++◌, filter}
+use Rattle.std.specs.Prelude.{length, ◌-◌, ◌||◌, ◌==◌, decimal, replicate}
 use Rattle.serde_json.specs.View.{items_of}
 use Rattle.std.specs.List.{count_by}
 use Rattle.portal_rules.specs.Words.{Key, equals}

@@ -1,6 +1,7 @@
 -- How rolls and lists are checked, what can be wrong with them, and which fault is reported.
 use Rattle.portal_rules.specs.Base.{find, list_any}
-use Rattle.std.specs.Prelude.{ℕ, ◌+◌, Bool, false, not, if◌then◌else◌, ◌&&◌, ◌==◌, nat_le, codes, List, [], ◌∷◌, ◌++◌, map, length, Option, Some, None, ◌≡◌, ◌<◌}
+use Rattle.std.specs.Prelude.{ℕ, ◌+◌, Bool, false, not, if◌then◌else◌, ◌&&◌, ◌==◌, nat_le, codes, List, [], ◌∷◌, ◌++◌}
+use Rattle.std.specs.Prelude.{map, length, Option, Some, None, ◌≡◌, ◌<◌}
 use Rattle.portal_rules.specs.World.{LecturerRow, ProjectRow, StudentRow, Person, Listing}
 use Rattle.portal_rules.specs.Words.{Key, equals, has}
 use Rattle.portal_rules.specs.Sight.{OfficeSees}

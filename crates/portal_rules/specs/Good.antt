@@ -1,8 +1,12 @@
 -- The instance that a world stands for, the matching that its result is, and good worlds.
 use Rattle.portal_rules.specs.Base.{Spa, IsStable, number_in, AllByRecursion, Ranking}
-use Rattle.std.specs.Prelude.{ℕ, List, [], map, Option, unwrap_or, option_map, ◌≡◌, ◌+◌, ◌≤◌, true, false, ◌∷◌, ◌++◌, length, None, IfSome}
+use Rattle.std.specs.Prelude.{ℕ, List, [], map, Option, unwrap_or, option_map, ◌≡◌, ◌+◌, ◌≤◌, true, false, ◌∷◌, ◌++◌}
+use Rattle.std.specs.Prelude.{length, None, IfSome}
 use Rattle.portal_rules.specs.Words.{Key, is_code, is_name, has, Rise, AreDistinct}
-use Rattle.portal_rules.specs.World.{World, in_play, lecturer_key, project_key, student_key, Student, count_at, count_with, given_to, given_with, first, is_left, is_second, applicants_of, is_still_to_rank, is_setup, is_published, is_from_ranking, LecturerRow, ProjectRow, StudentRow}
+use Rattle.portal_rules.specs.World.{World, in_play, lecturer_key, project_key, student_key, Student, count_at}
+use Rattle.portal_rules.specs.World.{count_with, given_to, given_with, first, is_left, is_second, applicants_of}
+use Rattle.portal_rules.specs.World.{is_still_to_rank, is_setup, is_published, is_from_ranking, LecturerRow, ProjectRow}
+use Rattle.portal_rules.specs.World.{StudentRow}
 use Rattle.spa_rows.specs.Lines.{is_key}
 
 abbrev pub lecturer_keys : World → List Key

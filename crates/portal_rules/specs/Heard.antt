@@ -1,6 +1,7 @@
 -- What one caller hears of a run, and runs that differ at most in the order within lists.
 use Rattle.portal_rules.specs.Base.{AllZip}
-use Rattle.std.specs.Prelude.{◌≡◌, ◌≢◌, ◌⊎◌, Bool, true, false, not, ◌||◌, if◌then◌else◌, List, [], ◌∷◌, ◌++◌, ◌&&◌, ◌==◌}
+use Rattle.std.specs.Prelude.{◌≡◌, ◌≢◌, ◌⊎◌, Bool, true, false, not, ◌||◌, if◌then◌else◌, List, [], ◌∷◌, ◌++◌, ◌&&◌}
+use Rattle.std.specs.Prelude.{◌==◌}
 use Rattle.portal_rules.specs.Words.{Key, equals}
 use Rattle.portal_rules.specs.World.{World, Student, is_published}
 use Rattle.portal_rules.specs.declared.view.View.{View as Sight}

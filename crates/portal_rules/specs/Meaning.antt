@@ -12,9 +12,11 @@ use Rattle.portal_rules.specs.declared.decision.Change.TheVariants as change
 use Rattle.portal_rules.specs.declared.decision.Act as done
 use Rattle.portal_rules.specs.declared.decision.Act.TheVariants as act
 use Rattle.portal_rules.specs.declared.decision.Decision as taken
-use Rattle.portal_rules.specs.World.{World, Change, Choices, Ranks, Lecturers, Projects, Students, To, Placements, Fill, SecondRound}
+use Rattle.portal_rules.specs.World.{World, Change, Choices, Ranks, Lecturers, Projects, Students, To, Placements, Fill}
+use Rattle.portal_rules.specs.World.{SecondRound}
 use Rattle.portal_rules.specs.Sight.{AbstractCall}
-use Rattle.portal_rules.specs.Answer.{Answer, Said, Json, Csv, Plain, Unavailable, Act, Nothing, Apply, Publish, Render, Decision}
+use Rattle.portal_rules.specs.Answer.{Answer, Said, Json, Csv, Plain, Unavailable, Act, Nothing, Apply, Publish, Render}
+use Rattle.portal_rules.specs.Answer.{Decision}
 
 -- the texts of a list as they were received
 abbrev pub texts_of : List (Vec ℕ Global) → List (List ℕ)

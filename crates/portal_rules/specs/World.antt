@@ -1,6 +1,8 @@
 -- The world, which is all that the portal stores, and its changes. Rows are in the order of keys.
-use Rattle.portal_rules.specs.Base.{list_any, filter_map, find, Phase, Setup, Choosing, Ranking, Published, Round, First, Second}
-use Rattle.std.specs.Prelude.{ℕ, ◌-◌, nat_lt, Bool, true, false, not, ◌&&◌, if◌then◌else◌, List, [], map, filter, count_by, codes, Option, Some, None, is_none, option_map}
+use Rattle.portal_rules.specs.Base.{list_any, filter_map, find, Phase, Setup, Choosing, Ranking, Published, Round}
+use Rattle.portal_rules.specs.Base.{First, Second}
+use Rattle.std.specs.Prelude.{ℕ, ◌-◌, nat_lt, Bool, true, false, not, ◌&&◌, if◌then◌else◌, List, [], map, filter}
+use Rattle.std.specs.Prelude.{count_by, codes, Option, Some, None, is_none, option_map}
 pub use Rattle.portal_rules.specs.declared.rows.LecturerRow.{LecturerRow}
 pub use Rattle.portal_rules.specs.declared.rows.ProjectRow.{ProjectRow}
 pub use Rattle.portal_rules.specs.declared.rows.StudentRow.{StudentRow}

@@ -1,9 +1,12 @@
 -- Names from below that the proofs use.
-pub use Rattle.std.proofs.Common.{◌≡◌, ◌∙◌, ◌<◌, ◌≤◌, ◌+◌, ◌++◌, ℕ, [], length, Option, Some, None, Result, Ok, Err, IfOk, take, refl, sym, ap, subst, inl, inr, arith, length-append, ◌⊎◌, ◌≢◌, Bool, true}
+pub use Rattle.std.proofs.Common.{◌≡◌, ◌∙◌, ◌<◌, ◌≤◌, ◌+◌, ◌++◌, ℕ, [], length, Option, Some, None, Result, Ok, Err}
+pub use Rattle.std.proofs.Common.{IfOk, take, refl, sym, ap, subst, inl, inr, arith, length-append, ◌⊎◌, ◌≢◌, Bool}
+pub use Rattle.std.proofs.Common.{true}
 pub use Rattle.std.proofs.lemmas.Bool.{cases_lt, lt-ltb}
 pub use Rattle.std.proofs.lemmas.List.{take_all, take-append-le, append-nil, length-take}
 pub use Rattle.std.specs.Io.KnownBytes.{Consumes, IsAtEnd, Appends}
 pub use Rattle.std.specs.Prelude.{IfErr, IfSome}
 pub use Rattle.portal_answer.specs.Answer.{Text, Told, IfLonger, IsAnswer}
-pub use Rattle.portal_run.specs.Run.{ConsumesAtMost, SaysUpgrade, WritesAnswer, AnswersSome, refusal_line, refusal_status}
+pub use Rattle.portal_run.specs.Run.{ConsumesAtMost, SaysUpgrade, WritesAnswer, AnswersSome, refusal_line}
+pub use Rattle.portal_run.specs.Run.{refusal_status}
 pub use Rattle.portal_run.specs.inner.Lines.{TakesMore, Says}

@@ -1,5 +1,7 @@
 -- What is known of an input that is longer than a file may be, and of one that is not.
-use Rattle.portal_run.proofs.Base.{◌≡◌, ◌≢◌, ◌⊎◌, ◌<◌, ◌≤◌, ℕ, Bool, true, length, Option, Some, None, take, subst, inl, inr, arith, IfSome, Appends, cases_lt, lt-ltb, length-take, take_all, Text, Told, IfLonger, IsAnswer, WritesAnswer, AnswersSome}
+use Rattle.portal_run.proofs.Base.{◌≡◌, ◌≢◌, ◌⊎◌, ◌<◌, ◌≤◌, ℕ, Bool, true, length, Option, Some, None, take, subst, inl}
+use Rattle.portal_run.proofs.Base.{inr, arith, IfSome, Appends, cases_lt, lt-ltb, length-take, take_all, Text, Told}
+use Rattle.portal_run.proofs.Base.{IfLonger, IsAnswer, WritesAnswer, AnswersSome}
 use Rattle.portal_answer.specs.declared.answer.Task.{Task}
 
 -- of a longer file nothing is read

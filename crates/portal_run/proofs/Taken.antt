@@ -1,5 +1,7 @@
 -- What was taken from a reader.
-use Rattle.portal_run.proofs.Base.{◌≡◌, ◌∙◌, ◌<◌, ◌≤◌, ◌+◌, ◌++◌, ℕ, [], length, Option, Some, None, take, refl, sym, ap, subst, inl, inr, arith, length-append, IfSome, Consumes, IsAtEnd, cases_lt, take_all, take-append-le, append-nil, Text, ConsumesAtMost, TakesMore}
+use Rattle.portal_run.proofs.Base.{◌≡◌, ◌∙◌, ◌<◌, ◌≤◌, ◌+◌, ◌++◌, ℕ, [], length, Option, Some, None, take, refl, sym}
+use Rattle.portal_run.proofs.Base.{ap, subst, inl, inr, arith, length-append, IfSome, Consumes, IsAtEnd, cases_lt}
+use Rattle.portal_run.proofs.Base.{take_all, take-append-le, append-nil, Text, ConsumesAtMost, TakesMore}
 use Rattle.std.proofs.KnownBytes.{Consumes-trans}
 use Rattle.portal_desk.specs.Kept.{TakesAtMost as TakesFew}
 

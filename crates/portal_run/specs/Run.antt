@@ -7,7 +7,8 @@ use Rattle.portal_answer.specs.declared.answer.Task.TheVariants as task
 use Rattle.portal_words.specs.declared.command.Command.{Command}
 use Rattle.portal_words.specs.declared.command.Command.TheVariants as command
 use Rattle.portal_store.specs.declared.store.UpgradeFault.{UpgradeFault}
-use Rattle.portal_store.specs.declared.store.UpgradeFault.TheVariants.{NotPortal, OtherVersion, Damaged, Exists, Store, Memory}
+use Rattle.portal_store.specs.declared.store.UpgradeFault.TheVariants.{NotPortal, OtherVersion, Damaged, Exists, Store}
+use Rattle.portal_store.specs.declared.store.UpgradeFault.TheVariants.{Memory}
 
 -- at most so many bytes of the input are read
 abbrev pub ConsumesAtMost : ℕ → Option Text → Option Text → Type 0

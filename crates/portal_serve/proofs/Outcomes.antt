@@ -1,5 +1,8 @@
 -- What is told of connections, one after another.
-use Rattle.portal_serve.proofs.Base.{◌≡◌, ◌∙◌, ◌+◌, ◌≤◌, Bool, true, false, if◌then◌else◌, ℕ, List, [], ◌∷◌, ◌++◌, length, length-append, Option, Some, None, Result, Ok, Err, refl, sym, ap, subst, arith, is_own_fault, is_store, is_store_fault, Adds, Settles, SettlesBy, EndsBy, Stands, Tells, is_faulty}
+use Rattle.portal_serve.proofs.Base.{◌≡◌, ◌∙◌, ◌+◌, ◌≤◌, Bool, true, false, if◌then◌else◌, ℕ, List, [], ◌∷◌, ◌++◌}
+use Rattle.portal_serve.proofs.Base.{length, length-append, Option, Some, None, Result, Ok, Err, refl, sym, ap, subst}
+use Rattle.portal_serve.proofs.Base.{arith, is_own_fault, is_store, is_store_fault, Adds, Settles, SettlesBy, EndsBy}
+use Rattle.portal_serve.proofs.Base.{Stands, Tells, is_faulty}
 use Rattle.std.specs.Prelude.{All, count_by}
 use Rattle.std.proofs.lemmas.List.{append_assoc}
 use Rattle.std.proofs.lemmas.List.Elements.{All-push}

@@ -1,9 +1,11 @@
 -- Who sees what an office sees is the office.
-use Rattle.portal_serve.proofs.Base.{◌≡◌, Bool, true, false, if◌then◌else◌, ℕ, List, Option, Some, None, told_of, IsOfficeReport}
+use Rattle.portal_serve.proofs.Base.{◌≡◌, Bool, true, false, if◌then◌else◌, ℕ, List, Option, Some, None, told_of}
+use Rattle.portal_serve.proofs.Base.{IsOfficeReport}
 use Rattle.portal_rules.specs.World as rows
 use Rattle.portal_rules.specs.World.{World}
 use Rattle.portal_rules.specs.Words.{Key, equals}
-use Rattle.portal_rules.specs.View.{view, sight_of, caller_among, OfficeCaller, lecturer_with, student_with, office_sees}
+use Rattle.portal_rules.specs.View.{view, sight_of, caller_among, OfficeCaller, lecturer_with, student_with}
+use Rattle.portal_rules.specs.View.{office_sees}
 
 pub told_is : (w : World) (code : Key) (text : List ℕ) → IsOfficeReport (view w code) text → text ≡ told_of (office_sees w)
 told_is w code text h = go (equals w.office code) (lecturer_with w code) (student_with w code) h

@@ -1,5 +1,6 @@
 -- The outcomes of the accepted connections, in order, and the report to the office.
-use Rattle.std.specs.Prelude.{Bool, true, false, not, Result, Ok, Err, ◌≡◌, ◌≢◌, ◌≤◌, List, [], ◌∷◌, ◌++◌, length, count_by, All, Option, Some, IfSome, ℕ, if◌then◌else◌}
+use Rattle.std.specs.Prelude.{Bool, true, false, not, Result, Ok, Err, ◌≡◌, ◌≢◌, ◌≤◌, List, [], ◌∷◌, ◌++◌, length}
+use Rattle.std.specs.Prelude.{count_by, All, Option, Some, IfSome, ℕ, if◌then◌else◌}
 use Rattle.portal_desk.specs.declared.served.Cause.{Cause}
 use Rattle.portal_desk.specs.declared.served.Cause.TheVariants.{Store}
 use Rattle.portal_desk.specs.declared.served.Served.{Served}

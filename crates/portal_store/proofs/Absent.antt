@@ -1,5 +1,11 @@
 -- A query tells whether a lecturer is on the roll; a ranking by one who is not changes nothing.
-use Rattle.portal_store.proofs.Base.{◌≡◌, ◌≢◌, ℕ, Bool, true, false, ◌||◌, cond, List, [], ◌∷◌, map, filter, length, refl, sym, ap, ◌∙◌, or-true, AllByRecursion, length_permutation, Row, bytes, Database, Round, Key, equals, has, put_all, Lecturer, lecturer_key, Ranks, with_ranking, is_own, lecturer_tree, has_text, row_key, ListsBy, columns, ranking_elsewhere, world_in, lecturer_stored, IsTransitionIn, TurnsThere, put_all_map, map_twice, IsLecturerRow, lecturer_rows_formed, all_map_on, length-map, text_there, all_two, is_empty, nil_from_length, none_passes}
+use Rattle.portal_store.proofs.Base.{◌≡◌, ◌≢◌, ℕ, Bool, true, false, ◌||◌, cond, List, [], ◌∷◌, map, filter, length}
+use Rattle.portal_store.proofs.Base.{refl, sym, ap, ◌∙◌, or-true, AllByRecursion, length_permutation, Row, bytes}
+use Rattle.portal_store.proofs.Base.{Database, Round, Key, equals, has, put_all, Lecturer, lecturer_key, Ranks}
+use Rattle.portal_store.proofs.Base.{with_ranking, is_own, lecturer_tree, has_text, row_key, ListsBy, columns}
+use Rattle.portal_store.proofs.Base.{ranking_elsewhere, world_in, lecturer_stored, IsTransitionIn, TurnsThere}
+use Rattle.portal_store.proofs.Base.{put_all_map, map_twice, IsLecturerRow, lecturer_rows_formed, all_map_on}
+use Rattle.portal_store.proofs.Base.{length-map, text_there, all_two, is_empty, nil_from_length, none_passes}
 use Rattle.portal_store.proofs.RankTurns.{key_test, same_key}
 use Rattle.portal_store.proofs.Rounds.{key_in}
 

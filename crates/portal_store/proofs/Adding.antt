@@ -1,5 +1,18 @@
 -- New rows of a roll: what a loop of INSERTs leaves of the tables, and what that is to the world.
-use Rattle.portal_store.proofs.Base.{◌≡◌, ℕ, false, ◌||◌, List, [], ◌∷◌, ◌++◌, None, map, refl, sym, ap, ap₂, subst, subst₂, ◌∙◌, map-append, AllByRecursion, IsDistinct, IsPermutation, IsPermutation-refl, IsPermutation-trans, IsPermutation-sym, IsPermutation-middle, IsPermutation-map, Null, Int, Row, next_rowid, put_row, Database, IsDatabase, First, Second, LecturerRow, ProjectRow, StudentRow, Key, equals, has, Rise, put_all, lecturer_key, project_key, student_key, changed, Lecturers, Projects, Students, Good, lecturer_tree, project_tree, student_tree, choice_tree, ranking_tree, RowNumbersDiffer, row_key, Keeps, with_rows, put_splits, with_rows_added, NewRows, IsConsistentIn, HasChangedIn, IsTransitionIn, of_key, IsWhole, list_in_order, world_in, project_row, permutes, permutes_more, rise_distinct, all_permuted, distinct_permuted, map_twice, map_alike, all_map_on, all_unmap, all_map, all_append, all_weaker, drop, IsPermutation-append_right, new_lecturer, new_student, InsertsRows, AreNew, Adds, lecturer_new, project_new, student_new, puts_apart, more_put, OnRoll, none_of, place_parents, map-id}
+use Rattle.portal_store.proofs.Base.{◌≡◌, ℕ, false, ◌||◌, List, [], ◌∷◌, ◌++◌, None, map, refl, sym, ap, ap₂, subst}
+use Rattle.portal_store.proofs.Base.{subst₂, ◌∙◌, map-append, AllByRecursion, IsDistinct, IsPermutation}
+use Rattle.portal_store.proofs.Base.{IsPermutation-refl, IsPermutation-trans, IsPermutation-sym, IsPermutation-middle}
+use Rattle.portal_store.proofs.Base.{IsPermutation-map, Null, Int, Row, next_rowid, put_row, Database, IsDatabase}
+use Rattle.portal_store.proofs.Base.{First, Second, LecturerRow, ProjectRow, StudentRow, Key, equals, has, Rise}
+use Rattle.portal_store.proofs.Base.{put_all, lecturer_key, project_key, student_key, changed, Lecturers, Projects}
+use Rattle.portal_store.proofs.Base.{Students, Good, lecturer_tree, project_tree, student_tree, choice_tree}
+use Rattle.portal_store.proofs.Base.{ranking_tree, RowNumbersDiffer, row_key, Keeps, with_rows, put_splits}
+use Rattle.portal_store.proofs.Base.{with_rows_added, NewRows, IsConsistentIn, HasChangedIn, IsTransitionIn, of_key}
+use Rattle.portal_store.proofs.Base.{IsWhole, list_in_order, world_in, project_row, permutes, permutes_more}
+use Rattle.portal_store.proofs.Base.{rise_distinct, all_permuted, distinct_permuted, map_twice, map_alike, all_map_on}
+use Rattle.portal_store.proofs.Base.{all_unmap, all_map, all_append, all_weaker, drop, IsPermutation-append_right}
+use Rattle.portal_store.proofs.Base.{new_lecturer, new_student, InsertsRows, AreNew, Adds, lecturer_new, project_new}
+use Rattle.portal_store.proofs.Base.{student_new, puts_apart, more_put, OnRoll, none_of, place_parents, map-id}
 use Rattle.portal_tables.specs.declared.list_table.Lists.TheVariants as which
 use Rattle.portal_tables.proofs.Writes.{unnumbered}
 use Rattle.portal_store.specs.declared.add_rows.NewRows.TheVariants as come

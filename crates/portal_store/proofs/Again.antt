@@ -1,5 +1,8 @@
 -- A crash leaves what stands for a good world, and the schema found over it is the portal's own.
-use Rattle.portal_store.proofs.Base.{◌≡◌, inl, inr, refl, sym, ap, subst, ◌∙◌, Trees, Database, IsDatabase, Good, first_version, IsFirstSchema, IsCurrentSchema, world_in, world_of, HasGoodWorld, HasGoodFirst, IsConsistent, OpenFault, First, ◌⊎◌, own_again, Refutes, Bars, Reopens, OpensAgain, OpensFresh, UpgradesAgain}
+use Rattle.portal_store.proofs.Base.{◌≡◌, inl, inr, refl, sym, ap, subst, ◌∙◌, Trees, Database, IsDatabase, Good}
+use Rattle.portal_store.proofs.Base.{first_version, IsFirstSchema, IsCurrentSchema, world_in, world_of, HasGoodWorld}
+use Rattle.portal_store.proofs.Base.{HasGoodFirst, IsConsistent, OpenFault, First, ◌⊎◌, own_again, Refutes, Bars}
+use Rattle.portal_store.proofs.Base.{Reopens, OpensAgain, OpensFresh, UpgradesAgain}
 use Rattle.portal_store.specs.declared.store.OpenFault.TheVariants as opening
 use Rattle.portal_store.specs.declared.store.UpgradeFault.{UpgradeFault}
 use Rattle.portal_store.specs.declared.store.UpgradeFault.TheVariants as upgrading

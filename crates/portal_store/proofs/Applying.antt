@@ -1,5 +1,19 @@
 -- Applicants and placed students, of what queries show.
-use Rattle.portal_store.proofs.Base.{◌≡◌, Bool, true, false, ◌&&◌, ◌||◌, List, [], ◌∷◌, ◌++◌, map, filter, Option, refl, sym, ap, subst, ◌∙◌, if◌then◌else◌, cond, is_none, IfSome, None, Some, AllByRecursion, IsPermutation, IsPermutation-cons, IsPermutation-middle, IsPermutation-refl, IsPermutation-sym, IsPermutation-trans, Row, column, bytes, Trees, filter-map, filter_none, map-map, all_of, Phase, Setup, Choosing, Ranking, Published, Round, First, Second, Listing, ProjectRow, Key, Rise, equals, has, put_all, World, Student, first_placed, project_key, student_key, is_left, is_from_ranking, is_published, is_second, shown_placement, catalogue, Good, is_same, all_weaker, project_tree, student_tree, HasSecond, choice_shown, by_key, roll_columns, world_in, student_stored, project_row, first_cell, lecturer_shown, lecturer_from, distinct_permuted, map_alike, permutes_more, put_all_map, rise_distinct, and-false, or-false, projects_of, applicants_to, placed_at, is_at, persons, lecturer_sees, shown_line, applicant_lines, person_key, lines_shown, persons_at, persons_before, placed_among, placed_at_shown, applicants_told, placed_told, own_keys_shown, one_rise, rise_put_all, arith}
+use Rattle.portal_store.proofs.Base.{◌≡◌, Bool, true, false, ◌&&◌, ◌||◌, List, [], ◌∷◌, ◌++◌, map, filter, Option, refl}
+use Rattle.portal_store.proofs.Base.{sym, ap, subst, ◌∙◌, if◌then◌else◌, cond, is_none, IfSome, None, Some}
+use Rattle.portal_store.proofs.Base.{AllByRecursion, IsPermutation, IsPermutation-cons, IsPermutation-middle}
+use Rattle.portal_store.proofs.Base.{IsPermutation-refl, IsPermutation-sym, IsPermutation-trans, Row, column, bytes}
+use Rattle.portal_store.proofs.Base.{Trees, filter-map, filter_none, map-map, all_of, Phase, Setup, Choosing, Ranking}
+use Rattle.portal_store.proofs.Base.{Published, Round, First, Second, Listing, ProjectRow, Key, Rise, equals, has}
+use Rattle.portal_store.proofs.Base.{put_all, World, Student, first_placed, project_key, student_key, is_left}
+use Rattle.portal_store.proofs.Base.{is_from_ranking, is_published, is_second, shown_placement, catalogue, Good}
+use Rattle.portal_store.proofs.Base.{is_same, all_weaker, project_tree, student_tree, HasSecond, choice_shown, by_key}
+use Rattle.portal_store.proofs.Base.{roll_columns, world_in, student_stored, project_row, first_cell, lecturer_shown}
+use Rattle.portal_store.proofs.Base.{lecturer_from, distinct_permuted, map_alike, permutes_more, put_all_map}
+use Rattle.portal_store.proofs.Base.{rise_distinct, and-false, or-false, projects_of, applicants_to, placed_at, is_at}
+use Rattle.portal_store.proofs.Base.{persons, lecturer_sees, shown_line, applicant_lines, person_key, lines_shown}
+use Rattle.portal_store.proofs.Base.{persons_at, persons_before, placed_among, placed_at_shown, applicants_told}
+use Rattle.portal_store.proofs.Base.{placed_told, own_keys_shown, one_rise, rise_put_all, arith}
 use Rattle.portal_rules.specs.declared.rows.Person.{Person}
 use Rattle.portal_rules.proofs.Fills.{rise_kept}
 use Rattle.portal_views.specs.declared.lines.ApplicantLine.{ApplicantLine}

@@ -1,5 +1,16 @@
 -- What `open` makes of what was read.
-use Rattle.portal_store.proofs.Base.{List, [], ◌∷◌, pos, ◌≡◌, ◌≢◌, ℕ, Bool, true, false, not, IsTrue, Ok, Err, Result, map, length, filter, slice_index_or, refl, sym, ap, subst, ◌∙◌, IsPermutation, Int, Row, column, Trees, Database, HasCleanDisk, IsUnchanged, State, Ghosts, Held, state, Round, First, Second, portal_tree, second_tree, choice2_tree, ranked2_tree, ranking2_tree, assigned2_tree, first_trees, own_trees, version, IsCurrentSchema, RowNumbersDiffer, portal_row, second_row, ListsBy, every, columns, HasOffice, number_of_phase, is_empty, AllNumbersDiffer, HasSecond, IsUnopened, IsConsistent, IsConsistentIn, later_trees, IsKept, early_trees, apart_one, current_own, Denies, AdmitsAs, Admits, TableFault, OpenFault, IfErr, IsLive, apart_none, HasVersion, RefusalSays, NumbersDiffer, SaysNothing, Reading, Anyhow, IsSettled, OnlyLooks, OnOk, HasFirstSchema, clean_before, HasRound, IsErrAnd, reads_as, all_append, filter_all, nil_from_length, parts_of, second_trees}
+use Rattle.portal_store.proofs.Base.{List, [], ◌∷◌, pos, ◌≡◌, ◌≢◌, ℕ, Bool, true, false, not, IsTrue, Ok, Err, Result}
+use Rattle.portal_store.proofs.Base.{map, length, filter, slice_index_or, refl, sym, ap, subst, ◌∙◌, IsPermutation, Int}
+use Rattle.portal_store.proofs.Base.{Row, column, Trees, Database, HasCleanDisk, IsUnchanged, State, Ghosts, Held}
+use Rattle.portal_store.proofs.Base.{state, Round, First, Second, portal_tree, second_tree, choice2_tree, ranked2_tree}
+use Rattle.portal_store.proofs.Base.{ranking2_tree, assigned2_tree, first_trees, own_trees, version, IsCurrentSchema}
+use Rattle.portal_store.proofs.Base.{RowNumbersDiffer, portal_row, second_row, ListsBy, every, columns, HasOffice}
+use Rattle.portal_store.proofs.Base.{number_of_phase, is_empty, AllNumbersDiffer, HasSecond, IsUnopened, IsConsistent}
+use Rattle.portal_store.proofs.Base.{IsConsistentIn, later_trees, IsKept, early_trees, apart_one, current_own, Denies}
+use Rattle.portal_store.proofs.Base.{AdmitsAs, Admits, TableFault, OpenFault, IfErr, IsLive, apart_none, HasVersion}
+use Rattle.portal_store.proofs.Base.{RefusalSays, NumbersDiffer, SaysNothing, Reading, Anyhow, IsSettled, OnlyLooks}
+use Rattle.portal_store.proofs.Base.{OnOk, HasFirstSchema, clean_before, HasRound, IsErrAnd, reads_as, all_append}
+use Rattle.portal_store.proofs.Base.{filter_all, nil_from_length, parts_of, second_trees}
 use Rattle.sqlite.proofs.Callers.{one_permutation}
 unfoldable use Rattle.sqlite.specs.State.{Begins}
 use Rattle.sqlite.specs.Listing.{understood, reads_listing, IsSourceOf}

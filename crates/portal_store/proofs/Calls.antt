@@ -1,9 +1,16 @@
 -- What is promised of a store that was made, and of a connection that is handed back.
-use Rattle.portal_store.proofs.Base.{◌≡◌, ◌≢◌, ◌↔◌, ◌∙◌, Bool, IsTrue, false, refl, sym, subst, Trees, Database, HasCleanDisk, IsUnchanged, IsLive, Survives, Ghosts, Held, state, Key, is_code, Good, HasFirstSchema, IsCurrentSchema, IsFirstSchema, first_version, no_schema, version, Creates, IsFresh, has_names, Commits, IsAfter, LeavesOnly, IsSettled, OnlyLooks, HasGoodFirst, HasGoodWorld, IsCleanStore, Seen, world_of, OpenFault, HasVersion, IsUpgradedFrom, LeavesUpgraded, RefusalSays, Refutes, IsKept, Admits, survives_weaker, Ok, Second, Reads, Answers, HasEntries, IsSoundIfOpen}
+use Rattle.portal_store.proofs.Base.{◌≡◌, ◌≢◌, ◌↔◌, ◌∙◌, Bool, IsTrue, false, refl, sym, subst, Trees, Database}
+use Rattle.portal_store.proofs.Base.{HasCleanDisk, IsUnchanged, IsLive, Survives, Ghosts, Held, state, Key, is_code}
+use Rattle.portal_store.proofs.Base.{Good, HasFirstSchema, IsCurrentSchema, IsFirstSchema, first_version, no_schema}
+use Rattle.portal_store.proofs.Base.{version, Creates, IsFresh, has_names, Commits, IsAfter, LeavesOnly, IsSettled}
+use Rattle.portal_store.proofs.Base.{OnlyLooks, HasGoodFirst, HasGoodWorld, IsCleanStore, Seen, world_of, OpenFault}
+use Rattle.portal_store.proofs.Base.{HasVersion, IsUpgradedFrom, LeavesUpgraded, RefusalSays, Refutes, IsKept, Admits}
+use Rattle.portal_store.proofs.Base.{survives_weaker, Ok, Second, Reads, Answers, HasEntries, IsSoundIfOpen}
 use Rattle.portal_list.specs.inner.Rows.{AllEntries}
 use Rattle.portal_tables.proofs.Runs.{survives_same}
 use Rattle.portal_tables.specs.declared.names.Names.TheVariants.{All}
-use Rattle.portal_store.specs.Calls.{CreatesStore, HandsBack, MakesStore, OpensStore, RefusesToCreate, RefusesToUpgrade, UpgradesStore}
+use Rattle.portal_store.specs.Calls.{CreatesStore, HandsBack, MakesStore, OpensStore, RefusesToCreate, RefusesToUpgrade}
+use Rattle.portal_store.specs.Calls.{UpgradesStore}
 use Rattle.portal_store.specs.Crash.{ShowsVersion, as_upgrading}
 use Rattle.portal_store.specs.declared.store.CreateFault.{CreateFault}
 use Rattle.portal_store.specs.declared.store.CreateFault.TheVariants as creating

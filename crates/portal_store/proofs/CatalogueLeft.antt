@@ -1,5 +1,12 @@
 -- The catalogue of the tables is that of the world: in the second round of what the first left.
-use Rattle.portal_store.proofs.Base.{◌≡◌, Bool, true, false, cond, List, [], ◌∷◌, map, refl, sym, ap, ap₂, ◌∙◌, filter, ◌&&◌, Option, Some, None, option_map, find, filter_map, cons_option, Trees, map-map, filter-map, Round, First, Second, LecturerRow, ProjectRow, Key, equals, has, World, Lecturer, Student, lecturer_key, pairs_with, catalogue, is_sym, first_plays, student_tree, columns, by_key, AllRows, world_in, student_stored, nat_lt, ◌-◌, or_parts, given_with, lowered_lecturer, lowered_project, lecturers_left, projects_left, name_in, listing_with, listings, offered, first_pairs, pair_told, catalogue_shown}
+use Rattle.portal_store.proofs.Base.{◌≡◌, Bool, true, false, cond, List, [], ◌∷◌, map, refl, sym, ap, ap₂, ◌∙◌, filter}
+use Rattle.portal_store.proofs.Base.{◌&&◌, Option, Some, None, option_map, find, filter_map, cons_option, Trees}
+use Rattle.portal_store.proofs.Base.{map-map, filter-map, Round, First, Second, LecturerRow, ProjectRow, Key, equals}
+use Rattle.portal_store.proofs.Base.{has, World, Lecturer, Student, lecturer_key, pairs_with, catalogue, is_sym}
+use Rattle.portal_store.proofs.Base.{first_plays, student_tree, columns, by_key, AllRows, world_in, student_stored}
+use Rattle.portal_store.proofs.Base.{nat_lt, ◌-◌, or_parts, given_with, lowered_lecturer, lowered_project}
+use Rattle.portal_store.proofs.Base.{lecturers_left, projects_left, name_in, listing_with, listings, offered}
+use Rattle.portal_store.proofs.Base.{first_pairs, pair_told, catalogue_shown}
 use Rattle.portal_rules.specs.inner.Room.{lecturer_left, project_left}
 use Rattle.portal_rules.proofs.Rooms.{project_left_is, lecturer_left_is, each_left}
 use Rattle.portal_list.proofs.Listings.{row_of, offered_rows}

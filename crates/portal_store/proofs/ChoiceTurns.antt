@@ -1,5 +1,11 @@
 -- Putting a student's list turns the tables to the world with that list.
-use Rattle.portal_store.proofs.Base.{◌≡◌, inl, inr, ℕ, true, false, cond, List, [], map, refl, sym, ap, subst, ◌∙◌, cases_Bool, AllByRecursion, Row, Trees, Database, State, Round, First, Second, Key, equals, put_all, Student, student_key, changed, Choices, is_same, all_weaker, tree_of, RowNumbersDiffer, row_key, choice_tree, choice2_tree, GoesOn, goes_more, of_key, list_in_order, chosen, IsWhole, world_in, choice_table, student_stored, Whole, IsConsistentIn, IsTransitionIn, HasPut, PutsList, put_all_map, map_alike, map_twice, with_choice}
+use Rattle.portal_store.proofs.Base.{◌≡◌, inl, inr, ℕ, true, false, cond, List, [], map, refl, sym, ap, subst, ◌∙◌}
+use Rattle.portal_store.proofs.Base.{cases_Bool, AllByRecursion, Row, Trees, Database, State, Round, First, Second, Key}
+use Rattle.portal_store.proofs.Base.{equals, put_all, Student, student_key, changed, Choices, is_same, all_weaker}
+use Rattle.portal_store.proofs.Base.{tree_of, RowNumbersDiffer, row_key, choice_tree, choice2_tree, GoesOn, goes_more}
+use Rattle.portal_store.proofs.Base.{of_key, list_in_order, chosen, IsWhole, world_in, choice_table, student_stored}
+use Rattle.portal_store.proofs.Base.{Whole, IsConsistentIn, IsTransitionIn, HasPut, PutsList, put_all_map, map_alike}
+use Rattle.portal_store.proofs.Base.{map_twice, with_choice}
 use Rattle.portal_store.proofs.Still.{but_one, holds_after, holds_there, opened_kept, world_after}
 use Rattle.portal_tables.proofs.Putting.{list_is, whole_is}
 

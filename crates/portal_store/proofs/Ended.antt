@@ -1,5 +1,10 @@
 -- How a call ends that makes a change: of one transaction, after a query or with none.
-use Rattle.portal_store.proofs.Base.{◌∙◌, ◌≡◌, Anyhow, Commits, CommitsChange, Database, Err, HasCleanDisk, IsAfter, IsCurrentSchema, IsErr, IsTrue, IsUnchanged, IsUnchangedOrUndone, Ok, OnErr, OnOk, Reading, Result, Round, State, Stays, Survives, Trees, ap, clean_before, commits_asked, false, inl, on_err_weaker, on_ok_weaker, stays_left, subst, survives_then, survives_weaker, sym, LeavesOnly, IsSettled, commits_none, LeavesMade, IsToldAs, IfOk}
+use Rattle.portal_store.proofs.Base.{◌∙◌, ◌≡◌, Anyhow, Commits, CommitsChange, Database, Err, HasCleanDisk, IsAfter}
+use Rattle.portal_store.proofs.Base.{IsCurrentSchema, IsErr, IsTrue, IsUnchanged, IsUnchangedOrUndone, Ok, OnErr, OnOk}
+use Rattle.portal_store.proofs.Base.{Reading, Result, Round, State, Stays, Survives, Trees, ap, clean_before}
+use Rattle.portal_store.proofs.Base.{commits_asked, false, inl, on_err_weaker, on_ok_weaker, stays_left, subst}
+use Rattle.portal_store.proofs.Base.{survives_then, survives_weaker, sym, LeavesOnly, IsSettled, commits_none}
+use Rattle.portal_store.proofs.Base.{LeavesMade, IsToldAs, IfOk}
 
 -- the tables are read, and then the change is made, or not
 pub ends_then : {round : Round} {Right : Database → Type 0} {U F V E : Type 0} {Told : Database → Result U F → Type 0} {C D : Database → Database → Type 0} {u : U} {r : Result V E} {old mid new : State} → Reading round Anyhow Right Told (Ok u) old mid → CommitsChange C r mid new

@@ -1,5 +1,10 @@
 -- Rankings put one after the other into the tables, and those that a fill would put.
-use Rattle.portal_store.proofs.Base.{◌≡◌, ℕ, ◌+◌, ◌<◌, true, List, [], ◌∷◌, ◌++◌, map, take, length, get_or, refl, sym, ap, subst, ◌∙◌, map-append, AllByRecursion, IsPermutation-map, IsPermutation-sym, Database, State, Key, equals, has, Rise, put_all, World, lecturer_key, changed, Ranks, Fill, Sound, Round, fill_missing, lecturer_tree, world_in, lecturer_stored, row_key, IsConsistentIn, IsTransitionIn, GoesOn, with_rankings, TurnsAll, TurnsThere, permutes, take_more, list_any-IsPermutation, goes_both}
+use Rattle.portal_store.proofs.Base.{◌≡◌, ℕ, ◌+◌, ◌<◌, true, List, [], ◌∷◌, ◌++◌, map, take, length, get_or, refl, sym}
+use Rattle.portal_store.proofs.Base.{ap, subst, ◌∙◌, map-append, AllByRecursion, IsPermutation-map, IsPermutation-sym}
+use Rattle.portal_store.proofs.Base.{Database, State, Key, equals, has, Rise, put_all, World, lecturer_key, changed}
+use Rattle.portal_store.proofs.Base.{Ranks, Fill, Sound, Round, fill_missing, lecturer_tree, world_in, lecturer_stored}
+use Rattle.portal_store.proofs.Base.{row_key, IsConsistentIn, IsTransitionIn, GoesOn, with_rankings, TurnsAll}
+use Rattle.portal_store.proofs.Base.{TurnsThere, permutes, take_more, list_any-IsPermutation, goes_both}
 use Rattle.portal_store.proofs.Rounds.{keys_in}
 use Rattle.portal_store.proofs.Filled.{ranked_more, keys_still, all_filled, fills_there}
 

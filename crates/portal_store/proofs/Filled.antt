@@ -1,5 +1,10 @@
 -- The world with rankings put in turn; those that a fill would put make the filled world.
-use Rattle.portal_store.proofs.Base.{◌≡◌, inl, inr, Bool, true, false, cond, Some, List, [], ◌∷◌, ◌++◌, map, filter, refl, sym, ap, subst, ◌∙◌, AllByRecursion, IsDistinct, Has, Key, equals, has, Rise, World, Lecturer, lecturer_key, student_key, applicants_of, is_still_to_rank, changed, Ranks, Fill, with_ranking, is_own, is_sym, map_same, map-id, fill_missing, ranking_elsewhere, ranking_here, with_rankings, map_twice, map_alike_on, rise_distinct, with_fill, all-filter, all_has, all_map, all_unmap, at, has_of}
+use Rattle.portal_store.proofs.Base.{◌≡◌, inl, inr, Bool, true, false, cond, Some, List, [], ◌∷◌, ◌++◌, map, filter}
+use Rattle.portal_store.proofs.Base.{refl, sym, ap, subst, ◌∙◌, AllByRecursion, IsDistinct, Has, Key, equals, has, Rise}
+use Rattle.portal_store.proofs.Base.{World, Lecturer, lecturer_key, student_key, applicants_of, is_still_to_rank}
+use Rattle.portal_store.proofs.Base.{changed, Ranks, Fill, with_ranking, is_own, is_sym, map_same, map-id, fill_missing}
+use Rattle.portal_store.proofs.Base.{ranking_elsewhere, ranking_here, with_rankings, map_twice, map_alike_on}
+use Rattle.portal_store.proofs.Base.{rise_distinct, with_fill, all-filter, all_has, all_map, all_unmap, at, has_of}
 use Rattle.portal_store.proofs.RankTurns.{same_key}
 
 -- one ranking more

@@ -1,5 +1,21 @@
 -- Tables that stand for a good world are fine to read.
-use Rattle.portal_store.proofs.Base.{◌≡◌, inl, inr, ℕ, ◌<◌, ◌+◌, Bool, true, false, cond, ◌||◌, IfSome, Option, Some, None, option_map, List, [], ◌∷◌, map, filter, length, get_or, arith, refl, sym, ap, subst, ◌∙◌, ◌==◌, slice_index_or, AllByRecursion, or-true, cases_Bool, nat_tests, Row, column, bytes, Trees, is_code, Good, ProjectRow, Key, equals, has, Rise, World, Lecturer, Student, alone, alone_student, first_placed, is_left, is_second, students_in, lecturer_key, project_key, student_key, applicants_of, is_published, Published, all_weaker, all_map, is_same, is_own, all_unmap, first_plays, Round, First, Second, lecturer_tree, project_tree, student_tree, assigned2_tree, version, tree_of, row_key, by_key, RollsRise, lecturers_shown, projects_shown, students_shown, lecturer_columns, roll_columns, world_in, phase_in, choice_table, ranking_table, is_ranked, lecturer_stored, student_stored, lecturer_row, student_row, project_row, of_key, chosen, list_in_order, IsWhole, HasGoodFirst, HasGoodWorldIn, Whole, shown_lecturer, shown_project, shown_student, AreFine, all_permuted, all_two, permutes, map-map, suc, ◌≤◌, get_or-map, IsLecturer, IsProject, IsStudent, IsChoice, IsRanking, instance_of, places_of, project_keys, first, first_published, in_play, all_both, ranking_in, choice_in, placement_in_round, HasPlacement, IsFine, all-filter, HasOffice, portal_tree}
+use Rattle.portal_store.proofs.Base.{◌≡◌, inl, inr, ℕ, ◌<◌, ◌+◌, Bool, true, false, cond, ◌||◌, IfSome, Option, Some}
+use Rattle.portal_store.proofs.Base.{None, option_map, List, [], ◌∷◌, map, filter, length, get_or, arith, refl, sym, ap}
+use Rattle.portal_store.proofs.Base.{subst, ◌∙◌, ◌==◌, slice_index_or, AllByRecursion, or-true, cases_Bool, nat_tests}
+use Rattle.portal_store.proofs.Base.{Row, column, bytes, Trees, is_code, Good, ProjectRow, Key, equals, has, Rise}
+use Rattle.portal_store.proofs.Base.{World, Lecturer, Student, alone, alone_student, first_placed, is_left, is_second}
+use Rattle.portal_store.proofs.Base.{students_in, lecturer_key, project_key, student_key, applicants_of, is_published}
+use Rattle.portal_store.proofs.Base.{Published, all_weaker, all_map, is_same, is_own, all_unmap, first_plays, Round}
+use Rattle.portal_store.proofs.Base.{First, Second, lecturer_tree, project_tree, student_tree, assigned2_tree, version}
+use Rattle.portal_store.proofs.Base.{tree_of, row_key, by_key, RollsRise, lecturers_shown, projects_shown}
+use Rattle.portal_store.proofs.Base.{students_shown, lecturer_columns, roll_columns, world_in, phase_in, choice_table}
+use Rattle.portal_store.proofs.Base.{ranking_table, is_ranked, lecturer_stored, student_stored, lecturer_row}
+use Rattle.portal_store.proofs.Base.{student_row, project_row, of_key, chosen, list_in_order, IsWhole, HasGoodFirst}
+use Rattle.portal_store.proofs.Base.{HasGoodWorldIn, Whole, shown_lecturer, shown_project, shown_student, AreFine}
+use Rattle.portal_store.proofs.Base.{all_permuted, all_two, permutes, map-map, suc, ◌≤◌, get_or-map, IsLecturer}
+use Rattle.portal_store.proofs.Base.{IsProject, IsStudent, IsChoice, IsRanking, instance_of, places_of, project_keys}
+use Rattle.portal_store.proofs.Base.{first, first_published, in_play, all_both, ranking_in, choice_in}
+use Rattle.portal_store.proofs.Base.{placement_in_round, HasPlacement, IsFine, all-filter, HasOffice, portal_tree}
 use Rattle.std.proofs.lemmas.List.Elements.{recursion_from_All}
 use Rattle.spa_rows.specs.Lines.{is_key}
 use Rattle.spa_model.specs.Pairs.{number_in}

@@ -1,5 +1,11 @@
 -- The tables as `create` makes them stand for the empty world in setup.
-use Rattle.portal_store.proofs.Base.{◌≡◌, ◌≢◌, ℕ, Bool, IsTrue, List, [], ◌∷◌, true, false, not, eqb, refl, slice_index_or, map, sym, subst, ◌∙◌, AllByRecursion, list_all, Row, column, bytes, Database, Ghosts, Held, state, number_in, Setup, First, is_code, Key, put_all, lecturer_key, project_key, student_key, Good, portal_tree, second_tree, IsFresh, Commits, others_are, parts_of, current_own, world_in, world_of, phase_numbered, project_row, IsConsistent, IsConsistentIn, later_trees, IsKept, early_trees, no_schema, Creates, own_made, first_world, HasCleanDisk, LeavesOnly}
+use Rattle.portal_store.proofs.Base.{◌≡◌, ◌≢◌, ℕ, Bool, IsTrue, List, [], ◌∷◌, true, false, not, eqb, refl}
+use Rattle.portal_store.proofs.Base.{slice_index_or, map, sym, subst, ◌∙◌, AllByRecursion, list_all, Row, column, bytes}
+use Rattle.portal_store.proofs.Base.{Database, Ghosts, Held, state, number_in, Setup, First, is_code, Key, put_all}
+use Rattle.portal_store.proofs.Base.{lecturer_key, project_key, student_key, Good, portal_tree, second_tree, IsFresh}
+use Rattle.portal_store.proofs.Base.{Commits, others_are, parts_of, current_own, world_in, world_of, phase_numbered}
+use Rattle.portal_store.proofs.Base.{project_row, IsConsistent, IsConsistentIn, later_trees, IsKept, early_trees}
+use Rattle.portal_store.proofs.Base.{no_schema, Creates, own_made, first_world, HasCleanDisk, LeavesOnly}
 use Rattle.portal_tables.proofs.Fresh.{fresh_apart}
 use Rattle.portal_list.proofs.Fresh.{fresh_good}
 use Rattle.portal_store.proofs.FirstRows.{lecturer_of, student_of}

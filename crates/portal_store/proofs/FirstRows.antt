@@ -1,5 +1,6 @@
 -- What the rows of the rolls stand for in the first round, by the rows of its lists.
-use Rattle.portal_store.proofs.Base.{Bool, if◌then◌else◌, ◌==◌, List, [], Some, None, Row, column, number_in, Lecturer, Student, chosen, row_key, text_or_none, lecturer_row, student_row}
+use Rattle.portal_store.proofs.Base.{Bool, if◌then◌else◌, ◌==◌, List, [], Some, None, Row, column, number_in, Lecturer}
+use Rattle.portal_store.proofs.Base.{Student, chosen, row_key, text_or_none, lecturer_row, student_row}
 
 abbrev pub has_ranking : Row → Bool
 has_ranking r = number_in (column r 5) == 1

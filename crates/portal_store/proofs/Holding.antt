@@ -1,5 +1,9 @@
 -- What the store keeps of its tables, where some of them are as they were.
-use Rattle.portal_store.proofs.Base.{◌≡◌, pos, false, [], refl, sym, ap, ◌∙◌, slice_index_or, column, bytes, Database, number_in, Phase, Round, First, Second, is_setup, To, portal_tree, second_tree, version, portal_row, second_row, MovesTo, MovesSecond, apart_one, IsConsistentIn, HasChangedIn, IsTransitionIn, number_of_phase, world_in, phase_numbered, HasTables, office_row}
+use Rattle.portal_store.proofs.Base.{◌≡◌, pos, false, [], refl, sym, ap, ◌∙◌, slice_index_or, column, bytes, Database}
+use Rattle.portal_store.proofs.Base.{number_in, Phase, Round, First, Second, is_setup, To, portal_tree, second_tree}
+use Rattle.portal_store.proofs.Base.{version, portal_row, second_row, MovesTo, MovesSecond, apart_one, IsConsistentIn}
+use Rattle.portal_store.proofs.Base.{HasChangedIn, IsTransitionIn, number_of_phase, world_in, phase_numbered, HasTables}
+use Rattle.portal_store.proofs.Base.{office_row}
 use Rattle.portal_store.proofs.Rounds.{phase_back}
 use Rattle.portal_store.proofs.Still.{holds_after, holds_there, world_after}
 

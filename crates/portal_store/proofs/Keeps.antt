@@ -1,5 +1,12 @@
 -- What a call that read, or made a change, is to the store.
-use Rattle.portal_store.proofs.Base.{inl, inr, ◌≡◌, ℕ, Bool, IsTrue, Ok, Err, Result, IfOk, OnOk, OnErr, true, false, refl, sym, ap, subst, ◌∙◌, arith, cases_Bool, on_ok_weaker, Database, HasCleanDisk, IsUnchanged, Survives, Trees, Ghosts, Held, state, Change, changed, Second, World, Good, Sound, IsCurrentSchema, clean_if_open, looks_by, Reading, Anyhow, Commits, Stays, IsAfter, world_of, IsConsistent, HasChanged, IsTransition, Seen, IsCleanStore, kept_world, kept_state, IsKept, CommitsChange, DiskInMemory, KeepsClean, Lasts, LastsInMemory, IsLeft, IsToldAs, ◌⊎◌, IsBrokenStore, UnbrokenInMemory, AreConsistent, LeavesMade}
+use Rattle.portal_store.proofs.Base.{inl, inr, ◌≡◌, ℕ, Bool, IsTrue, Ok, Err, Result, IfOk, OnOk, OnErr, true, false}
+use Rattle.portal_store.proofs.Base.{refl, sym, ap, subst, ◌∙◌, arith, cases_Bool, on_ok_weaker, Database, HasCleanDisk}
+use Rattle.portal_store.proofs.Base.{IsUnchanged, Survives, Trees, Ghosts, Held, state, Change, changed, Second, World}
+use Rattle.portal_store.proofs.Base.{Good, Sound, IsCurrentSchema, clean_if_open, looks_by, Reading, Anyhow, Commits}
+use Rattle.portal_store.proofs.Base.{Stays, IsAfter, world_of, IsConsistent, HasChanged, IsTransition, Seen}
+use Rattle.portal_store.proofs.Base.{IsCleanStore, kept_world, kept_state, IsKept, CommitsChange, DiskInMemory}
+use Rattle.portal_store.proofs.Base.{KeepsClean, Lasts, LastsInMemory, IsLeft, IsToldAs, ◌⊎◌, IsBrokenStore}
+use Rattle.portal_store.proofs.Base.{UnbrokenInMemory, AreConsistent, LeavesMade}
 use Rattle.std.specs.Prelude.{◌≤◌}
 use Rattle.portal_rules.specs.Keeping.{IsAlive, IsSettled, Uses}
 use Rattle.portal_rules.specs.declared.keeper.KeepFault.{KeepFault}

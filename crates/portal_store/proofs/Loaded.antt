@@ -1,5 +1,19 @@
 -- From what was read to the world.
-use Rattle.portal_store.proofs.Base.{◌∙◌, ◌∷◌, ◌≡◌, AllByRecursion, AllRows, AreRead, Bool, First, HasRead, IsPermutation-sym, IsWhole, Key, Lecturer, List, LoadsIn, None, Option, Phase, Round, Row, RowsOfWorld, Second, Some, Student, Trees, Whole, World, [], all_map, all_of, all_permuted, all_unmap, all_weaker, alone, alone_student, ap, by_key, bytes, choice_table, chosen, column, cond, cons_option, false, filter_map, has_list, is_ranked, is_second, lecturer_columns, lecturer_key, lecturer_stored, lecturer_tree, lecturers_shown, map, map-map, map_alike, number_in, number_of_phase, of_key, option_map, pair_shown, pairs_with, permutes, phase_numbered, portal_row, portal_tree, pos, project_key, project_row, project_tree, projects_shown, put_all, put_all_map, ranking_table, refl, roll_columns, row_key, rows_from, second_row, second_tree, shown_lecturer, shown_project, shown_student, slice_index_or, student_key, student_stored, student_tree, students_shown, subst, sym, tree_of, true, version, world_in, world_rows, ℕ, alone_lecturer, choices_in, rankings_with, second_phase, Loads, after_first, joined, entry, IsRead, HasNothingBefore}
+use Rattle.portal_store.proofs.Base.{◌∙◌, ◌∷◌, ◌≡◌, AllByRecursion, AllRows, AreRead, Bool, First, HasRead}
+use Rattle.portal_store.proofs.Base.{IsPermutation-sym, IsWhole, Key, Lecturer, List, LoadsIn, None, Option, Phase}
+use Rattle.portal_store.proofs.Base.{Round, Row, RowsOfWorld, Second, Some, Student, Trees, Whole, World, [], all_map}
+use Rattle.portal_store.proofs.Base.{all_of, all_permuted, all_unmap, all_weaker, alone, alone_student, ap, by_key}
+use Rattle.portal_store.proofs.Base.{bytes, choice_table, chosen, column, cond, cons_option, false, filter_map}
+use Rattle.portal_store.proofs.Base.{has_list, is_ranked, is_second, lecturer_columns, lecturer_key, lecturer_stored}
+use Rattle.portal_store.proofs.Base.{lecturer_tree, lecturers_shown, map, map-map, map_alike, number_in}
+use Rattle.portal_store.proofs.Base.{number_of_phase, of_key, option_map, pair_shown, pairs_with, permutes}
+use Rattle.portal_store.proofs.Base.{phase_numbered, portal_row, portal_tree, pos, project_key, project_row}
+use Rattle.portal_store.proofs.Base.{project_tree, projects_shown, put_all, put_all_map, ranking_table, refl}
+use Rattle.portal_store.proofs.Base.{roll_columns, row_key, rows_from, second_row, second_tree, shown_lecturer}
+use Rattle.portal_store.proofs.Base.{shown_project, shown_student, slice_index_or, student_key, student_stored}
+use Rattle.portal_store.proofs.Base.{student_tree, students_shown, subst, sym, tree_of, true, version, world_in}
+use Rattle.portal_store.proofs.Base.{world_rows, ℕ, alone_lecturer, choices_in, rankings_with, second_phase, Loads}
+use Rattle.portal_store.proofs.Base.{after_first, joined, entry, IsRead, HasNothingBefore}
 use Rattle.portal_store.proofs.Rounds.{phase_back}
 use Rattle.portal_store.proofs.RowsOnce.{nothing_before}
 

@@ -1,8 +1,20 @@
 -- What the office sees, of what queries show.
-use Rattle.portal_store.proofs.Base.{◌≡◌, Bool, true, false, ◌&&◌, cond, Option, Some, None, option_map, List, [], ◌∷◌, map, filter, refl, sym, ap, ◌∙◌, if◌then◌else◌, is_none, list_any, filter_map, cons_option, Row, Trees, Database, filter-map, map-map, Phase, Listing, ProjectRow, Key, equals, has, is_empty, Lecturer, Student, students_in, is_left, is_still_to_rank, is_from_ranking, shown_placement, catalogue, all_weaker, Round, First, Second, ranking_table, tree_of, has_list, choice_shown, lecturer_tree, student_tree, row_key, by_key, lecturers_shown, projects_shown, students_shown, lecturer_columns, roll_columns, chosen, first_cell, shown_project, pair_shown, office_shown, IsConsistentIn, Whole, world_in, is_ranked, lecturer_stored, student_stored, student_from, pairs_of, office_sees, any_map, is_wanted, is_waiting, filter_alike, HasWholeLists, is_chosen_shown, is_wanted_shown, waiting_key, waiting_keys, unlisted, AreWhole, filter-filter}
+use Rattle.portal_store.proofs.Base.{◌≡◌, Bool, true, false, ◌&&◌, cond, Option, Some, None, option_map, List, [], ◌∷◌}
+use Rattle.portal_store.proofs.Base.{map, filter, refl, sym, ap, ◌∙◌, if◌then◌else◌, is_none, list_any, filter_map}
+use Rattle.portal_store.proofs.Base.{cons_option, Row, Trees, Database, filter-map, map-map, Phase, Listing, ProjectRow}
+use Rattle.portal_store.proofs.Base.{Key, equals, has, is_empty, Lecturer, Student, students_in, is_left}
+use Rattle.portal_store.proofs.Base.{is_still_to_rank, is_from_ranking, shown_placement, catalogue, all_weaker, Round}
+use Rattle.portal_store.proofs.Base.{First, Second, ranking_table, tree_of, has_list, choice_shown, lecturer_tree}
+use Rattle.portal_store.proofs.Base.{student_tree, row_key, by_key, lecturers_shown, projects_shown, students_shown}
+use Rattle.portal_store.proofs.Base.{lecturer_columns, roll_columns, chosen, first_cell, shown_project, pair_shown}
+use Rattle.portal_store.proofs.Base.{office_shown, IsConsistentIn, Whole, world_in, is_ranked, lecturer_stored}
+use Rattle.portal_store.proofs.Base.{student_stored, student_from, pairs_of, office_sees, any_map, is_wanted}
+use Rattle.portal_store.proofs.Base.{is_waiting, filter_alike, HasWholeLists, is_chosen_shown, is_wanted_shown}
+use Rattle.portal_store.proofs.Base.{waiting_key, waiting_keys, unlisted, AreWhole, filter-filter}
 use Rattle.portal_list.proofs.Waiting.{waiting_lecturers}
 use Rattle.portal_store.proofs.Holding.{has_tables}
-use Rattle.portal_store.proofs.Loaded.{none_earlier, lecturers_by_key, students_by_key, round_rows, has_ranked, found_alike, some_mapped}
+use Rattle.portal_store.proofs.Loaded.{none_earlier, lecturers_by_key, students_by_key, round_rows, has_ranked}
+use Rattle.portal_store.proofs.Loaded.{found_alike, some_mapped}
 use Rattle.portal_store.proofs.Queried.{student_is}
 
 -- consistent tables have whole lists

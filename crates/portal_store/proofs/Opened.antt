@@ -1,5 +1,16 @@
 -- The second round opens by one UPDATE of one row.
-use Rattle.portal_store.proofs.Base.{◌≡◌, Result, ℕ, pos, true, false, not, ◌&&◌, eqb, [], map, slice_index_or, refl, sym, ap, subst, ◌∙◌, list_any, Row, column, bytes, Database, State, number_in, Phase, Setup, Choosing, Ranking, Published, Round, First, Second, put_all, World, is_published, is_second, lecturer_key, project_key, student_key, Change, Choices, Ranks, Lecturers, Projects, Students, To, Placements, Fill, SecondRound, HasFirstSchema, IsCurrentSchema, of_key, IsWhole, HasOffice, row_key, second_row, MovesSecond, portal_tree, lecturer_tree, project_tree, student_tree, choice_tree, ranking_tree, second_tree, choice2_tree, ranked2_tree, ranking2_tree, assigned2_tree, own_trees, version, apart_one, put_all_map, map_alike, map_twice, phase_numbered, phase_in, lecturer_stored, project_row, student_stored, world_in, IsConsistentIn, IsTransitionFrom, IsTransitionIn, OpensSecondRound, CommitsChange, opened, ranked_before, placed_before, Becomes, HasChangedFrom, is_opening, all_of}
+use Rattle.portal_store.proofs.Base.{◌≡◌, Result, ℕ, pos, true, false, not, ◌&&◌, eqb, [], map, slice_index_or, refl}
+use Rattle.portal_store.proofs.Base.{sym, ap, subst, ◌∙◌, list_any, Row, column, bytes, Database, State, number_in}
+use Rattle.portal_store.proofs.Base.{Phase, Setup, Choosing, Ranking, Published, Round, First, Second, put_all, World}
+use Rattle.portal_store.proofs.Base.{is_published, is_second, lecturer_key, project_key, student_key, Change, Choices}
+use Rattle.portal_store.proofs.Base.{Ranks, Lecturers, Projects, Students, To, Placements, Fill, SecondRound}
+use Rattle.portal_store.proofs.Base.{HasFirstSchema, IsCurrentSchema, of_key, IsWhole, HasOffice, row_key, second_row}
+use Rattle.portal_store.proofs.Base.{MovesSecond, portal_tree, lecturer_tree, project_tree, student_tree, choice_tree}
+use Rattle.portal_store.proofs.Base.{ranking_tree, second_tree, choice2_tree, ranked2_tree, ranking2_tree}
+use Rattle.portal_store.proofs.Base.{assigned2_tree, own_trees, version, apart_one, put_all_map, map_alike, map_twice}
+use Rattle.portal_store.proofs.Base.{phase_numbered, phase_in, lecturer_stored, project_row, student_stored, world_in}
+use Rattle.portal_store.proofs.Base.{IsConsistentIn, IsTransitionFrom, IsTransitionIn, OpensSecondRound, CommitsChange}
+use Rattle.portal_store.proofs.Base.{opened, ranked_before, placed_before, Becomes, HasChangedFrom, is_opening, all_of}
 use Rattle.portal_store.proofs.Ended.{ends_more}
 use Rattle.portal_store.proofs.Rounds.{from_in, world_told}
 use Rattle.portal_store.proofs.SecondRows.{lecturer_after, student_after}

@@ -1,5 +1,15 @@
 -- What the UPDATEs of the students' places are to the world.
-use Rattle.portal_store.proofs.Base.{◌≡◌, inl, inr, true, ◌||◌, cond, Option, Some, None, List, [], ◌∷◌, map, filter, refl, sym, ap, subst, subst₂, ◌∙◌, cases_Bool, AllByRecursion, IsPermutation, IsPermutation-sym, IsPermutation-map, Row, column, Database, State, Made, GoesOn, Published, First, Key, equals, has, Rise, put_all, World, Student, student_key, placement_in, with_place, Good, is_same, all_unmap, map_same, all_map, place_row, student_tree, choice_tree, has_text, row_key, text_or_none, columns, every, MovesTo, Assigns, IsConsistentIn, of_key, IsWhole, first_cell, world_in, assigned_of, ShowsRoll, TurnsShown, filter_all, all_permuted, put_same, put_all_map, map_twice, map_alike, map_alike_on, at, IsStudentRow, student_rows_formed, goes_then, assigned_by, with_assigned, student_columns, text_cell, all_has, has_of, student_test}
+use Rattle.portal_store.proofs.Base.{◌≡◌, inl, inr, true, ◌||◌, cond, Option, Some, None, List, [], ◌∷◌, map, filter}
+use Rattle.portal_store.proofs.Base.{refl, sym, ap, subst, subst₂, ◌∙◌, cases_Bool, AllByRecursion, IsPermutation}
+use Rattle.portal_store.proofs.Base.{IsPermutation-sym, IsPermutation-map, Row, column, Database, State, Made, GoesOn}
+use Rattle.portal_store.proofs.Base.{Published, First, Key, equals, has, Rise, put_all, World, Student, student_key}
+use Rattle.portal_store.proofs.Base.{placement_in, with_place, Good, is_same, all_unmap, map_same, all_map, place_row}
+use Rattle.portal_store.proofs.Base.{student_tree, choice_tree, has_text, row_key, text_or_none, columns, every}
+use Rattle.portal_store.proofs.Base.{MovesTo, Assigns, IsConsistentIn, of_key, IsWhole, first_cell, world_in}
+use Rattle.portal_store.proofs.Base.{assigned_of, ShowsRoll, TurnsShown, filter_all, all_permuted, put_same}
+use Rattle.portal_store.proofs.Base.{put_all_map, map_twice, map_alike, map_alike_on, at, IsStudentRow}
+use Rattle.portal_store.proofs.Base.{student_rows_formed, goes_then, assigned_by, with_assigned, student_columns}
+use Rattle.portal_store.proofs.Base.{text_cell, all_has, has_of, student_test}
 use Rattle.sqlite.specs.declared.types.Value.{Value}
 use Rattle.portal_store.proofs.Still.{holds_after, world_after}
 use Rattle.portal_store.proofs.FirstRows.{student_of}

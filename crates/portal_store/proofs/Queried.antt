@@ -1,5 +1,12 @@
 -- From what queries show of one caller to what the world says.
-use Rattle.portal_store.proofs.Base.{◌≡◌, Option, option_map, List, [], ◌∷◌, refl, sym, ap, ◌∙◌, find, Row, column, bytes, Trees, Database, Listing, Key, equals, Lecturer, Student, Phase, catalogue, lecturer_with, student_with, all_weaker, Round, First, Second, lecturer_tree, student_tree, has_text, ListsBy, lecturer_columns, roll_columns, world_in, lecturer_stored, student_stored, student_shown, lecturer_from, student_from, IsLecturerRow, IsStudentRow, has_text_of, lecturer_rows_formed, student_rows_formed, student_sees, as_list, found, Anyhow, IfOk-weaker, Reading, RemembersIn, Result, State, TableFault, reads_as, reads_first}
+use Rattle.portal_store.proofs.Base.{◌≡◌, Option, option_map, List, [], ◌∷◌, refl, sym, ap, ◌∙◌, find, Row, column}
+use Rattle.portal_store.proofs.Base.{bytes, Trees, Database, Listing, Key, equals, Lecturer, Student, Phase, catalogue}
+use Rattle.portal_store.proofs.Base.{lecturer_with, student_with, all_weaker, Round, First, Second, lecturer_tree}
+use Rattle.portal_store.proofs.Base.{student_tree, has_text, ListsBy, lecturer_columns, roll_columns, world_in}
+use Rattle.portal_store.proofs.Base.{lecturer_stored, student_stored, student_shown, lecturer_from, student_from}
+use Rattle.portal_store.proofs.Base.{IsLecturerRow, IsStudentRow, has_text_of, lecturer_rows_formed}
+use Rattle.portal_store.proofs.Base.{student_rows_formed, student_sees, as_list, found, Anyhow, IfOk-weaker, Reading}
+use Rattle.portal_store.proofs.Base.{RemembersIn, Result, State, TableFault, reads_as, reads_first}
 use Rattle.portal_rules.specs.declared.view_cache.ViewCache.{ViewCache}
 use Rattle.portal_tables.specs.Steps.{Gives}
 use Rattle.portal_tables.specs.inner.Reads.{Always}

@@ -1,5 +1,17 @@
 -- Putting a lecturer's ranking turns the tables to the world with that ranking.
-use Rattle.portal_store.proofs.Base.{◌≡◌, inl, inr, ℕ, pos, true, false, not, ◌||◌, cond, Some, None, List, [], ◌∷◌, ◌++◌, map, filter, refl, sym, ap, subst, ◌∙◌, cases_Bool, AllByRecursion, IsDistinct, IsPermutation, IsPermutation-filter_both, IsPermutation-sym, IsPermutation-middle, IsPermutation-map, Int, Row, column, Trees, Database, State, First, Key, equals, has, put_all, Rise, Lecturer, lecturer_key, changed, Ranks, with_ranking, is_same, is_own, all_weaker, is_sym, map_same, ranking_here, ranking_elsewhere, HasFirstSchema, IsCurrentSchema, lecturer_tree, ranking_tree, own_trees, version, RowNumbersDiffer, has_text, row_key, Made, GoesOn, put_splits, goes_then, of_key, chosen, IsWhole, world_in, lecturer_row, HasOffice, Whole, IsConsistentIn, HasPut, PutsList, TurnsThere, all_map_on, put_all_map, put_same, distinct_if_rise, map_twice, all_permuted, all_two, IsLecturerRow, lecturer_rows_formed, has_text_of, ℤ, Sets, lecturer_cells, sets_apart, all_unmap, filter_none, not_true, sifted}
+use Rattle.portal_store.proofs.Base.{◌≡◌, inl, inr, ℕ, pos, true, false, not, ◌||◌, cond, Some, None, List, [], ◌∷◌}
+use Rattle.portal_store.proofs.Base.{◌++◌, map, filter, refl, sym, ap, subst, ◌∙◌, cases_Bool, AllByRecursion}
+use Rattle.portal_store.proofs.Base.{IsDistinct, IsPermutation, IsPermutation-filter_both, IsPermutation-sym}
+use Rattle.portal_store.proofs.Base.{IsPermutation-middle, IsPermutation-map, Int, Row, column, Trees, Database, State}
+use Rattle.portal_store.proofs.Base.{First, Key, equals, has, put_all, Rise, Lecturer, lecturer_key, changed, Ranks}
+use Rattle.portal_store.proofs.Base.{with_ranking, is_same, is_own, all_weaker, is_sym, map_same, ranking_here}
+use Rattle.portal_store.proofs.Base.{ranking_elsewhere, HasFirstSchema, IsCurrentSchema, lecturer_tree, ranking_tree}
+use Rattle.portal_store.proofs.Base.{own_trees, version, RowNumbersDiffer, has_text, row_key, Made, GoesOn, put_splits}
+use Rattle.portal_store.proofs.Base.{goes_then, of_key, chosen, IsWhole, world_in, lecturer_row, HasOffice, Whole}
+use Rattle.portal_store.proofs.Base.{IsConsistentIn, HasPut, PutsList, TurnsThere, all_map_on, put_all_map, put_same}
+use Rattle.portal_store.proofs.Base.{distinct_if_rise, map_twice, all_permuted, all_two, IsLecturerRow}
+use Rattle.portal_store.proofs.Base.{lecturer_rows_formed, has_text_of, ℤ, Sets, lecturer_cells, sets_apart, all_unmap}
+use Rattle.portal_store.proofs.Base.{filter_none, not_true, sifted}
 use Rattle.portal_tables.specs.inner.RowChanges as rows
 use Rattle.portal_store.proofs.Still.{but_two, two_changed, world_same, whole_same, kept_at, apart_kept, second_kept}
 use Rattle.portal_store.proofs.FirstRows.{lecturer_of, has_ranking}

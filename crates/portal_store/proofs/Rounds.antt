@@ -1,5 +1,12 @@
 -- The round of the tables, and the world that they stand for in it.
-use Rattle.portal_store.proofs.Base.{◌≡◌, pos, true, false, [], ◌∷◌, slice_index_or, refl, sym, ap, subst, ◌∙◌, List, map, column, bytes, Row, Trees, Database, number_in, Phase, Setup, Choosing, Ranking, Published, Round, First, Second, is_setup, lecturer_key, Change, changed, Good, Key, portal_tree, second_tree, version, number_of_phase, Office, IsNow, portal_row, second_row, row_key, world_in, world_of, phase_numbered, phase_in, round_in, lecturer_stored, HasSecond, IsConsistent, IsConsistentIn, HasGoodWorld, HasGoodWorldIn, HasChanged, IsTransitionFrom, IsTransitionIn, map_alike, map_twice, round_by, IsJudged, AreEmpty}
+use Rattle.portal_store.proofs.Base.{◌≡◌, pos, true, false, [], ◌∷◌, slice_index_or, refl, sym, ap, subst, ◌∙◌, List}
+use Rattle.portal_store.proofs.Base.{map, column, bytes, Row, Trees, Database, number_in, Phase, Setup, Choosing}
+use Rattle.portal_store.proofs.Base.{Ranking, Published, Round, First, Second, is_setup, lecturer_key, Change, changed}
+use Rattle.portal_store.proofs.Base.{Good, Key, portal_tree, second_tree, version, number_of_phase, Office, IsNow}
+use Rattle.portal_store.proofs.Base.{portal_row, second_row, row_key, world_in, world_of, phase_numbered, phase_in}
+use Rattle.portal_store.proofs.Base.{round_in, lecturer_stored, HasSecond, IsConsistent, IsConsistentIn, HasGoodWorld}
+use Rattle.portal_store.proofs.Base.{HasGoodWorldIn, HasChanged, IsTransitionFrom, IsTransitionIn, map_alike, map_twice}
+use Rattle.portal_store.proofs.Base.{round_by, IsJudged, AreEmpty}
 
 -- a phase other than setup is that of a second round
 by_phase : (p : Phase) → is_setup p ≡ false → round_by (number_in (column (slice_index_or (second_row (pos (number_of_phase p)) ∷ []) 0 []) 2)) ≡ Second

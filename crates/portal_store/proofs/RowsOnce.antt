@@ -1,5 +1,7 @@
 -- A sound world's rows are no other world's; in the first round, none's that has nothing earlier.
-use Rattle.portal_store.proofs.Base.{◌≡◌, false, map, refl, sym, ◌∙◌, ap, subst, Some, None, [], LecturerRow, StudentRow, Rise, World, Lecturer, Student, alone, alone_student, is_second, Sound, all_map, RowsOfWorld, world_rows, map-map, each_one, HasNothingBefore}
+use Rattle.portal_store.proofs.Base.{◌≡◌, false, map, refl, sym, ◌∙◌, ap, subst, Some, None, [], LecturerRow}
+use Rattle.portal_store.proofs.Base.{StudentRow, Rise, World, Lecturer, Student, alone, alone_student, is_second, Sound}
+use Rattle.portal_store.proofs.Base.{all_map, RowsOfWorld, world_rows, map-map, each_one, HasNothingBefore}
 use Rattle.portal_list.specs.inner.Fit.{lecturers_fitting, students_fitting}
 use Rattle.portal_list.proofs.Fitting.{lecturers_back, students_back}
 

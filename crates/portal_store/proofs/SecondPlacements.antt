@@ -1,5 +1,17 @@
 -- What the rows of the second round's result are to the world.
-use Rattle.portal_store.proofs.Base.{◌≡◌, inl, inr, ℕ, pos, ◌+◌, ◌<◌, Bool, true, false, ◌||◌, cond, if◌then◌else◌, Option, Some, None, option_map, List, [], ◌∷◌, ◌++◌, map, refl, sym, ap, subst, ◌∙◌, arith, is_none, cases_Bool, nat_tests, map-append, AllByRecursion, IsDistinct, find, filter_map, cons_option, IsPermutation, IsPermutation-sym, Null, Int, Row, column, bytes, next_rowid, Trees, put_row, Database, State, Has, Published, Second, Key, equals, has, put_all, Student, is_left, student_key, placement_in, with_place, Good, is_same, is_own, all_unmap, all_map, all_append, all_weaker, is_sym, place_row, columns, every, with_rows, row_key, text_or_none, MovesSecond, Made, GoesOn, first_cell, student_tree, assigned2_tree, filter_all, goes_then, all_permuted, at, distinct_if_rise, map_alike_on, map_twice, permutes, put_all_map, world_in, student_stored, IsConsistentIn, pair_left, ShowsRoll, TurnsLeft, ◌+ℤ◌, append_assoc, append-nil, Less, value_cmp, rowid, find_map, HasPlacements, PutsPlacements, pair_new, permuted, map-id}
+use Rattle.portal_store.proofs.Base.{◌≡◌, inl, inr, ℕ, pos, ◌+◌, ◌<◌, Bool, true, false, ◌||◌, cond, if◌then◌else◌}
+use Rattle.portal_store.proofs.Base.{Option, Some, None, option_map, List, [], ◌∷◌, ◌++◌, map, refl, sym, ap, subst}
+use Rattle.portal_store.proofs.Base.{◌∙◌, arith, is_none, cases_Bool, nat_tests, map-append, AllByRecursion, IsDistinct}
+use Rattle.portal_store.proofs.Base.{find, filter_map, cons_option, IsPermutation, IsPermutation-sym, Null, Int, Row}
+use Rattle.portal_store.proofs.Base.{column, bytes, next_rowid, Trees, put_row, Database, State, Has, Published, Second}
+use Rattle.portal_store.proofs.Base.{Key, equals, has, put_all, Student, is_left, student_key, placement_in, with_place}
+use Rattle.portal_store.proofs.Base.{Good, is_same, is_own, all_unmap, all_map, all_append, all_weaker, is_sym}
+use Rattle.portal_store.proofs.Base.{place_row, columns, every, with_rows, row_key, text_or_none, MovesSecond, Made}
+use Rattle.portal_store.proofs.Base.{GoesOn, first_cell, student_tree, assigned2_tree, filter_all, goes_then}
+use Rattle.portal_store.proofs.Base.{all_permuted, at, distinct_if_rise, map_alike_on, map_twice, permutes, put_all_map}
+use Rattle.portal_store.proofs.Base.{world_in, student_stored, IsConsistentIn, pair_left, ShowsRoll, TurnsLeft, ◌+ℤ◌}
+use Rattle.portal_store.proofs.Base.{append_assoc, append-nil, Less, value_cmp, rowid, find_map, HasPlacements}
+use Rattle.portal_store.proofs.Base.{PutsPlacements, pair_new, permuted, map-id}
 use Rattle.std.proofs.lemmas.Int.{ints}
 use Rattle.sqlite_rules.proofs.TableLemmas.{next_after}
 use Rattle.sqlite_value.proofs.OrderLemmas.{value_cmp-Int}

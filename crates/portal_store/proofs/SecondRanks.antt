@@ -1,8 +1,15 @@
 -- Putting a lecturer's ranking of the second round turns the tables to the world with that ranking.
-use Rattle.portal_store.proofs.Base.{◌≡◌, inl, inr, true, false, ◌||◌, cond, Some, None, List, [], map, refl, sym, ap, subst, ◌∙◌, cases_Bool, AllByRecursion, Row, Trees, Database, State, Second, Key, equals, has, put_all, Lecturer, lecturer_key, changed, Ranks, with_ranking, all_weaker, IsCurrentSchema, RowNumbersDiffer, row_key, of_key, chosen, HasPut, PutsList, RanksSecond, Made, GoesOn, ranked2_tree, ranking2_tree, own_trees, goes_then, put_all_map, map_alike, map_twice, world_in, lecturer_stored, is_ranked, Whole, IsConsistentIn, TurnsThere, HasRanked}
+use Rattle.portal_store.proofs.Base.{◌≡◌, inl, inr, true, false, ◌||◌, cond, Some, None, List, [], map, refl, sym, ap}
+use Rattle.portal_store.proofs.Base.{subst, ◌∙◌, cases_Bool, AllByRecursion, Row, Trees, Database, State, Second, Key}
+use Rattle.portal_store.proofs.Base.{equals, has, put_all, Lecturer, lecturer_key, changed, Ranks, with_ranking}
+use Rattle.portal_store.proofs.Base.{all_weaker, IsCurrentSchema, RowNumbersDiffer, row_key, of_key, chosen, HasPut}
+use Rattle.portal_store.proofs.Base.{PutsList, RanksSecond, Made, GoesOn, ranked2_tree, ranking2_tree, own_trees}
+use Rattle.portal_store.proofs.Base.{goes_then, put_all_map, map_alike, map_twice, world_in, lecturer_stored, is_ranked}
+use Rattle.portal_store.proofs.Base.{Whole, IsConsistentIn, TurnsThere, HasRanked}
 use Rattle.portal_store.proofs.ChoiceTurns.{chosen_is, whole_at}
 use Rattle.portal_store.proofs.RankTurns.{same_key}
-use Rattle.portal_store.proofs.Still.{but_two, two_changed, world_same, whole_same, kept_at, apart_kept, first_kept, first_then, opened_kept, holds_second}
+use Rattle.portal_store.proofs.Still.{but_two, two_changed, world_same, whole_same, kept_at, apart_kept, first_kept}
+use Rattle.portal_store.proofs.Still.{first_then, opened_kept, holds_second}
 
 -- the ranking is put, and then a row says that it is there
 module _ (k : Key) (list : List Key) (first mid now : Database) (put : HasPut ranking2_tree k list first mid) (says : HasRanked k mid now) where

@@ -1,5 +1,6 @@
 -- What the rolls' rows stand for in the second round, by the rows of both rounds' lists and places.
-use Rattle.portal_store.proofs.Base.{if◌then◌else◌, List, map, Some, None, option_map, find, Row, column, bytes, equals, has, Lecturer, Student, chosen, row_key, text_or_none, lecturer_row, student_row}
+use Rattle.portal_store.proofs.Base.{if◌then◌else◌, List, map, Some, None, option_map, find, Row, column, bytes, equals}
+use Rattle.portal_store.proofs.Base.{has, Lecturer, Student, chosen, row_key, text_or_none, lecturer_row, student_row}
 use Rattle.portal_store.proofs.FirstRows.{has_ranking}
 
 -- of those with a ranking of the second round, the rankings of it, and those of the first

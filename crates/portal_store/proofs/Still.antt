@@ -1,5 +1,12 @@
 -- What stays where one or two tables have changed.
-use Rattle.portal_store.proofs.Base.{◌≡◌, ◌≢◌, inl, inr, ℕ, Bool, true, false, not, ◌||◌, cond, eqb, if◌then◌else◌, List, [], ◌∷◌, slice_index_or, refl, sym, ap, subst, ◌∙◌, AllByRecursion, list_all, list_any, column, Database, IsDatabase, number_in, with_tree, Round, First, Second, all_weaker, HasFirstSchema, IsCurrentSchema, RowNumbersDiffer, row_key, Keeps, HasOffice, tree_of, of_key, IsWhole, portal_tree, lecturer_tree, student_tree, second_tree, first_trees, own_trees, version, others_are, parts_of, all_two, choice_table, ranking_table, is_ranked, phase_numbered, world_in, AllNumbersDiffer, IsUnopened, IsConsistentIn, Whole, eqb-false, eqb_tells, second_trees, IsOpened}
+use Rattle.portal_store.proofs.Base.{◌≡◌, ◌≢◌, inl, inr, ℕ, Bool, true, false, not, ◌||◌, cond, eqb, if◌then◌else◌}
+use Rattle.portal_store.proofs.Base.{List, [], ◌∷◌, slice_index_or, refl, sym, ap, subst, ◌∙◌, AllByRecursion, list_all}
+use Rattle.portal_store.proofs.Base.{list_any, column, Database, IsDatabase, number_in, with_tree, Round, First, Second}
+use Rattle.portal_store.proofs.Base.{all_weaker, HasFirstSchema, IsCurrentSchema, RowNumbersDiffer, row_key, Keeps}
+use Rattle.portal_store.proofs.Base.{HasOffice, tree_of, of_key, IsWhole, portal_tree, lecturer_tree, student_tree}
+use Rattle.portal_store.proofs.Base.{second_tree, first_trees, own_trees, version, others_are, parts_of, all_two}
+use Rattle.portal_store.proofs.Base.{choice_table, ranking_table, is_ranked, phase_numbered, world_in, AllNumbersDiffer}
+use Rattle.portal_store.proofs.Base.{IsUnopened, IsConsistentIn, Whole, eqb-false, eqb_tells, second_trees, IsOpened}
 use Rattle.sqlite_trees.specs.Tree.{Trees}
 
 -- numbers of rows differ, where they do in the one table that has changed

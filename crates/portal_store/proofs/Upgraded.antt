@@ -1,5 +1,14 @@
 -- Tables of version 1 that were upgraded stand for the world that they stood for.
-use Rattle.portal_store.proofs.Base.{◌≡◌, pos, Bool, false, ◌||◌, IsTrue, List, [], ◌∷◌, slice_index_or, refl, sym, ap, subst, ◌∙◌, AllByRecursion, list_any, column, bytes, Database, Ghosts, Held, state, number_in, with_tree, First, Good, portal_tree, first_trees, version, first_version, IsFirstSchema, Upgrades, has_names, OfSecond, HasOffice, number_of_phase, portal_row, apart_one, current_own, world_in, world_of, phase_numbered, IsConsistentIn, IsUnopened, HasGoodWorld, HasGoodFirst, IsKept, AdmitsAs, AllZip, first_schema, SameTable, HasFirstSchema, take, length, Upgraded, has_name, is_named_table, is_named_view, HasCleanDisk, IsConsistent, State, Survives, IsAfter, clean_before, survives_then, IsUpgradedFrom, LeavesUpgraded, HasEntries}
+use Rattle.portal_store.proofs.Base.{◌≡◌, pos, Bool, false, ◌||◌, IsTrue, List, [], ◌∷◌, slice_index_or, refl, sym, ap}
+use Rattle.portal_store.proofs.Base.{subst, ◌∙◌, AllByRecursion, list_any, column, bytes, Database, Ghosts, Held, state}
+use Rattle.portal_store.proofs.Base.{number_in, with_tree, First, Good, portal_tree, first_trees, version}
+use Rattle.portal_store.proofs.Base.{first_version, IsFirstSchema, Upgrades, has_names, OfSecond, HasOffice}
+use Rattle.portal_store.proofs.Base.{number_of_phase, portal_row, apart_one, current_own, world_in, world_of}
+use Rattle.portal_store.proofs.Base.{phase_numbered, IsConsistentIn, IsUnopened, HasGoodWorld, HasGoodFirst, IsKept}
+use Rattle.portal_store.proofs.Base.{AdmitsAs, AllZip, first_schema, SameTable, HasFirstSchema, take, length, Upgraded}
+use Rattle.portal_store.proofs.Base.{has_name, is_named_table, is_named_view, HasCleanDisk, IsConsistent, State}
+use Rattle.portal_store.proofs.Base.{Survives, IsAfter, clean_before, survives_then, IsUpgradedFrom, LeavesUpgraded}
+use Rattle.portal_store.proofs.Base.{HasEntries}
 use Rattle.sqlite_trees.specs.Tree.{Trees}
 use Rattle.sqlite.specs.Table.{Table}
 use Rattle.sqlite.specs.Schema.{Schema}

@@ -8,12 +8,14 @@ use Rattle.portal_rules.specs.Words.{Key}
 use Rattle.portal_rules.specs.World.{Change}
 use Rattle.portal_rules.specs.Keeping.{IsSettled, KeepsGood}
 use Rattle.portal_rules.specs.declared.phase.Round.TheVariants.{First}
-use Rattle.portal_tables.specs.Tables.{HasFirstSchema, IsCurrentSchema, IsFirstSchema, first_version, no_schema, version}
+use Rattle.portal_tables.specs.Tables.{HasFirstSchema, IsCurrentSchema, IsFirstSchema, first_version, no_schema}
+use Rattle.portal_tables.specs.Tables.{version}
 use Rattle.portal_tables.specs.Making.{Creates, Upgrades, has_names}
 use Rattle.portal_tables.specs.declared.names.Names.TheVariants.{All, OfSecond}
 use Rattle.portal_tables.specs.Steps.{Commits, IsAfter, LeavesOnly, Stays}
 use Rattle.portal_store.specs.World.{first_world, world_in}
-use Rattle.portal_store.specs.Kept.{HasDisk, HasGoodFirst, HasGoodWorld, IsCleanStore, IsTransition, Lasts, Seen, kept_state, kept_world}
+use Rattle.portal_store.specs.Kept.{HasDisk, HasGoodFirst, HasGoodWorld, IsCleanStore, IsTransition, Lasts, Seen}
+use Rattle.portal_store.specs.Kept.{kept_state, kept_world}
 use Rattle.portal_store.specs.Crash.{Bars, HasVersion, IsLeft, IsUpgradedFrom, LeavesUpgraded, Refutes, ShowsVersion}
 use Rattle.portal_store.specs.declared.store.CreateFault.{CreateFault}
 use Rattle.portal_store.specs.declared.store.CreateFault.TheVariants as creating

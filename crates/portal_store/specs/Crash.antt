@@ -1,5 +1,6 @@
 -- What a refusal to open or upgrade says of the tables, and what can be opened after a crash.
-use Rattle.portal_store.specs.Base.{Row, column, Trees, portal_tree, version, first_version, IsFirstSchema, IsCurrentSchema, Database, IsDatabase, First, is_code, Key, Change, changed, Good}
+use Rattle.portal_store.specs.Base.{Row, column, Trees, portal_tree, version, first_version, IsFirstSchema}
+use Rattle.portal_store.specs.Base.{IsCurrentSchema, Database, IsDatabase, First, is_code, Key, Change, changed, Good}
 use Rattle.sqlite.specs.State.{Begins, State}
 use Rattle.portal_tables.specs.inner.Queries.{query_text}
 use Rattle.portal_tables.specs.declared.select.Query.TheVariants.{Office}

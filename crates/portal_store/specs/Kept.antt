@@ -1,5 +1,9 @@
 -- What a store keeps true between calls, and what a change of the world does to the tables.
-use Rattle.portal_store.specs.Base.{Trees, Database, IsDatabase, Phase, Published, Round, First, Second, World, is_setup, Change, changed, Good, tree_of, portal_tree, lecturer_tree, student_tree, second_tree, choice2_tree, ranked2_tree, ranking2_tree, assigned2_tree, own_trees, version, HasFirstSchema, IsCurrentSchema, RowNumbersDiffer, row_key, second_row, HasOffice, number_of_phase, of_key, IsWhole, choice_table, ranking_table}
+use Rattle.portal_store.specs.Base.{Trees, Database, IsDatabase, Phase, Published, Round, First, Second, World}
+use Rattle.portal_store.specs.Base.{is_setup, Change, changed, Good, tree_of, portal_tree, lecturer_tree, student_tree}
+use Rattle.portal_store.specs.Base.{second_tree, choice2_tree, ranked2_tree, ranking2_tree, assigned2_tree, own_trees}
+use Rattle.portal_store.specs.Base.{version, HasFirstSchema, IsCurrentSchema, RowNumbersDiffer, row_key, second_row}
+use Rattle.portal_store.specs.Base.{HasOffice, number_of_phase, of_key, IsWhole, choice_table, ranking_table}
 use Rattle.std.specs.Prelude.{◌≡◌, ◌⊎◌, ℕ, pos, ◌+◌, ◌-◌, ◌^◌, ◌≤◌, min, Bool, false, List, [], ◌∷◌, IsTrue}
 use Rattle.std.specs.List.{AllByRecursion}
 use Rattle.sqlite.specs.State.{State, HasCleanDisk}

@@ -1,5 +1,9 @@
 -- The world that the eleven tables stand for.
-use Rattle.portal_store.specs.Base.{Row, column, bytes, Trees, Phase, Round, First, Second, Key, has, put_all, World, Lecturer, Student, lecturer_key, project_key, student_key, choice_table, ranking_table, phase_numbered, tree_of, portal_tree, lecturer_tree, project_tree, student_tree, second_tree, ranked2_tree, second_placement, chosen, row_key, text_or_none, Setup, lecturer_at, project_at, student_at}
+use Rattle.portal_store.specs.Base.{Row, column, bytes, Trees, Phase, Round, First, Second, Key, has, put_all, World}
+use Rattle.portal_store.specs.Base.{Lecturer, Student, lecturer_key, project_key, student_key, choice_table}
+use Rattle.portal_store.specs.Base.{ranking_table, phase_numbered, tree_of, portal_tree, lecturer_tree, project_tree}
+use Rattle.portal_store.specs.Base.{student_tree, second_tree, ranked2_tree, second_placement, chosen, row_key}
+use Rattle.portal_store.specs.Base.{text_or_none, Setup, lecturer_at, project_at, student_at}
 use Rattle.std.specs.Prelude.{ℕ, Bool, if◌then◌else◌, ◌==◌, List, [], map, slice_index_or, Option, Some, None}
 use Rattle.sqlite_trees.specs.Objects.{number_in}
 

@@ -1,5 +1,12 @@
 -- The UPDATEs of the projects of students.
-use Rattle.portal_tables.proofs.Base.{◌≡◌, ◌+◌, ◌∷◌, ◌++◌, ◌<◌, ℕ, ℤ, Bool, true, not, cond, List, [], map, filter, length, take, get_or, codes, Option, Some, None, refl, sym, ap, ap₂, subst, subst₂, ◌∙◌, AllByRecursion, IsPermutation, map-append, IsPermutation-trans, IsPermutation-map, IsPermutation-filter_both, Value, Int, Text, Row, column, cast_row, Term, col, State, Database, everything, understood, bound_value, all-filter, all_map, all_weaker, student_schema, student_tree, has_text, Second, IsCurrentSchema, Assigned, text_cell, student_columns, assigned_by, with_assigned, Assigns, Ran, Made}
+use Rattle.portal_tables.proofs.Base.{◌≡◌, ◌+◌, ◌∷◌, ◌++◌, ◌<◌, ℕ, ℤ, Bool, true, not, cond, List, [], map, filter}
+use Rattle.portal_tables.proofs.Base.{length, take, get_or, codes, Option, Some, None, refl, sym, ap, ap₂, subst}
+use Rattle.portal_tables.proofs.Base.{subst₂, ◌∙◌, AllByRecursion, IsPermutation, map-append, IsPermutation-trans}
+use Rattle.portal_tables.proofs.Base.{IsPermutation-map, IsPermutation-filter_both, Value, Int, Text, Row, column}
+use Rattle.portal_tables.proofs.Base.{cast_row, Term, col, State, Database, everything, understood, bound_value}
+use Rattle.portal_tables.proofs.Base.{all-filter, all_map, all_weaker, student_schema, student_tree, has_text, Second}
+use Rattle.portal_tables.proofs.Base.{IsCurrentSchema, Assigned, text_cell, student_columns, assigned_by, with_assigned}
+use Rattle.portal_tables.proofs.Base.{Assigns, Ran, Made}
 use Rattle.portal_tables.proofs.InTurn.{next_item}
 use Rattle.portal_tables.proofs.Keeping.{keeps_then}
 use Rattle.portal_tables.proofs.Listed.{all_map_on}

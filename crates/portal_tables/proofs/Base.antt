@@ -6,23 +6,31 @@ unfoldable pub use Rattle.sqlite.specs.State.{FailsToQuery, IsNotRun, Shown}
 unfoldable pub use Rattle.sqlite_tied.specs.Compute.{everything}
 unfoldable pub use Rattle.std.specs.List.{IsDistinct}
 pub use lib.Dec.{lt→ltb}
-pub use Rattle.std.proofs.Common.{ap, ap₂, cond, drop, eqb, get_or, inl, inr, int_cmp, negsuc, refl, slice_get, subst, subst₂, suc, sym, zero, zero-add, ◌∙◌, arith, rules, ◌/◌}
+pub use Rattle.std.proofs.Common.{ap, ap₂, cond, drop, eqb, get_or, inl, inr, int_cmp, negsuc, refl, slice_get, subst}
+pub use Rattle.std.proofs.Common.{subst₂, suc, sym, zero, zero-add, ◌∙◌, arith, rules, ◌/◌}
 pub use Rattle.std.proofs.Math.Bool.{and-false, and-true, or-true}
 pub use Rattle.std.proofs.lemmas.Bool.{and_parts, cases_Bool, cases_lt, eq-eqb, eqb-false, or_parts}
 pub use Rattle.std.proofs.lemmas.Cmp.{nat_list_cmp_total, tied_itself}
 pub use Rattle.std.proofs.lemmas.Fn.{always_returns_same}
-pub use Rattle.std.proofs.lemmas.List.{append-nil, append_assoc, length-map, length-take-le, length_push, map-append, map-id, nil_from_length, take-append-drop, take_all, take_more}
+pub use Rattle.std.proofs.lemmas.List.{append-nil, append_assoc, length-map, length-take-le, length_push, map-append}
+pub use Rattle.std.proofs.lemmas.List.{map-id, nil_from_length, take-append-drop, take_all, take_more}
 pub use Rattle.std.proofs.lemmas.List.Elements.{filter-append, filter_map-append}
-pub use Rattle.std.proofs.lemmas.List.Sorted.{IsPermutation-append_left, IsPermutation-append_right, IsPermutation-cons, IsPermutation-filter_both, IsPermutation-map, IsPermutation-middle, IsPermutation-refl, IsPermutation-sym, IsPermutation-to_front, IsPermutation-trans, length_permutation, list_any-IsPermutation, searchable_from_sorted}
+pub use Rattle.std.proofs.lemmas.List.Sorted.{IsPermutation-append_left, IsPermutation-append_right, IsPermutation-cons}
+pub use Rattle.std.proofs.lemmas.List.Sorted.{IsPermutation-filter_both, IsPermutation-map, IsPermutation-middle}
+pub use Rattle.std.proofs.lemmas.List.Sorted.{IsPermutation-refl, IsPermutation-sym, IsPermutation-to_front}
+pub use Rattle.std.proofs.lemmas.List.Sorted.{IsPermutation-trans, length_permutation, list_any-IsPermutation}
+pub use Rattle.std.proofs.lemmas.List.Sorted.{searchable_from_sorted}
 pub use Rattle.std.proofs.lemmas.Map.Keys.{IsDistinct-IsPermutation}
 pub use Rattle.std.proofs.lemmas.Map.Lookups.{exact_bytes}
-pub use Rattle.std.proofs.lemmas.Result.{IfOk-from_err, IfOk-weaker, MatchResult-weaker, on_err_weaker, on_ok_weaker, IfErr-at_err, IfErr-weaker}
+pub use Rattle.std.proofs.lemmas.Result.{IfOk-from_err, IfOk-weaker, MatchResult-weaker, on_err_weaker, on_ok_weaker}
+pub use Rattle.std.proofs.lemmas.Result.{IfErr-at_err, IfErr-weaker}
 pub use Rattle.std.specs.Borrow.{Bor}
 pub use Rattle.std.specs.Cmp.{int_cmp_is, nat_cmp_is, Equal-is}
 pub use Rattle.std.specs.Cmp.Lexicographic.{texts_ties}
 pub use Rattle.std.specs.List.{cons_option, list_all}
 pub use Rattle.std.specs.Ordering.{is_gt, match_ordering, ordering_reverse, ordering_then}
-pub use Rattle.std.specs.Prelude.{IfSome, if◌then◌else◌, is_some, option_copied, ◌&&◌, ◌++◌, ◌+◌, ◌<◌, ◌==◌, ◌||◌, ◌∷◌, ◌≡◌, ◌≢◌, ◌≤◌, ◌⊎◌, ◌<ℤ◌, MatchResult, ◌↔◌}
+pub use Rattle.std.specs.Prelude.{IfSome, if◌then◌else◌, is_some, option_copied, ◌&&◌, ◌++◌, ◌+◌, ◌<◌, ◌==◌, ◌||◌, ◌∷◌}
+pub use Rattle.std.specs.Prelude.{◌≡◌, ◌≢◌, ◌≤◌, ◌⊎◌, ◌<ℤ◌, MatchResult, ◌↔◌}
 pub use Rattle.std.specs.Result.{IsErr, IsErrAnd}
 pub use Rattle.std.specs.declared.cmp.Ordering.{Ordering}
 pub use Rattle.std.specs.declared.cmp.Ordering.TheVariants.{Equal, Greater, Less}
@@ -33,34 +41,71 @@ pub use Rattle.portal_rules.proofs.Keys.{all_unmap, is_own, is_same, not_before_
 pub use Rattle.portal_rules.proofs.Puts.{after_other, before_trans, rise_put, less_of}
 pub use Rattle.portal_rules.specs.Words.{is_empty}
 pub use Rattle.portal_tables.specs.Making.{Creates, IsFresh, Upgrades}
-pub use Rattle.portal_tables.specs.Rows.{RowNumbersDiffer, has_text, row_key, Assigned, portal_cells, portal_row, second_cells, second_row, CountUp, IsWhole, by_place, chosen, list_in_order, named_by, of_key, place_key, place_of, placed_project, second_placement, HasOffice, number_of_phase}
-pub use Rattle.portal_tables.specs.Steps.{Commits, IsAfter, IsSettled, IsUnchangedOrUndone, OnlyLooks, Stays, Reading, Anyhow, Gives}
-pub use Rattle.portal_tables.specs.Tables.{tree_of, HasRound, IsCurrentSchema, IsFirstSchema, HasFirstSchema, SameTable, assigned2, assigned2_tree, choice, choice2, choice2_names, choice2_tree, choice_names, choice_tree, column_of, first_schema, first_trees, first_version, lecturer_schema, lecturer_tree, list_table, no_schema, own_trees, portal, portal_schema, portal_tree, project_schema, project_tree, ranked2, ranked2_tree, ranking, ranking2, ranking2_names, ranking2_tree, ranking_names, ranking_tree, second, second_tree, second_trees, student_schema, student_tree, schema_of, version}
+pub use Rattle.portal_tables.specs.Rows.{RowNumbersDiffer, has_text, row_key, Assigned, portal_cells, portal_row}
+pub use Rattle.portal_tables.specs.Rows.{second_cells, second_row, CountUp, IsWhole, by_place, chosen, list_in_order}
+pub use Rattle.portal_tables.specs.Rows.{named_by, of_key, place_key, place_of, placed_project, second_placement}
+pub use Rattle.portal_tables.specs.Rows.{HasOffice, number_of_phase}
+pub use Rattle.portal_tables.specs.Steps.{Commits, IsAfter, IsSettled, IsUnchangedOrUndone, OnlyLooks, Stays, Reading}
+pub use Rattle.portal_tables.specs.Steps.{Anyhow, Gives}
+pub use Rattle.portal_tables.specs.Tables.{tree_of, HasRound, IsCurrentSchema, IsFirstSchema, HasFirstSchema, SameTable}
+pub use Rattle.portal_tables.specs.Tables.{assigned2, assigned2_tree, choice, choice2, choice2_names, choice2_tree}
+pub use Rattle.portal_tables.specs.Tables.{choice_names, choice_tree, column_of, first_schema, first_trees}
+pub use Rattle.portal_tables.specs.Tables.{first_version, lecturer_schema, lecturer_tree, list_table, no_schema}
+pub use Rattle.portal_tables.specs.Tables.{own_trees, portal, portal_schema, portal_tree, project_schema, project_tree}
+pub use Rattle.portal_tables.specs.Tables.{ranked2, ranked2_tree, ranking, ranking2, ranking2_names, ranking2_tree}
+pub use Rattle.portal_tables.specs.Tables.{ranking_names, ranking_tree, second, second_tree, second_trees}
+pub use Rattle.portal_tables.specs.Tables.{student_schema, student_tree, schema_of, version}
 pub use Rattle.portal_tables.specs.declared.fault.TableFault.{TableFault}
 pub use Rattle.portal_tables.specs.declared.fault.TableFault.TheVariants.{Damaged, Memory}
 pub use Rattle.portal_tables.specs.declared.insert.lists.NewPlace.{NewPlace}
 pub use Rattle.portal_tables.specs.declared.list_table.Lists.{Lists}
-pub use Rattle.portal_tables.specs.declared.list_table.Lists.TheVariants.{Choices, Rankings, SecondChoices, SecondRankings}
-pub use Rattle.portal_tables.specs.declared.select.Query.TheVariants.{AllLists, Choosers, LecturerByCode, LecturerByKey, ListOf, Listed, Numbers, ProjectsOf, SecondPlaceOf, SecondRankedBy, StudentByCode, StudentTold, Whole}
+pub use Rattle.portal_tables.specs.declared.list_table.Lists.TheVariants.{Choices, Rankings, SecondChoices}
+pub use Rattle.portal_tables.specs.declared.list_table.Lists.TheVariants.{SecondRankings}
+pub use Rattle.portal_tables.specs.declared.select.Query.TheVariants.{AllLists, Choosers, LecturerByCode, LecturerByKey}
+pub use Rattle.portal_tables.specs.declared.select.Query.TheVariants.{ListOf, Listed, Numbers, ProjectsOf}
+pub use Rattle.portal_tables.specs.declared.select.Query.TheVariants.{SecondPlaceOf, SecondRankedBy, StudentByCode}
+pub use Rattle.portal_tables.specs.declared.select.Query.TheVariants.{StudentTold, Whole}
 pub use Rattle.portal_tables.specs.declared.select.RollTable.TheVariants.{Lecturers, Projects, Students}
 pub use Rattle.portal_tables.specs.declared.select.Table.{Table as Named}
 pub use Rattle.portal_tables.specs.declared.select.Table.TheVariants.{OfLists, OfPlaces, OfRanked, OfRoll}
-pub use Rattle.portal_tables.specs.inner.Base.{put, Key, Rise, has, equals, is_before, Phase, Round, First, Second, is_key, created, Binary, id_in, is_taken, next_rowid, Database, IsDatabase, Held, state, Integer, Cells, Row, bytes, column, Schema, Begins, HasCleanDisk, IsRolledBack, IsUnchanged, KeepsCommit, Shows, State, Survives, Ghosts, Table, Term, col, lit, op2, Trees, put_row, rowid, bound, Error, Transaction, Value, Int, Null, Words, Column, Index, Reference, key_cmp, Compare, Eq, number_in, ascending, Order, Bool, Err, IfOk, IsTrue, List, None, Ok, OnErr, OnOk, Option, Result, Some, Vec, [], codes, false, filter, length, map, not, option_map, pos, take, true, ℕ, ℤ, slice_cmp, AllByRecursion, AllZip, filter_map, find, flat_map, list_any, IsPermutation, IsSorted, is_eq, is_lt, nat_cmp, ⊤, Global, IsStudent}
-pub use Rattle.portal_tables.specs.inner.Changes.{AreNew, Becomes, Drops, ListsBy, InsertsRows, Sets, columns, every, has_number, with_rows}
-pub use Rattle.portal_tables.specs.inner.Decoding.{FindsAny, FindsRow, IsPlainIfAny, Leaves, ReadsEach, ShowsAs, Refuses}
+pub use Rattle.portal_tables.specs.inner.Base.{put, Key, Rise, has, equals, is_before, Phase, Round, First, Second}
+pub use Rattle.portal_tables.specs.inner.Base.{is_key, created, Binary, id_in, is_taken, next_rowid, Database}
+pub use Rattle.portal_tables.specs.inner.Base.{IsDatabase, Held, state, Integer, Cells, Row, bytes, column, Schema}
+pub use Rattle.portal_tables.specs.inner.Base.{Begins, HasCleanDisk, IsRolledBack, IsUnchanged, KeepsCommit, Shows}
+pub use Rattle.portal_tables.specs.inner.Base.{State, Survives, Ghosts, Table, Term, col, lit, op2, Trees, put_row}
+pub use Rattle.portal_tables.specs.inner.Base.{rowid, bound, Error, Transaction, Value, Int, Null, Words, Column, Index}
+pub use Rattle.portal_tables.specs.inner.Base.{Reference, key_cmp, Compare, Eq, number_in, ascending, Order, Bool, Err}
+pub use Rattle.portal_tables.specs.inner.Base.{IfOk, IsTrue, List, None, Ok, OnErr, OnOk, Option, Result, Some, Vec, []}
+pub use Rattle.portal_tables.specs.inner.Base.{codes, false, filter, length, map, not, option_map, pos, take, true, ℕ}
+pub use Rattle.portal_tables.specs.inner.Base.{ℤ, slice_cmp, AllByRecursion, AllZip, filter_map, find, flat_map}
+pub use Rattle.portal_tables.specs.inner.Base.{list_any, IsPermutation, IsSorted, is_eq, is_lt, nat_cmp, ⊤, Global}
+pub use Rattle.portal_tables.specs.inner.Base.{IsStudent}
+pub use Rattle.portal_tables.specs.inner.Changes.{AreNew, Becomes, Drops, ListsBy, InsertsRows, Sets, columns, every}
+pub use Rattle.portal_tables.specs.inner.Changes.{has_number, with_rows}
+pub use Rattle.portal_tables.specs.inner.Decoding.{FindsAny, FindsRow, IsPlainIfAny, Leaves, ReadsEach, ShowsAs}
+pub use Rattle.portal_tables.specs.inner.Decoding.{Refuses}
 pub use Rattle.portal_tables.specs.inner.MakingSteps.{Grown, Grows, Makes, MakesFirst, MakesSecond, with_second}
 pub use Rattle.portal_tables.specs.inner.Owners.{IsRead, entry, with_list, AreEntriesOf, IsFine, IsListOf}
 pub use Rattle.portal_tables.specs.inner.Placements.{pair_shown, pair_told, HasKeys, HasPlacementAsked}
 pub use Rattle.portal_tables.specs.inner.Putting.{PutsList, PutsPlacements, RanksSecond, list_cells, numbered, placed}
-pub use Rattle.portal_tables.specs.inner.Queries.{columns_of, given, roll_tree, round_asked, selection, table_round, table_tree, query_text}
+pub use Rattle.portal_tables.specs.inner.Queries.{columns_of, given, roll_tree, round_asked, selection, table_round}
+pub use Rattle.portal_tables.specs.inner.Queries.{table_tree, query_text}
 pub use Rattle.portal_tables.specs.inner.Reads.{IfOpen, Always, Blames}
 pub use Rattle.portal_tables.specs.inner.Rising.{is_above, rises}
 pub use Rattle.portal_tables.specs.inner.Rolls.{by_key}
-pub use Rattle.portal_tables.specs.inner.RowChanges.{IsOffice, IsSecond, Adds, AddsBy, Assigns, Clears, IsOfVersion, MovesSecond, MovesTo, Ranks, assigned_by, lecturer_cells, lecturer_new, lecturer_values, pair_new, place_cells, place_new, project_new, student_new, student_columns, student_values, text_cell, with_assigned}
+pub use Rattle.portal_tables.specs.inner.RowChanges.{IsOffice, IsSecond, Adds, AddsBy, Assigns, Clears, IsOfVersion}
+pub use Rattle.portal_tables.specs.inner.RowChanges.{MovesSecond, MovesTo, Ranks, assigned_by, lecturer_cells}
+pub use Rattle.portal_tables.specs.inner.RowChanges.{lecturer_new, lecturer_values, pair_new, place_cells, place_new}
+pub use Rattle.portal_tables.specs.inner.RowChanges.{project_new, student_new, student_columns, student_values}
+pub use Rattle.portal_tables.specs.inner.RowChanges.{text_cell, with_assigned}
 pub use Rattle.portal_tables.specs.inner.Running.{Does, GoesOn, Made, Ran}
 pub use Rattle.portal_tables.specs.inner.Shown.{as_list, first_cell, shown_name, shown_rank, shown_student}
-pub use Rattle.portal_tables.specs.inner.Texts.{add_eight_text, add_text, clear_text, names, place_among, round_of, assigned2_text, lecturer_text, list_table_text, portal_text, project_text, ranked2_text, second_text, student_text}
-pub use Rattle.sqlite.proofs.Callers.{EndsIn, IsPlain, begins_shown, shown_begins, command_of, given_begin, memory_is_clean, one_permutation, one_step, reads_as, runs_as, statement_of, survives_begin, unchanged_then}
+pub use Rattle.portal_tables.specs.inner.Texts.{add_eight_text, add_text, clear_text, names, place_among, round_of}
+pub use Rattle.portal_tables.specs.inner.Texts.{assigned2_text, lecturer_text, list_table_text, portal_text}
+pub use Rattle.portal_tables.specs.inner.Texts.{project_text, ranked2_text, second_text, student_text}
+pub use Rattle.sqlite.proofs.Callers.{EndsIn, IsPlain, begins_shown, shown_begins, command_of, given_begin}
+pub use Rattle.sqlite.proofs.Callers.{memory_is_clean, one_permutation, one_step, reads_as, runs_as, statement_of}
+pub use Rattle.sqlite.proofs.Callers.{survives_begin, unchanged_then}
 pub use Rattle.sqlite.proofs.InsideLemmas.{keeps_then as kept_then}
 pub use Rattle.sqlite.proofs.StateLemmas.{survives_then, survives_weaker, unchanged}
 pub use Rattle.sqlite.proofs.StreamLemmas.{rolled_back_since}
@@ -94,7 +139,8 @@ pub use Rattle.sqlite_exec.proofs.PartitionLemmas.{ascending_from_sorted}
 pub use Rattle.sqlite_exec.proofs.RowsLemmas.{IsSorted-map}
 pub use Rattle.sqlite_exec.proofs.RunLemmas.{answer_alone}
 pub use Rattle.sqlite_resolve.specs.declared.compiled.Compiled.{Compiled}
-pub use Rattle.sqlite_rules.proofs.ListLemmas.{all_from, all_has, all_more, has_filtered, has_left, has_right, some_from}
+pub use Rattle.sqlite_rules.proofs.ListLemmas.{all_from, all_has, all_more, has_filtered, has_left, has_right}
+pub use Rattle.sqlite_rules.proofs.ListLemmas.{some_from}
 pub use Rattle.sqlite_rules.specs.Action.{deed_for, pairs, work_by, works}
 pub use Rattle.sqlite_rules.specs.Calls.{ids_of}
 pub use Rattle.sqlite_rules.specs.Lists.{Has}
@@ -108,7 +154,8 @@ pub use Rattle.sqlite_schema.specs.declared.schema.Keys.TheVariants.{Enforced}
 pub use Rattle.sqlite_sql.specs.Ops.{is_null}
 pub use Rattle.sqlite_sql.specs.Program.{Ends}
 pub use Rattle.sqlite_trees.proofs.Doubt.{no_doubt}
-pub use Rattle.sqlite_trees.proofs.ListLemmas.{IsPermutation-filter, all-append, all-filter, all-get_or, all-map, all_of, filter-map, filter_none, map-map}
+pub use Rattle.sqlite_trees.proofs.ListLemmas.{IsPermutation-filter, all-append, all-filter, all-get_or, all-map}
+pub use Rattle.sqlite_trees.proofs.ListLemmas.{all_of, filter-map, filter_none, map-map}
 pub use Rattle.sqlite_trees.proofs.TreeLemmas.{all-put_row}
 pub use Rattle.sqlite_trees.specs.Tree.{IsAscending}
 pub use Rattle.sqlite_value.proofs.OrderLemmas.{then-Equal, value_cmp-Int, value_cmp-Text, value_cmp_total}

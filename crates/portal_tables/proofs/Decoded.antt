@@ -1,5 +1,14 @@
 -- Rows that are decoded one at a time, as they are read.
-use Rattle.portal_tables.proofs.Base.{◌≡◌, ◌∷◌, ◌++◌, ◌⊎◌, inl, inr, all_has, has_left, has_right, IsPlainIfAny, Refuses, Leaves, ReadsEach, FindsRow, ℕ, Bool, true, false, refl, List, [], None, Some, Option, sym, ap, subst, ◌∙◌, map-append, timed, Error, EndsIn, begins_shown, Compiled, Database, HasGiven, Advances, Held, state, understood, reads_listing, IsSourceOf, Row, State, Begins, Shown, ShowsRows, IsUnchanged, IsUnchangedOrUndone, HasCleanDisk, FailsToQuery, Survives, survives_weaker, survives_then, given_begin, unchanged, unchanged_then, Ok, Err, Result, IfOk, OnOk, OnErr, option_copied, Bor, AllByRecursion, ShowsAs, FindsAny, IsRefused, IfErr-at_err, IfOk-from_err, IsErr, IsErrAnd, TableFault, Damaged, Vec, Global, is_some}
+use Rattle.portal_tables.proofs.Base.{◌≡◌, ◌∷◌, ◌++◌, ◌⊎◌, inl, inr, all_has, has_left, has_right, IsPlainIfAny}
+use Rattle.portal_tables.proofs.Base.{Refuses, Leaves, ReadsEach, FindsRow, ℕ, Bool, true, false, refl, List, [], None}
+use Rattle.portal_tables.proofs.Base.{Some, Option, sym, ap, subst, ◌∙◌, map-append, timed, Error, EndsIn, begins_shown}
+use Rattle.portal_tables.proofs.Base.{Compiled, Database, HasGiven, Advances, Held, state, understood, reads_listing}
+use Rattle.portal_tables.proofs.Base.{IsSourceOf, Row, State, Begins, Shown, ShowsRows, IsUnchanged}
+use Rattle.portal_tables.proofs.Base.{IsUnchangedOrUndone, HasCleanDisk, FailsToQuery, Survives, survives_weaker}
+use Rattle.portal_tables.proofs.Base.{survives_then, given_begin, unchanged, unchanged_then, Ok, Err, Result, IfOk}
+use Rattle.portal_tables.proofs.Base.{OnOk, OnErr, option_copied, Bor, AllByRecursion, ShowsAs, FindsAny, IsRefused}
+use Rattle.portal_tables.proofs.Base.{IfErr-at_err, IfOk-from_err, IsErr, IsErrAnd, TableFault, Damaged, Vec, Global}
+use Rattle.portal_tables.proofs.Base.{is_some}
 use Rattle.sqlite.specs.Given.{HasBegun, Returns}
 use Rattle.sqlite.specs.Tree.{Trees}
 use Rattle.sqlite_resolve.specs.declared.error.CompileError.{CompileError}

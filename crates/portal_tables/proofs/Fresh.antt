@@ -1,5 +1,12 @@
 -- The tables as made, with the rows of the office and of no second round, and the six's upgrade.
-use Rattle.portal_tables.proofs.Base.{◌≡◌, ◌≢◌, ◌∷◌, ℕ, pos, true, not, eqb, List, [], Result, Ok, refl, sym, ap, subst, ◌∙◌, AllByRecursion, list_all, Database, Ghosts, state, Error, Transaction, portal_tree, lecturer_tree, project_tree, student_tree, choice_tree, ranking_tree, second_tree, choice2_tree, ranked2_tree, ranking2_tree, assigned2_tree, first_trees, second_trees, own_trees, version, first_version, IsCurrentSchema, RowNumbersDiffer, with_rows, Adds, IsOfVersion, portal_cells, portal_row, second_cells, second_row, Makes, MakesSecond, Creates, IsFresh, Upgrades, Made, GoesOn, Does, all_weaker, all-append}
+use Rattle.portal_tables.proofs.Base.{◌≡◌, ◌≢◌, ◌∷◌, ℕ, pos, true, not, eqb, List, [], Result, Ok, refl, sym, ap, subst}
+use Rattle.portal_tables.proofs.Base.{◌∙◌, AllByRecursion, list_all, Database, Ghosts, state, Error, Transaction}
+use Rattle.portal_tables.proofs.Base.{portal_tree, lecturer_tree, project_tree, student_tree, choice_tree, ranking_tree}
+use Rattle.portal_tables.proofs.Base.{second_tree, choice2_tree, ranked2_tree, ranking2_tree, assigned2_tree}
+use Rattle.portal_tables.proofs.Base.{first_trees, second_trees, own_trees, version, first_version, IsCurrentSchema}
+use Rattle.portal_tables.proofs.Base.{RowNumbersDiffer, with_rows, Adds, IsOfVersion, portal_cells, portal_row}
+use Rattle.portal_tables.proofs.Base.{second_cells, second_row, Makes, MakesSecond, Creates, IsFresh, Upgrades, Made}
+use Rattle.portal_tables.proofs.Base.{GoesOn, Does, all_weaker, all-append}
 use Rattle.portal_tables.proofs.Keeping.{apart_one, apart_none, others_are}
 use Rattle.portal_tables.proofs.Making.{second_current, parts_of}
 use Rattle.portal_tables.proofs.Owned.{own_made}

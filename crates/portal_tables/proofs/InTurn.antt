@@ -1,5 +1,12 @@
 -- Reads in turn, and what follows of what they tell.
-use Rattle.portal_tables.proofs.Base.{◌≡◌, ◌<◌, ◌≤◌, arith, ℕ, length, get_or, ◌+◌, ◌++◌, ◌∷◌, [], map, option_map, None, Some, AllByRecursion, all-get_or, take, take_more, Option, cons_option, filter_map, filter_map-append, IsErr, List, IfOk, inl, inr, Ok, Err, Result, refl, sym, ap, ap₂, subst, ◌∙◌, Database, State, HasCleanDisk, IsUnchanged, Survives, survives_then, unchanged, unchanged_then, rolled_back_since, Round, First, Second, HasRound, IsTrue, OnOk, OnErr, IsSettled, OnlyLooks, Stays, IsUnchangedOrUndone, on_ok_weaker, on_err_weaker, Reading, Anyhow, IfOpen, TableFault, Damaged, MatchResult, IsErrAnd, Memory, Blames}
+use Rattle.portal_tables.proofs.Base.{◌≡◌, ◌<◌, ◌≤◌, arith, ℕ, length, get_or, ◌+◌, ◌++◌, ◌∷◌, [], map, option_map}
+use Rattle.portal_tables.proofs.Base.{None, Some, AllByRecursion, all-get_or, take, take_more, Option, cons_option}
+use Rattle.portal_tables.proofs.Base.{filter_map, filter_map-append, IsErr, List, IfOk, inl, inr, Ok, Err, Result, refl}
+use Rattle.portal_tables.proofs.Base.{sym, ap, ap₂, subst, ◌∙◌, Database, State, HasCleanDisk, IsUnchanged, Survives}
+use Rattle.portal_tables.proofs.Base.{survives_then, unchanged, unchanged_then, rolled_back_since, Round, First, Second}
+use Rattle.portal_tables.proofs.Base.{HasRound, IsTrue, OnOk, OnErr, IsSettled, OnlyLooks, Stays, IsUnchangedOrUndone}
+use Rattle.portal_tables.proofs.Base.{on_ok_weaker, on_err_weaker, Reading, Anyhow, IfOpen, TableFault, Damaged}
+use Rattle.portal_tables.proofs.Base.{MatchResult, IsErrAnd, Memory, Blames}
 use Rattle.portal_tables.proofs.Owned.{current_own}
 use Rattle.portal_tables.proofs.Queries.{on_ok, on_err}
 

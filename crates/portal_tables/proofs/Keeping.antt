@@ -1,5 +1,13 @@
 -- Each change keeps what a store knows between two calls: its own tables, and distinct row numbers.
-use Rattle.portal_tables.proofs.Base.{◌≡◌, ◌≢◌, ◌∷◌, ◌++◌, ℕ, ℤ, List, [], map, length, Result, Ok, Bool, true, false, not, eqb, refl, sym, ap, ap₂, subst, subst₂, ◌∙◌, AllByRecursion, all_of, flat_map, list_all, is_eq, match_ordering, Ordering, Less, Equal, Greater, and_parts, or_parts, eqb-false, IsPermutation, IsPermutation-refl, IsPermutation-trans, IsPermutation-sym, IsPermutation-middle, IsPermutation-append_right, map-append, Int, Row, value_cmp, next_rowid, is_taken, id_in, are_fresh, put_all, put_row, rowid, Database, Ghosts, state, Error, Transaction, all-put_row, InsertsRows, Drops, Sets, RowNumbersDiffer, with_rows, AreNew, own_trees, IsCurrentSchema, Adds, AddsBy, Ran, GoesOn, Does}
+use Rattle.portal_tables.proofs.Base.{◌≡◌, ◌≢◌, ◌∷◌, ◌++◌, ℕ, ℤ, List, [], map, length, Result, Ok, Bool, true, false}
+use Rattle.portal_tables.proofs.Base.{not, eqb, refl, sym, ap, ap₂, subst, subst₂, ◌∙◌, AllByRecursion, all_of}
+use Rattle.portal_tables.proofs.Base.{flat_map, list_all, is_eq, match_ordering, Ordering, Less, Equal, Greater}
+use Rattle.portal_tables.proofs.Base.{and_parts, or_parts, eqb-false, IsPermutation, IsPermutation-refl}
+use Rattle.portal_tables.proofs.Base.{IsPermutation-trans, IsPermutation-sym, IsPermutation-middle}
+use Rattle.portal_tables.proofs.Base.{IsPermutation-append_right, map-append, Int, Row, value_cmp, next_rowid, is_taken}
+use Rattle.portal_tables.proofs.Base.{id_in, are_fresh, put_all, put_row, rowid, Database, Ghosts, state, Error}
+use Rattle.portal_tables.proofs.Base.{Transaction, all-put_row, InsertsRows, Drops, Sets, RowNumbersDiffer, with_rows}
+use Rattle.portal_tables.proofs.Base.{AreNew, own_trees, IsCurrentSchema, Adds, AddsBy, Ran, GoesOn, Does}
 use Rattle.portal_tables.specs.inner.Changes.{Keeps}
 use Rattle.portal_tables.proofs.Runs.{does_then, goes_then}
 use Rattle.portal_tables.proofs.Lists.{apart_filter, eq_flips, put_splits, not_true}

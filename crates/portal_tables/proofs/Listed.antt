@@ -1,10 +1,21 @@
 -- What a query of one table shows, and the one order of its rows.
-use Rattle.portal_tables.proofs.Base.{◌≡◌, ◌+◌, ◌<◌, ◌≤◌, ◌∷◌, arith, inl, inr, ℕ, pos, Bool, true, false, List, [], length, map, filter, refl, sym, ap, subst, subst₂, ◌∙◌, AllByRecursion, IsPermutation, IsSorted, nil_from_length, length-map, IsPermutation-map, IsPermutation-sym, length_permutation, Ordering, Less, Equal, Greater, is_lt, is_gt, nat_cmp, ordering_then, ordering_reverse, lt→ltb, nat_cmp_is, int_cmp_is, cases_lt, slice_cmp, Value, Int, Words, Row, column, bytes, value_cmp, number_in, IsAscending, map-map, all_of, value_cmp_total, value_cmp-Int, value_cmp-Text, then-Equal, ascending_from_sorted, IsSorted-map, Key, is_before, Rise, all_weaker, all_map, all_unmap, ListsBy, every, columns, has_text, row_key, by_key, of_key, place_of, place_key, by_place, named_by, chosen, CountUp, IsWhole, first_cell, shown_rank, shown_name, ◌<ℤ◌}
+use Rattle.portal_tables.proofs.Base.{◌≡◌, ◌+◌, ◌<◌, ◌≤◌, ◌∷◌, arith, inl, inr, ℕ, pos, Bool, true, false, List, []}
+use Rattle.portal_tables.proofs.Base.{length, map, filter, refl, sym, ap, subst, subst₂, ◌∙◌, AllByRecursion}
+use Rattle.portal_tables.proofs.Base.{IsPermutation, IsSorted, nil_from_length, length-map, IsPermutation-map}
+use Rattle.portal_tables.proofs.Base.{IsPermutation-sym, length_permutation, Ordering, Less, Equal, Greater, is_lt}
+use Rattle.portal_tables.proofs.Base.{is_gt, nat_cmp, ordering_then, ordering_reverse, lt→ltb, nat_cmp_is, int_cmp_is}
+use Rattle.portal_tables.proofs.Base.{cases_lt, slice_cmp, Value, Int, Words, Row, column, bytes, value_cmp, number_in}
+use Rattle.portal_tables.proofs.Base.{IsAscending, map-map, all_of, value_cmp_total, value_cmp-Int, value_cmp-Text}
+use Rattle.portal_tables.proofs.Base.{then-Equal, ascending_from_sorted, IsSorted-map, Key, is_before, Rise, all_weaker}
+use Rattle.portal_tables.proofs.Base.{all_map, all_unmap, ListsBy, every, columns, has_text, row_key, by_key, of_key}
+use Rattle.portal_tables.proofs.Base.{place_of, place_key, by_place, named_by, chosen, CountUp, IsWhole, first_cell}
+use Rattle.portal_tables.proofs.Base.{shown_rank, shown_name, ◌<ℤ◌}
 use Rattle.std.specs.Ordering.{int_cmp}
 use Rattle.std.specs.Cmp.Lexicographic.{nat_list_cmp_total}
 use Rattle.portal_rules.specs.Words.{put_all}
 use Rattle.portal_tables.proofs.Lists.{filter_all}
-use Rattle.portal_tables.proofs.Sorted.{NeverFall, all_permuted, in_order, sorted_order, put_all_map, permutes, map_alike_on, at}
+use Rattle.portal_tables.proofs.Sorted.{NeverFall, all_permuted, in_order, sorted_order, put_all_map, permutes}
+use Rattle.portal_tables.proofs.Sorted.{map_alike_on, at}
 
 -- what a map gives, where its elements are known
 pub all_map_on : {X Y : Type 0} (P : X → Type 0) (f g : X → Y) (xs : List X) → AllByRecursion P xs → ((x : X) → P x → f x ≡ g x) → map f xs ≡ map g xs

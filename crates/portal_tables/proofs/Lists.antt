@@ -1,5 +1,10 @@
 -- Lists of rows.
-use Rattle.portal_tables.proofs.Base.{◌≡◌, ◌∷◌, ◌++◌, ◌&&◌, ◌||◌, inl, inr, ℤ, List, [], map, filter, Bool, true, false, not, cond, refl, sym, ap, ap₂, subst, ◌∙◌, AllByRecursion, list_any, flat_map, is_eq, ordering_reverse, match_ordering, Ordering, Less, Equal, Greater, or_parts, Value, Int, Row, value_cmp, put_row, rowid, has_rowid, without_rowid, id_in, is_taken, without_all, Has, all_from, all_has, all-filter, and-false, value_cmp_total, tied_itself, RowNumbersDiffer, has_filtered}
+use Rattle.portal_tables.proofs.Base.{◌≡◌, ◌∷◌, ◌++◌, ◌&&◌, ◌||◌, inl, inr, ℤ, List, [], map, filter, Bool, true, false}
+use Rattle.portal_tables.proofs.Base.{not, cond, refl, sym, ap, ap₂, subst, ◌∙◌, AllByRecursion, list_any, flat_map}
+use Rattle.portal_tables.proofs.Base.{is_eq, ordering_reverse, match_ordering, Ordering, Less, Equal, Greater, or_parts}
+use Rattle.portal_tables.proofs.Base.{Value, Int, Row, value_cmp, put_row, rowid, has_rowid, without_rowid, id_in}
+use Rattle.portal_tables.proofs.Base.{is_taken, without_all, Has, all_from, all_has, all-filter, and-false}
+use Rattle.portal_tables.proofs.Base.{value_cmp_total, tied_itself, RowNumbersDiffer, has_filtered}
 pub use Rattle.sqlite_trees.proofs.ListLemmas.{filter_same as filter_alike}
 
 -- a loop that shows each element which passes

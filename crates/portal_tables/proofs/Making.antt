@@ -1,5 +1,16 @@
 -- The tables made, one after another.
-use Rattle.portal_tables.proofs.Base.{◌≡◌, ◌∷◌, ◌++◌, drop, ℕ, List, [], map, false, None, Result, Ok, refl, sym, ap, subst, subst₂, ◌∙◌, ⊤, AllByRecursion, AllZip, Table, Term, Schema, created, next_tree, table_defined_by, CreateTable, Tally, lacks_sequence, Ghosts, state, Error, Transaction, Database, understood, State, Writes, IsPlain, command_of, statement_of, runs_as, everything, zip-append, all-append, all-map, no_schema, first_schema, portal_schema, portal, portal_text, lecturer_schema, lecturer_text, project_schema, project_text, student_schema, student_text, choice, ranking, choice_names, ranking_names, list_table_text, second, second_text, choice2, choice2_names, ranked2, ranked2_text, ranking2, ranking2_names, assigned2, assigned2_text, first_trees, second_trees, SameTable, IsCurrentSchema, IsFirstSchema, Grows, Grown, MakesFirst, MakesSecond, Makes, with_second, Ran, Made, Does}
+use Rattle.portal_tables.proofs.Base.{◌≡◌, ◌∷◌, ◌++◌, drop, ℕ, List, [], map, false, None, Result, Ok, refl, sym, ap}
+use Rattle.portal_tables.proofs.Base.{subst, subst₂, ◌∙◌, ⊤, AllByRecursion, AllZip, Table, Term, Schema, created}
+use Rattle.portal_tables.proofs.Base.{next_tree, table_defined_by, CreateTable, Tally, lacks_sequence, Ghosts, state}
+use Rattle.portal_tables.proofs.Base.{Error, Transaction, Database, understood, State, Writes, IsPlain, command_of}
+use Rattle.portal_tables.proofs.Base.{statement_of, runs_as, everything, zip-append, all-append, all-map, no_schema}
+use Rattle.portal_tables.proofs.Base.{first_schema, portal_schema, portal, portal_text, lecturer_schema, lecturer_text}
+use Rattle.portal_tables.proofs.Base.{project_schema, project_text, student_schema, student_text, choice, ranking}
+use Rattle.portal_tables.proofs.Base.{choice_names, ranking_names, list_table_text, second, second_text, choice2}
+use Rattle.portal_tables.proofs.Base.{choice2_names, ranked2, ranked2_text, ranking2, ranking2_names, assigned2}
+use Rattle.portal_tables.proofs.Base.{assigned2_text, first_trees, second_trees, SameTable, IsCurrentSchema}
+use Rattle.portal_tables.proofs.Base.{IsFirstSchema, Grows, Grown, MakesFirst, MakesSecond, Makes, with_second, Ran}
+use Rattle.portal_tables.proofs.Base.{Made, Does}
 use Rattle.portal_tables.proofs.Owned.{same_tables, first_self}
 use Rattle.portal_tables.proofs.Runs.{made_then, does_more, does_then}
 use Rattle.portal_tables.proofs.Sorted.{all_two}

@@ -1,5 +1,9 @@
 -- A key that is looked for among rows whose keys rise.
-use Rattle.portal_tables.proofs.Base.{◌≡◌, ◌<◌, ◌||◌, ◌∷◌, arith, inl, inr, zero, suc, ℕ, true, false, List, [], map, length, get_or, refl, sym, subst, ◌∙◌, ap, nat_cmp, slice_cmp, or-true, cases_Bool, cases_lt, nat_list_cmp_total, tied_itself, exact_bytes, searchable_from_sorted, rows_sorted, Result, Ok, Err, Row, Key, Rise, equals, has, is_same, is_own, first_cell}
+use Rattle.portal_tables.proofs.Base.{◌≡◌, ◌<◌, ◌||◌, ◌∷◌, arith, inl, inr, zero, suc, ℕ, true, false, List, [], map}
+use Rattle.portal_tables.proofs.Base.{length, get_or, refl, sym, subst, ◌∙◌, ap, nat_cmp, slice_cmp, or-true}
+use Rattle.portal_tables.proofs.Base.{cases_Bool, cases_lt, nat_list_cmp_total, tied_itself, exact_bytes}
+use Rattle.portal_tables.proofs.Base.{searchable_from_sorted, rows_sorted, Result, Ok, Err, Row, Key, Rise, equals, has}
+use Rattle.portal_tables.proofs.Base.{is_same, is_own, first_cell}
 use Rattle.std.proofs.Common.{Equal}
 use Rattle.std.specs.List.Sorted.{IsBinarySearchResult, IsSearchInRange}
 use Rattle.std.specs.Prelude.{is_ok}

@@ -1,5 +1,11 @@
 -- The rows of the office and of the second round, as their queries show them.
-use Rattle.portal_tables.proofs.Base.{◌≡◌, ◌&&◌, ◌∷◌, arith, ℕ, ℤ, pos, true, false, drop, Some, List, [], map, refl, sym, ap, subst, ◌∙◌, AllByRecursion, IsPermutation, length_permutation, one_permutation, and_parts, Value, Null, Int, Words, Row, column, Database, IsDatabase, Datatype, are_typed, is_of, Integer, is_null, Phase, Key, First, Second, portal_tree, portal, second_tree, second, HasFirstSchema, IsCurrentSchema, portal_row, second_row, ListsBy, every, columns, number_of_phase, HasOffice, IsOffice, IsSecond}
+use Rattle.portal_tables.proofs.Base.{◌≡◌, ◌&&◌, ◌∷◌, arith, ℕ, ℤ, pos, true, false, drop, Some, List, [], map, refl}
+use Rattle.portal_tables.proofs.Base.{sym, ap, subst, ◌∙◌, AllByRecursion, IsPermutation, length_permutation}
+use Rattle.portal_tables.proofs.Base.{one_permutation, and_parts, Value, Null, Int, Words, Row, column, Database}
+use Rattle.portal_tables.proofs.Base.{IsDatabase, Datatype, are_typed, is_of, Integer, is_null, Phase, Key, First}
+use Rattle.portal_tables.proofs.Base.{Second, portal_tree, portal, second_tree, second, HasFirstSchema, IsCurrentSchema}
+use Rattle.portal_tables.proofs.Base.{portal_row, second_row, ListsBy, every, columns, number_of_phase, HasOffice}
+use Rattle.portal_tables.proofs.Base.{IsOffice, IsSecond}
 use Rattle.sqlite.specs.Kind.TheVariants.{Text}
 use Rattle.portal_tables.proofs.Weak.{own_is}
 use Rattle.portal_tables.proofs.Listed.{whole_table}

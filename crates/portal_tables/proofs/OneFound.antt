@@ -1,5 +1,9 @@
 -- The only row that a query shows is what a search of the roll finds.
-use Rattle.portal_tables.proofs.Base.{◌≡◌, ◌∷◌, ℕ, Bool, true, false, cond, Option, Some, None, option_map, List, [], map, filter, refl, sym, ap, subst, subst₂, ◌∙◌, AllByRecursion, find, IsPermutation, IsPermutation-map, IsPermutation-sym, IsPermutation-trans, length_permutation, nil_from_length, Row, one_permutation, IsPermutation-filter, filter-map, ListsBy, row_key, by_key, as_list}
+use Rattle.portal_tables.proofs.Base.{◌≡◌, ◌∷◌, ℕ, Bool, true, false, cond, Option, Some, None, option_map, List, []}
+use Rattle.portal_tables.proofs.Base.{map, filter, refl, sym, ap, subst, subst₂, ◌∙◌, AllByRecursion, find}
+use Rattle.portal_tables.proofs.Base.{IsPermutation, IsPermutation-map, IsPermutation-sym, IsPermutation-trans}
+use Rattle.portal_tables.proofs.Base.{length_permutation, nil_from_length, Row, one_permutation, IsPermutation-filter}
+use Rattle.portal_tables.proofs.Base.{filter-map, ListsBy, row_key, by_key, as_list}
 pub use Rattle.portal_tables.proofs.Lists.{filter_alike}
 use Rattle.portal_tables.proofs.Listed.{permuted}
 use Rattle.portal_tables.proofs.Sorted.{permutes, map_alike, map_twice}

@@ -1,5 +1,8 @@
 -- The portal's own schemas: those of the tables as they are made, and any over the same trees.
-use Rattle.portal_tables.proofs.Base.{◌≡◌, ◌∷◌, ◌++◌, List, [], take, length, subst, sym, refl, AllZip, Database, IsDatabase, Trees, Schema, Table, IsSound, lists_once, zip_itself, Round, First, Second, first_schema, portal_schema, SameTable, HasFirstSchema, IsCurrentSchema, IsFirstSchema, HasRound}
+use Rattle.portal_tables.proofs.Base.{◌≡◌, ◌∷◌, ◌++◌, List, [], take, length, subst, sym, refl, AllZip, Database}
+use Rattle.portal_tables.proofs.Base.{IsDatabase, Trees, Schema, Table, IsSound, lists_once, zip_itself, Round, First}
+use Rattle.portal_tables.proofs.Base.{Second, first_schema, portal_schema, SameTable, HasFirstSchema, IsCurrentSchema}
+use Rattle.portal_tables.proofs.Base.{IsFirstSchema, HasRound}
 use Rattle.portal_tables.proofs.Weak.{same_with}
 
 pub same_tables : (ts : List Table) → AllZip SameTable ts ts

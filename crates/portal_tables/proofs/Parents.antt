@@ -1,5 +1,11 @@
 -- Whom a row names is on the roll, by the foreign keys of the tables.
-use Rattle.portal_tables.proofs.Base.{◌≡◌, ◌&&◌, ◌∷◌, ℤ, inl, inr, ℕ, Bool, true, false, map, List, [], refl, sym, ap, subst, ◌∙◌, all_weaker, any_map, filter_none, some_from, and_parts, cases_Bool, AllByRecursion, list_any, is_eq, Value, Int, Words, Binary, Row, column, bytes, value_cmp, Database, IsDatabase, Trees, ForeignKey, OfLists, equal, Key, equals, has, is_same, is_own, lecturer_tree, project_tree, student_tree, round_of, tree_of, Lists, Choices, Rankings, SecondChoices, SecondRankings, HasRound, RowNumbersDiffer, has_text, everything, place_cells, row_key, of_key, named_by}
+use Rattle.portal_tables.proofs.Base.{◌≡◌, ◌&&◌, ◌∷◌, ℤ, inl, inr, ℕ, Bool, true, false, map, List, [], refl, sym, ap}
+use Rattle.portal_tables.proofs.Base.{subst, ◌∙◌, all_weaker, any_map, filter_none, some_from, and_parts, cases_Bool}
+use Rattle.portal_tables.proofs.Base.{AllByRecursion, list_any, is_eq, Value, Int, Words, Binary, Row, column, bytes}
+use Rattle.portal_tables.proofs.Base.{value_cmp, Database, IsDatabase, Trees, ForeignKey, OfLists, equal, Key, equals}
+use Rattle.portal_tables.proofs.Base.{has, is_same, is_own, lecturer_tree, project_tree, student_tree, round_of}
+use Rattle.portal_tables.proofs.Base.{tree_of, Lists, Choices, Rankings, SecondChoices, SecondRankings, HasRound}
+use Rattle.portal_tables.proofs.Base.{RowNumbersDiffer, has_text, everything, place_cells, row_key, of_key, named_by}
 use Rattle.portal_tables.proofs.Weak.{Open, own_is}
 use Rattle.portal_tables.proofs.Shapes.{IsPlace, Follows, followed, place_rows_formed, text_equals}
 use Rattle.portal_tables.proofs.Sorted.{all_two}

@@ -1,5 +1,14 @@
 -- A list that is put, whole, in place of another.
-use Rattle.portal_tables.proofs.Base.{◌≡◌, ◌+◌, ◌<◌, ◌∷◌, ◌++◌, ◌&&◌, arith, ℕ, pos, List, [], Bool, true, false, not, cond, map, filter, filter_none, all_of, length, refl, sym, ap, ap₂, subst, ◌∙◌, get_or, take, suc, zero-add, IsPermutation, map-append, map-map, append-nil, append_assoc, length_push, length-take-le, State, Made, GoesOn, and-false, filter-append, IsPermutation-refl, IsPermutation-trans, IsPermutation-sym, IsPermutation-cons, IsPermutation-middle, IsPermutation-to_front, is_eq, Value, Int, Words, Row, value_cmp, column, next_rowid, is_taken, put_row, Database, value_cmp_total, Key, equals, Rise, is_sym, IsCurrentSchema, has_text, with_rows, AreNew, Adds, Clears, place_cells, of_key, place_key, by_place, list_in_order, CountUp, IsWhole, numbered, placed, list_cells, PutsList, Equal-is}
+use Rattle.portal_tables.proofs.Base.{◌≡◌, ◌+◌, ◌<◌, ◌∷◌, ◌++◌, ◌&&◌, arith, ℕ, pos, List, [], Bool, true, false, not}
+use Rattle.portal_tables.proofs.Base.{cond, map, filter, filter_none, all_of, length, refl, sym, ap, ap₂, subst, ◌∙◌}
+use Rattle.portal_tables.proofs.Base.{get_or, take, suc, zero-add, IsPermutation, map-append, map-map, append-nil}
+use Rattle.portal_tables.proofs.Base.{append_assoc, length_push, length-take-le, State, Made, GoesOn, and-false}
+use Rattle.portal_tables.proofs.Base.{filter-append, IsPermutation-refl, IsPermutation-trans, IsPermutation-sym}
+use Rattle.portal_tables.proofs.Base.{IsPermutation-cons, IsPermutation-middle, IsPermutation-to_front, is_eq, Value}
+use Rattle.portal_tables.proofs.Base.{Int, Words, Row, value_cmp, column, next_rowid, is_taken, put_row, Database}
+use Rattle.portal_tables.proofs.Base.{value_cmp_total, Key, equals, Rise, is_sym, IsCurrentSchema, has_text, with_rows}
+use Rattle.portal_tables.proofs.Base.{AreNew, Adds, Clears, place_cells, of_key, place_key, by_place, list_in_order}
+use Rattle.portal_tables.proofs.Base.{CountUp, IsWhole, numbered, placed, list_cells, PutsList, Equal-is}
 use Rattle.std.proofs.Math.Bool.{not-and_self}
 use Rattle.portal_tables.proofs.Runs.{made_goes, goes_both}
 use Rattle.portal_tables.proofs.InTurn.{next_item}

@@ -1,5 +1,10 @@
 -- What a query of one table shows, in the order of a column.
-use Rattle.portal_tables.proofs.Base.{◌≡◌, ◌∷◌, inl, inr, Ok, Err, Result, OnErr, OnOk, ℕ, List, [], map, filter, refl, ap, subst, ◌∙◌, IsPermutation, IsSorted, Null, Binary, ascending, Row, column, Term, col, Trees, Query, IsAnswer, output, Output, IsProgramAnswer, answer_alone, State, Shown, ShowsRows, IsUnchanged, FailsToQuery, FailsToShow, IsNotRun, Error, IsUnchangedOrUndone, timed, understood, IsPlainIfAny, ListsBy, columns, key_cmp, map-map}
+use Rattle.portal_tables.proofs.Base.{◌≡◌, ◌∷◌, inl, inr, Ok, Err, Result, OnErr, OnOk, ℕ, List, [], map, filter, refl}
+use Rattle.portal_tables.proofs.Base.{ap, subst, ◌∙◌, IsPermutation, IsSorted, Null, Binary, ascending, Row, column}
+use Rattle.portal_tables.proofs.Base.{Term, col, Trees, Query, IsAnswer, output, Output, IsProgramAnswer, answer_alone}
+use Rattle.portal_tables.proofs.Base.{State, Shown, ShowsRows, IsUnchanged, FailsToQuery, FailsToShow, IsNotRun, Error}
+use Rattle.portal_tables.proofs.Base.{IsUnchangedOrUndone, timed, understood, IsPlainIfAny, ListsBy, columns, key_cmp}
+use Rattle.portal_tables.proofs.Base.{map-map}
 use Rattle.sqlite_value.specs.declared.keys.Key.{Key}
 use Rattle.portal_tables.proofs.Query.{one_table, passes, shown_as}
 use Rattle.portal_tables.proofs.Lists.{looped}

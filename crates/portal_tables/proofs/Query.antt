@@ -1,5 +1,6 @@
 -- A query of one table, where each term of the filter holds.
-use Rattle.portal_tables.proofs.Base.{◌∷◌, ℕ, pos, negsuc, Bool, false, List, [], None, list_all, Int, Row, Term, lit, holds, eval_all, Query, inner, end}
+use Rattle.portal_tables.proofs.Base.{◌∷◌, ℕ, pos, negsuc, Bool, false, List, [], None, list_all, Int, Row, Term, lit}
+use Rattle.portal_tables.proofs.Base.{holds, eval_all, Query, inner, end}
 
 abbrev pub one_table : ℕ → List Term → List Term → Query
 one_table tree tests project = record {

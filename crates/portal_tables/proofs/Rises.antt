@@ -1,5 +1,10 @@
 -- Rows whose numbers rise in some order have numbers of their own.
-use Rattle.portal_tables.proofs.Base.{◌≡◌, ◌∷◌, ℤ, List, [], map, filter, Bool, true, false, Option, Some, None, int_cmp, refl, sym, ap, subst, subst₂, ◌∙◌, Less, is_eq, AllByRecursion, all_unmap, all_weaker, IsDistinct, IsPermutation, IsPermutation-map, IsPermutation-sym, IsDistinct-IsPermutation, and_parts, Value, Int, Row, column, value_cmp, id_in, value_cmp_total, value_cmp-Int, RowNumbersDiffer, ListsBy, every, columns, is_above, rises, map-map, less_of}
+use Rattle.portal_tables.proofs.Base.{◌≡◌, ◌∷◌, ℤ, List, [], map, filter, Bool, true, false, Option, Some, None}
+use Rattle.portal_tables.proofs.Base.{int_cmp, refl, sym, ap, subst, subst₂, ◌∙◌, Less, is_eq, AllByRecursion}
+use Rattle.portal_tables.proofs.Base.{all_unmap, all_weaker, IsDistinct, IsPermutation, IsPermutation-map}
+use Rattle.portal_tables.proofs.Base.{IsPermutation-sym, IsDistinct-IsPermutation, and_parts, Value, Int, Row, column}
+use Rattle.portal_tables.proofs.Base.{value_cmp, id_in, value_cmp_total, value_cmp-Int, RowNumbersDiffer, ListsBy}
+use Rattle.portal_tables.proofs.Base.{every, columns, is_above, rises, map-map, less_of}
 use Rattle.portal_tables.proofs.Lists.{eq_flips, filter_all}
 use Rattle.portal_tables.proofs.Sorted.{all_permuted}
 

@@ -1,5 +1,9 @@
 -- Steps of a transaction in turn, whatever the change.
-use Rattle.portal_tables.proofs.Base.{◌≡◌, arith, inl, inr, Bool, true, false, IsTrue, IsErr, Result, Ok, refl, sym, ap, subst, ◌∙◌, on_ok_weaker, IfOk-from_err, Error, Transaction, cases_Bool, Database, State, HasCleanDisk, Survives, KeepsCommit, Shows, IsRolledBack, FailsToCommit, Ghosts, Held, state, doubt, no_doubt, survives_then, survives_begin, kept_then, Made, GoesOn, Does, Commits, IsAfter, Stays}
+use Rattle.portal_tables.proofs.Base.{◌≡◌, arith, inl, inr, Bool, true, false, IsTrue, IsErr, Result, Ok, refl, sym, ap}
+use Rattle.portal_tables.proofs.Base.{subst, ◌∙◌, on_ok_weaker, IfOk-from_err, Error, Transaction, cases_Bool, Database}
+use Rattle.portal_tables.proofs.Base.{State, HasCleanDisk, Survives, KeepsCommit, Shows, IsRolledBack, FailsToCommit}
+use Rattle.portal_tables.proofs.Base.{Ghosts, Held, state, doubt, no_doubt, survives_then, survives_begin, kept_then}
+use Rattle.portal_tables.proofs.Base.{Made, GoesOn, Does, Commits, IsAfter, Stays}
 
 -- a step after another
 pub made_then : (A B C : Database → Database → Type 0) (old mid new : State) → Made A old mid → Made B mid new → (A old.now mid.now → B mid.now new.now → C old.now new.now) → Made C old new

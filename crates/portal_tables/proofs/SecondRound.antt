@@ -1,5 +1,10 @@
 -- The tables of the second round's rankings and result.
-use Rattle.portal_tables.proofs.Base.{◌≡◌, ◌||◌, ◌∷◌, inl, inr, Bool, true, false, not, List, [], map, filter, filter_none, all_of, refl, sym, ap, subst, ◌∙◌, list_any, cases_Bool, list_any-IsPermutation, Int, Words, Row, bytes, next_rowid, put_row, Database, Key, equals, has, any_map, ranked2_tree, assigned2_tree, IsCurrentSchema, RowNumbersDiffer, Drops, every, has_text, with_rows, PutsPlacements, RanksSecond, row_key, Adds, Clears, pair_new}
+use Rattle.portal_tables.proofs.Base.{◌≡◌, ◌||◌, ◌∷◌, inl, inr, Bool, true, false, not, List, [], map, filter}
+use Rattle.portal_tables.proofs.Base.{filter_none, all_of, refl, sym, ap, subst, ◌∙◌, list_any, cases_Bool}
+use Rattle.portal_tables.proofs.Base.{list_any-IsPermutation, Int, Words, Row, bytes, next_rowid, put_row, Database}
+use Rattle.portal_tables.proofs.Base.{Key, equals, has, any_map, ranked2_tree, assigned2_tree, IsCurrentSchema}
+use Rattle.portal_tables.proofs.Base.{RowNumbersDiffer, Drops, every, has_text, with_rows, PutsPlacements, RanksSecond}
+use Rattle.portal_tables.proofs.Base.{row_key, Adds, Clears, pair_new}
 use Rattle.std.proofs.lemmas.Map.Views.{any-filter_same}
 use Rattle.portal_tables.proofs.Keeping.{drops_apart, keeps_then, put_permutes, puts_apart}
 use Rattle.portal_tables.proofs.Parents.{text_there}

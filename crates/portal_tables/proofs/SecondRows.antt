@@ -1,5 +1,12 @@
 -- What a row of the second round tells of a lecturer or a student, found by the key.
-use Rattle.portal_tables.proofs.Base.{◌≡◌, ◌≤◌, ◌&&◌, ◌∷◌, arith, true, not, Option, option_map, IfSome, List, [], map, filter, length, refl, sym, ap, subst, subst₂, ◌∙◌, AllByRecursion, list_any, list_any-IsPermutation, IsPermutation, IsPermutation-map, IsPermutation-sym, length_permutation, length-map, and-true, map-map, Row, column, bytes, Database, IsDatabase, Key, equals, is_sym, has, any_map, filtered_any, all_map, all_weaker, IsCurrentSchema, OfRanked, OfPlaces, ranked2_tree, assigned2_tree, ListsBy, columns, has_text, of_key, row_key, as_list, shown_name, is_key, placed_project, second_placement, is_empty}
+use Rattle.portal_tables.proofs.Base.{◌≡◌, ◌≤◌, ◌&&◌, ◌∷◌, arith, true, not, Option, option_map, IfSome, List, [], map}
+use Rattle.portal_tables.proofs.Base.{filter, length, refl, sym, ap, subst, subst₂, ◌∙◌, AllByRecursion, list_any}
+use Rattle.portal_tables.proofs.Base.{list_any-IsPermutation, IsPermutation, IsPermutation-map, IsPermutation-sym}
+use Rattle.portal_tables.proofs.Base.{length_permutation, length-map, and-true, map-map, Row, column, bytes, Database}
+use Rattle.portal_tables.proofs.Base.{IsDatabase, Key, equals, is_sym, has, any_map, filtered_any, all_map, all_weaker}
+use Rattle.portal_tables.proofs.Base.{IsCurrentSchema, OfRanked, OfPlaces, ranked2_tree, assigned2_tree, ListsBy}
+use Rattle.portal_tables.proofs.Base.{columns, has_text, of_key, row_key, as_list, shown_name, is_key, placed_project}
+use Rattle.portal_tables.proofs.Base.{second_placement, is_empty}
 use Rattle.portal_tables.proofs.Lists.{any_alike}
 use Rattle.portal_tables.proofs.Listed.{IsText, permuted}
 use Rattle.portal_tables.proofs.OneFound.{first_of, find_is, first_back, only_one, filter_alike}

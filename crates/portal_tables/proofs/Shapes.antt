@@ -1,5 +1,15 @@
 -- The shapes of the rows of the portal's own tables, by the rules that a database obeys.
-use Rattle.portal_tables.proofs.Base.{◌≡◌, ◌⊎◌, ◌&&◌, ◌∷◌, ◌+◌, inl, inr, ℕ, ℤ, Bool, true, false, not, codes, drop, None, List, [], refl, sym, ap, subst, ◌∙◌, AllByRecursion, and_parts, is_eq, texts_ties, Value, Null, Int, Words, Row, column, value_cmp, Trees, id_in, Database, IsDatabase, Column, Constraint, Datatype, NotNull, Keeps, passes, are_typed, are_present, is_of, is_null, Integer, Key, equals, column_of, list_table, lecturer_tree, project_tree, student_tree, ranked2_tree, assigned2_tree, lecturer_schema, project_schema, student_schema, ranked2, assigned2, round_of, names, tree_of, table_round, table_tree, Lists, Choices, Rankings, SecondChoices, SecondRankings, OfRoll, OfLists, OfRanked, OfPlaces, Lecturers, Projects, Students, Table, Round, HasFirstSchema, HasRound, RowNumbersDiffer, has_text, lecturer_cells, place_cells, row_key, Named}
+use Rattle.portal_tables.proofs.Base.{◌≡◌, ◌⊎◌, ◌&&◌, ◌∷◌, ◌+◌, inl, inr, ℕ, ℤ, Bool, true, false, not, codes, drop}
+use Rattle.portal_tables.proofs.Base.{None, List, [], refl, sym, ap, subst, ◌∙◌, AllByRecursion, and_parts, is_eq}
+use Rattle.portal_tables.proofs.Base.{texts_ties, Value, Null, Int, Words, Row, column, value_cmp, Trees, id_in}
+use Rattle.portal_tables.proofs.Base.{Database, IsDatabase, Column, Constraint, Datatype, NotNull, Keeps, passes}
+use Rattle.portal_tables.proofs.Base.{are_typed, are_present, is_of, is_null, Integer, Key, equals, column_of}
+use Rattle.portal_tables.proofs.Base.{list_table, lecturer_tree, project_tree, student_tree, ranked2_tree}
+use Rattle.portal_tables.proofs.Base.{assigned2_tree, lecturer_schema, project_schema, student_schema, ranked2}
+use Rattle.portal_tables.proofs.Base.{assigned2, round_of, names, tree_of, table_round, table_tree, Lists, Choices}
+use Rattle.portal_tables.proofs.Base.{Rankings, SecondChoices, SecondRankings, OfRoll, OfLists, OfRanked, OfPlaces}
+use Rattle.portal_tables.proofs.Base.{Lecturers, Projects, Students, Table, Round, HasFirstSchema, HasRound}
+use Rattle.portal_tables.proofs.Base.{RowNumbersDiffer, has_text, lecturer_cells, place_cells, row_key, Named}
 use Rattle.sqlite.specs.Kind.{Kind}
 use Rattle.sqlite.specs.Kind.TheVariants.{Text}
 use Rattle.portal_tables.proofs.Listed.{IsText}

@@ -1,5 +1,14 @@
 -- The meaning of each query's text, whatever the checks are, and so what a query shows and leaves.
-use Rattle.portal_tables.proofs.Base.{◌≡◌, if◌then◌else◌, ℕ, Bool, true, Begins, shown_begins, List, [], false, map, Err, Option, Some, None, refl, sym, ap, subst, subst₂, ◌∙◌, Ok, Result, OnOk, OnErr, Row, Term, col, Schema, Database, Answers, Command, Program, Compiled, State, Shown, HasCleanDisk, IsUnchanged, Survives, Select, everything, understood, reads_listing, lets_of, Ends, IsPlain, IsPlainIfAny, EndsIn, command_of, reads_as, survives_weaker, Choices, Whole, LecturerByCode, StudentByCode, LecturerByKey, StudentTold, AllLists, ListOf, Choosers, Listed, ProjectsOf, First, SecondRankedBy, SecondPlaceOf, Numbers, Lecturers, OfRoll, OfLists, ListsBy, HasRound, selection, round_asked, query_text, given, on_ok_weaker, Reading, Anyhow, IsUnchangedOrUndone, Reads, Always}
+use Rattle.portal_tables.proofs.Base.{◌≡◌, if◌then◌else◌, ℕ, Bool, true, Begins, shown_begins, List, [], false, map}
+use Rattle.portal_tables.proofs.Base.{Err, Option, Some, None, refl, sym, ap, subst, subst₂, ◌∙◌, Ok, Result, OnOk}
+use Rattle.portal_tables.proofs.Base.{OnErr, Row, Term, col, Schema, Database, Answers, Command, Program, Compiled}
+use Rattle.portal_tables.proofs.Base.{State, Shown, HasCleanDisk, IsUnchanged, Survives, Select, everything, understood}
+use Rattle.portal_tables.proofs.Base.{reads_listing, lets_of, Ends, IsPlain, IsPlainIfAny, EndsIn, command_of, reads_as}
+use Rattle.portal_tables.proofs.Base.{survives_weaker, Choices, Whole, LecturerByCode, StudentByCode, LecturerByKey}
+use Rattle.portal_tables.proofs.Base.{StudentTold, AllLists, ListOf, Choosers, Listed, ProjectsOf, First}
+use Rattle.portal_tables.proofs.Base.{SecondRankedBy, SecondPlaceOf, Numbers, Lecturers, OfRoll, OfLists, ListsBy}
+use Rattle.portal_tables.proofs.Base.{HasRound, selection, round_asked, query_text, given, on_ok_weaker, Reading}
+use Rattle.portal_tables.proofs.Base.{Anyhow, IsUnchangedOrUndone, Reads, Always}
 use Rattle.sqlite.specs.Listing.{misses_table, if_select, is_select, listing_schema}
 use Rattle.sqlite_ast.specs.declared.Select as written_select
 use Rattle.sqlite_ast.specs.declared.Statement.{Statement}

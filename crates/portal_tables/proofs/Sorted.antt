@@ -1,5 +1,11 @@
 -- Rows put by their keys are the one order of them in which the keys rise.
-use Rattle.portal_tables.proofs.Base.{◌≡◌, ◌∷◌, ◌++◌, inl, inr, true, false, cond, List, [], map, refl, sym, ap, ap₂, subst, ◌∙◌, append-nil, AllByRecursion, IsDistinct, IsPermutation, IsPermutation-refl, IsPermutation-trans, IsPermutation-sym, IsPermutation-cons, IsPermutation-middle, IsPermutation-map, IsPermutation-append_right, IsDistinct-IsPermutation, Has, Key, equals, has, is_before, Rise, put, all_unmap, all_weaker, map-map, some_from, is_own, none_is, rise_put, not_before_itself, is_sym, before_trans, after_other, before_other}
+use Rattle.portal_tables.proofs.Base.{◌≡◌, ◌∷◌, ◌++◌, inl, inr, true, false, cond, List, [], map, refl, sym, ap, ap₂}
+use Rattle.portal_tables.proofs.Base.{subst, ◌∙◌, append-nil, AllByRecursion, IsDistinct, IsPermutation}
+use Rattle.portal_tables.proofs.Base.{IsPermutation-refl, IsPermutation-trans, IsPermutation-sym, IsPermutation-cons}
+use Rattle.portal_tables.proofs.Base.{IsPermutation-middle, IsPermutation-map, IsPermutation-append_right}
+use Rattle.portal_tables.proofs.Base.{IsDistinct-IsPermutation, Has, Key, equals, has, is_before, Rise, put, all_unmap}
+use Rattle.portal_tables.proofs.Base.{all_weaker, map-map, some_from, is_own, none_is, rise_put, not_before_itself}
+use Rattle.portal_tables.proofs.Base.{is_sym, before_trans, after_other, before_other}
 pub use Rattle.sqlite_rules.proofs.ListLemmas.{all_has as at, all_from as all_has}
 pub use Rattle.sqlite_trees.proofs.ListLemmas.{all-permutation as all_permuted, all_both as all_two}
 use Rattle.portal_rules.specs.Words.{put_all}

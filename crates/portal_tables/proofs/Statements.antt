@@ -1,5 +1,18 @@
 -- The texts that write, and what each does to its table, whatever the checks are.
-use Rattle.portal_tables.proofs.Base.{◌≡◌, ◌+◌, ◌∷◌, ◌++◌, ◌==◌, ◌/◌, ℕ, pos, Option, Some, slice_get, List, [], map, filter, codes, length, true, false, not, refl, sym, ap, subst, subst₂, ◌∙◌, ⊤, all_map, all_of, flat_map, filter_map, is_eq, Null, Int, Text, Binary, Row, column, value_cmp, Table, put_row, rowid, id_in, value_rows, cast_row, Term, lit, col, op2, Compare, Eq, State, Ghosts, state, Insert, Delete, Update, Values, everything, understood, IsPlain, command_of, works, work_by, deed_for, pairs, parent_key, Enforced, Column, Reference, Order, Lists, Second, Choices, schema_of, list_table, project_schema, portal_tree, second_tree, ranked2_tree, assigned2_tree, lecturer_tree, project_tree, student_tree, names, place_among, tree_of, clear_text, add_text, add_eight_text, RowNumbersDiffer, Drops, Sets, Becomes, every, IsCurrentSchema, Ran, Made, portal_cells, lecturer_cells, lecturer_new, lecturer_values, project_new, student_new, student_values, place_new, pair_new, AddsBy, Clears, MovesTo, IsOfVersion, MovesSecond, Ranks, portal_row, second_cells, second_row}
+use Rattle.portal_tables.proofs.Base.{◌≡◌, ◌+◌, ◌∷◌, ◌++◌, ◌==◌, ◌/◌, ℕ, pos, Option, Some, slice_get, List, [], map}
+use Rattle.portal_tables.proofs.Base.{filter, codes, length, true, false, not, refl, sym, ap, subst, subst₂, ◌∙◌, ⊤}
+use Rattle.portal_tables.proofs.Base.{all_map, all_of, flat_map, filter_map, is_eq, Null, Int, Text, Binary, Row}
+use Rattle.portal_tables.proofs.Base.{column, value_cmp, Table, put_row, rowid, id_in, value_rows, cast_row, Term, lit}
+use Rattle.portal_tables.proofs.Base.{col, op2, Compare, Eq, State, Ghosts, state, Insert, Delete, Update, Values}
+use Rattle.portal_tables.proofs.Base.{everything, understood, IsPlain, command_of, works, work_by, deed_for, pairs}
+use Rattle.portal_tables.proofs.Base.{parent_key, Enforced, Column, Reference, Order, Lists, Second, Choices, schema_of}
+use Rattle.portal_tables.proofs.Base.{list_table, project_schema, portal_tree, second_tree, ranked2_tree}
+use Rattle.portal_tables.proofs.Base.{assigned2_tree, lecturer_tree, project_tree, student_tree, names, place_among}
+use Rattle.portal_tables.proofs.Base.{tree_of, clear_text, add_text, add_eight_text, RowNumbersDiffer, Drops, Sets}
+use Rattle.portal_tables.proofs.Base.{Becomes, every, IsCurrentSchema, Ran, Made, portal_cells, lecturer_cells}
+use Rattle.portal_tables.proofs.Base.{lecturer_new, lecturer_values, project_new, student_new, student_values}
+use Rattle.portal_tables.proofs.Base.{place_new, pair_new, AddsBy, Clears, MovesTo, IsOfVersion, MovesSecond, Ranks}
+use Rattle.portal_tables.proofs.Base.{portal_row, second_cells, second_row}
 use Rattle.portal_tables.proofs.Weak.{portal_with, with_checks, own_is}
 use Rattle.portal_tables.proofs.Query.{one_table, passes, shown_as}
 use Rattle.portal_tables.proofs.Tests.{param, has_key, same_key, equals_int}

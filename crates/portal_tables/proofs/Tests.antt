@@ -1,5 +1,7 @@
 -- What the tests of the texts mean.
-use Rattle.portal_tables.proofs.Base.{◌≡◌, ◌∷◌, ◌&&◌, ℕ, ℤ, pos, List, [], true, Some, refl, is_eq, Ordering, Equal, Value, Null, Int, Text, Binary, Row, value_cmp, column, binary, is_true, from_truth, Term, col, lit, op2, Compare, Eq, has_text, has_number}
+use Rattle.portal_tables.proofs.Base.{◌≡◌, ◌∷◌, ◌&&◌, ℕ, ℤ, pos, List, [], true, Some, refl, is_eq, Ordering, Equal}
+use Rattle.portal_tables.proofs.Base.{Value, Null, Int, Text, Binary, Row, value_cmp, column, binary, is_true}
+use Rattle.portal_tables.proofs.Base.{from_truth, Term, col, lit, op2, Compare, Eq, has_text, has_number}
 use Rattle.portal_tables.proofs.Query.{passes}
 
 abbrev pub param : ℕ → Term

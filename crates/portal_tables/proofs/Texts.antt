@@ -1,5 +1,10 @@
 -- The key that a row begins with is a text: a roll's, or the owner's in a list or the second round.
-use Rattle.portal_tables.proofs.Base.{◌≡◌, ◌&&◌, ◌∷◌, lecturer_schema, project_schema, student_schema, true, false, drop, codes, None, List, [], ℕ, AllByRecursion, and_parts, Row, column, Database, IsDatabase, Column, Datatype, NotNull, are_typed, are_present, is_of, Integer, column_of, lecturer_tree, project_tree, student_tree, ranked2_tree, assigned2_tree, names, tree_of, table_round, table_tree, HasRound, OfRoll, OfLists, OfRanked, OfPlaces, Lecturers, Projects, Students, Named}
+use Rattle.portal_tables.proofs.Base.{◌≡◌, ◌&&◌, ◌∷◌, lecturer_schema, project_schema, student_schema, true, false}
+use Rattle.portal_tables.proofs.Base.{drop, codes, None, List, [], ℕ, AllByRecursion, and_parts, Row, column, Database}
+use Rattle.portal_tables.proofs.Base.{IsDatabase, Column, Datatype, NotNull, are_typed, are_present, is_of, Integer}
+use Rattle.portal_tables.proofs.Base.{column_of, lecturer_tree, project_tree, student_tree, ranked2_tree}
+use Rattle.portal_tables.proofs.Base.{assigned2_tree, names, tree_of, table_round, table_tree, HasRound, OfRoll}
+use Rattle.portal_tables.proofs.Base.{OfLists, OfRanked, OfPlaces, Lecturers, Projects, Students, Named}
 use Rattle.sqlite.specs.Kind.TheVariants.{Text}
 use Rattle.portal_tables.proofs.Weak.{Open, own_is}
 use Rattle.portal_tables.proofs.Listed.{IsText}

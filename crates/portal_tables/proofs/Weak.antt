@@ -1,5 +1,8 @@
 -- Schemas that are the portal's own but for their checks and the terms of their defaults.
-use Rattle.portal_tables.proofs.Base.{◌≡◌, ◌&&◌, ◌∷◌, ◌++◌, ℕ, Bool, true, false, not, cond, eqb, take, drop, List, [], map, refl, sym, ap, ap₂, ◌∙◌, AllZip, list_all, and_parts, eq-eqb, take-append-drop, Term, Table, Schema, Index, Round, First, Second, first_schema, portal_schema, SameTable, IsFirstSchema, HasRound}
+use Rattle.portal_tables.proofs.Base.{◌≡◌, ◌&&◌, ◌∷◌, ◌++◌, ℕ, Bool, true, false, not, cond, eqb, take, drop, List, []}
+use Rattle.portal_tables.proofs.Base.{map, refl, sym, ap, ap₂, ◌∙◌, AllZip, list_all, and_parts, eq-eqb}
+use Rattle.portal_tables.proofs.Base.{take-append-drop, Term, Table, Schema, Index, Round, First, Second, first_schema}
+use Rattle.portal_tables.proofs.Base.{portal_schema, SameTable, IsFirstSchema, HasRound}
 
 abbrev pub with_terms : List Term → List Term → Table → Table
 with_terms checks terms t = record t { checks = checks; stamps = record t.stamps { terms = terms } }

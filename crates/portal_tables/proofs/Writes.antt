@@ -1,5 +1,16 @@
 -- What a statement on one table does to its rows.
-use Rattle.portal_tables.proofs.Base.{◌≡◌, ◌⊎◌, ◌∷◌, ◌++◌, ◌≢◌, ◌/◌, inl, inr, ℕ, ℤ, List, [], map, slice_get, Bool, true, false, not, cond, Option, Some, None, Ok, Err, Result, refl, sym, ap, ap₂, subst, ◌∙◌, filter, length, drop, AllByRecursion, and_parts, Null, Int, Row, Term, col, unary, Table, Schema, Values, Insert, Delete, Update, Edit, edit_of, put_all, next_rowid, is_taken, are_fresh, without_all, id_in, taken_by, cast, cast_row, Chosen, Given, Tally, Written, Edited, Trees, put_row, rowid, has_rowid, understood, Database, IsDatabase, value_rows, State, mode_of, Executes, IsPlain, command_of, statement_of, runs_as, one_step, one_permutation, works, Enforced, Column, Reference, Order, schema_of, own_trees, InsertsRows, Drops, Sets, RowNumbersDiffer, with_rows, AreNew, IsPermutation, IsPermutation-map, IsPermutation-trans, IsPermutation-append_left, list_any-IsPermutation, IsProgramAnswer, ids_of, Program, map-map, any_map}
+use Rattle.portal_tables.proofs.Base.{◌≡◌, ◌⊎◌, ◌∷◌, ◌++◌, ◌≢◌, ◌/◌, inl, inr, ℕ, ℤ, List, [], map, slice_get, Bool}
+use Rattle.portal_tables.proofs.Base.{true, false, not, cond, Option, Some, None, Ok, Err, Result, refl, sym, ap, ap₂}
+use Rattle.portal_tables.proofs.Base.{subst, ◌∙◌, filter, length, drop, AllByRecursion, and_parts, Null, Int, Row, Term}
+use Rattle.portal_tables.proofs.Base.{col, unary, Table, Schema, Values, Insert, Delete, Update, Edit, edit_of, put_all}
+use Rattle.portal_tables.proofs.Base.{next_rowid, is_taken, are_fresh, without_all, id_in, taken_by, cast, cast_row}
+use Rattle.portal_tables.proofs.Base.{Chosen, Given, Tally, Written, Edited, Trees, put_row, rowid, has_rowid}
+use Rattle.portal_tables.proofs.Base.{understood, Database, IsDatabase, value_rows, State, mode_of, Executes, IsPlain}
+use Rattle.portal_tables.proofs.Base.{command_of, statement_of, runs_as, one_step, one_permutation, works, Enforced}
+use Rattle.portal_tables.proofs.Base.{Column, Reference, Order, schema_of, own_trees, InsertsRows, Drops, Sets}
+use Rattle.portal_tables.proofs.Base.{RowNumbersDiffer, with_rows, AreNew, IsPermutation, IsPermutation-map}
+use Rattle.portal_tables.proofs.Base.{IsPermutation-trans, IsPermutation-append_left, list_any-IsPermutation}
+use Rattle.portal_tables.proofs.Base.{IsProgramAnswer, ids_of, Program, map-map, any_map}
 use Rattle.sqlite.specs.Kind.TheVariants as kind
 use Rattle.sqlite.specs.Edit.{numbered}
 use Rattle.sqlite.specs.Does.{Does}

@@ -32,4 +32,5 @@ pub use Rattle.sqlite_value.specs.Keys.{plain}
 pub use Rattle.sqlite_value.specs.declared.keys.Order.{Order}
 pub use Rattle.std.specs.List.{AllByRecursion, AllZip, find, list_any}
 pub use Rattle.std.specs.Ordering.{is_eq}
-pub use Rattle.std.specs.Prelude.{Bool, IfOk, IsTrue, List, None, OnErr, OnOk, Option, Result, Some, [], bytes_eq, codes, false, filter, map, option_map, pos, take, true, ℕ, ℤ, ⊤}
+pub use Rattle.std.specs.Prelude.{Bool, IfOk, IsTrue, List, None, OnErr, OnOk, Option, Result, Some, [], bytes_eq}
+pub use Rattle.std.specs.Prelude.{codes, false, filter, map, option_map, pos, take, true, ℕ, ℤ, ⊤}

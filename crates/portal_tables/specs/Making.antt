@@ -1,11 +1,14 @@
 -- Which schemas use a name of the portal's tables, and how its tables are made and upgraded.
 use Rattle.std.specs.Prelude.{◌||◌, ◌&&◌, ◌≡◌, ◌≢◌, ◌∷◌}
-use Rattle.portal_tables.specs.Base.{ℕ, Bool, true, List, codes, Option, Some, None, bytes_eq, list_any, View, same_name, ℤ, pos, [], AllByRecursion, Database, IsDatabase}
+use Rattle.portal_tables.specs.Base.{ℕ, Bool, true, List, codes, Option, Some, None, bytes_eq, list_any, View}
+use Rattle.portal_tables.specs.Base.{same_name, ℤ, pos, [], AllByRecursion, Database, IsDatabase}
 use Rattle.sqlite_schema.specs.declared.schema.Table.{Table}
 use Rattle.sqlite_schema.specs.declared.schema.Schema.{Schema}
 use Rattle.portal_tables.specs.declared.names.Names.{Names}
 use Rattle.portal_tables.specs.declared.names.Names.TheVariants.{All, OfSecond}
-use Rattle.portal_tables.specs.Tables.{no_schema, portal_schema, portal_tree, second_tree, choice2_tree, ranked2_tree, ranking2_tree, assigned2_tree, first_trees, own_trees, version, first_version, IsFirstSchema, IsCurrentSchema}
+use Rattle.portal_tables.specs.Tables.{no_schema, portal_schema, portal_tree, second_tree, choice2_tree, ranked2_tree}
+use Rattle.portal_tables.specs.Tables.{ranking2_tree, assigned2_tree, first_trees, own_trees, version, first_version}
+use Rattle.portal_tables.specs.Tables.{IsFirstSchema, IsCurrentSchema}
 use Rattle.portal_tables.specs.Rows.{portal_row, second_row}
 
 -- a name of a table of the first round, or below of the second, ignoring the case of letters

@@ -1,6 +1,9 @@
 -- What the rows of the tables say, what the statements put into them, and the lists that they hold.
 use Rattle.std.specs.Prelude.{◌∷◌, ◌≡◌, if◌then◌else◌, ◌==◌, ◌+◌}
-use Rattle.portal_tables.specs.Base.{ℕ, ℤ, pos, List, [], Option, Null, Int, Words, Row, column, bytes, Key, Some, None, Value, Real, Blob, Bool, false, ⊤, AllByRecursion, is_eq, value_cmp, id_in, rowid, Phase, Setup, Choosing, Ranking, Published, map, filter, number_in, put_all, option_map, find, Trees, equals}
+use Rattle.portal_tables.specs.Base.{ℕ, ℤ, pos, List, [], Option, Null, Int, Words, Row, column, bytes, Key, Some, None}
+use Rattle.portal_tables.specs.Base.{Value, Real, Blob, Bool, false, ⊤, AllByRecursion, is_eq, value_cmp, id_in, rowid}
+use Rattle.portal_tables.specs.Base.{Phase, Setup, Choosing, Ranking, Published, map, filter, number_in, put_all}
+use Rattle.portal_tables.specs.Base.{option_map, find, Trees, equals}
 use Rattle.portal_rules.specs.declared.rows.LecturerRow.{LecturerRow}
 use Rattle.portal_rules.specs.declared.rows.ProjectRow.{ProjectRow}
 use Rattle.portal_rules.specs.declared.rows.StudentRow.{StudentRow}

@@ -1,6 +1,7 @@
 -- What a transaction leaves, what a read does to a connection, and what it returns.
 use Rattle.std.specs.Prelude.{◌≡◌, ◌⊎◌}
-use Rattle.portal_tables.specs.Base.{IsTrue, Trees, Database, State, IsUnchanged, IsRolledBack, false, Result, IfOk, OnOk, OnErr, Held, state, HasCleanDisk, Survives, Ghosts, Round}
+use Rattle.portal_tables.specs.Base.{IsTrue, Trees, Database, State, IsUnchanged, IsRolledBack, false, Result, IfOk}
+use Rattle.portal_tables.specs.Base.{OnOk, OnErr, Held, state, HasCleanDisk, Survives, Ghosts, Round}
 use Rattle.portal_tables.specs.Tables.{HasRound}
 
 -- the change is made and committed

@@ -1,6 +1,9 @@
 -- The portal's tables, six of the first round and five of the second, and which count as its own.
 use Rattle.std.specs.Prelude.{◌∷◌, ◌++◌, ◌≡◌}
-use Rattle.portal_tables.specs.Base.{Binary, true, false, [], Some, None, codes, List, ℕ, pos, Bool, Option, Null, Int, Table, Schema, Kind, Integer, Text, Term, lit, col, op2, Compare, And, Or, Eq, Ge, Le, Column, Index, Reference, NoAction, Order, plain, Round, First, Second, take, AllZip}
+use Rattle.portal_tables.specs.Base.{Binary, true, false, [], Some, None, codes, List, ℕ, pos, Bool, Option, Null, Int}
+use Rattle.portal_tables.specs.Base.{Table, Schema, Kind, Integer, Text, Term, lit, col, op2, Compare, And, Or, Eq, Ge}
+use Rattle.portal_tables.specs.Base.{Le, Column, Index, Reference, NoAction, Order, plain, Round, First, Second, take}
+use Rattle.portal_tables.specs.Base.{AllZip}
 use Rattle.portal_tables.specs.declared.list_table.Lists.{Lists}
 use Rattle.portal_tables.specs.declared.list_table.Lists.TheVariants.{Choices, Rankings, SecondChoices, SecondRankings}
 

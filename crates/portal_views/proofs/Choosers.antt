@@ -1,5 +1,12 @@
 -- Who names a project, of the keys that a query of the lists shows.
-use Rattle.portal_views.proofs.Base.{◌≡◌, ◌&&◌, ◌∷◌, permuted, any_alike, has_round, OnRoll, owners_of, IsPlace, has_text_of, permutes, all_permuted, Bool, true, List, [], map, filter, refl, sym, ap, ap₂, subst, ◌∙◌, AllByRecursion, list_any, and_comm, list_any-IsPermutation, Row, column, bytes, Database, all-filter, Key, equals, has, all_weaker, all_map, any_map, filtered_any, is_sym, student_tree, Round, First, Second, choice_table, round_of, tree_of, RowNumbersDiffer, ListsBy, columns, has_text, of_key, named_by, place_key, by_place, chosen, row_key, students_shown, first_cell, HasTables, place_parents, place_rows_formed}
+use Rattle.portal_views.proofs.Base.{◌≡◌, ◌&&◌, ◌∷◌, permuted, any_alike, has_round, OnRoll, owners_of, IsPlace}
+use Rattle.portal_views.proofs.Base.{has_text_of, permutes, all_permuted, Bool, true, List, [], map, filter, refl, sym}
+use Rattle.portal_views.proofs.Base.{ap, ap₂, subst, ◌∙◌, AllByRecursion, list_any, and_comm, list_any-IsPermutation}
+use Rattle.portal_views.proofs.Base.{Row, column, bytes, Database, all-filter, Key, equals, has, all_weaker, all_map}
+use Rattle.portal_views.proofs.Base.{any_map, filtered_any, is_sym, student_tree, Round, First, Second, choice_table}
+use Rattle.portal_views.proofs.Base.{round_of, tree_of, RowNumbersDiffer, ListsBy, columns, has_text, of_key, named_by}
+use Rattle.portal_views.proofs.Base.{place_key, by_place, chosen, row_key, students_shown, first_cell, HasTables}
+use Rattle.portal_views.proofs.Base.{place_parents, place_rows_formed}
 use Rattle.portal_views.proofs.Owners.{shown_there}
 
 -- a key is shown of the rows that pass where one of them is its own

@@ -1,5 +1,13 @@
 -- The lines that are found by the keys of who names a project are those of its applicants.
-use Rattle.portal_views.proofs.Base.{◌≡◌, ◌||◌, ◌∷◌, IsStudentRow, student_test, student_rows_formed, inl, inr, Bool, true, false, cond, Option, Some, None, option_map, List, [], map, filter, refl, sym, ap, subst, ◌∙◌, AllByRecursion, find, filter_map, cases_Bool, map-id, Row, Trees, Database, Round, First, Second, Students, choice_table, tree_of, Has, Key, equals, has, is_before, Rise, all_map, all_weaker, before_other, rise_kept, is_same, is_own, all_unmap, row_key, by_key, roll_columns, students_shown, student_tree, ListsBy, columns, has_text, chosen, ShowsAs, first_cell, HasTables, in_round, shown_line, told_line, applicant_at, applicant_lines, ApplicantLine, all_of, found, at, has_of, one_order, map_alike_on, map_twice}
+use Rattle.portal_views.proofs.Base.{◌≡◌, ◌||◌, ◌∷◌, IsStudentRow, student_test, student_rows_formed, inl, inr, Bool}
+use Rattle.portal_views.proofs.Base.{true, false, cond, Option, Some, None, option_map, List, [], map, filter, refl}
+use Rattle.portal_views.proofs.Base.{sym, ap, subst, ◌∙◌, AllByRecursion, find, filter_map, cases_Bool, map-id, Row}
+use Rattle.portal_views.proofs.Base.{Trees, Database, Round, First, Second, Students, choice_table, tree_of, Has, Key}
+use Rattle.portal_views.proofs.Base.{equals, has, is_before, Rise, all_map, all_weaker, before_other, rise_kept}
+use Rattle.portal_views.proofs.Base.{is_same, is_own, all_unmap, row_key, by_key, roll_columns, students_shown}
+use Rattle.portal_views.proofs.Base.{student_tree, ListsBy, columns, has_text, chosen, ShowsAs, first_cell, HasTables}
+use Rattle.portal_views.proofs.Base.{in_round, shown_line, told_line, applicant_at, applicant_lines, ApplicantLine}
+use Rattle.portal_views.proofs.Base.{all_of, found, at, has_of, one_order, map_alike_on, map_twice}
 use Rattle.portal_views.proofs.Choosers.{chooser, choosers_known}
 use Rattle.portal_views.proofs.Owners.{keys_shown}
 use Rattle.portal_views.proofs.OneKey.{roll_keys_rise}

@@ -1,5 +1,14 @@
 -- Who has a list, and whether some list holds a project, of what queries of the lists show.
-use Rattle.portal_views.proofs.Base.{◌∙◌, ◌&&◌, ◌||◌, ◌∷◌, ◌≡◌, AllByRecursion, Database, HasWholeLists, Int, IsDatabase, IsPlace, IsWhole, Key, List, ListsBy, Reading, Result, Round, Row, [], all-filter, all_map, all_of, all_permuted, all_weaker, and_comm, any_alike, any_map, ap, by_place, bytes, cases_Bool, choice_table, chosen, column, columns, equals, filter, filter_alike, filtered_any, first_cell, has, has_number, has_text, has_text_of, inl, inr, is_chosen_shown, is_eq, is_none, is_sym, list_any, list_any-IsPermutation, map, named_by, not, of_key, permutes, place_key, placement_before, pos, reads_of, refl, row_key, student_tree, students_shown, subst, sym, tree_of, true, unlisted, value_cmp, ℤ, negsuc, State, is_empty, any_nowhere, choice_shown, CountUp, place_of, eq_self, none_of}
+use Rattle.portal_views.proofs.Base.{◌∙◌, ◌&&◌, ◌||◌, ◌∷◌, ◌≡◌, AllByRecursion, Database, HasWholeLists, Int}
+use Rattle.portal_views.proofs.Base.{IsDatabase, IsPlace, IsWhole, Key, List, ListsBy, Reading, Result, Round, Row, []}
+use Rattle.portal_views.proofs.Base.{all-filter, all_map, all_of, all_permuted, all_weaker, and_comm, any_alike}
+use Rattle.portal_views.proofs.Base.{any_map, ap, by_place, bytes, cases_Bool, choice_table, chosen, column, columns}
+use Rattle.portal_views.proofs.Base.{equals, filter, filter_alike, filtered_any, first_cell, has, has_number, has_text}
+use Rattle.portal_views.proofs.Base.{has_text_of, inl, inr, is_chosen_shown, is_eq, is_none, is_sym, list_any}
+use Rattle.portal_views.proofs.Base.{list_any-IsPermutation, map, named_by, not, of_key, permutes, place_key}
+use Rattle.portal_views.proofs.Base.{placement_before, pos, reads_of, refl, row_key, student_tree, students_shown}
+use Rattle.portal_views.proofs.Base.{subst, sym, tree_of, true, unlisted, value_cmp, ℤ, negsuc, State, is_empty}
+use Rattle.portal_views.proofs.Base.{any_nowhere, choice_shown, CountUp, place_of, eq_self, none_of}
 use Rattle.std.proofs.Math.Bool.{not-not}
 use Rattle.sqlite_rules.proofs.ListLemmas.{some_has, some_from}
 use Rattle.sqlite_trees.specs.Objects.{number_in}

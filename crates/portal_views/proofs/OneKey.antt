@@ -1,5 +1,16 @@
 -- The unique index gives one row to each key of a roll, and one to a student's second-round place.
-use Rattle.portal_views.proofs.Base.{◌≡◌, ◌≤◌, ◌&&◌, ◌||◌, ◌∷◌, arith, Open, schema_with, own_is, IsText, filter_all, not_true, filter_alike, filter_none, Follows, followed, kept, has_text_of, rise_put_all, key_texts, ℤ, Bool, true, false, not, cond, List, [], map, filter, all-filter, length, refl, sym, ap, subst, ◌∙◌, and_parts, or_parts, append-nil, AllByRecursion, IsDistinct, list_any, is_eq, is_ne, Ordering, Equal, Some, Int, Words, Binary, Row, column, bytes, value_cmp, binary, is_true, from_truth, Trees, rowid, id_in, Database, IsDatabase, Unique, equal, differ, everything, Key, equals, is_sym, is_same, Rise, all_weaker, all_unmap, lecturer_tree, project_tree, student_tree, assigned2_tree, roll_tree, OfRoll, OfPlaces, Second, Keeps, passes, RollTable, Lecturers, Projects, Students, IsCurrentSchema, RowNumbersDiffer, has_text, every, of_key, row_key, by_key, with_checks, current_own, apart_filter, form_of, text_equals, equals_text}
+use Rattle.portal_views.proofs.Base.{◌≡◌, ◌≤◌, ◌&&◌, ◌||◌, ◌∷◌, arith, Open, schema_with, own_is, IsText, filter_all}
+use Rattle.portal_views.proofs.Base.{not_true, filter_alike, filter_none, Follows, followed, kept, has_text_of}
+use Rattle.portal_views.proofs.Base.{rise_put_all, key_texts, ℤ, Bool, true, false, not, cond, List, [], map, filter}
+use Rattle.portal_views.proofs.Base.{all-filter, length, refl, sym, ap, subst, ◌∙◌, and_parts, or_parts, append-nil}
+use Rattle.portal_views.proofs.Base.{AllByRecursion, IsDistinct, list_any, is_eq, is_ne, Ordering, Equal, Some, Int}
+use Rattle.portal_views.proofs.Base.{Words, Binary, Row, column, bytes, value_cmp, binary, is_true, from_truth, Trees}
+use Rattle.portal_views.proofs.Base.{rowid, id_in, Database, IsDatabase, Unique, equal, differ, everything, Key, equals}
+use Rattle.portal_views.proofs.Base.{is_sym, is_same, Rise, all_weaker, all_unmap, lecturer_tree, project_tree}
+use Rattle.portal_views.proofs.Base.{student_tree, assigned2_tree, roll_tree, OfRoll, OfPlaces, Second, Keeps, passes}
+use Rattle.portal_views.proofs.Base.{RollTable, Lecturers, Projects, Students, IsCurrentSchema, RowNumbersDiffer}
+use Rattle.portal_views.proofs.Base.{has_text, every, of_key, row_key, by_key, with_checks, current_own, apart_filter}
+use Rattle.portal_views.proofs.Base.{form_of, text_equals, equals_text}
 use Rattle.portal_tables.specs.declared.select.Table.{Table as Named}
 
 told_not : (o : Ordering) → is_true (from_truth (Some (is_ne o))) ≡ not (is_eq o)

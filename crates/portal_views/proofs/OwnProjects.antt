@@ -1,5 +1,14 @@
 -- A query by lecturer and the catalogue show exactly the lecturer's projects that are on the roll.
-use Rattle.portal_views.proofs.Base.{◌≡◌, ◌∷◌, ◌||◌, IsText, filter_all, filter_alike, OnRoll, has_text_of, project_rows_formed, all_permuted, permutes, First, Bool, List, [], map, filter, sym, ap, subst, ◌∙◌, map-map, filter-map, IsPermutation, IsPermutation-filter, Row, column, bytes, Database, Key, equals, Rise, all_weaker, rise_kept, Projects, columns_of, project_tree, ListsBy, every, columns, has_text, row_key, by_key, first_cell, HasTables, own_keys_shown, AllByRecursion, true, false, cond, refl, Some, None, option_map, find, has, is_sym, all_map, LecturerRow, ProjectRow, Listing, listing_with, name_of, offered, own_listed, catalogue_shown, shown_lecturer, shown_project, lecturers_shown, projects_shown, Lecturers, lecturer_tree, is_some, cons_option, roll_shown, in_order}
+use Rattle.portal_views.proofs.Base.{◌≡◌, ◌∷◌, ◌||◌, IsText, filter_all, filter_alike, OnRoll, has_text_of}
+use Rattle.portal_views.proofs.Base.{project_rows_formed, all_permuted, permutes, First, Bool, List, [], map, filter}
+use Rattle.portal_views.proofs.Base.{sym, ap, subst, ◌∙◌, map-map, filter-map, IsPermutation, IsPermutation-filter, Row}
+use Rattle.portal_views.proofs.Base.{column, bytes, Database, Key, equals, Rise, all_weaker, rise_kept, Projects}
+use Rattle.portal_views.proofs.Base.{columns_of, project_tree, ListsBy, every, columns, has_text, row_key, by_key}
+use Rattle.portal_views.proofs.Base.{first_cell, HasTables, own_keys_shown, AllByRecursion, true, false, cond, refl}
+use Rattle.portal_views.proofs.Base.{Some, None, option_map, find, has, is_sym, all_map, LecturerRow, ProjectRow}
+use Rattle.portal_views.proofs.Base.{Listing, listing_with, name_of, offered, own_listed, catalogue_shown}
+use Rattle.portal_views.proofs.Base.{shown_lecturer, shown_project, lecturers_shown, projects_shown, Lecturers}
+use Rattle.portal_views.proofs.Base.{lecturer_tree, is_some, cons_option, roll_shown, in_order}
 use Rattle.portal_views.proofs.OneKey.{roll_keys_rise}
 use Rattle.portal_views.proofs.Owners.{lecturers_known, shown_there}
 

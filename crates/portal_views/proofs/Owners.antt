@@ -1,5 +1,14 @@
 -- List rows have owners on the roll, projects lecturers on it, and a roll shows its rows' keys.
-use Rattle.portal_views.proofs.Base.{◌≡◌, ◌&&◌, ◌∷◌, RollRises, Open, own_is, IsText, OnRoll, owners_of, Follows, followed, project_rows_formed, all_two, permutes, key_texts, refl, Bool, true, List, ℕ, map, sym, ap, subst, ◌∙◌, and_parts, list_any-IsPermutation, Value, Null, Words, Database, IsDatabase, Row, column, bytes, Trees, ForeignKey, OfLists, everything, map-map, Key, equals, has, Rise, all_weaker, any_map, round_of, tree_of, Lists, Choices, Rankings, SecondChoices, SecondRankings, HasRound, Round, First, Second, choice_table, ranking_table, Students, Lecturers, columns_of, students_shown, lecturers_shown, columns, row_key, by_key, AreOwned, first_cell, AllByRecursion, RowNumbersDiffer, HasFirstSchema, OfRoll, Projects, lecturer_tree, project_tree, Found, on_roll}
+use Rattle.portal_views.proofs.Base.{◌≡◌, ◌&&◌, ◌∷◌, RollRises, Open, own_is, IsText, OnRoll, owners_of, Follows}
+use Rattle.portal_views.proofs.Base.{followed, project_rows_formed, all_two, permutes, key_texts, refl, Bool, true}
+use Rattle.portal_views.proofs.Base.{List, ℕ, map, sym, ap, subst, ◌∙◌, and_parts, list_any-IsPermutation, Value, Null}
+use Rattle.portal_views.proofs.Base.{Words, Database, IsDatabase, Row, column, bytes, Trees, ForeignKey, OfLists}
+use Rattle.portal_views.proofs.Base.{everything, map-map, Key, equals, has, Rise, all_weaker, any_map, round_of}
+use Rattle.portal_views.proofs.Base.{tree_of, Lists, Choices, Rankings, SecondChoices, SecondRankings, HasRound, Round}
+use Rattle.portal_views.proofs.Base.{First, Second, choice_table, ranking_table, Students, Lecturers, columns_of}
+use Rattle.portal_views.proofs.Base.{students_shown, lecturers_shown, columns, row_key, by_key, AreOwned, first_cell}
+use Rattle.portal_views.proofs.Base.{AllByRecursion, RowNumbersDiffer, HasFirstSchema, OfRoll, Projects, lecturer_tree}
+use Rattle.portal_views.proofs.Base.{project_tree, Found, on_roll}
 
 -- a roll shows the keys of its rows, and whoever is on it
 pub keys_shown : (cs : List ℕ) (roll : List Row) → map first_cell (map (columns (1 ∷ cs)) (by_key roll)) ≡ map row_key (by_key roll)

@@ -1,5 +1,13 @@
 -- Query keys of a lecturer's projects, a project's choosers and list owners rise: no two are equal.
-use Rattle.portal_views.proofs.Base.{◌≡◌, ◌&&◌, ◌∷◌, arith, pos, has_number, filter_all, not_true, IsPlace, kept, rise_put_all, key_texts, Open, schema_with, own_is, ℤ, Bool, true, false, not, List, [], map, filter, all-filter, refl, sym, ap, ap₂, subst, ◌∙◌, and_parts, append-nil, AllByRecursion, IsDistinct, IsPermutation, list_any, is_eq, Ordering, Equal, Int, Words, Binary, Row, column, value_cmp, Trees, rowid, Database, Unique, equal, differ, everything, Key, equals, is_own, Rise, all_weaker, project_tree, Projects, OfRoll, OfLists, Keeps, Round, First, Second, choice_table, tree_of, ListsBy, every, columns, has_text, row_key, first_cell, HasTables, roll_rises, text_there, equals_int}
+use Rattle.portal_views.proofs.Base.{◌≡◌, ◌&&◌, ◌∷◌, arith, pos, has_number, filter_all, not_true, IsPlace, kept}
+use Rattle.portal_views.proofs.Base.{rise_put_all, key_texts, Open, schema_with, own_is, ℤ, Bool, true, false, not}
+use Rattle.portal_views.proofs.Base.{List, [], map, filter, all-filter, refl, sym, ap, ap₂, subst, ◌∙◌, and_parts}
+use Rattle.portal_views.proofs.Base.{append-nil, AllByRecursion, IsDistinct, IsPermutation, list_any, is_eq, Ordering}
+use Rattle.portal_views.proofs.Base.{Equal, Int, Words, Binary, Row, column, value_cmp, Trees, rowid, Database, Unique}
+use Rattle.portal_views.proofs.Base.{equal, differ, everything, Key, equals, is_own, Rise, all_weaker, project_tree}
+use Rattle.portal_views.proofs.Base.{Projects, OfRoll, OfLists, Keeps, Round, First, Second, choice_table, tree_of}
+use Rattle.portal_views.proofs.Base.{ListsBy, every, columns, has_text, row_key, first_cell, HasTables, roll_rises}
+use Rattle.portal_views.proofs.Base.{text_there, equals_int}
 use Rattle.std.proofs.lemmas.Bool.Decides.{nat_tests}
 use Rattle.std.proofs.lemmas.Int.{ints}
 use Rattle.portal_tables.proofs.Base.{value_cmp-Int}

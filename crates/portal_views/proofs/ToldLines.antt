@@ -1,5 +1,13 @@
 -- Reading a student's line never refuses the student's one row on the roll, with cells in form.
-use Rattle.portal_views.proofs.Base.{◌∙◌, ◌∷◌, ◌≡◌, ◌≤◌, AllByRecursion, ApplicantLine, Bool, Database, First, HasFirstPlace, HasPlacement, HasStudents, HasTables, IsStudentKey, IsStudentRow, Key, List, ListsBy, None, Option, Round, Row, ShowsAs, Some, Students, [], all-filter, all_map, all_permuted, all_two, all_unmap, all_weaker, any_alike, any_map, ap, arith, by_key, columns, equals, filter, find, first_cell, has, has_text, is_sym, length, list_any, list_any-IsPermutation, map, of_key, option_map, permuted, permutes, refl, roll_columns, row_key, shown_line, student_rows_formed, student_test, student_tree, students_shown, sym, told_line, true, length-map, length_permutation, IsPermutation-sym, IsNamed, IsTold}
+use Rattle.portal_views.proofs.Base.{◌∙◌, ◌∷◌, ◌≡◌, ◌≤◌, AllByRecursion, ApplicantLine, Bool, Database, First}
+use Rattle.portal_views.proofs.Base.{HasFirstPlace, HasPlacement, HasStudents, HasTables, IsStudentKey, IsStudentRow}
+use Rattle.portal_views.proofs.Base.{Key, List, ListsBy, None, Option, Round, Row, ShowsAs, Some, Students, []}
+use Rattle.portal_views.proofs.Base.{all-filter, all_map, all_permuted, all_two, all_unmap, all_weaker, any_alike}
+use Rattle.portal_views.proofs.Base.{any_map, ap, arith, by_key, columns, equals, filter, find, first_cell, has}
+use Rattle.portal_views.proofs.Base.{has_text, is_sym, length, list_any, list_any-IsPermutation, map, of_key}
+use Rattle.portal_views.proofs.Base.{option_map, permuted, permutes, refl, roll_columns, row_key, shown_line}
+use Rattle.portal_views.proofs.Base.{student_rows_formed, student_test, student_tree, students_shown, sym, told_line}
+use Rattle.portal_views.proofs.Base.{true, length-map, length_permutation, IsPermutation-sym, IsNamed, IsTold}
 use Rattle.sqlite_rules.proofs.ListLemmas.{all_has, contains_had, has_found, has_kept, some_has}
 use Rattle.portal_views.proofs.LineRows.{first_told}
 use Rattle.portal_views.proofs.OneKey.{one_row}

@@ -1,5 +1,6 @@
 -- Reads in the words of views.
-use Rattle.portal_views.proofs.Base.{◌≡◌, Always, Database, Err, First, HasRound, IsErrAnd, Ok, Reading, Result, Round, State, reads_more, reads_of, round_own, subst, sym}
+use Rattle.portal_views.proofs.Base.{◌≡◌, Always, Database, Err, First, HasRound, IsErrAnd, Ok, Reading, Result, Round}
+use Rattle.portal_views.proofs.Base.{State, reads_more, reads_of, round_own, subst, sym}
 
 module _ {Right : Database → Type 0} {On : State → Type 0} {V E : Type 0} {Told : Database → Result V E → Type 0} {r : Result V E} {a b : State} where
   -- whatever is right of the database

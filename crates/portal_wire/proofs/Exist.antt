@@ -1,5 +1,10 @@
 -- A stream has requests, an ending and its text, if something stands at the front of each rest.
-use Rattle.portal_wire.proofs.Base.{◌≡◌, ℕ, zero, suc, ◌-◌, ◌<◌, ◌≤◌, Bool, true, false, List, [], ◌∷◌, ◌++◌, length, drop, refl, sym, ap, ◌∙◌, subst, arith, if◌then◌else◌, Request, Asked, Item, whole, fault, over, Opens, answer_to, reply_text, request_of, closes_at, Rest, more, shut, Leads, Ends, Last, End, Refused, inl, inr, take, append_assoc, Ok, Err, nat_le, take-append-drop, length-append, asked_of, after_lines, body_length, fields_of, bad_length, bad_head, is_head}
+use Rattle.portal_wire.proofs.Base.{◌≡◌, ℕ, zero, suc, ◌-◌, ◌<◌, ◌≤◌, Bool, true, false, List, [], ◌∷◌, ◌++◌, length}
+use Rattle.portal_wire.proofs.Base.{drop, refl, sym, ap, ◌∙◌, subst, arith, if◌then◌else◌, Request, Asked, Item, whole}
+use Rattle.portal_wire.proofs.Base.{fault, over, Opens, answer_to, reply_text, request_of, closes_at, Rest, more, shut}
+use Rattle.portal_wire.proofs.Base.{Leads, Ends, Last, End, Refused, inl, inr, take, append_assoc, Ok, Err, nat_le}
+use Rattle.portal_wire.proofs.Base.{take-append-drop, length-append, asked_of, after_lines, body_length, fields_of}
+use Rattle.portal_wire.proofs.Base.{bad_length, bad_head, is_head}
 use Rattle.std.proofs.Math.Seq.{drop-append_seam}
 use Rattle.std.proofs.lemmas.Bool.{both_ways, or_right}
 use Rattle.httparse.specs.Grammar.{RequestHead, print_request}

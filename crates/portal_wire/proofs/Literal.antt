@@ -1,5 +1,10 @@
 -- A router without parameters is a table of texts.
-use Rattle.portal_wire.proofs.Base.{◌≡◌, ℕ, zero, suc, ◌-◌, Bool, true, false, List, [], ◌∷◌, length, map, refl, ap, ◌∙◌, subst, ◌<◌, ◌≤◌, arith, Option, Some, None, option_map, if◌then◌else◌, inl, inr, bytes_decides, IsUtf8, bytes_eq, is_utf8, ne_eqb, IsUtf8-from_is_utf8, is_utf8-from_IsUtf8, RowsOf, Route, the_paths, route_at, the_rows, cond, ◌==◌, ◌&&◌, nat_lt, slice_index, and_parts, ltb-true, IsUtf8-from_ascii, param_token, catch_all_token, step, own, or_else, has_slash, look_up}
+use Rattle.portal_wire.proofs.Base.{◌≡◌, ℕ, zero, suc, ◌-◌, Bool, true, false, List, [], ◌∷◌, length, map, refl, ap}
+use Rattle.portal_wire.proofs.Base.{◌∙◌, subst, ◌<◌, ◌≤◌, arith, Option, Some, None, option_map, if◌then◌else◌, inl}
+use Rattle.portal_wire.proofs.Base.{inr, bytes_decides, IsUtf8, bytes_eq, is_utf8, ne_eqb, IsUtf8-from_is_utf8}
+use Rattle.portal_wire.proofs.Base.{is_utf8-from_IsUtf8, RowsOf, Route, the_paths, route_at, the_rows, cond, ◌==◌, ◌&&◌}
+use Rattle.portal_wire.proofs.Base.{nat_lt, slice_index, and_parts, ltb-true, IsUtf8-from_ascii, param_token}
+use Rattle.portal_wire.proofs.Base.{catch_all_token, step, own, or_else, has_slash, look_up}
 use Rattle.std.proofs.lemmas.Bool.{cases_Bool}
 use Rattle.std.specs.List.{list_all}
 use Rattle.matchit.specs.Seek.{seek, param_step}

@@ -1,5 +1,7 @@
 -- A stream has one list of requests and one ending.
-use Rattle.portal_wire.proofs.Base.{◌≡◌, ℕ, ◌-◌, Bool, true, false, List, [], ◌∷◌, refl, sym, ap, ◌∙◌, subst, MatchBool, Request, Asked, whole, Opens, answer_to, reply_text, request_of, closes_at, Rest, more, shut, Leads, Ends, Last, End, Refused, Closed, Limit}
+use Rattle.portal_wire.proofs.Base.{◌≡◌, ℕ, ◌-◌, Bool, true, false, List, [], ◌∷◌, refl, sym, ap, ◌∙◌, subst, MatchBool}
+use Rattle.portal_wire.proofs.Base.{Request, Asked, whole, Opens, answer_to, reply_text, request_of, closes_at, Rest}
+use Rattle.portal_wire.proofs.Base.{more, shut, Leads, Ends, Last, End, Refused, Closed, Limit}
 use Rattle.portal_frame.proofs.Unique.{Opens-unique}
 
 -- what two accounts of one stream share

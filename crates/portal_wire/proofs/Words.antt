@@ -1,5 +1,6 @@
 -- Bytes that are no token are none of the methods that some route has.
-use Rattle.portal_wire.proofs.Base.{◌≡◌, ℕ, ◌<◌, false, List, length, refl, sym, subst, arith, codes, bytes_eq, bytes_decides, IsTrue, method_of}
+use Rattle.portal_wire.proofs.Base.{◌≡◌, ℕ, ◌<◌, false, List, length, refl, sym, subst, arith, codes, bytes_eq}
+use Rattle.portal_wire.proofs.Base.{bytes_decides, IsTrue, method_of}
 use Rattle.std.proofs.lemmas.Bool.{false_from_ne_true}
 use Rattle.std.proofs.lemmas.List.Elements.{All-from_recursion}
 use Rattle.std.specs.List.{AllByRecursion}

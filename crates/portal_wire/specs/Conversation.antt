@@ -1,5 +1,6 @@
 -- The bytes of a reply, the requests of a whole stream with its ending, and the replies to them.
-use Rattle.std.specs.Prelude.{ℕ, Bool, if◌then◌else◌, ◌==◌, List, [], ◌∷◌, ◌++◌, length, codes, decimal, ◌≡◌, ◌-◌, true, false, ◌||◌, nat_le}
+use Rattle.std.specs.Prelude.{ℕ, Bool, if◌then◌else◌, ◌==◌, List, [], ◌∷◌, ◌++◌, length, codes, decimal, ◌≡◌, ◌-◌, true}
+use Rattle.std.specs.Prelude.{false, ◌||◌, nat_le}
 use Rattle.serde_json.specs.Written.{compact_text}
 use Rattle.portal_rules.specs.Answer.{Answer, Said, Json, Csv, Plain, Unavailable}
 use Rattle.std.specs.Bool.{MatchBool}

@@ -1,5 +1,6 @@
 -- What an argument and a subcommand add to what a command reads.
-use Rattle.portal_words.proofs.Base.{◌≡◌, ◌∙◌, false, ap, ap₂, AddsArg, AddsSubcommand, App, Rule, rule_of, with_rule, with_subcommand, Reads}
+use Rattle.portal_words.proofs.Base.{◌≡◌, ◌∙◌, false, ap, ap₂, AddsArg, AddsSubcommand, App, Rule, rule_of, with_rule}
+use Rattle.portal_words.proofs.Base.{with_subcommand, Reads}
 use Rattle.std.proofs.lemmas.Bool.{or_from}
 use Rattle.clap.specs.declared.builder.arg.Arg.{Arg}
 use Rattle.clap.specs.declared.builder.command.Command.{Command}

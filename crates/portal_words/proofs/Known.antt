@@ -1,5 +1,7 @@
 -- What the parser makes of the words that ask for `check` and `solve`.
-use Rattle.portal_words.proofs.Base.{◌≡◌, ◌∙◌, ◌&&◌, Bool, true, false, Option, Some, None, List, [], ◌∷◌, refl, sym, ap, subst, inl, inr, codes, rules, Row, Text, is_simple, subcommand_of, takes, AsksFile, MeetsFile, TakesFile, portal_app}
+use Rattle.portal_words.proofs.Base.{◌≡◌, ◌∙◌, ◌&&◌, Bool, true, false, Option, Some, None, List, [], ◌∷◌, refl, sym}
+use Rattle.portal_words.proofs.Base.{ap, subst, inl, inr, codes, rules, Row, Text, is_simple, subcommand_of, takes}
+use Rattle.portal_words.proofs.Base.{AsksFile, MeetsFile, TakesFile, portal_app}
 use Rattle.std.specs.Prelude.{◌==◌, IsTrue}
 use Rattle.std.specs.Str.{bytes_eq}
 use Rattle.clap.specs.Lexer.{strip_byte}

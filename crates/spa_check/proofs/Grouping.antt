@@ -1,5 +1,9 @@
 -- Groups of students, one student after the other.
-use Rattle.spa_check.proofs.Base.{◌≡◌, ◌↔◌, ◌⊎◌, inl, inr, ℕ, ◌+◌, ◌<◌, false, List, length, take, get_or, Option, Some, None, refl, sym, ◌∙◌, ap, arith, cases_lt, Spa, IsWith, IsBefore, SomeWorseWith, place, ranking_of, lecturer_of, project_of, at_lecturer, Group, IsGroup, rules, max, set, cases_eq, eq-eqb, ne_eqb, length-set, get_or-set_same, get_or-set_other, IsOn, IsLawful, IsMatching, is_project, is_lecturer, at_project}
+use Rattle.spa_check.proofs.Base.{◌≡◌, ◌↔◌, ◌⊎◌, inl, inr, ℕ, ◌+◌, ◌<◌, false, List, length, take, get_or, Option, Some}
+use Rattle.spa_check.proofs.Base.{None, refl, sym, ◌∙◌, ap, arith, cases_lt, Spa, IsWith, IsBefore, SomeWorseWith}
+use Rattle.spa_check.proofs.Base.{place, ranking_of, lecturer_of, project_of, at_lecturer, Group, IsGroup, rules, max}
+use Rattle.spa_check.proofs.Base.{set, cases_eq, eq-eqb, ne_eqb, length-set, get_or-set_same, get_or-set_other, IsOn}
+use Rattle.spa_check.proofs.Base.{IsLawful, IsMatching, is_project, is_lecturer, at_project}
 use Rattle.std.proofs.lemmas.List.Sums.{count_by_more_yes, count_by_more_no}
 use Rattle.std.proofs.lemmas.Option.{same_Some}
 use Rattle.spa_model.proofs.Counts.{off_project}

@@ -1,5 +1,8 @@
 -- The list of blocking pairs, pair by pair.
-use Rattle.spa_check.proofs.Base.{◌≡◌, ℕ, ◌+◌, ◌<◌, ◌≤◌, ◌⊎◌, inl, inr, List, [], ◌∷◌, Option, Some, None, refl, arith, false, cases_lt, Letter, Spa, Blocks, Wants, AreBlocksBefore, ◌++◌, MatchOption, is_some, All-push, All-weaker, Contains-append_left, Contains-push, IsEarlier, IsPassed}
+use Rattle.spa_check.proofs.Base.{◌≡◌, ℕ, ◌+◌, ◌<◌, ◌≤◌, ◌⊎◌, inl, inr, List, [], ◌∷◌, Option, Some, None, refl, arith}
+use Rattle.spa_check.proofs.Base.{false, cases_lt, Letter, Spa, Blocks, Wants, AreBlocksBefore, ◌++◌, MatchOption}
+use Rattle.spa_check.proofs.Base.{is_some, All-push, All-weaker, Contains-append_left, Contains-push, IsEarlier}
+use Rattle.spa_check.proofs.Base.{IsPassed}
 use Rattle.std.proofs.lemmas.List.Quantifiers.{all_pairs_push}
 use Rattle.spa_model.proofs.OneOnly.{one_letter, blocks_wants}
 use Rattle.spa_check.specs.declared.blocking.Block.{Block}

@@ -1,5 +1,10 @@
 -- What a student wants, as a front of the student's list.
-use Rattle.spa_check.proofs.Base.{◌≡◌, ◌↔◌, ◌⊎◌, ℕ, ◌+◌, ◌<◌, ◌≤◌, false, eqb, List, [], ◌∷◌, length, take, get_or, Option, Some, None, refl, sym, ◌∙◌, ap, arith, Contains, position, get_or_default, Spa, Wants, choices_of, project_of, place, rules, zero, suc, Bool, true, not, cond, ltb, nat_le, position_or_len, filter, ltb-false, le-leb, leb-true, length-take-le, get_or-take, take_all, All-contains, All-contains_itself, All-filter, filter_passes, Improves, IsAcceptable, not_below, IsLeastIn}
+use Rattle.spa_check.proofs.Base.{◌≡◌, ◌↔◌, ◌⊎◌, ℕ, ◌+◌, ◌<◌, ◌≤◌, false, eqb, List, [], ◌∷◌, length, take, get_or}
+use Rattle.spa_check.proofs.Base.{Option, Some, None, refl, sym, ◌∙◌, ap, arith, Contains, position, get_or_default}
+use Rattle.spa_check.proofs.Base.{Spa, Wants, choices_of, project_of, place, rules, zero, suc, Bool, true, not, cond}
+use Rattle.spa_check.proofs.Base.{ltb, nat_le, position_or_len, filter, ltb-false, le-leb, leb-true, length-take-le}
+use Rattle.spa_check.proofs.Base.{get_or-take, take_all, All-contains, All-contains_itself, All-filter, filter_passes}
+use Rattle.spa_check.proofs.Base.{Improves, IsAcceptable, not_below, IsLeastIn}
 use Rattle.spa_model.proofs.Places.{place-get_or-le, get_or-place, place-le-length}
 
 -- the first place that holds x

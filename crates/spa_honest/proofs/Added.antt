@@ -1,5 +1,10 @@
 -- A matching that adds places to another: who is where it was blocks no more than there.
-use Rattle.spa_honest.proofs.Base.{count_by-lt, ◌≡◌, ◌⊎◌, inl, inr, ℕ, zero, suc, ◌+◌, ◌<◌, ◌≤◌, Bool, true, false, cond, List, [], ◌∷◌, length, Option, Some, None, refl, sym, ◌∙◌, ap, subst, arith, count_by, eq-eqb, true_from_ne_false, cases_lt, Letter, A, B, C, Spa, is_project, is_lecturer, at_project, at_lecturer, project_of, lecturer_of, capacity_of, limit_of, Improves, IsWith, SomeWorseWith, Wants, Blocks, count_by-le, student_in_range, is_project-at, project_from_test, AddsTo}
+use Rattle.spa_honest.proofs.Base.{count_by-lt, ◌≡◌, ◌⊎◌, inl, inr, ℕ, zero, suc, ◌+◌, ◌<◌, ◌≤◌, Bool, true, false}
+use Rattle.spa_honest.proofs.Base.{cond, List, [], ◌∷◌, length, Option, Some, None, refl, sym, ◌∙◌, ap, subst, arith}
+use Rattle.spa_honest.proofs.Base.{count_by, eq-eqb, true_from_ne_false, cases_lt, Letter, A, B, C, Spa, is_project}
+use Rattle.spa_honest.proofs.Base.{is_lecturer, at_project, at_lecturer, project_of, lecturer_of, capacity_of, limit_of}
+use Rattle.spa_honest.proofs.Base.{Improves, IsWith, SomeWorseWith, Wants, Blocks, count_by-le, student_in_range}
+use Rattle.spa_honest.proofs.Base.{is_project-at, project_from_test, AddsTo}
 use Rattle.spa_honest.proofs.Assigned.{one_there}
 
 -- the places of some students in x, and those of the others in n

@@ -1,5 +1,12 @@
 -- In any two stable matchings the same students have a project, and each lecturer has as many.
-use Rattle.spa_honest.proofs.Base.{◌≡◌, ◌⊎◌, inl, inr, ℕ, zero, suc, ◌+◌, ◌<◌, ◌≤◌, Bool, true, false, eqb, List, [], ◌∷◌, length, Option, Some, None, refl, sym, ◌∙◌, ap, subst, arith, count_by, eqb-true, eq-eqb, ne_eqb, cases_Bool, true_from_ne_false, cases_lt, A, Spa, is_lecturer, at_project, at_lecturer, project_of, lecturer_of, IsAcceptable, IsAsGood, Wants, IsStable, IsBest, one_if, count_by-cons, sum_below, sum_below-lt, IsRanked, student_in_range, count_by-le, sum_below-le, sum_below-add, sum_below-same, sum_below-zero, sum_below-one, share, at_lecturer-sum, count_by-lt, no_more, AssignTheSame}
+use Rattle.spa_honest.proofs.Base.{◌≡◌, ◌⊎◌, inl, inr, ℕ, zero, suc, ◌+◌, ◌<◌, ◌≤◌, Bool, true, false, eqb, List, []}
+use Rattle.spa_honest.proofs.Base.{◌∷◌, length, Option, Some, None, refl, sym, ◌∙◌, ap, subst, arith, count_by}
+use Rattle.spa_honest.proofs.Base.{eqb-true, eq-eqb, ne_eqb, cases_Bool, true_from_ne_false, cases_lt, A, Spa}
+use Rattle.spa_honest.proofs.Base.{is_lecturer, at_project, at_lecturer, project_of, lecturer_of, IsAcceptable}
+use Rattle.spa_honest.proofs.Base.{IsAsGood, Wants, IsStable, IsBest, one_if, count_by-cons, sum_below, sum_below-lt}
+use Rattle.spa_honest.proofs.Base.{IsRanked, student_in_range, count_by-le, sum_below-le, sum_below-add, sum_below-same}
+use Rattle.spa_honest.proofs.Base.{sum_below-zero, sum_below-one, share, at_lecturer-sum, count_by-lt, no_more}
+use Rattle.spa_honest.proofs.Base.{AssignTheSame}
 use Rattle.spa_honest.proofs.Exists.{has_project, greatest, best_of}
 
 -- who has a project

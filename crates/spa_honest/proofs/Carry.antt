@@ -1,5 +1,8 @@
 -- A stable matching of one instance in another that differs in some lists.
-use Rattle.spa_honest.proofs.Base.{◌≡◌, ℕ, List, get_or, Option, Some, None, refl, sym, ◌∙◌, ap, arith, count_by, Letter, A, B, C, Spa, is_lecturer, at_lecturer, project_of, choices_of, lecturer_of, ranking_of, capacity_of, limit_of, IsBefore, Improves, Wants, Blocks, IsStable, IsRanked, DifferInLists, rules}
+use Rattle.spa_honest.proofs.Base.{◌≡◌, ℕ, List, get_or, Option, Some, None, refl, sym, ◌∙◌, ap, arith, count_by}
+use Rattle.spa_honest.proofs.Base.{Letter, A, B, C, Spa, is_lecturer, at_lecturer, project_of, choices_of, lecturer_of}
+use Rattle.spa_honest.proofs.Base.{ranking_of, capacity_of, limit_of, IsBefore, Improves, Wants, Blocks, IsStable}
+use Rattle.spa_honest.proofs.Base.{IsRanked, DifferInLists, rules}
 
 module _ (i j : Spa) (May : ℕ → Type 0) (m : List (Option ℕ)) (differ : DifferInLists i j May) where
   pub same_lecturer : (p : ℕ) → lecturer_of j p ≡ lecturer_of i p

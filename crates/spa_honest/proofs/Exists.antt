@@ -1,5 +1,12 @@
 -- A ranked instance has a best matching: students propose in order; pairs before a cursor are gone.
-use Rattle.spa_honest.proofs.Base.{◌≡◌, ◌≢◌, ◌⊎◌, inl, inr, ℕ, zero, suc, ◌+◌, ◌<◌, ◌≤◌, cond, eqb, List, length, get_or, set, replicate, Option, Some, None, refl, sym, ◌∙◌, ap, subst, arith, get_or-set_same, get_or-set_other, eq-eqb, ne_eqb, cases_lt, cases_eq, Spa, place, at_project, at_lecturer, project_of, choices_of, lecturer_of, capacity_of, limit_of, IsBefore, IsAcceptable, IsBest, place-injective, sum_below, sum_below-lt, IsRanked, rank_of, IsSpent, Holds, student_in_range, put_same, put_cases, put_on, place_holds, delete_holds, best_at_end, nobody_matches, acceptable_in_range, rules, ◌-◌, IsWith, place-get_or, swap_at_project_holds, swap_at_lecturer_holds}
+use Rattle.spa_honest.proofs.Base.{◌≡◌, ◌≢◌, ◌⊎◌, inl, inr, ℕ, zero, suc, ◌+◌, ◌<◌, ◌≤◌, cond, eqb, List, length}
+use Rattle.spa_honest.proofs.Base.{get_or, set, replicate, Option, Some, None, refl, sym, ◌∙◌, ap, subst, arith}
+use Rattle.spa_honest.proofs.Base.{get_or-set_same, get_or-set_other, eq-eqb, ne_eqb, cases_lt, cases_eq, Spa, place}
+use Rattle.spa_honest.proofs.Base.{at_project, at_lecturer, project_of, choices_of, lecturer_of, capacity_of, limit_of}
+use Rattle.spa_honest.proofs.Base.{IsBefore, IsAcceptable, IsBest, place-injective, sum_below, sum_below-lt, IsRanked}
+use Rattle.spa_honest.proofs.Base.{rank_of, IsSpent, Holds, student_in_range, put_same, put_cases, put_on, place_holds}
+use Rattle.spa_honest.proofs.Base.{delete_holds, best_at_end, nobody_matches, acceptable_in_range, rules, ◌-◌, IsWith}
+use Rattle.spa_honest.proofs.Base.{place-get_or, swap_at_project_holds, swap_at_lecturer_holds}
 use Rattle.spa_student.proofs.Start.{none_there}
 
 -- of the numbers below n with a property, one of the greatest rank; or there is none

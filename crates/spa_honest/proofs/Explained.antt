@@ -1,5 +1,8 @@
 -- A matching is stable where each project that a student would rather have is taken, or its lecturer is.
-use Rattle.spa_honest.proofs.Base.{◌≡◌, ◌⊎◌, inl, inr, ℕ, List, Option, Some, refl, arith, cases_lt, cases_order, A, B, C, Spa, place, at_project, at_lecturer, project_of, choices_of, lecturer_of, ranking_of, capacity_of, limit_of, IsBefore, IsMatching, Wants, IsStable, IsRanked, place-injective, IsTaken, IsBusy, blocks_wants, spent_unblocked}
+use Rattle.spa_honest.proofs.Base.{◌≡◌, ◌⊎◌, inl, inr, ℕ, List, Option, Some, refl, arith, cases_lt, cases_order, A, B}
+use Rattle.spa_honest.proofs.Base.{C, Spa, place, at_project, at_lecturer, project_of, choices_of, lecturer_of}
+use Rattle.spa_honest.proofs.Base.{ranking_of, capacity_of, limit_of, IsBefore, IsMatching, Wants, IsStable, IsRanked}
+use Rattle.spa_honest.proofs.Base.{place-injective, IsTaken, IsBusy, blocks_wants, spent_unblocked}
 
 -- who wants p has it not
 module _ (i : Spa) (m : List (Option ℕ)) (s p : ℕ) (wants : Wants i m s p) where

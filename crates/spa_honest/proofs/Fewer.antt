@@ -1,5 +1,10 @@
 -- Where some students hand in no list, nobody else gets anything worse: proposals go on without them.
-use Rattle.spa_honest.proofs.Base.{◌≡◌, ◌⊎◌, inl, inr, ℕ, suc, ◌<◌, List, length, replicate, Option, Some, None, refl, sym, ◌∙◌, arith, cases_lt, Letter, A, B, C, Spa, place, at_project, at_lecturer, project_of, choices_of, lecturer_of, ranking_of, capacity_of, limit_of, IsBefore, IsOn, IsAcceptable, IsAsGood, Improves, Wants, Blocks, IsMatching, IsStable, IsBest, IsRanked, IsSpent, rank_of, DifferInLists, sum_below, as_good_as_stable, blocks_wants}
+use Rattle.spa_honest.proofs.Base.{◌≡◌, ◌⊎◌, inl, inr, ℕ, suc, ◌<◌, List, length, replicate, Option, Some, None, refl}
+use Rattle.spa_honest.proofs.Base.{sym, ◌∙◌, arith, cases_lt, Letter, A, B, C, Spa, place, at_project, at_lecturer}
+use Rattle.spa_honest.proofs.Base.{project_of, choices_of, lecturer_of, ranking_of, capacity_of, limit_of, IsBefore}
+use Rattle.spa_honest.proofs.Base.{IsOn, IsAcceptable, IsAsGood, Improves, Wants, Blocks, IsMatching, IsStable, IsBest}
+use Rattle.spa_honest.proofs.Base.{IsRanked, IsSpent, rank_of, DifferInLists, sum_below, as_good_as_stable}
+use Rattle.spa_honest.proofs.Base.{blocks_wants}
 use Rattle.spa_student.proofs.Start.{none_there}
 use Rattle.spa_honest.proofs.Exists.{Passed, turns, start, Rested, rest}
 use Rattle.spa_honest.proofs.Carry.{same_lecturer, same_capacity, same_limit, same_count}

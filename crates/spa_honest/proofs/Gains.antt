@@ -1,5 +1,10 @@
 -- No group of students gains by other lists, and so no student.
-use Rattle.spa_honest.proofs.Base.{◌≡◌, Bool, refl, cond, ltb, ltb-true, lt-ltb, false_from_ne_true, IsAsGood, AddsTo, ◌⊎◌, inl, inr, ℕ, zero, suc, ◌<◌, ◌≤◌, true, false, List, [], ◌∷◌, length, get_or, Option, Some, None, sym, ◌∙◌, ap, subst, arith, cases_lt, cases_eq, Letter, Spa, place, choices_of, project_of, IsOn, IsAcceptable, IsMatching, Blocks, IsStable, IsBest, IsRanked, DifferInLists, DifferInOneList, get_or-place, place-get_or-le, IsNoWorse}
+use Rattle.spa_honest.proofs.Base.{◌≡◌, Bool, refl, cond, ltb, ltb-true, lt-ltb, false_from_ne_true, IsAsGood, AddsTo}
+use Rattle.spa_honest.proofs.Base.{◌⊎◌, inl, inr, ℕ, zero, suc, ◌<◌, ◌≤◌, true, false, List, [], ◌∷◌, length, get_or}
+use Rattle.spa_honest.proofs.Base.{Option, Some, None, sym, ◌∙◌, ap, subst, arith, cases_lt, cases_eq, Letter, Spa}
+use Rattle.spa_honest.proofs.Base.{place, choices_of, project_of, IsOn, IsAcceptable, IsMatching, Blocks, IsStable}
+use Rattle.spa_honest.proofs.Base.{IsBest, IsRanked, DifferInLists, DifferInOneList, get_or-place, place-get_or-le}
+use Rattle.spa_honest.proofs.Base.{IsNoWorse}
 use Rattle.spa_honest.proofs.Lists.{one_on, on_one}
 use Rattle.spa_honest.proofs.Outside.{outside, not_grown}
 use Rattle.spa_honest.proofs.Last.{better, not_better, gains, turned_away}

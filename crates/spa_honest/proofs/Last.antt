@@ -1,6 +1,11 @@
 -- The method stops when the last who likes x better than the best matching loses what x gives.
-use Rattle.spa_honest.proofs.Base.{◌≡◌, ◌⊎◌, inl, inr, ℕ, zero, suc, ◌<◌, ◌≤◌, Bool, true, false, List, length, replicate, Option, Some, None, refl, sym, ◌∙◌, ap, subst, arith, cases_Bool, cases_lt, cases_eq, Spa, place, project_of, choices_of, IsAcceptable, IsMatching, IsAsGood, IsBest, place-injective, sum_below, IsRanked, best_at_end, student_in_range, rules, ltb, ltb-true, ltb-false, as_good_as_stable}
-use Rattle.spa_honest.proofs.Exists.{greatest, Passed, UnderWay, turns, Turned, turn_of, next_or_done, Never, never, start, Rested, rest}
+use Rattle.spa_honest.proofs.Base.{◌≡◌, ◌⊎◌, inl, inr, ℕ, zero, suc, ◌<◌, ◌≤◌, Bool, true, false, List, length}
+use Rattle.spa_honest.proofs.Base.{replicate, Option, Some, None, refl, sym, ◌∙◌, ap, subst, arith, cases_Bool}
+use Rattle.spa_honest.proofs.Base.{cases_lt, cases_eq, Spa, place, project_of, choices_of, IsAcceptable, IsMatching}
+use Rattle.spa_honest.proofs.Base.{IsAsGood, IsBest, place-injective, sum_below, IsRanked, best_at_end}
+use Rattle.spa_honest.proofs.Base.{student_in_range, rules, ltb, ltb-true, ltb-false, as_good_as_stable}
+use Rattle.spa_honest.proofs.Exists.{greatest, Passed, UnderWay, turns, Turned, turn_of, next_or_done, Never, never}
+use Rattle.spa_honest.proofs.Exists.{start, Rested, rest}
 use Rattle.spa_honest.proofs.Outside.{TurnsAway}
 
 -- whether what s has is better than the other

@@ -1,7 +1,14 @@
 -- If the students of r like a matching x better than what they can have, somebody else blocks x,
 -- also where the capacities that x keeps are lower, if lecturers lose no less than their projects.
 -- The matching y turns all of r away from their places in x, one has none, and others do no worse.
-use Rattle.spa_honest.proofs.Base.{count_by-lt, replicate, ◌⊎◌, cases_Bool, false_from_ne_true, sum_below-lt, share, at_lecturer-sum, places_among, places_with, ◌≡◌, inl, inr, ℕ, ◌+◌, ◌-◌, eqb, eq-eqb, get_or, sum_below-zero, with_room, ◌<◌, ◌≤◌, Bool, true, false, List, length, Option, Some, None, refl, sym, ◌∙◌, ap, subst, arith, count_by, cases_lt, Letter, A, B, C, Spa, is_lecturer, at_project, at_lecturer, project_of, lecturer_of, ranking_of, capacity_of, limit_of, IsOn, IsMatching, IsAsGood, Wants, Blocks, sum_below, IsRanked, rank_of, IsSpent, student_in_range, rules, zero, suc, cond, [], ◌∷◌, one_if, count_by-cons, is_project}
+use Rattle.spa_honest.proofs.Base.{count_by-lt, replicate, ◌⊎◌, cases_Bool, false_from_ne_true, sum_below-lt, share}
+use Rattle.spa_honest.proofs.Base.{at_lecturer-sum, places_among, places_with, ◌≡◌, inl, inr, ℕ, ◌+◌, ◌-◌, eqb, eq-eqb}
+use Rattle.spa_honest.proofs.Base.{get_or, sum_below-zero, with_room, ◌<◌, ◌≤◌, Bool, true, false, List, length, Option}
+use Rattle.spa_honest.proofs.Base.{Some, None, refl, sym, ◌∙◌, ap, subst, arith, count_by, cases_lt, Letter, A, B, C}
+use Rattle.spa_honest.proofs.Base.{Spa, is_lecturer, at_project, at_lecturer, project_of, lecturer_of, ranking_of}
+use Rattle.spa_honest.proofs.Base.{capacity_of, limit_of, IsOn, IsMatching, IsAsGood, Wants, Blocks, sum_below}
+use Rattle.spa_honest.proofs.Base.{IsRanked, rank_of, IsSpent, student_in_range, rules, zero, suc, cond, [], ◌∷◌}
+use Rattle.spa_honest.proofs.Base.{one_if, count_by-cons, is_project}
 use Rattle.std.proofs.lemmas.List.{length-replicate}
 use Rattle.spa_student.proofs.Start.{none_there}
 use Rattle.spa_honest.proofs.Added.{joined, joined_length, joined_at}

@@ -1,5 +1,8 @@
 -- More room harms nobody, where the lecturers' limits grow with the places of their projects.
-use Rattle.spa_honest.proofs.Base.{◌≡◌, inl, inr, ℕ, zero, suc, ◌+◌, ◌-◌, Bool, true, false, cond, eqb, List, length, get_or, Option, refl, arith, cases_Bool, Spa, project_of, lecturer_of, capacity_of, IsMatching, IsAsGood, IsStable, IsBest, IsRanked, sum_below, sum_below-le, share, at_lecturer-sum, with_room, GivesRoom, places_among}
+use Rattle.spa_honest.proofs.Base.{◌≡◌, inl, inr, ℕ, zero, suc, ◌+◌, ◌-◌, Bool, true, false, cond, eqb, List, length}
+use Rattle.spa_honest.proofs.Base.{get_or, Option, refl, arith, cases_Bool, Spa, project_of, lecturer_of, capacity_of}
+use Rattle.spa_honest.proofs.Base.{IsMatching, IsAsGood, IsStable, IsBest, IsRanked, sum_below, sum_below-le, share}
+use Rattle.spa_honest.proofs.Base.{at_lecturer-sum, with_room, GivesRoom, places_among}
 use Rattle.spa_honest.proofs.Outside.{outside, Grown, growth, place_share, places_sum, share_most}
 use Rattle.spa_honest.proofs.Last.{not_better, gains, turned_away}
 

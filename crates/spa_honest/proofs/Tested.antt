@@ -1,5 +1,11 @@
 -- What is computed of a small instance: that it is lawful, and the matching that alone is stable.
-use Rattle.spa_honest.proofs.Base.{◌≡◌, ◌≢◌, inl, inr, ℕ, zero, suc, ◌<◌, ◌≤◌, Bool, true, false, eqb, List, [], ◌∷◌, length, get_or, refl, ap, arith, subst, AllPairs, Less, nat_cmp, slice_cmp, eqb-true, eq-eqb, cases_lt, Option, Some, None, Spa, project_of, place, choices_of, lecturer_of, ranking_of, capacity_of, limit_of, at_project, at_lecturer, IsOn, IsBefore, IsAcceptable, IsDistinct, IsLawful, Improves, Wants, IsStable, IsBest, IsRanked, A, rules, ltb, ◌&&◌, ◌||◌, not, Ordering, list_all, list_any, is_lt, and_parts, or_cases, ltb-true, get_or_past, Rise, get_or-place, blocked}
+use Rattle.spa_honest.proofs.Base.{◌≡◌, ◌≢◌, inl, inr, ℕ, zero, suc, ◌<◌, ◌≤◌, Bool, true, false, eqb, List, [], ◌∷◌}
+use Rattle.spa_honest.proofs.Base.{length, get_or, refl, ap, arith, subst, AllPairs, Less, nat_cmp, slice_cmp, eqb-true}
+use Rattle.spa_honest.proofs.Base.{eq-eqb, cases_lt, Option, Some, None, Spa, project_of, place, choices_of}
+use Rattle.spa_honest.proofs.Base.{lecturer_of, ranking_of, capacity_of, limit_of, at_project, at_lecturer, IsOn}
+use Rattle.spa_honest.proofs.Base.{IsBefore, IsAcceptable, IsDistinct, IsLawful, Improves, Wants, IsStable, IsBest}
+use Rattle.spa_honest.proofs.Base.{IsRanked, A, rules, ltb, ◌&&◌, ◌||◌, not, Ordering, list_all, list_any, is_lt}
+use Rattle.spa_honest.proofs.Base.{and_parts, or_cases, ltb-true, get_or_past, Rise, get_or-place, blocked}
 use Rattle.std.proofs.lemmas.List.Folds.{Any-from_list_any}
 use Rattle.std.proofs.lemmas.List.FromFn.{get_or-range_with_len, length-range_with_len}
 use Rattle.std.proofs.lemmas.List.Kept.{AllPairs-cons}

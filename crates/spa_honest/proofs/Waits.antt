@@ -1,5 +1,8 @@
 -- Who is left finds no room on the own list; room after a stable matching gains nobody anything.
-use Rattle.spa_honest.proofs.Base.{◌≡◌, ℕ, ◌<◌, List, length, set, Option, Some, None, ◌∙◌, arith, length-set, get_or-set_other, A, Spa, project_of, lecturer_of, IsAcceptable, IsAsGood, IsStable, IsBest, IsRanked, put_same, acceptable_in_range, AddsTo, HasRoom, DifferInOneList, put_at_project, put_at_lecturer, at_project, at_lecturer, capacity_of, limit_of}
+use Rattle.spa_honest.proofs.Base.{◌≡◌, ℕ, ◌<◌, List, length, set, Option, Some, None, ◌∙◌, arith, length-set}
+use Rattle.spa_honest.proofs.Base.{get_or-set_other, A, Spa, project_of, lecturer_of, IsAcceptable, IsAsGood, IsStable}
+use Rattle.spa_honest.proofs.Base.{IsBest, IsRanked, put_same, acceptable_in_range, AddsTo, HasRoom, DifferInOneList}
+use Rattle.spa_honest.proofs.Base.{put_at_project, put_at_lecturer, at_project, at_lecturer, capacity_of, limit_of}
 use Rattle.spa_student.proofs.Machine.{one_more}
 use Rattle.spa_honest.proofs.Gains.{no_one_gains_over_both}
 

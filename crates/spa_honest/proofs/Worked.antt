@@ -1,5 +1,8 @@
 -- The examples: they are lawful with each list, and what is best.
-use Rattle.spa_honest.proofs.Base.{◌≤◌, ◌≡◌, inl, inr, ℕ, zero, suc, List, [], ◌∷◌, Some, None, refl, arith, choices_of, IsOn, IsAsGood, IsLawful, IsBest, ranked_of, HasRoom, ann, cem, bells, kites, tides, example, honest_list, safe_list, short_list, DifferInLists, NobodyGains, MorePlacesNeverHarm, with_room, capacity_of}
+use Rattle.spa_honest.proofs.Base.{◌≤◌, ◌≡◌, inl, inr, ℕ, zero, suc, List, [], ◌∷◌, Some, None, refl, arith, choices_of}
+use Rattle.spa_honest.proofs.Base.{IsOn, IsAsGood, IsLawful, IsBest, ranked_of, HasRoom, ann, cem, bells, kites, tides}
+use Rattle.spa_honest.proofs.Base.{example, honest_list, safe_list, short_list, DifferInLists, NobodyGains}
+use Rattle.spa_honest.proofs.Base.{MorePlacesNeverHarm, with_room, capacity_of}
 use Rattle.spa_honest.specs.examples.Waiting.{at_once, second_alone, waiting}
 use Rattle.spa_honest.proofs.Tested.{lawful_by, best_by}
 

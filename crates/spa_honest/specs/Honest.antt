@@ -1,7 +1,10 @@
 -- The statements of the laws that instances alone have. `NobodyGains` and `MorePlacesNeverHarm` are
 -- refuted; the others are proved.
-use Rattle.std.specs.Prelude.{◌≡◌, ◌↔◌, ◌⊎◌, ℕ, zero, suc, ◌+◌, ◌<◌, ◌≤◌, ◌==◌, if◌then◌else◌, List, length, Option, Some, None}
-use Rattle.spa_model.specs.Spa.{Spa, choices_of, ranking_of, project_of, lecturer_of, capacity_of, limit_of, at_project, at_lecturer, IsOn, IsBefore, IsAcceptable, IsAsGood, IsWith, Wants, IsMatching, IsLawful, IsStable, IsBest}
+use Rattle.std.specs.Prelude.{◌≡◌, ◌↔◌, ◌⊎◌, ℕ, zero, suc, ◌+◌, ◌<◌, ◌≤◌, ◌==◌, if◌then◌else◌, List, length, Option}
+use Rattle.std.specs.Prelude.{Some, None}
+use Rattle.spa_model.specs.Spa.{Spa, choices_of, ranking_of, project_of, lecturer_of, capacity_of, limit_of, at_project}
+use Rattle.spa_model.specs.Spa.{at_lecturer, IsOn, IsBefore, IsAcceptable, IsAsGood, IsWith, Wants, IsMatching}
+use Rattle.spa_model.specs.Spa.{IsLawful, IsStable, IsBest}
 
 -- the same students have a project in both, and each lecturer has as many students in both
 pub record AssignTheSame (i : Spa) (m n : List (Option ℕ)) : Type 0 where

@@ -1,5 +1,9 @@
 -- Lemmas on the faults that speak of applicants, by number.
-use Rattle.spa_model.proofs.Base.{◌≡◌, ◌⊎◌, inl, inr, ◌↔◌, IsTrue, ℕ, ◌+◌, ◌<◌, Bool, true, false, List, [], length, get_or, Option, Some, None, refl, sym, ◌∙◌, ap, subst, arith, cases_lt, false≢true, get_or_default, Text, IsLeastOf, map_at, at_place, Any, Student, Project, Lecturer, choices_at, lecturer_at, row_at, rank_at, Misses, MissesBelow, rules, not, lesser_row, least_either}
+use Rattle.spa_model.proofs.Base.{◌≡◌, ◌⊎◌, inl, inr, ◌↔◌, IsTrue, ℕ, ◌+◌, ◌<◌, Bool, true, false, List, [], length}
+use Rattle.spa_model.proofs.Base.{get_or, Option, Some, None, refl, sym, ◌∙◌, ap, subst, arith, cases_lt, false≢true}
+use Rattle.spa_model.proofs.Base.{get_or_default, Text, IsLeastOf, map_at, at_place, Any, Student, Project, Lecturer}
+use Rattle.spa_model.proofs.Base.{choices_at, lecturer_at, row_at, rank_at, Misses, MissesBelow, rules, not, lesser_row}
+use Rattle.spa_model.proofs.Base.{least_either}
 use Rattle.std.specs.Bool.{MatchBool}
 use Rattle.std.specs.List.{AllWithin, HoldsAt}
 use Rattle.std.specs.Option.{is_some}

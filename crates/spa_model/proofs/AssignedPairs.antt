@@ -1,5 +1,13 @@
 -- Pairs that are put together, one after the other.
-use Rattle.spa_model.proofs.Base.{◌≡◌, ◌≢◌, inl, inr, ℕ, zero, suc, ◌+◌, ◌<◌, ◌≤◌, eqb, List, [], ◌∷◌, ◌++◌, map, length, take, set, get_or, Option, Some, None, refl, sym, ◌∙◌, ap, arith, All, Any, count_by, cases_lt, cases_Bool, eqb-true, get_or_default, get_or-take, length-map, length-take-le, length-set, get_or-set_same, get_or-set_other, take_more, take_all, count_by_more_no, Pair, NoSuchStudent, NotAcceptable, StudentTwice, ProjectOver, LecturerOver, Spa, IsLawful, IsDistinct, IsMatching, IsAcceptable, place, choices_of, lecturer_of, capacity_of, limit_of, project_of, is_project, is_lecturer, at_project, at_lecturer, student_in, project_in, lecturer_in, HasPairs, AreSound, AreAssigned, rules, sum_by_push}
+use Rattle.spa_model.proofs.Base.{◌≡◌, ◌≢◌, inl, inr, ℕ, zero, suc, ◌+◌, ◌<◌, ◌≤◌, eqb, List, [], ◌∷◌, ◌++◌, map}
+use Rattle.spa_model.proofs.Base.{length, take, set, get_or, Option, Some, None, refl, sym, ◌∙◌, ap, arith, All, Any}
+use Rattle.spa_model.proofs.Base.{count_by, cases_lt, cases_Bool, eqb-true, get_or_default, get_or-take, length-map}
+use Rattle.spa_model.proofs.Base.{length-take-le, length-set, get_or-set_same, get_or-set_other, take_more, take_all}
+use Rattle.spa_model.proofs.Base.{count_by_more_no, Pair, NoSuchStudent, NotAcceptable, StudentTwice, ProjectOver}
+use Rattle.spa_model.proofs.Base.{LecturerOver, Spa, IsLawful, IsDistinct, IsMatching, IsAcceptable, place, choices_of}
+use Rattle.spa_model.proofs.Base.{lecturer_of, capacity_of, limit_of, project_of, is_project, is_lecturer, at_project}
+use Rattle.spa_model.proofs.Base.{at_lecturer, student_in, project_in, lecturer_in, HasPairs, AreSound, AreAssigned}
+use Rattle.spa_model.proofs.Base.{rules, sum_by_push}
 use Rattle.std.proofs.lemmas.Option.{same_Some}
 use Rattle.spa_model.proofs.Counts.{count_by-set, one_if}
 use Rattle.spa_model.proofs.PairFaults.{number_at, good_pair, students_below, same_student, count_by-map}

@@ -1,5 +1,8 @@
 -- Lemmas on how many students a project or a lecturer has.
-use Rattle.spa_model.proofs.Base.{◌≡◌, ◌≢◌, inl, inr, ℕ, zero, suc, ◌+◌, ◌<◌, ◌≤◌, Bool, true, false, eqb, cond, List, [], ◌∷◌, length, refl, sym, ◌∙◌, ap, arith, get_or, set, Option, Some, None, count_by, sum_by-cons, eq-eqb, ne_eqb, cases_lt, Spa, is_project, is_lecturer, at_project, at_lecturer, project_of, lecturer_of, sum_by-set}
+use Rattle.spa_model.proofs.Base.{◌≡◌, ◌≢◌, inl, inr, ℕ, zero, suc, ◌+◌, ◌<◌, ◌≤◌, Bool, true, false, eqb, cond, List}
+use Rattle.spa_model.proofs.Base.{[], ◌∷◌, length, refl, sym, ◌∙◌, ap, arith, get_or, set, Option, Some, None, count_by}
+use Rattle.spa_model.proofs.Base.{sum_by-cons, eq-eqb, ne_eqb, cases_lt, Spa, is_project, is_lecturer, at_project}
+use Rattle.spa_model.proofs.Base.{at_lecturer, project_of, lecturer_of, sum_by-set}
 
 -- 1 where the test holds
 abbrev pub one_if : Bool → ℕ

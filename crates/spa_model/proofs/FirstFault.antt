@@ -1,5 +1,8 @@
 -- The fault of the least number.
-use Rattle.spa_model.proofs.Base.{◌≡◌, ℕ, ◌+◌, ◌<◌, cond, eqb, List, Option, Some, None, refl, arith, Pair, IsLeastOf, MatchingFault, NoSuchStudent, NoSuchProject, NotAcceptable, StudentTwice, ProjectOver, LecturerOver, Spa, HasNone, AreSound, rules, HasPairFault, number_of_pair_fault, IsPairRefusal}
+use Rattle.spa_model.proofs.Base.{◌≡◌, ℕ, ◌+◌, ◌<◌, cond, eqb, List, Option, Some, None, refl, arith, Pair, IsLeastOf}
+use Rattle.spa_model.proofs.Base.{MatchingFault, NoSuchStudent, NoSuchProject, NotAcceptable, StudentTwice, ProjectOver}
+use Rattle.spa_model.proofs.Base.{LecturerOver, Spa, HasNone, AreSound, rules, HasPairFault, number_of_pair_fault}
+use Rattle.spa_model.proofs.Base.{IsPairRefusal}
 use Rattle.spa_model.specs.declared.matching.MatchingFault.TheVariants.{Memory}
 
 -- the fault with a number

@@ -1,5 +1,8 @@
 -- Lemmas on matchings that fit.
-use Rattle.spa_model.proofs.Base.{◌≡◌, ◌↔◌, inl, inr, ℕ, ◌<◌, ◌≤◌, Bool, true, false, eqb, List, length, get_or, Option, Some, None, refl, sym, ◌∙◌, arith, eqb-true, eq-eqb, ne_eqb, cases_lt, true≢false, Spa, place, IsOn, is_project, is_lecturer, at_project, at_lecturer, project_of, lecturer_of, capacity_of, limit_of, IsLawful, IsAnyAnswer, AreAcceptable}
+use Rattle.spa_model.proofs.Base.{◌≡◌, ◌↔◌, inl, inr, ℕ, ◌<◌, ◌≤◌, Bool, true, false, eqb, List, length, get_or, Option}
+use Rattle.spa_model.proofs.Base.{Some, None, refl, sym, ◌∙◌, arith, eqb-true, eq-eqb, ne_eqb, cases_lt, true≢false}
+use Rattle.spa_model.proofs.Base.{Spa, place, IsOn, is_project, is_lecturer, at_project, at_lecturer, project_of}
+use Rattle.spa_model.proofs.Base.{lecturer_of, capacity_of, limit_of, IsLawful, IsAnyAnswer, AreAcceptable}
 use Rattle.spa_model.proofs.Places.{place-get_or-le, get_or-place}
 use Rattle.spa_model.proofs.Counts.{count_by-none}
 

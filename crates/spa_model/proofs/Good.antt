@@ -1,5 +1,11 @@
 -- What the absence of faults says of lines.
-use Rattle.spa_model.proofs.Base.{◌≡◌, inl, inr, ℕ, ◌<◌, ◌≤◌, true, false, List, length, get_or, map, take, All, Any, Ordering, Less, Equal, Greater, refl, sym, ◌∙◌, ap, arith, nat_cmp, is_lt, slice_cmp, nat_list_cmp_total, cases_lt, get_or_default, get_or-take, length-take, length-map, Text, Rows, BadAt, HasNoneBefore, IsKeyOf, AreKeysOf, Repeats, TooMany, BadKey, KeyTwice, BadCapacity, NoSuchLecturer, RepeatInList, ListTooLong, NotApplicant, at_place, map_at, Rise, student_keys, project_keys, lecturer_keys, IsSortedByKey, ranks_by, sorted_far, true_from_ne_false, is_key, IsBadCapacity}
+use Rattle.spa_model.proofs.Base.{◌≡◌, inl, inr, ℕ, ◌<◌, ◌≤◌, true, false, List, length, get_or, map, take, All, Any}
+use Rattle.spa_model.proofs.Base.{Ordering, Less, Equal, Greater, refl, sym, ◌∙◌, ap, arith, nat_cmp, is_lt, slice_cmp}
+use Rattle.spa_model.proofs.Base.{nat_list_cmp_total, cases_lt, get_or_default, get_or-take, length-take, length-map}
+use Rattle.spa_model.proofs.Base.{Text, Rows, BadAt, HasNoneBefore, IsKeyOf, AreKeysOf, Repeats, TooMany, BadKey}
+use Rattle.spa_model.proofs.Base.{KeyTwice, BadCapacity, NoSuchLecturer, RepeatInList, ListTooLong, NotApplicant}
+use Rattle.spa_model.proofs.Base.{at_place, map_at, Rise, student_keys, project_keys, lecturer_keys, IsSortedByKey}
+use Rattle.spa_model.proofs.Base.{ranks_by, sorted_far, true_from_ne_false, is_key, IsBadCapacity}
 use Rattle.std.proofs.lemmas.Map.Lookups.{exact_bytes}
 use Rattle.spa_rows.specs.declared.faults.InstanceFault.TheVariants.{NoSuchProject}
 use Rattle.spa_model.proofs.Keys.{known, all_known}

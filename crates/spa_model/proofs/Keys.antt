@@ -1,5 +1,9 @@
 -- Lemmas on keys that rise.
-use Rattle.spa_model.proofs.Base.{cases_Bool, list_any, bytes_eq, Any-from_list_any, list_any-from_Any, bytes_eq-Decides, false≢true, get_or_default, NamesNone, AreKeysOf, ◌≡◌, inl, inr, ℕ, ◌<◌, List, [], ◌∷◌, length, get_or, map, sym, ◌∙◌, arith, nat_list_cmp_total, tied_itself, cases_lt, get_or-map, length-map, Text, IsKeyOf, at_place, map_at, Rise, HasKey}
+use Rattle.spa_model.proofs.Base.{cases_Bool, list_any, bytes_eq, Any-from_list_any, list_any-from_Any}
+use Rattle.spa_model.proofs.Base.{bytes_eq-Decides, false≢true, get_or_default, NamesNone, AreKeysOf, ◌≡◌, inl, inr, ℕ}
+use Rattle.spa_model.proofs.Base.{◌<◌, List, [], ◌∷◌, length, get_or, map, sym, ◌∙◌, arith, nat_list_cmp_total}
+use Rattle.spa_model.proofs.Base.{tied_itself, cases_lt, get_or-map, length-map, Text, IsKeyOf, at_place, map_at, Rise}
+use Rattle.spa_model.proofs.Base.{HasKey}
 
 -- the key at a place
 pub has_key : {X : Type 0} (key : X → Text) (lines : List X) (k : ℕ) (text : Text) → k < length lines → ((d : X) → key (get_or lines k d) ≡ text) → HasKey (map key lines) k text

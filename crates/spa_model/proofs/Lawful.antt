@@ -1,5 +1,13 @@
 -- The numbered rows of good lines are a lawful instance, which stands for the lines.
-use Rattle.spa_model.proofs.Base.{◌≡◌, ◌⊎◌, inl, inr, ℕ, ◌<◌, ◌≤◌, true, eqb, List, [], ◌∷◌, length, get_or, map, None, Any, refl, sym, ◌∙◌, ap, subst, arith, AllZip, cases_lt, cases_Bool, eqb-true, eq-eqb, get_or_default, get_or_past, length-map, Any-from_list_any, AllZip-long, Text, Rows, HasNoneBefore, Repeats, NotApplicant, ApplicantMissing, Memory, at_place, map_at, Student, Project, Lecturer, Spa, place, IsOn, IsDistinct, IsLawful, capacity_of, limit_of, HasKey, keys_at, StandsFor, StandsStudent, StandsProject, StandsLecturer, student_keys, project_keys, lecturer_keys, AreNumbers, IsStudentOf, IsProjectOf, IsLecturerOf, choices_at, lecturer_at, row_at, rank_at, Finds, MissesBelow, rules, list_any, list_any-from_Any}
+use Rattle.spa_model.proofs.Base.{◌≡◌, ◌⊎◌, inl, inr, ℕ, ◌<◌, ◌≤◌, true, eqb, List, [], ◌∷◌, length, get_or, map, None}
+use Rattle.spa_model.proofs.Base.{Any, refl, sym, ◌∙◌, ap, subst, arith, AllZip, cases_lt, cases_Bool, eqb-true, eq-eqb}
+use Rattle.spa_model.proofs.Base.{get_or_default, get_or_past, length-map, Any-from_list_any, AllZip-long, Text, Rows}
+use Rattle.spa_model.proofs.Base.{HasNoneBefore, Repeats, NotApplicant, ApplicantMissing, Memory, at_place, map_at}
+use Rattle.spa_model.proofs.Base.{Student, Project, Lecturer, Spa, place, IsOn, IsDistinct, IsLawful, capacity_of}
+use Rattle.spa_model.proofs.Base.{limit_of, HasKey, keys_at, StandsFor, StandsStudent, StandsProject, StandsLecturer}
+use Rattle.spa_model.proofs.Base.{student_keys, project_keys, lecturer_keys, AreNumbers, IsStudentOf, IsProjectOf}
+use Rattle.spa_model.proofs.Base.{IsLecturerOf, choices_at, lecturer_at, row_at, rank_at, Finds, MissesBelow, rules}
+use Rattle.spa_model.proofs.Base.{list_any, list_any-from_Any}
 use Rattle.spa_rows.specs.Lines
 use Rattle.spa_model.specs.inner.Inside.{spa_of, AreRanks, HaveRanks}
 use Rattle.spa_model.proofs.Places.{get_or-place, place-get_or-le}

@@ -1,5 +1,9 @@
 -- Numbered lecturers and the lines that they come from say the same of who is missing on a list.
-use Rattle.spa_model.proofs.Base.{◌≡◌, ℕ, ◌<◌, true, List, [], length, get_or, Some, None, Any, refl, sym, ◌∙◌, ap, arith, AllZip, length-map, AllZip-long, Rows, HasFault, ApplicantMissing, at_place, Student, Project, Lecturer, place, IsOn, HasKey, student_keys, IsLecturerOf, choices_at, lecturer_at, row_at, rank_at, Finds, MissesBelow, rules, ltb, nat_tests, rank_in}
+use Rattle.spa_model.proofs.Base.{◌≡◌, ℕ, ◌<◌, true, List, [], length, get_or, Some, None, Any, refl, sym, ◌∙◌, ap}
+use Rattle.spa_model.proofs.Base.{arith, AllZip, length-map, AllZip-long, Rows, HasFault, ApplicantMissing, at_place}
+use Rattle.spa_model.proofs.Base.{Student, Project, Lecturer, place, IsOn, HasKey, student_keys, IsLecturerOf}
+use Rattle.spa_model.proofs.Base.{choices_at, lecturer_at, row_at, rank_at, Finds, MissesBelow, rules, ltb, nat_tests}
+use Rattle.spa_model.proofs.Base.{rank_in}
 use Rattle.spa_rows.specs.Lines
 use Rattle.spa_model.proofs.Places.{get_or-place, place-get_or-le}
 use Rattle.spa_model.proofs.Keys.{one_number, key_number}

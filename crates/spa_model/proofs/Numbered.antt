@@ -1,5 +1,11 @@
 -- Numbered rows and the lines that they come from say the same of applicants.
-use Rattle.spa_model.proofs.Base.{◌≡◌, ℕ, ◌<◌, List, [], length, get_or, Any, sym, ◌∙◌, ap, arith, AllZip, get_or_default, length-map, AllZip-long, Text, Rows, BadAt, HasFault, NotApplicant, at_place, Student, Project, Rise, HasKey, student_keys, project_keys, lecturer_keys, AreNumbers, IsStudentOf, IsProjectOf, choices_at, lecturer_at, Finds, IsApplicantOf, FindsOne, IsApplicant, IsApplicantNumber, numbers_at, HasNumber, HaveNumbers, AreListNumbers, Vec, Global, IsLeastOf, Option, alike, map_at, cases_lt, inl, inr, subst, ◌↔◌}
+use Rattle.spa_model.proofs.Base.{◌≡◌, ℕ, ◌<◌, List, [], length, get_or, Any, sym, ◌∙◌, ap, arith, AllZip}
+use Rattle.spa_model.proofs.Base.{get_or_default, length-map, AllZip-long, Text, Rows, BadAt, HasFault, NotApplicant}
+use Rattle.spa_model.proofs.Base.{at_place, Student, Project, Rise, HasKey, student_keys, project_keys, lecturer_keys}
+use Rattle.spa_model.proofs.Base.{AreNumbers, IsStudentOf, IsProjectOf, choices_at, lecturer_at, Finds, IsApplicantOf}
+use Rattle.spa_model.proofs.Base.{FindsOne, IsApplicant, IsApplicantNumber, numbers_at, HasNumber, HaveNumbers}
+use Rattle.spa_model.proofs.Base.{AreListNumbers, Vec, Global, IsLeastOf, Option, alike, map_at, cases_lt, inl, inr}
+use Rattle.spa_model.proofs.Base.{subst, ◌↔◌}
 use Rattle.spa_rows.specs.Lines
 use Rattle.std.specs.Prelude.{⊤}
 use Rattle.spa_model.proofs.Keys.{one_number, key_number, has_key, is_key_of}

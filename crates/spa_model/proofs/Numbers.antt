@@ -1,5 +1,9 @@
 -- The number of a key, among keys that rise.
-use Rattle.spa_model.proofs.Base.{◌≡◌, ℕ, zero, suc, ◌+◌, ◌<◌, ◌≤◌, true, false, List, [], ◌∷◌, map, length, get_or, refl, sym, ◌∙◌, ap, arith, Contains, Less, Equal, Greater, Ordering, nat_cmp, is_lt, slice_cmp, bytes_eq, nat_list_cmp_total, length-map, get_or-map, bytes_eq-Decides, true≢false, Text, Rise, number_in, rules, is_eq, ordering_reverse, position_or_len_is, passes_at_first, fails_before_first}
+use Rattle.spa_model.proofs.Base.{◌≡◌, ℕ, zero, suc, ◌+◌, ◌<◌, ◌≤◌, true, false, List, [], ◌∷◌, map, length, get_or}
+use Rattle.spa_model.proofs.Base.{refl, sym, ◌∙◌, ap, arith, Contains, Less, Equal, Greater, Ordering, nat_cmp, is_lt}
+use Rattle.spa_model.proofs.Base.{slice_cmp, bytes_eq, nat_list_cmp_total, length-map, get_or-map, bytes_eq-Decides}
+use Rattle.spa_model.proofs.Base.{true≢false, Text, Rise, number_in, rules, is_eq, ordering_reverse, position_or_len_is}
+use Rattle.spa_model.proofs.Base.{passes_at_first, fails_before_first}
 use Rattle.std.specs.List.Sorted.{IsSortedBy}
 use Rattle.std.proofs.lemmas.Map.Text.{is_eq-slice_cmp}
 

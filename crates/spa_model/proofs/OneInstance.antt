@@ -1,5 +1,13 @@
 -- Of rows without a fault one instance alone is made.
-use Rattle.spa_model.proofs.Base.{◌≡◌, ◌≢◌, inl, inr, ℕ, zero, suc, ◌<◌, ◌≤◌, Bool, true, false, List, [], ◌∷◌, map, length, get_or, All, Contains, refl, sym, subst, ◌∙◌, ap, arith, bytes_eq, cases_lt, ext_get_or, get_or_default, get_or_past, get_or-take, length-map, length-take, IsDistinct-from_AllPairs, bytes_eq-Decides, Text, Rows, HasNoneBefore, KeyTwice, Memory, at_place, map_at, Spa, Rise, IsLawful, IsOn, place, choices_of, lecturer_of, capacity_of, limit_of, HasKey, keys_at, StandsFor, StandsStudent, StandsProject, StandsLecturer, number_in, rules, ◌+◌, Less, Equal, Greater, nat_cmp, slice_cmp, nat_list_cmp_total, tied_itself, ◌||◌, AllByRecursion, nat_list_eq_equiv, is_member-Decides, length-le_from_is_member, IsEarlierKey, ranking_of, ◌-◌}
+use Rattle.spa_model.proofs.Base.{◌≡◌, ◌≢◌, inl, inr, ℕ, zero, suc, ◌<◌, ◌≤◌, Bool, true, false, List, [], ◌∷◌, map}
+use Rattle.spa_model.proofs.Base.{length, get_or, All, Contains, refl, sym, subst, ◌∙◌, ap, arith, bytes_eq, cases_lt}
+use Rattle.spa_model.proofs.Base.{ext_get_or, get_or_default, get_or_past, get_or-take, length-map, length-take}
+use Rattle.spa_model.proofs.Base.{IsDistinct-from_AllPairs, bytes_eq-Decides, Text, Rows, HasNoneBefore, KeyTwice}
+use Rattle.spa_model.proofs.Base.{Memory, at_place, map_at, Spa, Rise, IsLawful, IsOn, place, choices_of, lecturer_of}
+use Rattle.spa_model.proofs.Base.{capacity_of, limit_of, HasKey, keys_at, StandsFor, StandsStudent, StandsProject}
+use Rattle.spa_model.proofs.Base.{StandsLecturer, number_in, rules, ◌+◌, Less, Equal, Greater, nat_cmp, slice_cmp}
+use Rattle.spa_model.proofs.Base.{nat_list_cmp_total, tied_itself, ◌||◌, AllByRecursion, nat_list_eq_equiv}
+use Rattle.spa_model.proofs.Base.{is_member-Decides, length-le_from_is_member, IsEarlierKey, ranking_of, ◌-◌}
 use Rattle.std.specs.Prelude.{AllPairs}
 use Rattle.std.specs.List.{IsDistinct}
 use Rattle.std.specs.Set.{is_member}

@@ -1,5 +1,6 @@
 -- At most one letter, and one best matching.
-use Rattle.spa_model.proofs.Base.{◌≡◌, ◌∙◌, inl, inr, ℕ, List, Option, Some, None, refl, sym, ap, arith, ext_get_or, Spa, project_of, Blocks, IsAsGood, IsBest}
+use Rattle.spa_model.proofs.Base.{◌≡◌, ◌∙◌, inl, inr, ℕ, List, Option, Some, None, refl, sym, ap, arith, ext_get_or}
+use Rattle.spa_model.proofs.Base.{Spa, project_of, Blocks, IsAsGood, IsBest}
 use Rattle.spa_model.specs.Spa.{Wants}
 use Rattle.spa_model.specs.declared.letter.Letter.{Letter}
 use Rattle.spa_model.specs.declared.letter.Letter.TheVariants.{A, B, C}

@@ -1,5 +1,13 @@
 -- The faults of pairs, among the first rows.
-use Rattle.spa_model.proofs.Base.{◌≡◌, ◌↔◌, inl, inr, ℕ, ◌+◌, ◌<◌, Bool, true, false, cond, eqb, List, [], ◌∷◌, ◌++◌, map, length, take, set, get_or, Option, None, Some, refl, sym, subst, All, IsTrue, nat_le, IfNone, leb-true, le-leb, at_place, Text, ◌∙◌, ap, arith, Contains, Any, count_by, cases_lt, cases_eq, eq-eqb, ne_eqb, get_or-map, get_or_default, get_or-take, length-map, length-take-le, length-set, get_or-set_same, get_or-set_other, take_more, count_by_more_no, sum_by-cons, Pair, IsLeastOf, BadAt, BadBelow, MatchingFault, NoSuchStudent, NoSuchProject, NotAcceptable, StudentTwice, ProjectOver, LecturerOver, Spa, IsLawful, IsAcceptable, lecturer_of, capacity_of, limit_of, number_in, student_in, project_in, lecturer_in, HasNone, rules, take-map, count_by_more_yes}
+use Rattle.spa_model.proofs.Base.{◌≡◌, ◌↔◌, inl, inr, ℕ, ◌+◌, ◌<◌, Bool, true, false, cond, eqb, List, [], ◌∷◌, ◌++◌}
+use Rattle.spa_model.proofs.Base.{map, length, take, set, get_or, Option, None, Some, refl, sym, subst, All, IsTrue}
+use Rattle.spa_model.proofs.Base.{nat_le, IfNone, leb-true, le-leb, at_place, Text, ◌∙◌, ap, arith, Contains, Any}
+use Rattle.spa_model.proofs.Base.{count_by, cases_lt, cases_eq, eq-eqb, ne_eqb, get_or-map, get_or_default, get_or-take}
+use Rattle.spa_model.proofs.Base.{length-map, length-take-le, length-set, get_or-set_same, get_or-set_other, take_more}
+use Rattle.spa_model.proofs.Base.{count_by_more_no, sum_by-cons, Pair, IsLeastOf, BadAt, BadBelow, MatchingFault}
+use Rattle.spa_model.proofs.Base.{NoSuchStudent, NoSuchProject, NotAcceptable, StudentTwice, ProjectOver, LecturerOver}
+use Rattle.spa_model.proofs.Base.{Spa, IsLawful, IsAcceptable, lecturer_of, capacity_of, limit_of, number_in}
+use Rattle.spa_model.proofs.Base.{student_in, project_in, lecturer_in, HasNone, rules, take-map, count_by_more_yes}
 use Rattle.std.proofs.lemmas.List.Elements.{Contains-push, Contains-append_left, Contains-push_cases}
 use Rattle.spa_model.specs.declared.matching.MatchingFault.TheVariants.{Memory}
 use Rattle.spa_model.proofs.Numbers.{number_known, known_number, number_is}

@@ -1,5 +1,6 @@
 -- Lemmas on places in a list.
-use Rattle.spa_model.proofs.Base.{◌≡◌, ◌≢◌, inl, inr, ℕ, zero, suc, ◌+◌, ◌<◌, ◌≤◌, Bool, true, false, eqb, cond, List, [], ◌∷◌, length, refl, arith, get_or, eqb-true, eq-eqb, cases_lt, AllPairs, place}
+use Rattle.spa_model.proofs.Base.{◌≡◌, ◌≢◌, inl, inr, ℕ, zero, suc, ◌+◌, ◌<◌, ◌≤◌, Bool, true, false, eqb, cond, List}
+use Rattle.spa_model.proofs.Base.{[], ◌∷◌, length, refl, arith, get_or, eqb-true, eq-eqb, cases_lt, AllPairs, place}
 use Rattle.std.proofs.Math.Numerals.{one-add}
 
 -- no place is past the end

@@ -1,5 +1,9 @@
 -- Lemmas on the table of places.
-use Rattle.spa_model.proofs.Base.{◌≡◌, ◌≢◌, inl, inr, ℕ, ◌+◌, ◌<◌, ◌≤◌, true, eqb, List, [], length, length-set, get_or, set, Option, Some, None, All, sym, ◌∙◌, ap, subst, arith, AllPairs, cases_lt, cases_eq, eqb-true, get_or-set_same, get_or-set_other, get_or_default, get_or-take, length-take, Any-from_list_any, IsDistinct-from_AllPairs, AllZip-long, Text, Repeats, place, HasKey, AreNumbers, Decides-eqb}
+use Rattle.spa_model.proofs.Base.{◌≡◌, ◌≢◌, inl, inr, ℕ, ◌+◌, ◌<◌, ◌≤◌, true, eqb, List, [], length, length-set, get_or}
+use Rattle.spa_model.proofs.Base.{set, Option, Some, None, All, sym, ◌∙◌, ap, subst, arith, AllPairs, cases_lt}
+use Rattle.spa_model.proofs.Base.{cases_eq, eqb-true, get_or-set_same, get_or-set_other, get_or_default, get_or-take}
+use Rattle.spa_model.proofs.Base.{length-take, Any-from_list_any, IsDistinct-from_AllPairs, AllZip-long, Text, Repeats}
+use Rattle.spa_model.proofs.Base.{place, HasKey, AreNumbers, Decides-eqb}
 use Rattle.std.specs.List.{Any}
 use Rattle.std.proofs.lemmas.Map.Steps.{length-le_from_distinct_below}
 use Rattle.spa_model.proofs.Places.{place-injective, place-get_or}

@@ -1,5 +1,8 @@
 -- What is said of sorted rows holds of the rows.
-use Rattle.spa_model.proofs.Base.{ℕ, ◌∙◌, arith, Rows, HasNoneBefore, IsRefusal, KeyTwice, NoSuchLecturer, Memory, SameLines, same_lines_sym, none_before_carry, Spa, IsInstanceOf, StandsFor, StandsStudent, StandsProject, StandsLecturer, All-permutation, IsPermutation-sym, length_permutation, first_fault_carry}
+use Rattle.spa_model.proofs.Base.{ℕ, ◌∙◌, arith, Rows, HasNoneBefore, IsRefusal, KeyTwice, NoSuchLecturer, Memory}
+use Rattle.spa_model.proofs.Base.{SameLines, same_lines_sym, none_before_carry, Spa, IsInstanceOf, StandsFor}
+use Rattle.spa_model.proofs.Base.{StandsStudent, StandsProject, StandsLecturer, All-permutation, IsPermutation-sym}
+use Rattle.spa_model.proofs.Base.{length_permutation, first_fault_carry}
 use Rattle.spa_rows.specs.declared.faults.InstanceFault.{InstanceFault}
 
 -- the sorted rows are refused as the rows are

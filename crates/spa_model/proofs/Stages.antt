@@ -1,5 +1,10 @@
 -- What one stage of building hands to the next.
-use Rattle.spa_model.proofs.Base.{◌≡◌, ℕ, ◌<◌, List, length, get_or, Option, All, refl, sym, ◌∙◌, subst, arith, AllZip, get_or_default, length-map, Rows, IsLeastOf, HasFault, HasNoneBefore, AreKeysOf, NotApplicant, ApplicantMissing, Student, Project, Lecturer, student_keys, project_keys, lecturer_keys, IsStudentOf, IsProjectOf, IsLecturerOf, MissesBelow, rules, AreListNumbers, HaveNumbers, HasNumber, HasKey, IsKeyOf, AreNumbers, Text, Vec, Global, map, cases_lt, inl, inr, IsDistinct, Repeats, at_place, AllZip-long}
+use Rattle.spa_model.proofs.Base.{◌≡◌, ℕ, ◌<◌, List, length, get_or, Option, All, refl, sym, ◌∙◌, subst, arith, AllZip}
+use Rattle.spa_model.proofs.Base.{get_or_default, length-map, Rows, IsLeastOf, HasFault, HasNoneBefore, AreKeysOf}
+use Rattle.spa_model.proofs.Base.{NotApplicant, ApplicantMissing, Student, Project, Lecturer, student_keys}
+use Rattle.spa_model.proofs.Base.{project_keys, lecturer_keys, IsStudentOf, IsProjectOf, IsLecturerOf, MissesBelow}
+use Rattle.spa_model.proofs.Base.{rules, AreListNumbers, HaveNumbers, HasNumber, HasKey, IsKeyOf, AreNumbers, Text, Vec}
+use Rattle.spa_model.proofs.Base.{Global, map, cases_lt, inl, inr, IsDistinct, Repeats, at_place, AllZip-long}
 use Rattle.spa_rows.specs.Lines
 use Rattle.spa_model.proofs.Keys.{is_key_of, all_known, has_key}
 use Rattle.spa_model.proofs.Zips.{zip_all, zip_also, zip_at}

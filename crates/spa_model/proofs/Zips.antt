@@ -1,5 +1,7 @@
 -- Lemmas on two lists, place by place.
-use Rattle.spa_model.proofs.Base.{◌≡◌, ℕ, zero, suc, ◌+◌, ◌<◌, List, [], ◌∷◌, ◌++◌, length, get_or, take, map, refl, sym, ◌∙◌, ap, subst, arith, AllZip, at_place, map_at, take_more, get_or-map, length-map, AllZip-long, All, ◌↔◌}
+use Rattle.spa_model.proofs.Base.{◌≡◌, ℕ, zero, suc, ◌+◌, ◌<◌, List, [], ◌∷◌, ◌++◌, length, get_or, take, map, refl}
+use Rattle.spa_model.proofs.Base.{sym, ◌∙◌, ap, subst, arith, AllZip, at_place, map_at, take_more, get_or-map}
+use Rattle.spa_model.proofs.Base.{length-map, AllZip-long, All, ◌↔◌}
 use Rattle.std.specs.List.{Any}
 pub use Rattle.spa_rows.proofs.Lists.{zip_all, zip_at, zip_map, zip_more, zip_weaker}
 

@@ -1,5 +1,6 @@
 -- When an instance stands for rows, what can be wrong with pairs, and when they make a matching.
-use Rattle.std.specs.Prelude.{◌≡◌, ◌<◌, ℕ, List, [], All, map, length, slice_index_or, ◌≤◌, ◌+◌, ◌==◌, Option, Some, Any, Contains, take, count_by}
+use Rattle.std.specs.Prelude.{◌≡◌, ◌<◌, ℕ, List, [], All, map, length, slice_index_or, ◌≤◌, ◌+◌, ◌==◌, Option, Some}
+use Rattle.std.specs.Prelude.{Any, Contains, take, count_by}
 use Rattle.spa_rows.specs.Lines.{Text, Lecturer, Project, Student, Rows, Pair}
 use Rattle.spa_model.specs.Spa.{Spa, choices_of, lecturer_of, capacity_of, ranking_of, limit_of, project_of}
 use Rattle.spa_model.specs.Spa.{IsAcceptable, IsLawful, IsMatching}
@@ -8,7 +9,8 @@ use Rattle.std.specs.Str.{bytes_eq}
 use Rattle.spa_rows.specs.Faults.{BadAt, HasNoneBefore}
 use Rattle.spa_rows.specs.declared.faults.InstanceFault.TheVariants as rows_fault
 use Rattle.spa_model.specs.declared.matching.MatchingFault.{MatchingFault}
-use Rattle.spa_model.specs.declared.matching.MatchingFault.TheVariants.{NoSuchStudent, NoSuchProject, NotAcceptable, StudentTwice, ProjectOver, LecturerOver, Memory}
+use Rattle.spa_model.specs.declared.matching.MatchingFault.TheVariants.{NoSuchStudent, NoSuchProject, NotAcceptable}
+use Rattle.spa_model.specs.declared.matching.MatchingFault.TheVariants.{StudentTwice, ProjectOver, LecturerOver, Memory}
 
 -- the text is the key with this number
 abbrev pub HasKey : List Text → ℕ → Text → Type 0

@@ -1,5 +1,13 @@
 -- Some faults ignore the order of lines: rows have them exactly where their permutations do.
-use Rattle.spa_rows.proofs.Base.{◌≡◌, ◌⊎◌, inl, inr, ℕ, ◌<◌, false, List, length, map, get_or, refl, sym, ◌∙◌, ap, subst, arith, false≢true, bytes_eq-Decides, Any, length-map, Text, Rows, BadAt, HasFault, HasNoneBefore, IsFirstFault, IsBadCapacity, IsEarlierKey, IsKeyOf, NamesNone, Repeats, number_of, InstanceFault, TooMany, BadKey, KeyTwice, BadCapacity, NoSuchLecturer, NoSuchProject, RepeatInList, ListTooLong, NotApplicant, ApplicantMissing, Memory, is_key, rules, ◌≢◌, false_from_ne_true, nat_list_eq_equiv, IsPermutation, IsDistinct, bytes_eq, length-take, get_or-take, IsPermutation-sym, IsPermutation-map, Contains-permutation, length_permutation, Lecturer, Project, Student, IsOffered, FindsOne, IsApplicant, MissesOne}
+use Rattle.spa_rows.proofs.Base.{◌≡◌, ◌⊎◌, inl, inr, ℕ, ◌<◌, false, List, length, map, get_or, refl, sym, ◌∙◌, ap}
+use Rattle.spa_rows.proofs.Base.{subst, arith, false≢true, bytes_eq-Decides, Any, length-map, Text, Rows, BadAt}
+use Rattle.spa_rows.proofs.Base.{HasFault, HasNoneBefore, IsFirstFault, IsBadCapacity, IsEarlierKey, IsKeyOf, NamesNone}
+use Rattle.spa_rows.proofs.Base.{Repeats, number_of, InstanceFault, TooMany, BadKey, KeyTwice, BadCapacity}
+use Rattle.spa_rows.proofs.Base.{NoSuchLecturer, NoSuchProject, RepeatInList, ListTooLong, NotApplicant}
+use Rattle.spa_rows.proofs.Base.{ApplicantMissing, Memory, is_key, rules, ◌≢◌, false_from_ne_true, nat_list_eq_equiv}
+use Rattle.spa_rows.proofs.Base.{IsPermutation, IsDistinct, bytes_eq, length-take, get_or-take, IsPermutation-sym}
+use Rattle.spa_rows.proofs.Base.{IsPermutation-map, Contains-permutation, length_permutation, Lecturer, Project}
+use Rattle.spa_rows.proofs.Base.{Student, IsOffered, FindsOne, IsApplicant, MissesOne}
 use Rattle.std.proofs.lemmas.Map.Keys.{IsDistinct-from_apart, IsDistinct-IsPermutation, apart_from_distinct}
 use Rattle.spa_rows.proofs.Lists.{at_place, map_at}
 use Rattle.spa_rows.proofs.FirstFault.{same_number}

@@ -1,5 +1,6 @@
 -- Tests and what they say.
-use Rattle.spa_rows.proofs.Base.{◌≡◌, ℕ, ◌<◌, arith, Bool, true, false, IsTrue, ◌↔◌, refl, sym, not, false≢true, nat_tests, nat_lt}
+use Rattle.spa_rows.proofs.Base.{◌≡◌, ℕ, ◌<◌, arith, Bool, true, false, IsTrue, ◌↔◌, refl, sym, not, false≢true}
+use Rattle.spa_rows.proofs.Base.{nat_tests, nat_lt}
 
 -- a test that fails says that it does not hold
 pub not_iff : (b : Bool) (P : Type 0) → (IsTrue b ↔ P) → (IsTrue (not b) ↔ (P → ⊥))

@@ -1,5 +1,10 @@
 -- The faults one after another: what a refusal says, and what is known once there is none.
-use Rattle.spa_rows.proofs.Base.{◌≡◌, ℕ, ◌+◌, ◌<◌, Option, Some, None, Ok, Err, refl, sym, ◌∙◌, ap, arith, if◌then◌else◌, false≢true, Rows, IsLeastOf, HasFault, HasNoneBefore, IsFirstFault, IsRefusal, number_of, InstanceFault, TooMany, BadKey, KeyTwice, BadCapacity, NoSuchLecturer, NoSuchProject, RepeatInList, ListTooLong, NotApplicant, ApplicantMissing, Memory, rules, Result, IsOk, IsErrAnd, OnOk, IfErr, MatchOption, ◌==◌}
+use Rattle.spa_rows.proofs.Base.{◌≡◌, ℕ, ◌+◌, ◌<◌, Option, Some, None, Ok, Err, refl, sym, ◌∙◌, ap, arith}
+use Rattle.spa_rows.proofs.Base.{if◌then◌else◌, false≢true, Rows, IsLeastOf, HasFault, HasNoneBefore, IsFirstFault}
+use Rattle.spa_rows.proofs.Base.{IsRefusal, number_of, InstanceFault, TooMany, BadKey, KeyTwice, BadCapacity}
+use Rattle.spa_rows.proofs.Base.{NoSuchLecturer, NoSuchProject, RepeatInList, ListTooLong, NotApplicant}
+use Rattle.spa_rows.proofs.Base.{ApplicantMissing, Memory, rules, Result, IsOk, IsErrAnd, OnOk, IfErr, MatchOption}
+use Rattle.spa_rows.proofs.Base.{◌==◌}
 use Rattle.spa_rows.specs.declared.faults.BadInstance.{BadInstance}
 
 fault_at : ℕ → InstanceFault

@@ -1,5 +1,8 @@
 -- An index of the first lines of a list.
-use Rattle.spa_rows.proofs.Base.{◌≡◌, inl, inr, ℕ, ◌+◌, ◌<◌, Bool, true, false, cond, IsTrue, ◌↔◌, List, length, get_or, refl, Bor, Option, Some, None, sym, ◌∙◌, ap, subst, arith, Any, false≢true, get_or_default, bytes_eq-Decides, Text, IsKeyOf, IsIndexOf, text_eq, is_some, IfSome, IfNone, HasPlace}
+use Rattle.spa_rows.proofs.Base.{◌≡◌, inl, inr, ℕ, ◌+◌, ◌<◌, Bool, true, false, cond, IsTrue, ◌↔◌, List, length, get_or}
+use Rattle.spa_rows.proofs.Base.{refl, Bor, Option, Some, None, sym, ◌∙◌, ap, subst, arith, Any, false≢true}
+use Rattle.spa_rows.proofs.Base.{get_or_default, bytes_eq-Decides, Text, IsKeyOf, IsIndexOf, text_eq, is_some, IfSome}
+use Rattle.spa_rows.proofs.Base.{IfNone, HasPlace}
 use Rattle.std.specs.HashMap as hash
 use Rattle.std.specs.HashMap.{HashMap}
 use Rattle.std.proofs.Math.Seq.{take-length}

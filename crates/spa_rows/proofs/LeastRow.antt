@@ -1,5 +1,8 @@
 -- The least row so far.
-use Rattle.spa_rows.proofs.Base.{◌≡◌, ◌⊎◌, inl, inr, ℕ, ◌+◌, ◌<◌, List, length, get_or, Option, Some, None, Bool, true, false, IsTrue, ◌↔◌, if◌then◌else◌, refl, sym, ◌∙◌, subst, arith, get_or_default, cases_lt, false≢true, IsLeastOf, BadAt, BadBelow, rules, min, least_row, lesser_row, cond, eqb, eq-eqb, ne_eqb, ⊤, IsLeastTold}
+use Rattle.spa_rows.proofs.Base.{◌≡◌, ◌⊎◌, inl, inr, ℕ, ◌+◌, ◌<◌, List, length, get_or, Option, Some, None, Bool, true}
+use Rattle.spa_rows.proofs.Base.{false, IsTrue, ◌↔◌, if◌then◌else◌, refl, sym, ◌∙◌, subst, arith, get_or_default}
+use Rattle.spa_rows.proofs.Base.{cases_lt, false≢true, IsLeastOf, BadAt, BadBelow, rules, min, least_row, lesser_row}
+use Rattle.spa_rows.proofs.Base.{cond, eqb, eq-eqb, ne_eqb, ⊤, IsLeastTold}
 
 module _ {X : Type 0} (lines : List X) (row : X → ℕ) (Bad : ℕ → X → Type 0) where
   -- who stands at a place stands there alone

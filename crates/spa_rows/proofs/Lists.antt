@@ -1,7 +1,9 @@
 -- The element at a place of a list, and lists one by one.
 use Rattle.std.specs.Bool.{MatchBool}
 use Rattle.std.specs.List.{AllWithin, HoldsAt}
-use Rattle.spa_rows.proofs.Base.{◌≡◌, ℕ, zero, suc, ◌<◌, ◌↔◌, Bool, true, false, IsTrue, Any, List, [], ◌∷◌, length, map, get_or, refl, sym, subst, ap, ◌∙◌, arith, get_or-map, length-map, false≢true, take, take_more, ◌+◌, ◌++◌, AllZip, all_zipped_more}
+use Rattle.spa_rows.proofs.Base.{◌≡◌, ℕ, zero, suc, ◌<◌, ◌↔◌, Bool, true, false, IsTrue, Any, List, [], ◌∷◌, length}
+use Rattle.spa_rows.proofs.Base.{map, get_or, refl, sym, subst, ap, ◌∙◌, arith, get_or-map, length-map, false≢true}
+use Rattle.spa_rows.proofs.Base.{take, take_more, ◌+◌, ◌++◌, AllZip, all_zipped_more}
 
 -- what stands at a place of the list
 pub at_place : {X : Type 0} → (xs : List X) (k : ℕ) → k < length xs → (x : X) × (get_or xs k x ≡ x)

@@ -1,5 +1,8 @@
 -- A set that holds the texts of the first lines of a list.
-use Rattle.spa_rows.proofs.Base.{◌≡◌, ◌⊎◌, inl, inr, ℕ, zero, suc, ◌+◌, ◌<◌, Bool, true, false, cond, IsTrue, ◌↔◌, List, [], ◌∷◌, length, take, get_or, Bor, refl, sym, ◌∙◌, ap, arith, not, Any, nat_cmp, slice_cmp, false≢true, nat_list_cmp_total, Text, IsEarlierKey, rules, ◌++◌, Ordering, BTreeSet, is_eq, take_more, get_or_append_left, length-append, tied_itself}
+use Rattle.spa_rows.proofs.Base.{◌≡◌, ◌⊎◌, inl, inr, ℕ, zero, suc, ◌+◌, ◌<◌, Bool, true, false, cond, IsTrue, ◌↔◌, List}
+use Rattle.spa_rows.proofs.Base.{[], ◌∷◌, length, take, get_or, Bor, refl, sym, ◌∙◌, ap, arith, not, Any, nat_cmp}
+use Rattle.spa_rows.proofs.Base.{slice_cmp, false≢true, nat_list_cmp_total, Text, IsEarlierKey, rules, ◌++◌, Ordering}
+use Rattle.spa_rows.proofs.Base.{BTreeSet, is_eq, take_more, get_or_append_left, length-append, tied_itself}
 use Rattle.std.specs.BTreeSet as tree
 use Rattle.std.specs.Cmp.{Equal-is}
 use Rattle.std.proofs.Math.Bool.{not-not}

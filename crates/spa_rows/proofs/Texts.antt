@@ -1,5 +1,6 @@
 -- The bytes of a key are ASCII, and so they are a text.
-use Rattle.spa_rows.proofs.Base.{◌≡◌, ℕ, ◌<◌, true, List, [], ◌∷◌, arith, nat_tests, is_key, list_all, IsUtf8, IsAscii, and_parts, is_key_byte}
+use Rattle.spa_rows.proofs.Base.{◌≡◌, ℕ, ◌<◌, true, List, [], ◌∷◌, arith, nat_tests, is_key, list_all, IsUtf8, IsAscii}
+use Rattle.spa_rows.proofs.Base.{and_parts, is_key_byte}
 use Rattle.std.proofs.lemmas.Str.{IsUtf8-from_ascii}
 use Rattle.std.proofs.lemmas.Str.Ascii.{IsAscii-nil, IsAscii-cons}
 

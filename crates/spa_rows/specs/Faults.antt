@@ -2,7 +2,10 @@
 use Rattle.std.specs.Prelude.{◌≡◌, ℕ, ◌<◌, List, length, slice_index_or, ◌⊎◌, ◌≤◌, false, Any, take}
 use Rattle.spa_rows.specs.Lines.{is_key, Text, Lecturer, Project, Student, Rows}
 use Rattle.spa_rows.specs.declared.faults.InstanceFault.{InstanceFault}
-use Rattle.spa_rows.specs.declared.faults.InstanceFault.TheVariants.{TooMany, BadKey, KeyTwice, BadCapacity, NoSuchLecturer, NoSuchProject, RepeatInList, ListTooLong, NotApplicant, ApplicantMissing, Memory}
+use Rattle.spa_rows.specs.declared.faults.InstanceFault.TheVariants.{TooMany, BadKey, KeyTwice, BadCapacity}
+use Rattle.spa_rows.specs.declared.faults.InstanceFault.TheVariants.{NoSuchLecturer, NoSuchProject, RepeatInList}
+use Rattle.spa_rows.specs.declared.faults.InstanceFault.TheVariants.{ListTooLong, NotApplicant, ApplicantMissing}
+use Rattle.spa_rows.specs.declared.faults.InstanceFault.TheVariants.{Memory}
 
 -- one of the first n lines has the row number r and is bad; `Bad` also takes its index, from 0
 abbrev pub BadBelow : {X : Type 0} → List X → (X → ℕ) → (ℕ → X → Type 0) → ℕ → ℕ → Type 0

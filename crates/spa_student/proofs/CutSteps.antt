@@ -1,7 +1,19 @@
 -- The steps over cursors and cuts.
-use Rattle.spa_student.proofs.Base.{◌≡◌, ◌≢◌, ◌⊎◌, inl, inr, ℕ, suc, ◌+◌, ◌-◌, ◌<◌, ◌≤◌, eqb, List, [], length, get_or, set, replicate, sum, Option, Some, None, refl, sym, ◌∙◌, ap, subst, arith, length-set, get_or-set_same, get_or-set_other, get_or_past, get_or-replicate, length-replicate, cases_lt, cases_eq, Spa, place, is_project, is_lecturer, at_project, at_lecturer, project_of, choices_of, lecturer_of, ranking_of, capacity_of, limit_of, IsBefore, IsAcceptable, IsMatching, IsWith, IsLawful, IsDistinct, IsBest, place-injective, one_if, count_by-set, Progress, rank_of, LecturerSpent, ProjectSpent, Holds, IsPastCut, IsUnderWay, Puts, IsSettled, IsWorstWith, rules, ◌∷◌, Vec, Global, sum_by-set, sum_by-cons, get_or-place, place-get_or, place-get_or-le, IsCut, IsUncut, AreCounts, AreMarks, IsNextEntry, KeepsCuts, Leaves, IsWorstAt, IsSpent}
+use Rattle.spa_student.proofs.Base.{◌≡◌, ◌≢◌, ◌⊎◌, inl, inr, ℕ, suc, ◌+◌, ◌-◌, ◌<◌, ◌≤◌, eqb, List, [], length, get_or}
+use Rattle.spa_student.proofs.Base.{set, replicate, sum, Option, Some, None, refl, sym, ◌∙◌, ap, subst, arith}
+use Rattle.spa_student.proofs.Base.{length-set, get_or-set_same, get_or-set_other, get_or_past, get_or-replicate}
+use Rattle.spa_student.proofs.Base.{length-replicate, cases_lt, cases_eq, Spa, place, is_project, is_lecturer}
+use Rattle.spa_student.proofs.Base.{at_project, at_lecturer, project_of, choices_of, lecturer_of, ranking_of}
+use Rattle.spa_student.proofs.Base.{capacity_of, limit_of, IsBefore, IsAcceptable, IsMatching, IsWith, IsLawful}
+use Rattle.spa_student.proofs.Base.{IsDistinct, IsBest, place-injective, one_if, count_by-set, Progress, rank_of}
+use Rattle.spa_student.proofs.Base.{LecturerSpent, ProjectSpent, Holds, IsPastCut, IsUnderWay, Puts, IsSettled}
+use Rattle.spa_student.proofs.Base.{IsWorstWith, rules, ◌∷◌, Vec, Global, sum_by-set, sum_by-cons, get_or-place}
+use Rattle.spa_student.proofs.Base.{place-get_or, place-get_or-le, IsCut, IsUncut, AreCounts, AreMarks, IsNextEntry}
+use Rattle.spa_student.proofs.Base.{KeepsCuts, Leaves, IsWorstAt, IsSpent}
 use Rattle.std.specs.List.{sum_by}
-use Rattle.spa_student.proofs.Machine.{ranked_of, student_in_range, delete_holds, place_holds, swap_at_project_holds, swap_at_lecturer_holds, best_at_end, put_cases, put_at_project, put_at_lecturer, one_here, none_there}
+use Rattle.spa_student.proofs.Machine.{ranked_of, student_in_range, delete_holds, place_holds, swap_at_project_holds}
+use Rattle.spa_student.proofs.Machine.{swap_at_lecturer_holds, best_at_end, put_cases, put_at_project, put_at_lecturer}
+use Rattle.spa_student.proofs.Machine.{one_here, none_there}
 use Rattle.spa_student.proofs.Start.{nobody_matches, none_counted, none_there as none_there_yet}
 
 -- who finds a project acceptable is a student

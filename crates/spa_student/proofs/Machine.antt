@@ -1,5 +1,13 @@
 -- What steps keep of the provisional matching and the deleted pairs, and what follows at the end.
-use Rattle.spa_student.proofs.Base.{◌≡◌, ◌≢◌, ◌⊎◌, inl, inr, ℕ, ◌+◌, ◌<◌, ◌≤◌, eqb, List, length, refl, sym, ◌∙◌, ap, arith, set, Option, Some, None, length-set, get_or-set_same, get_or-set_other, get_or_past, cases_lt, cases_eq, Spa, place, is_project, is_lecturer, at_project, at_lecturer, project_of, choices_of, lecturer_of, ranking_of, capacity_of, limit_of, IsBefore, IsAcceptable, IsLawful, IsBest, rank_of, LecturerSpent, ProjectSpent, Holds, place-injective, one_if, count_by-set, rules, true, eqb-true, eq-eqb, ne_eqb, cases_Bool, cases_order, IsOn, Improves, Wants, Blocks, IsStable, IsAsGood, IsRanked, IsSpent, off_project, count_by-le, count_by-lt, sum_below, sum_below-lt, share, at_lecturer-sum}
+use Rattle.spa_student.proofs.Base.{◌≡◌, ◌≢◌, ◌⊎◌, inl, inr, ℕ, ◌+◌, ◌<◌, ◌≤◌, eqb, List, length, refl, sym, ◌∙◌, ap}
+use Rattle.spa_student.proofs.Base.{arith, set, Option, Some, None, length-set, get_or-set_same, get_or-set_other}
+use Rattle.spa_student.proofs.Base.{get_or_past, cases_lt, cases_eq, Spa, place, is_project, is_lecturer, at_project}
+use Rattle.spa_student.proofs.Base.{at_lecturer, project_of, choices_of, lecturer_of, ranking_of, capacity_of, limit_of}
+use Rattle.spa_student.proofs.Base.{IsBefore, IsAcceptable, IsLawful, IsBest, rank_of, LecturerSpent, ProjectSpent}
+use Rattle.spa_student.proofs.Base.{Holds, place-injective, one_if, count_by-set, rules, true, eqb-true, eq-eqb, ne_eqb}
+use Rattle.spa_student.proofs.Base.{cases_Bool, cases_order, IsOn, Improves, Wants, Blocks, IsStable, IsAsGood}
+use Rattle.spa_student.proofs.Base.{IsRanked, IsSpent, off_project, count_by-le, count_by-lt, sum_below, sum_below-lt}
+use Rattle.spa_student.proofs.Base.{share, at_lecturer-sum}
 use Rattle.spa_model.proofs.OneOnly.{blocks_wants}
 use Rattle.spa_model.specs.declared.Letter.{Letter}
 use Rattle.spa_model.specs.declared.Letter.TheVariants.{A, B, C}

@@ -1,5 +1,8 @@
 -- At the start nobody has a project.
-use Rattle.spa_student.proofs.Base.{◌≡◌, ℕ, suc, List, length, get_or, replicate, Option, Some, None, refl, ap, arith, false, get_or_past, get_or-replicate, length-replicate, Spa, is_project, is_lecturer, project_of, IsMatching, one_if, rules, zero, count_by, Bool, count_by-cons}
+use Rattle.spa_student.proofs.Base.{◌≡◌, ℕ, suc, List, length, get_or, replicate, Option, Some, None, refl, ap, arith}
+use Rattle.spa_student.proofs.Base.{false, get_or_past, get_or-replicate, length-replicate, Spa, is_project}
+use Rattle.spa_student.proofs.Base.{is_lecturer, project_of, IsMatching, one_if, rules, zero, count_by, Bool}
+use Rattle.spa_student.proofs.Base.{count_by-cons}
 
 -- nobody has a project
 abbrev nobody : ℕ → List (Option ℕ)

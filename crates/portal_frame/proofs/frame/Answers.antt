@@ -1,5 +1,7 @@
-use Rattle.portal_frame.proofs.Base.{rules, inl, inr, take, drop, subst, refl, take-append-drop, HasNoRequest, RequestOverflows, MayBecomeRequest, NeverHasRequest, RequestExceeds}
-use Rattle.portal_frame.proofs.Heads.{overflows_all, none_now, none_ever, head_of, none_so_far, none_later, opens_never, front_is, front_all, length_front}
+use Rattle.portal_frame.proofs.Base.{rules, inl, inr, take, drop, subst, refl, take-append-drop, HasNoRequest}
+use Rattle.portal_frame.proofs.Base.{RequestOverflows, MayBecomeRequest, NeverHasRequest, RequestExceeds}
+use Rattle.portal_frame.proofs.Heads.{overflows_all, none_now, none_ever, head_of, none_so_far, none_later, opens_never}
+use Rattle.portal_frame.proofs.Heads.{front_is, front_all, length_front}
 use Rattle.portal_frame.proofs.frame.Goals as goal
 
 pub frame_head-requires : goal.frame_head-requires

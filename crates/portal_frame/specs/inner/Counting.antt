@@ -1,5 +1,6 @@
 -- The lines of a head, counted by its bytes: words of private contracts.
-use Rattle.std.specs.Prelude.{ℕ, ◌+◌, ◌==◌, if◌then◌else◌, Bool, false, List, [], ◌∷◌, ◌≡◌, ◌≤◌, length, codes, replicate, map, drop, All, refl, true, ◌++◌}
+use Rattle.std.specs.Prelude.{ℕ, ◌+◌, ◌==◌, if◌then◌else◌, Bool, false, List, [], ◌∷◌, ◌≡◌, ◌≤◌, length, codes}
+use Rattle.std.specs.Prelude.{replicate, map, drop, All, refl, true, ◌++◌}
 use Rattle.portal_frame.specs.declared.counting.At.{At}
 use Rattle.portal_frame.specs.declared.counting.At.TheVariants.{Leading, LeadingCr, Fresh, FreshCr, Inside}
 use Rattle.portal_frame.specs.declared.values.Found.{Found}

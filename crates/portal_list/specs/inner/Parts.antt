@@ -1,6 +1,7 @@
 -- What makes a world sound, in two parts: what is said of the rolls alone, and what is said of
 -- lists, rankings and the result.
-use Rattle.std.specs.Prelude.{◌≡◌, ◌≤◌, Bool, true, false, List, [], ◌∷◌, ◌++◌, map, filter, length, Option, None, IfSome}
+use Rattle.std.specs.Prelude.{◌≡◌, ◌≤◌, Bool, true, false, List, [], ◌∷◌, ◌++◌, map, filter, length, Option, None}
+use Rattle.std.specs.Prelude.{IfSome}
 use Rattle.std.specs.List.{AllByRecursion, list_any}
 use Rattle.portal_rules.specs.declared.phase.Phase.{Phase}
 use Rattle.portal_rules.specs.declared.phase.Round.{Round}
@@ -10,7 +11,8 @@ use Rattle.portal_rules.specs.declared.rows.StudentRow.{StudentRow}
 use Rattle.portal_rules.specs.Words.{is_code, Key, has, Rise, AreDistinct}
 use Rattle.spa_model.specs.Spa.{IsStable}
 use Rattle.portal_rules.specs.Good.{instance, matching_of, IsLecturer, IsProject, IsStudent, IsChoice, IsRanking}
-use Rattle.portal_rules.specs.World.{World, Lecturer, Student, project_key, student_key, is_setup, is_published, is_from_ranking, is_second, is_left, projects_in}
+use Rattle.portal_rules.specs.World.{World, Lecturer, Student, project_key, student_key, is_setup, is_published}
+use Rattle.portal_rules.specs.World.{is_from_ranking, is_second, is_left, projects_in}
 use Rattle.portal_rules.specs.inner.Room.{own_keys}
 use Rattle.portal_list.specs.inner.Rows.{AllEntries, entries_in}
 

@@ -7,7 +7,9 @@ use Rattle.portal_rules.specs.declared.rows.ProjectRow.{ProjectRow}
 use Rattle.std.specs.List.{list_any}
 use Rattle.portal_rules.specs.Words.{Key, equals}
 use Rattle.portal_rules.specs.inner.Room.{lecturer_left, project_left}
-use Rattle.portal_rules.specs.World.{Lecturer, Student, is_left, lecturers_left, projects_left, students_left, World, Change, Choices, Ranks, Lecturers, Projects, Students, To, Placements, Fill, SecondRound}
+use Rattle.portal_rules.specs.World.{Lecturer, Student, is_left, lecturers_left, projects_left, students_left, World}
+use Rattle.portal_rules.specs.World.{Change, Choices, Ranks, Lecturers, Projects, Students, To, Placements, Fill}
+use Rattle.portal_rules.specs.World.{SecondRound}
 use Rattle.portal_rules.specs.Alone.{alone_lecturer, alone_student}
 use Rattle.portal_list.specs.inner.Rows.{AllEntries}
 use Rattle.portal_rules.specs.declared.phase.Phase.{Phase}

@@ -5,7 +5,8 @@ use Rattle.portal_rules.specs.declared.phase.Phase.TheVariants.{Choosing, Rankin
 use Rattle.portal_rules.specs.declared.phase.Round.TheVariants.{First, Second}
 use Rattle.portal_rules.specs.declared.rows.ProjectRow.{ProjectRow}
 use Rattle.portal_rules.specs.Words.{Key}
-use Rattle.portal_rules.specs.World.{World, Student, Lecturer, Choices, Ranks, Placements, SecondRound, changed, new_student, new_lecturer}
+use Rattle.portal_rules.specs.World.{World, Student, Lecturer, Choices, Ranks, Placements, SecondRound, changed}
+use Rattle.portal_rules.specs.World.{new_student, new_lecturer}
 use Rattle.portal_rules.specs.View.{view}
 use Rattle.portal_rules.specs.Sight.{AbstractCall}
 use Rattle.portal_rules.specs.Bodies.{dictionary, several, texts, count}

@@ -1,6 +1,7 @@
 -- What the pairs of the first round's result leave of a row, a matching's pairs, and the persons
 -- at each project.
-use Rattle.std.specs.Prelude.{ℕ, ◌-◌, nat_lt, if◌then◌else◌, count_by, List, map, filter, Option, Some, None, option_map, Vec, [], ◌∷◌, codes, slice_index_or}
+use Rattle.std.specs.Prelude.{ℕ, ◌-◌, nat_lt, if◌then◌else◌, count_by, List, map, filter, Option, Some, None}
+use Rattle.std.specs.Prelude.{option_map, Vec, [], ◌∷◌, codes, slice_index_or}
 use Rattle.portal_rules.specs.declared.rows.LecturerRow.{LecturerRow}
 use Rattle.portal_rules.specs.declared.rows.ProjectRow.{ProjectRow}
 use Rattle.portal_rules.specs.Words.{Key, equals, has}

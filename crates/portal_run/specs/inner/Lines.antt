@@ -12,7 +12,8 @@ use Rattle.portal_store.specs.declared.store.CreateFault.TheVariants as creating
 use Rattle.portal_store.specs.declared.store.OpenFault.{OpenFault}
 use Rattle.portal_store.specs.declared.store.OpenFault.TheVariants as opening
 use Rattle.portal_store.specs.declared.store.UpgradeFault.{UpgradeFault}
-use Rattle.portal_store.specs.declared.store.UpgradeFault.TheVariants.{NotPortal, OtherVersion, Damaged, Exists, Store, Memory}
+use Rattle.portal_store.specs.declared.store.UpgradeFault.TheVariants.{NotPortal, OtherVersion, Damaged, Exists, Store}
+use Rattle.portal_store.specs.declared.store.UpgradeFault.TheVariants.{Memory}
 
 -- a line was written, and its own status given; or 3, since the output failed
 pub record Says (line : Text) (own status : ℕ) (old new : Option Text) : Type 0 where

@@ -1,5 +1,11 @@
 -- Names from below that the contracts use.
-pub use Rattle.portal_tables.specs.Base.{Key, equals, put_all, Phase, Round, First, Second, Binary, id_in, Database, IsDatabase, Held, state, Integer, Row, bytes, column, value_cmp, Schema, HasCleanDisk, IsRolledBack, IsUnchanged, State, Survives, Ghosts, Table, Term, col, lit, op2, Trees, rowid, Value, Int, Null, Words, Column, Index, Reference, Compare, Eq, number_in, Order, AllByRecursion, AllZip, find, list_any, is_eq, Bool, IfOk, IsTrue, List, None, OnErr, OnOk, Option, Result, Some, [], codes, false, filter, map, option_map, pos, take, true, ℕ, ℤ, ⊤}
+pub use Rattle.portal_tables.specs.Base.{Key, equals, put_all, Phase, Round, First, Second, Binary, id_in, Database}
+pub use Rattle.portal_tables.specs.Base.{IsDatabase, Held, state, Integer, Row, bytes, column, value_cmp, Schema}
+pub use Rattle.portal_tables.specs.Base.{HasCleanDisk, IsRolledBack, IsUnchanged, State, Survives, Ghosts, Table, Term}
+pub use Rattle.portal_tables.specs.Base.{col, lit, op2, Trees, rowid, Value, Int, Null, Words, Column, Index, Reference}
+pub use Rattle.portal_tables.specs.Base.{Compare, Eq, number_in, Order, AllByRecursion, AllZip, find, list_any, is_eq}
+pub use Rattle.portal_tables.specs.Base.{Bool, IfOk, IsTrue, List, None, OnErr, OnOk, Option, Result, Some, [], codes}
+pub use Rattle.portal_tables.specs.Base.{false, filter, map, option_map, pos, take, true, ℕ, ℤ, ⊤}
 pub use Rattle.portal_rules.specs.Words.{is_code, is_name, Rise, has, is_before, is_empty, put}
 pub use Rattle.portal_rules.specs.Good.{IsLecturer, IsProject, IsStudent}
 pub use Rattle.portal_rules.specs.World.{is_published}

@@ -1,6 +1,8 @@
 -- What a statement does to the rows of one table, and what a query shows of them.
 use Rattle.std.specs.Prelude.{◌≡◌, ◌≢◌, ◌∷◌}
-use Rattle.portal_tables.specs.inner.Base.{ℕ, pos, Bool, true, false, not, List, [], map, filter, ⊤, AllByRecursion, IsPermutation, IsSorted, is_eq, Int, Binary, ascending, key_cmp, Row, value_cmp, column, next_rowid, is_taken, put_row, Database, IsDatabase}
+use Rattle.portal_tables.specs.inner.Base.{ℕ, pos, Bool, true, false, not, List, [], map, filter, ⊤, AllByRecursion}
+use Rattle.portal_tables.specs.inner.Base.{IsPermutation, IsSorted, is_eq, Int, Binary, ascending, key_cmp, Row}
+use Rattle.portal_tables.specs.inner.Base.{value_cmp, column, next_rowid, is_taken, put_row, Database, IsDatabase}
 use Rattle.portal_tables.specs.Tables.{own_trees}
 use Rattle.portal_tables.specs.Rows.{RowNumbersDiffer}
 

@@ -1,6 +1,8 @@
 -- What rows that a query shows are decoded to, and whether there are any.
 use Rattle.std.specs.Prelude.{◌≡◌, ◌∷◌, ◌++◌}
-use Rattle.portal_tables.specs.inner.Base.{ℕ, Bool, true, false, not, List, [], map, Row, State, Begins, IsUnchanged, is_empty, Result, Ok, Err, IfOk, OnOk, OnErr, Vec, Global, Held, state, Ghosts, HasCleanDisk, Survives, Shown, IsPlain, understood, Error}
+use Rattle.portal_tables.specs.inner.Base.{ℕ, Bool, true, false, not, List, [], map, Row, State, Begins, IsUnchanged}
+use Rattle.portal_tables.specs.inner.Base.{is_empty, Result, Ok, Err, IfOk, OnOk, OnErr, Vec, Global, Held, state}
+use Rattle.portal_tables.specs.inner.Base.{Ghosts, HasCleanDisk, Survives, Shown, IsPlain, understood, Error}
 use Rattle.sqlite_resolve.specs.declared.compiled.Compiled.{Compiled}
 use Rattle.sqlite_resolve.specs.declared.error.CompileError.{CompileError}
 use Rattle.portal_tables.specs.Steps.{IsUnchangedOrUndone}

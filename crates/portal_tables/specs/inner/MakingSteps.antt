@@ -1,7 +1,8 @@
 -- How the tables come to be.
 use Rattle.std.specs.Prelude.{◌≡◌}
 use Rattle.portal_tables.specs.inner.Base.{ℕ, List, [], AllByRecursion, Schema, created, Database, IsDatabase}
-use Rattle.portal_tables.specs.Tables.{no_schema, first_schema, portal_schema, first_trees, second_trees, own_trees, second, choice2, ranked2, ranking2, assigned2, IsFirstSchema}
+use Rattle.portal_tables.specs.Tables.{no_schema, first_schema, portal_schema, first_trees, second_trees, own_trees}
+use Rattle.portal_tables.specs.Tables.{second, choice2, ranked2, ranking2, assigned2, IsFirstSchema}
 
 -- tables of a schema are there: some as they were, and more that are empty
 pub record Grown (schema : Schema) (kept more : List ℕ) (old new : Database) : Type 0 where

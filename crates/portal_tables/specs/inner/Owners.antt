@@ -1,6 +1,8 @@
 -- The lists that the tables hold of the owners whose rows are shown.
 use Rattle.std.specs.Prelude.{◌≡◌, ◌==◌, if◌then◌else◌}
-use Rattle.portal_tables.specs.inner.Base.{Vec, true, false, Bool, List, [], Option, Some, None, map, filter_map, AllByRecursion, Global, Row, column, Trees, Round, number_in, is_key, Key, has, Rise}
+use Rattle.portal_tables.specs.inner.Base.{Vec, true, false, Bool, List, [], Option, Some, None, map, filter_map}
+use Rattle.portal_tables.specs.inner.Base.{AllByRecursion, Global, Row, column, Trees, Round, number_in, is_key, Key}
+use Rattle.portal_tables.specs.inner.Base.{has, Rise}
 pub use Rattle.portal_tables.specs.Tables.{tree_of}
 use Rattle.portal_tables.specs.Tables.{choice_table, ranking_table, ranked2_tree}
 use Rattle.portal_tables.specs.Rows.{row_key, IsWhole, chosen, of_key}

@@ -1,7 +1,9 @@
 -- The project that a round's result gives to a student: of the first round in the student's row, of
 -- the second in `assigned2`.
 use Rattle.std.specs.Prelude.{◌≡◌, ◌≤◌, ◌∷◌, if◌then◌else◌, is_none}
-use Rattle.portal_tables.specs.inner.Base.{List, [], map, filter_map, Option, Some, None, option_map, IfSome, true, length, Row, column, Trees, Round, First, Second, Phase, Key, is_key, is_published}
+use Rattle.portal_tables.specs.inner.Base.{List, [], map, filter_map, Option, Some, None, option_map, IfSome, true}
+use Rattle.portal_tables.specs.inner.Base.{length, Row, column, Trees, Round, First, Second, Phase, Key, is_key}
+use Rattle.portal_tables.specs.inner.Base.{is_published}
 use Rattle.portal_tables.specs.Rows.{of_key, second_placement, text_or_none}
 use Rattle.portal_tables.specs.inner.Shown.{first_cell}
 use Rattle.portal_tables.specs.Tables.{student_tree, assigned2_tree}

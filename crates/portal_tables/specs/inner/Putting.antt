@@ -1,7 +1,8 @@
 -- What putting a list into its table does: the rows of its owner are the places from 1, and no
 -- other row is touched.
 use Rattle.std.specs.Prelude.{◌≡◌, ◌+◌, ◌||◌, ◌∷◌}
-use Rattle.portal_tables.specs.inner.Base.{ℕ, pos, false, List, [], map, IsPermutation, Row, Database, IsDatabase, Key, equals, has}
+use Rattle.portal_tables.specs.inner.Base.{ℕ, pos, false, List, [], map, IsPermutation, Row, Database, IsDatabase, Key}
+use Rattle.portal_tables.specs.inner.Base.{equals, has}
 use Rattle.portal_tables.specs.Tables.{IsCurrentSchema, ranked2_tree, assigned2_tree}
 use Rattle.portal_tables.specs.Rows.{RowNumbersDiffer, row_key, of_key, place_of, named_by}
 use Rattle.portal_tables.specs.inner.Changes.{Keeps, with_rows}

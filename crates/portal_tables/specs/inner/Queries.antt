@@ -2,7 +2,11 @@
 use Rattle.std.specs.Prelude.{◌∷◌, ◌++◌}
 use Rattle.portal_tables.specs.inner.Base.{codes, ℕ, List, [], Bool, Words, Row, Trees, Round, First, InSecond}
 use Rattle.portal_tables.specs.declared.select.Query.{Query}
-use Rattle.portal_tables.specs.declared.select.Query.TheVariants.{Office, Whole, LecturerByCode, StudentByCode, LecturerByKey, StudentTold, AllLists, ListOf, Choosers, Listed, ProjectsOf, Numbers, FirstPlacements, Second, SecondRanked, SecondRankedBy, SecondPlacements, SecondPlaceOf}
+use Rattle.portal_tables.specs.declared.select.Query.TheVariants.{Office, Whole, LecturerByCode, StudentByCode}
+use Rattle.portal_tables.specs.declared.select.Query.TheVariants.{LecturerByKey, StudentTold, AllLists, ListOf}
+use Rattle.portal_tables.specs.declared.select.Query.TheVariants.{Choosers, Listed, ProjectsOf, Numbers}
+use Rattle.portal_tables.specs.declared.select.Query.TheVariants.{FirstPlacements, Second, SecondRanked, SecondRankedBy}
+use Rattle.portal_tables.specs.declared.select.Query.TheVariants.{SecondPlacements, SecondPlaceOf}
 use Rattle.portal_tables.specs.declared.select.RollTable.{RollTable}
 use Rattle.portal_tables.specs.declared.select.RollTable.TheVariants.{Lecturers, Projects, Students}
 use Rattle.portal_tables.specs.declared.select.Table.{Table}
@@ -10,7 +14,8 @@ use Rattle.portal_tables.specs.declared.select.Table.TheVariants.{OfRoll, OfList
 use Rattle.portal_tables.specs.Rows.{has_text}
 use Rattle.portal_tables.specs.inner.Changes.{ListsBy, every, columns, has_number}
 use Rattle.portal_tables.specs.inner.Texts.{all_text, list_text, round_of, names}
-use Rattle.portal_tables.specs.Tables.{tree_of, choice_table, portal_tree, lecturer_tree, project_tree, student_tree, second_tree, ranked2_tree, assigned2_tree}
+use Rattle.portal_tables.specs.Tables.{tree_of, choice_table, portal_tree, lecturer_tree, project_tree, student_tree}
+use Rattle.portal_tables.specs.Tables.{second_tree, ranked2_tree, assigned2_tree}
 
 abbrev pub roll_tree : RollTable → ℕ
 roll_tree Lecturers = lecturer_tree

@@ -1,6 +1,7 @@
 -- Row numbers that rise.
 use Rattle.std.specs.Prelude.{◌&&◌, ◌∷◌}
-use Rattle.portal_tables.specs.inner.Base.{ℤ, Bool, true, false, List, [], Option, Some, None, is_lt, int_cmp, Value, Int, Row, column, id_in}
+use Rattle.portal_tables.specs.inner.Base.{ℤ, Bool, true, false, List, [], Option, Some, None, is_lt, int_cmp, Value}
+use Rattle.portal_tables.specs.inner.Base.{Int, Row, column, id_in}
 
 -- the value is a whole number, above this one
 abbrev pub is_above : Option ℤ → Value → Bool

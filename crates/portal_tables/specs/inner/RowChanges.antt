@@ -1,6 +1,8 @@
 -- What the statements put into the tables.
 use Rattle.std.specs.Prelude.{◌≡◌, if◌then◌else◌, ◌∷◌}
-use Rattle.portal_tables.specs.inner.Base.{ℕ, ℤ, pos, List, [], map, filter, length, Option, Some, None, flat_map, is_eq, Value, Null, Int, Words, Row, column, value_cmp, Database, IsDatabase, Ghosts, Held, state, Key, LecturerRow, ProjectRow, StudentRow, Phase}
+use Rattle.portal_tables.specs.inner.Base.{ℕ, ℤ, pos, List, [], map, filter, length, Option, Some, None, flat_map}
+use Rattle.portal_tables.specs.inner.Base.{is_eq, Value, Null, Int, Words, Row, column, value_cmp, Database, IsDatabase}
+use Rattle.portal_tables.specs.inner.Base.{Ghosts, Held, state, Key, LecturerRow, ProjectRow, StudentRow, Phase}
 use Rattle.portal_tables.specs.declared.insert.lists.NewPlace.{NewPlace}
 use Rattle.portal_tables.specs.Tables.{portal_tree, lecturer_tree, student_tree, second_tree, IsCurrentSchema}
 use Rattle.portal_tables.specs.inner.Running.{Ran, Made}

@@ -1,6 +1,8 @@
 -- What a step of a transaction does, and what is there when the transaction has ended.
 use Rattle.std.specs.Prelude.{◌≡◌}
-use Rattle.portal_tables.specs.inner.Base.{true, false, List, ℕ, Ok, Result, OnOk, Row, Database, State, Shows, ExecutesIn, HasCleanDisk, KeepsCommit, Survives, Ghosts, state, Error, Transaction}
+use Rattle.portal_tables.specs.inner.Base.{true, false, List, ℕ, Ok, Result, OnOk, Row, Database, State, Shows}
+use Rattle.portal_tables.specs.inner.Base.{ExecutesIn, HasCleanDisk, KeepsCommit, Survives, Ghosts, state, Error}
+use Rattle.portal_tables.specs.inner.Base.{Transaction}
 
 -- the text ran inside the transaction, with these values
 pub record Ran (sql : List ℕ) (params : Row) (old new : State) : Type 0 where

@@ -2,7 +2,8 @@
 -- front; and those of a list.
 use Rattle.std.specs.Prelude.{◌∷◌}
 use Rattle.portal_tables.specs.Rows.{lecturer_at, project_at, student_at}
-use Rattle.portal_tables.specs.inner.Base.{ℕ, List, [], Option, Some, None, Row, column, bytes, number_in, Key, LecturerRow, ProjectRow, StudentRow}
+use Rattle.portal_tables.specs.inner.Base.{ℕ, List, [], Option, Some, None, Row, column, bytes, number_in, Key}
+use Rattle.portal_tables.specs.inner.Base.{LecturerRow, ProjectRow, StudentRow}
 
 -- one thing or none, as a list
 abbrev pub as_list : {X : Type 0} → Option X → List X

@@ -20,7 +20,8 @@ pub use Rattle.sqlite.specs.Order.{Row, bytes, column}
 pub use Rattle.sqlite.specs.Tree.{Trees}
 pub use Rattle.sqlite_trees.specs.Objects.{number_in}
 pub use Rattle.std.specs.List.{AllByRecursion, filter_map, find}
-pub use Rattle.std.specs.Prelude.{Err, IfOk, IfSome, List, None, OnOk, Option, Some, Vec, [], false, filter, length, map, not, option_map}
+pub use Rattle.std.specs.Prelude.{Err, IfOk, IfSome, List, None, OnOk, Option, Some, Vec, [], false, filter, length}
+pub use Rattle.std.specs.Prelude.{map, not, option_map}
 pub use Rattle.std.specs.declared.alloc.Global.{Global}
 
 -- a fault that blames the rows says that this is not so of the database

@@ -3,7 +3,10 @@ use Rattle.std.specs.Prelude.{◌≡◌, ◌≤◌, true, if◌then◌else◌}
 use Rattle.spa_rows.specs.Lines.{is_key}
 use Rattle.portal_tables.specs.Tables.{choice_table, ranking_table, tree_of}
 use Rattle.portal_tables.specs.Rows.{of_key, IsWhole}
-use Rattle.portal_views.specs.inner.Base.{AllByRecursion, Vec, List, [], map, filter, Option, Global, Row, column, bytes, Trees, Database, number_in, Phase, Round, First, Second, Listing, Person, StudentSees, LecturerSees, Key, equals, is_at, is_from_ranking, is_published, put_all}
+use Rattle.portal_views.specs.inner.Base.{AllByRecursion, Vec, List, [], map, filter, Option, Global, Row, column}
+use Rattle.portal_views.specs.inner.Base.{bytes, Trees, Database, number_in, Phase, Round, First, Second, Listing}
+use Rattle.portal_views.specs.inner.Base.{Person, StudentSees, LecturerSees, Key, equals, is_at, is_from_ranking}
+use Rattle.portal_views.specs.inner.Base.{is_published, put_all}
 use Rattle.portal_views.specs.declared.applicants.ProjectStudents.{ProjectStudents}
 use Rattle.portal_views.specs.declared.lines.ApplicantLine.{ApplicantLine}
 use Rattle.portal_views.specs.inner.Lines.{HasTables, HasStudents, IsNamed, applicant_lines}

@@ -2,7 +2,9 @@
 use Rattle.std.specs.Prelude.{◌≡◌, ⊤}
 use Rattle.portal_rules.specs.inner.Room.{lecturer_left, project_left}
 use Rattle.portal_rules.specs.inner.Offers.{offered}
-use Rattle.portal_views.specs.inner.Base.{List, map, filter, filter_map, AllByRecursion, Trees, Database, IsDatabase, Round, First, Second, LecturerRow, ProjectRow, Listing, Key, equals, IsLecturer, IsProject}
+use Rattle.portal_views.specs.inner.Base.{List, map, filter, filter_map, AllByRecursion, Trees, Database, IsDatabase}
+use Rattle.portal_views.specs.inner.Base.{Round, First, Second, LecturerRow, ProjectRow, Listing, Key, equals}
+use Rattle.portal_views.specs.inner.Base.{IsLecturer, IsProject}
 use Rattle.portal_tables.specs.declared.select.RollTable.TheVariants.{Lecturers, Projects, Students}
 use Rattle.portal_tables.specs.inner.Placements.{first_pairs, places_shown, HasKeys}
 use Rattle.portal_tables.specs.inner.Rolls.{RollRises, lecturers_shown, projects_shown}

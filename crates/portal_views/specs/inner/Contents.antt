@@ -1,6 +1,7 @@
 -- The rows of the rolls and lists, of the rolls that queries show and the lists in the tables.
 use Rattle.std.specs.Prelude.{◌≡◌}
-use Rattle.portal_views.specs.inner.Base.{List, None, map, AllByRecursion, filter_map, Row, Trees, Round, IsLecturer, IsProject, IsStudent, Key, LecturerRow, ProjectRow, StudentRow}
+use Rattle.portal_views.specs.inner.Base.{List, None, map, AllByRecursion, filter_map, Row, Trees, Round, IsLecturer}
+use Rattle.portal_views.specs.inner.Base.{IsProject, IsStudent, Key, LecturerRow, ProjectRow, StudentRow}
 use Rattle.portal_tables.specs.inner.Owners.{AreOwned, entry, with_list, IsRead, IsFine}
 use Rattle.portal_tables.specs.Tables.{choice_table, ranking_table}
 use Rattle.portal_tables.specs.inner.Placements.{pair_shown, HasPlacement}

@@ -2,7 +2,9 @@
 use Rattle.std.specs.Prelude.{◌≡◌, true}
 use Rattle.portal_rules.specs.Words.{is_name}
 use Rattle.spa_rows.specs.Lines.{is_key}
-use Rattle.portal_views.specs.inner.Base.{IfSome, Round, First, Second, List, map, filter, Option, option_map, AllByRecursion, find, Row, column, bytes, Trees, Database, IsDatabase, Key, equals, has}
+use Rattle.portal_views.specs.inner.Base.{IfSome, Round, First, Second, List, map, filter, Option, option_map}
+use Rattle.portal_views.specs.inner.Base.{AllByRecursion, find, Row, column, bytes, Trees, Database, IsDatabase, Key}
+use Rattle.portal_views.specs.inner.Base.{equals, has}
 use Rattle.portal_tables.specs.Tables.{own_trees, HasFirstSchema, IsCurrentSchema}
 use Rattle.portal_tables.specs.Rows.{second_placement, RowNumbersDiffer, text_or_none}
 use Rattle.portal_tables.specs.inner.Placements.{placement_shown, HasFirstPlace, HasPlacement}

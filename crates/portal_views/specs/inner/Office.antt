@@ -9,7 +9,9 @@ use Rattle.portal_tables.specs.inner.Owners.{has_list, choice_shown}
 use Rattle.portal_tables.specs.inner.Placements.{pair_shown, placement_before, HasFirstPlace, HasPlacement}
 use Rattle.portal_tables.specs.inner.Rolls.{lecturers_shown, projects_shown, students_shown}
 use Rattle.portal_tables.specs.inner.Shown.{first_cell, shown_lecturer, shown_project, shown_student}
-use Rattle.portal_views.specs.inner.Base.{List, [], map, filter, filter_map, Option, Some, None, AllByRecursion, Row, Trees, Database, IsLecturer, IsProject, IsStudent, Phase, Round, Listing, ProjectRow, Key, equals, has, is_from_ranking}
+use Rattle.portal_views.specs.inner.Base.{List, [], map, filter, filter_map, Option, Some, None, AllByRecursion, Row}
+use Rattle.portal_views.specs.inner.Base.{Trees, Database, IsLecturer, IsProject, IsStudent, Phase, Round, Listing}
+use Rattle.portal_views.specs.inner.Base.{ProjectRow, Key, equals, has, is_from_ranking}
 use Rattle.portal_views.specs.inner.Lines.{HasTables}
 
 -- the tables are the portal's own and sound, and no student's list of the round has a gap

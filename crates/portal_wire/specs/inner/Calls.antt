@@ -7,8 +7,10 @@ use Rattle.portal_rules.specs.Meaning.{call_model}
 use Rattle.portal_rules.specs.Run.{Wish, Calls}
 use Rattle.portal_frame.specs.Stream.{Refuses}
 use Rattle.portal_wire.specs.declared.calls.CallFault.{CallFault}
-use Rattle.portal_wire.specs.declared.calls.CallFault.TheVariants.{NoRoute, BadMethod, BadBody, BadRow, RollFull, Memory}
-use Rattle.portal_wire.specs.Wish.{allow_of, no_route, bad_method, bad_body, bad_row, roll_full_reply, no_memory, turned_away}
+use Rattle.portal_wire.specs.declared.calls.CallFault.TheVariants.{NoRoute, BadMethod, BadBody, BadRow, RollFull}
+use Rattle.portal_wire.specs.declared.calls.CallFault.TheVariants.{Memory}
+use Rattle.portal_wire.specs.Wish.{allow_of, no_route, bad_method, bad_body, bad_row, roll_full_reply, no_memory}
+use Rattle.portal_wire.specs.Wish.{turned_away}
 use Rattle.portal_wire.specs.Conversation.{Last, Closed, Limit}
 use Rattle.portal_rolls.specs.declared.fault.RollFault.{RollFault}
 use Rattle.portal_rolls.specs.declared.fault.RollFault.TheVariants as fault

@@ -1,6 +1,8 @@
 -- The students of a project or of a lecturer: how many, and how far down the list they reach.
-use Rattle.std.specs.Prelude.{◌≡◌, ℕ, ◌+◌, ◌<◌, List, Option, Some, length, slice_index_or, ◌≤◌, nat_le, ◌⊎◌, filter, Contains, All, AllPairs}
-use Rattle.spa_model.specs.Spa.{Spa, IsWith, place, ranking_of, lecturer_of, project_of, at_project, at_lecturer, Blocks}
+use Rattle.std.specs.Prelude.{◌≡◌, ℕ, ◌+◌, ◌<◌, List, Option, Some, length, slice_index_or, ◌≤◌, nat_le, ◌⊎◌, filter}
+use Rattle.std.specs.Prelude.{Contains, All, AllPairs}
+use Rattle.spa_model.specs.Spa.{Spa, IsWith, place, ranking_of, lecturer_of, project_of, at_project, at_lecturer}
+use Rattle.spa_model.specs.Spa.{Blocks}
 use Rattle.spa_check.specs.declared.groups.Group.{Group}
 use Rattle.spa_model.specs.declared.letter.Letter.{Letter}
 use Rattle.spa_check.specs.declared.blocking.Block.{Block}

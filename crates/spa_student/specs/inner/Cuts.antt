@@ -1,6 +1,7 @@
 -- Cursors into the students' lists, and cuts in the lecturers' rankings.
 use Rattle.std.specs.Prelude.{◌≡◌, ◌⊎◌, ℕ, ◌+◌, ◌<◌, ◌≤◌, Some, None, length, slice_index, slice_set}
-use Rattle.spa_model.specs.Spa.{Spa, place, project_of, choices_of, lecturer_of, ranking_of, at_project, at_lecturer, IsAcceptable, IsLawful}
+use Rattle.spa_model.specs.Spa.{Spa, place, project_of, choices_of, lecturer_of, ranking_of, at_project, at_lecturer}
+use Rattle.spa_model.specs.Spa.{IsAcceptable, IsLawful}
 use Rattle.spa_student.specs.declared.cuts.Progress.{Progress}
 use Rattle.spa_student.specs.inner.Machine.{rank_of, Holds}
 use Rattle.spa_student.specs.inner.Worst.{IsAssignment, IsWorstAt, IsWorstWith}

@@ -1,4 +1,6 @@
-use Rattle.portal_answer.proofs.Base.{◌≡◌, ◌∙◌, ◌<◌, ◌++◌, ap, sym, arith, rules, length, List, Option, is_some, is_none, ℕ, refl, codes, append_assoc, decimal, count_by, flat_map, zip, Text, Told, string_bytes, IsLawful}
+use Rattle.portal_answer.proofs.Base.{◌≡◌, ◌∙◌, ◌<◌, ◌++◌, ap, sym, arith, rules, length, List, Option, is_some}
+use Rattle.portal_answer.proofs.Base.{is_none, ℕ, refl, codes, append_assoc, decimal, count_by, flat_map, zip, Text}
+use Rattle.portal_answer.proofs.Base.{Told, string_bytes, IsLawful}
 use Rattle.std.proofs.Common.{take, ◌+◌, ◌-◌}
 use Rattle.std.proofs.lemmas.List.{length-take-le}
 use Rattle.std.proofs.lemmas.List.Sums.{count_by-le-length}

@@ -1,4 +1,6 @@
-use Rattle.portal_rules.proofs.Base.{◌≡◌, ◌++◌, ◌∙◌, ℕ, List, Option, sym, ap, Bor, option_map, reverse, find, if◌then◌else◌, text_eq, Key, equals, HasRows, RollRules, Present, Rejected, verdict, verdict_beside}
+use Rattle.portal_rules.proofs.Base.{◌≡◌, ◌++◌, ◌∙◌, ℕ, List, Option, sym, ap, Bor, option_map, reverse, find}
+use Rattle.portal_rules.proofs.Base.{if◌then◌else◌, text_eq, Key, equals, HasRows, RollRules, Present, Rejected}
+use Rattle.portal_rules.proofs.Base.{verdict, verdict_beside}
 use Rattle.std.specs.HashMap as hash
 use Rattle.std.specs.HashMap.{HashMap}
 use Rattle.portal_rules.specs.Faults.{conflict_at}

@@ -1,4 +1,5 @@
-use Rattle.portal_rules.proofs.Base.{◌≡◌, map, reverse, ap, ◌∙◌, subst, iter_rest, reverse-reverse, YieldsList-from_rev_slice, YieldsList-at, YieldsList-end, HasRows, HasTexts}
+use Rattle.portal_rules.proofs.Base.{◌≡◌, map, reverse, ap, ◌∙◌, subst, iter_rest, reverse-reverse}
+use Rattle.portal_rules.proofs.Base.{YieldsList-from_rev_slice, YieldsList-at, YieldsList-end, HasRows, HasTexts}
 use Rattle.portal_rules.proofs.Tables.{before_seen}
 use Rattle.portal_deciding.proofs.new_rows.register_of.Goals as goal
 

@@ -1,6 +1,7 @@
 use Rattle.std.proofs.Common.{rules}
 use Rattle.std.proofs.lemmas.Grind.{common_steps}
-use Rattle.portal_rules.proofs.Base.{◌≡◌, ◌+◌, Vec, Global, [], ◌∷◌, ◌++◌, reverse, refl, arith, sym, ◌∙◌, ap, subst, HasRows, HasTexts}
+use Rattle.portal_rules.proofs.Base.{◌≡◌, ◌+◌, Vec, Global, [], ◌∷◌, ◌++◌, reverse, refl, arith, sym, ◌∙◌, ap, subst}
+use Rattle.portal_rules.proofs.Base.{HasRows, HasTexts}
 use Rattle.portal_deciding.specs.declared.new_rows.Register.{Register}
 use Rattle.portal_rules.proofs.RowFaults.{row_faulty, row_same, row_new, there_new}
 use Rattle.portal_deciding.proofs.new_rows.take_rows.Goals as goal

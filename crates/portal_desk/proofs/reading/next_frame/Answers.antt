@@ -1,4 +1,5 @@
-use Rattle.portal_desk.proofs.Base.{rules, arith, ◌≡◌, ℕ, ◌+◌, ◌-◌, ◌<◌, ◌≤◌, Bool, true, false, subst, sym, if◌then◌else◌, NoneWhole, request_limit}
+use Rattle.portal_desk.proofs.Base.{rules, arith, ◌≡◌, ℕ, ◌+◌, ◌-◌, ◌<◌, ◌≤◌, Bool, true, false, subst, sym}
+use Rattle.portal_desk.proofs.Base.{if◌then◌else◌, NoneWhole, request_limit}
 use Rattle.std.proofs.Common.{inr, refl}
 use Rattle.portal_desk.proofs.Framing.{follows, within, none_whole, none_err}
 use Rattle.portal_desk.proofs.Taking.{reads_taken, failed_on}

@@ -1,4 +1,5 @@
-use Rattle.portal_frame.proofs.Base.{rules, take, drop, inl, inr, refl, subst, take-append-drop, HasNoRequest, RequestOverflows, item_of, headless}
+use Rattle.portal_frame.proofs.Base.{rules, take, drop, inl, inr, refl, subst, take-append-drop, HasNoRequest}
+use Rattle.portal_frame.proofs.Base.{RequestOverflows, item_of, headless}
 use Rattle.portal_frame.proofs.Heads.{head_of, front_is, length_front, none_so_far, none_now, overflows_all}
 use Rattle.portal_frame.proofs.laws.opens_some.Goals as goal
 

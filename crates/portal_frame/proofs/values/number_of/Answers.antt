@@ -1,4 +1,6 @@
-use Rattle.portal_frame.proofs.Base.{rules, ◌≡◌, ℕ, ◌+◌, ◌<◌, ◌≤◌, ◌^◌, take, ◌-◌, true, arith, ◌∙◌, sym, ap, common_steps, ◌&&◌, digits_value, is_ascii_digit, ◌*◌, slice_index_or, add-one, digit_value}
+use Rattle.portal_frame.proofs.Base.{rules, ◌≡◌, ℕ, ◌+◌, ◌<◌, ◌≤◌, ◌^◌, take, ◌-◌, true, arith, ◌∙◌, sym, ap}
+use Rattle.portal_frame.proofs.Base.{common_steps, ◌&&◌, digits_value, is_ascii_digit, ◌*◌, slice_index_or, add-one}
+use Rattle.portal_frame.proofs.Base.{digit_value}
 use Rattle.std.proofs.Math.Nat.{pow-le-pow_right}
 use Rattle.std.proofs.lemmas.Int.Digits.{digits_value_more}
 use Rattle.std.proofs.lemmas.List.Folds.{list_all_more}

@@ -1,4 +1,5 @@
-use Rattle.portal_list.proofs.Base.{◌≡◌, ℕ, ◌++◌, [], ◌∷◌, Vec, Global, unwrap_or, ap, ◌∙◌, arith, common_steps, text_eq}
+use Rattle.portal_list.proofs.Base.{◌≡◌, ℕ, ◌++◌, [], ◌∷◌, Vec, Global, unwrap_or, ap, ◌∙◌, arith, common_steps}
+use Rattle.portal_list.proofs.Base.{text_eq}
 use Rattle.std.specs.HashMap as hash
 use Rattle.std.specs.HashMap.Entry.{map_with_value}
 use Rattle.portal_list.proofs.Noted.{noted, noted_or, noted_put}

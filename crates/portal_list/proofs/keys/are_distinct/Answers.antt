@@ -1,4 +1,7 @@
-use Rattle.portal_list.proofs.Base.{◌≡◌, get_or, Bor, [], sym, refl, ◌∙◌, ap, arith, not, get_or_default, false≢true, Text, IsEarlierKey, ℕ, zero, suc, ◌<◌, Bool, true, false, List, ◌∷◌, map, length, length-map, length-take, get_or-take, map_at, any_unmap, Key, has, AreDistinct, tree_more, tree_before}
+use Rattle.portal_list.proofs.Base.{◌≡◌, get_or, Bor, [], sym, refl, ◌∙◌, ap, arith, not, get_or_default, false≢true}
+use Rattle.portal_list.proofs.Base.{Text, IsEarlierKey, ℕ, zero, suc, ◌<◌, Bool, true, false, List, ◌∷◌, map, length}
+use Rattle.portal_list.proofs.Base.{length-map, length-take, get_or-take, map_at, any_unmap, Key, has, AreDistinct}
+use Rattle.portal_list.proofs.Base.{tree_more, tree_before}
 use Rattle.portal_rules.proofs.Members.{there}
 use Rattle.portal_list.proofs.Members.{distinct_apart}
 use Rattle.portal_list.proofs.keys.are_distinct.Goals as goal

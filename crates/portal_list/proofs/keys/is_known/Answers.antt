@@ -1,4 +1,6 @@
-use Rattle.portal_list.proofs.Base.{rules, arith, nat_cmp, slice_cmp, nat_list_cmp_total, always_returns_same, map, ◌≡◌, ℕ, ◌<◌, ◌≤◌, Bool, true, false, List, length, get_or, Less, refl, sym, at_place, any_map, any_unmap, Key, has, Equal, Greater, tied_itself}
+use Rattle.portal_list.proofs.Base.{rules, arith, nat_cmp, slice_cmp, nat_list_cmp_total, always_returns_same, map, ◌≡◌}
+use Rattle.portal_list.proofs.Base.{ℕ, ◌<◌, ◌≤◌, Bool, true, false, List, length, get_or, Less, refl, sym, at_place}
+use Rattle.portal_list.proofs.Base.{any_map, any_unmap, Key, has, Equal, Greater, tied_itself}
 use Rattle.std.proofs.lemmas.List.Sorted.{searchable_from_sorted}
 use Rattle.spa_model.proofs.Numbers.{sorted_rows}
 use Rattle.portal_list.proofs.Rising.{pairs_rise}

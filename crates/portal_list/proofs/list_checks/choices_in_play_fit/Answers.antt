@@ -1,4 +1,5 @@
-use Rattle.portal_list.proofs.Base.{◌≡◌, ◌↔◌, IfOk, IsTrue, List, map, sym, ap, subst₂, ◌∙◌, AllByRecursion, Student, project_key, First, Second, ProjectRow, IsChoice, AllEntries, rules, projects_in}
+use Rattle.portal_list.proofs.Base.{◌≡◌, ◌↔◌, IfOk, IsTrue, List, map, sym, ap, subst₂, ◌∙◌, AllByRecursion, Student}
+use Rattle.portal_list.proofs.Base.{project_key, First, Second, ProjectRow, IsChoice, AllEntries, rules, projects_in}
 use Rattle.portal_list.proofs.Plays.{left_rise}
 use Rattle.portal_list.proofs.list_checks.choices_in_play_fit.Goals as goal
 

@@ -1,4 +1,5 @@
-use Rattle.portal_list.proofs.Base.{◌≡◌, Bool, sym, ap, subst₂, ◌∙◌, AllByRecursion, IfOk-weaker, AllEntries, applicant_keys, HasRanking}
+use Rattle.portal_list.proofs.Base.{◌≡◌, Bool, sym, ap, subst₂, ◌∙◌, AllByRecursion, IfOk-weaker, AllEntries}
+use Rattle.portal_list.proofs.Base.{applicant_keys, HasRanking}
 use Rattle.portal_list.proofs.list_checks.lists_fit.Goals as goal
 
 pub returns : goal.returns

@@ -1,4 +1,5 @@
-use Rattle.portal_list.proofs.Base.{◌≡◌, ◌↔◌, IfOk, IsTrue, map, ◌∙◌, ap, subst, option_map, rise_kept, applicant_keys, HasRanking, rules}
+use Rattle.portal_list.proofs.Base.{◌≡◌, ◌↔◌, IfOk, IsTrue, map, ◌∙◌, ap, subst, option_map, rise_kept, applicant_keys}
+use Rattle.portal_list.proofs.Base.{HasRanking, rules}
 use Rattle.portal_list.proofs.list_checks.ranking_fits.Goals as goal
 
 pub is_ranked-requires : goal.is_ranked-requires

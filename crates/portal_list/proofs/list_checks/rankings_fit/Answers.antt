@@ -1,4 +1,5 @@
-use Rattle.portal_list.proofs.Base.{sym, ◌∙◌, subst, List, false≢true, Lecturer, Student, all_at, applicant_keys, HasRanking}
+use Rattle.portal_list.proofs.Base.{sym, ◌∙◌, subst, List, false≢true, Lecturer, Student, all_at, applicant_keys}
+use Rattle.portal_list.proofs.Base.{HasRanking}
 use Rattle.portal_rules.proofs.Growing.{all_more}
 use Rattle.portal_list.proofs.list_checks.rankings_fit.Goals as goal
 

@@ -1,4 +1,6 @@
-use Rattle.portal_list.proofs.Base.{◌≡◌, map, ap, ◌∙◌, filter, filter_map, First, Student, alone_lecturer, alone_student, lecturers_left, is_left, pairs_with, lecturer_played, project_played, all_played}
+use Rattle.portal_list.proofs.Base.{◌≡◌, map, ap, ◌∙◌, filter, filter_map, First, Student, alone_lecturer}
+use Rattle.portal_list.proofs.Base.{alone_student, lecturers_left, is_left, pairs_with, lecturer_played, project_played}
+use Rattle.portal_list.proofs.Base.{all_played}
 use Rattle.portal_list.proofs.Plays.{lecturers_are, projects_are}
 use Rattle.portal_list.proofs.second_round.played.Goals as goal
 

@@ -1,4 +1,5 @@
-use Rattle.portal_list.proofs.Base.{◌≡◌, ◌∙◌, ap, sym, World, catalogue, world_with, applicants_shown, placements_shown, lecturer_sees}
+use Rattle.portal_list.proofs.Base.{◌≡◌, ◌∙◌, ap, sym, World, catalogue, world_with, applicants_shown, placements_shown}
+use Rattle.portal_list.proofs.Base.{lecturer_sees}
 use Rattle.portal_list.proofs.views.lecturer_view.Goals as goal
 
 pub returns : goal.returns

@@ -1,4 +1,6 @@
-use Rattle.portal_list.proofs.Base.{◌≡◌, Bool, cond, List, [], map, ◌∙◌, ap, sym, filter, ◌&&◌, is_empty, World, Lecturer, Student, is_still_to_rank, shown_placement, pairs_with, ProjectRow, catalogue, world_with, takes_part, is_waiting, rules, is_from_ranking, office_sees}
+use Rattle.portal_list.proofs.Base.{◌≡◌, Bool, cond, List, [], map, ◌∙◌, ap, sym, filter, ◌&&◌, is_empty, World}
+use Rattle.portal_list.proofs.Base.{Lecturer, Student, is_still_to_rank, shown_placement, pairs_with, ProjectRow}
+use Rattle.portal_list.proofs.Base.{catalogue, world_with, takes_part, is_waiting, rules, is_from_ranking, office_sees}
 use Rattle.portal_list.proofs.Plays.{part_and}
 use Rattle.portal_list.proofs.Waiting.{waiting_lecturers}
 use Rattle.portal_list.proofs.views.office_view.Goals as goal

@@ -1,4 +1,5 @@
-use Rattle.portal_reports.proofs.Base.{◌≡◌, ◌<◌, ◌++◌, ◌∙◌, List, length, ap, codes, decimal, project_line, padded_left, padded_right, Vec, Global, get_or, subst, line_feed, students_at, one_more}
+use Rattle.portal_reports.proofs.Base.{◌≡◌, ◌<◌, ◌++◌, ◌∙◌, List, length, ap, codes, decimal, project_line, padded_left}
+use Rattle.portal_reports.proofs.Base.{padded_right, Vec, Global, get_or, subst, line_feed, students_at, one_more}
 use Rattle.portal_rules.specs.declared.rows.ProjectRow.{ProjectRow}
 use Rattle.portal_reports.proofs.allocation.put_projects.Goals as goal
 

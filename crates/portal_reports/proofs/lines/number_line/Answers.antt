@@ -1,4 +1,5 @@
-use Rattle.portal_reports.proofs.Base.{◌++◌, ◌∙◌, codes, decimal, append_assoc, sym, refl, styled_text, styled_decimal, padded_left, padded_right, number_line, said}
+use Rattle.portal_reports.proofs.Base.{◌++◌, ◌∙◌, codes, decimal, append_assoc, sym, refl, styled_text, styled_decimal}
+use Rattle.portal_reports.proofs.Base.{padded_left, padded_right, number_line, said}
 use Rattle.portal_reports.proofs.Padding.{left-is, right-is}
 use Rattle.portal_reports.proofs.lines.number_line.Goals as goal
 

@@ -1,4 +1,6 @@
-use Rattle.portal_rolls.proofs.Base.{◌≡◌, ◌++◌, ◌∙◌, ◌∷◌, [], ℕ, List, ap, subst, Some, None, ProjectRow, StudentRow, OfficeSees, student_fields, csv_record, HasWritten, rules, OnOk, project_given, project_fields}
+use Rattle.portal_rolls.proofs.Base.{◌≡◌, ◌++◌, ◌∙◌, ◌∷◌, [], ℕ, List, ap, subst, Some, None, ProjectRow, StudentRow}
+use Rattle.portal_rolls.proofs.Base.{OfficeSees, student_fields, csv_record, HasWritten, rules, OnOk, project_given}
+use Rattle.portal_rolls.proofs.Base.{project_fields}
 use Rattle.portal_rolls.proofs.allocation.put_student.Goals as goal
 
 placed : (v : OfficeSees) (s : StudentRow) (p : ProjectRow) (key name project title lecturer : List ℕ)

@@ -1,4 +1,6 @@
-use Rattle.portal_rolls.proofs.Base.{◌≡◌, ◌<◌, ◌≤◌, ◌++◌, ◌∙◌, ℕ, List, length, take, get_or, ap, subst, IfOk, Ok, Err, Result, flat_map, take_all, StudentRow, OfficeSees, student_fields, csv_record, csv_header, HasWritten, rules, Vec, csv_text}
+use Rattle.portal_rolls.proofs.Base.{◌≡◌, ◌<◌, ◌≤◌, ◌++◌, ◌∙◌, ℕ, List, length, take, get_or, ap, subst, IfOk, Ok, Err}
+use Rattle.portal_rolls.proofs.Base.{Result, flat_map, take_all, StudentRow, OfficeSees, student_fields, csv_record}
+use Rattle.portal_rolls.proofs.Base.{csv_header, HasWritten, rules, Vec, csv_text}
 use Rattle.std.specs.Global.{Global}
 use Rattle.portal_rules.proofs.Pieces.{one_more}
 use Rattle.portal_rolls.proofs.allocation.write_allocation.Goals as goal

@@ -1,4 +1,5 @@
-use Rattle.portal_rules.proofs.Base.{reverse, map, ap, ◌∙◌, subst, iter_rest, reverse-reverse, YieldsList-from_rev_slice, YieldsList-at, YieldsList-end, HasRows}
+use Rattle.portal_rules.proofs.Base.{reverse, map, ap, ◌∙◌, subst, iter_rest, reverse-reverse}
+use Rattle.portal_rules.proofs.Base.{YieldsList-from_rev_slice, YieldsList-at, YieldsList-end, HasRows}
 use Rattle.portal_rules.proofs.Tables.{row_put, before_seen}
 use Rattle.portal_rules.proofs.by_key.rows_by_key.Goals as goal
 

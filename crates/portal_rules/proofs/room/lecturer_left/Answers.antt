@@ -1,4 +1,5 @@
-use Rattle.portal_rules.proofs.Base.{◌≡◌, ◌∙◌, ℕ, List, sym, ap, map, Bor, Some, count_by, list_any, equals, option_map, Key, pairs_among, room_of}
+use Rattle.portal_rules.proofs.Base.{◌≡◌, ◌∙◌, ℕ, List, sym, ap, map, Bor, Some, count_by, list_any, equals, option_map}
+use Rattle.portal_rules.proofs.Base.{Key, pairs_among, room_of}
 use Rattle.portal_rules.proofs.AllLaws.{any_map}
 use Rattle.portal_rules.proofs.room.lecturer_left.Goals as goal
 

@@ -1,4 +1,5 @@
-use Rattle.portal_rules.proofs.Base.{rules, ◌≡◌, ◌∙◌, ap, sym, refl, filter, not, false, List, [], ◌∷◌, length, Key, equals, is_empty, OfficeSees, Choosing}
+use Rattle.portal_rules.proofs.Base.{rules, ◌≡◌, ◌∙◌, ap, sym, refl, filter, not, false, List, [], ◌∷◌, length, Key}
+use Rattle.portal_rules.proofs.Base.{equals, is_empty, OfficeSees, Choosing}
 use Rattle.std.specs.Bool.{◌==◌}
 use Rattle.portal_rules.proofs.Refreshed.{choosing_seen, seen_with}
 use Rattle.portal_rules.proofs.view_cache.after_list.Goals as goal

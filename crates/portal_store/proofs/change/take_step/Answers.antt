@@ -1,4 +1,5 @@
-use Rattle.portal_store.proofs.Base.{Choices, CommitsChange, IsTransitionIn, Lecturers, Placements, Projects, Ranks, Students, state, subst}
+use Rattle.portal_store.proofs.Base.{Choices, CommitsChange, IsTransitionIn, Lecturers, Placements, Projects, Ranks}
+use Rattle.portal_store.proofs.Base.{Students, state, subst}
 use Rattle.portal_store.proofs.Ended.{ends_by}
 use Rattle.portal_store.proofs.change.take_step.Goals as goal
 

@@ -1,4 +1,5 @@
-use Rattle.portal_store.proofs.Base.{◌∷◌, ListsBy, [], columns, every, on_ok_weaker, portal_tree, reads_more, state, subst, sym, MatchResult-from_both}
+use Rattle.portal_store.proofs.Base.{◌∷◌, ListsBy, [], columns, every, on_ok_weaker, portal_tree, reads_more, state}
+use Rattle.portal_store.proofs.Base.{subst, sym, MatchResult-from_both}
 use Rattle.sqlite.specs.State.{Begins}
 use Rattle.portal_tables.specs.inner.Queries.{query_text}
 use Rattle.portal_tables.specs.declared.select.Query.TheVariants.{Office}

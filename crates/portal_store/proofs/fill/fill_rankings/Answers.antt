@@ -1,4 +1,5 @@
-use Rattle.portal_store.proofs.Base.{◌∙◌, HasCleanDisk, IsConsistentIn, IsCurrentSchema, Key, List, Sound, TurnsAll, ap, arith, fill_missing, map, state, subst, sym, world_in, world_of}
+use Rattle.portal_store.proofs.Base.{◌∙◌, HasCleanDisk, IsConsistentIn, IsCurrentSchema, Key, List, Sound, TurnsAll, ap}
+use Rattle.portal_store.proofs.Base.{arith, fill_missing, map, state, subst, sym, world_in, world_of}
 use Rattle.portal_store.proofs.Ended.{ends_asked, ends_refused}
 use Rattle.portal_store.proofs.Rounds.{world_told}
 use Rattle.portal_store.proofs.FillTurns.{fill_turns}

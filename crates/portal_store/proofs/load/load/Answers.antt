@@ -1,4 +1,5 @@
-use Rattle.portal_store.proofs.Base.{◌∙◌, First, LoadsIn, MatchResult-weaker, Second, reads_as, reads_both, reads_open, reads_then, state, subst, sym}
+use Rattle.portal_store.proofs.Base.{◌∙◌, First, LoadsIn, MatchResult-weaker, Second, reads_as, reads_both, reads_open}
+use Rattle.portal_store.proofs.Base.{reads_then, state, subst, sym}
 use Rattle.portal_store.proofs.Rounds.{stands_in}
 use Rattle.portal_store.proofs.load.load.Goals as goal
 

@@ -1,4 +1,5 @@
-use Rattle.portal_store.proofs.Base.{LoadsIn, Second, reads_any, reads_both, reads_handed, reads_more, reads_open, reads_then, rows_held, state, subst, sym}
+use Rattle.portal_store.proofs.Base.{LoadsIn, Second, reads_any, reads_both, reads_handed, reads_more, reads_open}
+use Rattle.portal_store.proofs.Base.{reads_then, rows_held, state, subst, sym}
 use Rattle.portal_views.proofs.OneKey.{one_place}
 use Rattle.portal_store.proofs.Fine.{all_fine, rolls_rise, stands_before}
 use Rattle.portal_store.proofs.Loaded.{loads_after}

@@ -1,4 +1,7 @@
-use Rattle.portal_store.proofs.Base.{◌∙◌, Admits, Answers, Denies, HasEntries, HasGoodWorld, Held, MatchResult-weaker, Second, current_own, reads_as, reads_handed, reads_of, reads_open, reads_then_of, subst, world_of, Reads, IsSoundIfOpen, clean_before, looks_by, looks_then, on_ok_weaker, settled_still, state}
+use Rattle.portal_store.proofs.Base.{◌∙◌, Admits, Answers, Denies, HasEntries, HasGoodWorld, Held, MatchResult-weaker}
+use Rattle.portal_store.proofs.Base.{Second, current_own, reads_as, reads_handed, reads_of, reads_open, reads_then_of}
+use Rattle.portal_store.proofs.Base.{subst, world_of, Reads, IsSoundIfOpen, clean_before, looks_by, looks_then}
+use Rattle.portal_store.proofs.Base.{on_ok_weaker, settled_still, state}
 use Rattle.portal_store.proofs.Asked.{blamed, blames_more, version_still}
 use Rattle.portal_store.proofs.open.examine.Goals as goal
 

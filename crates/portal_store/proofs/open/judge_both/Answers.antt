@@ -1,4 +1,5 @@
-use Rattle.portal_store.proofs.Base.{MatchResult-weaker, reads_any, reads_as, reads_handed, reads_open, reads_then, reads_then_of, round_in, state}
+use Rattle.portal_store.proofs.Base.{MatchResult-weaker, reads_any, reads_as, reads_handed, reads_open, reads_then}
+use Rattle.portal_store.proofs.Base.{reads_then_of, round_in, state}
 use Rattle.portal_store.proofs.Asked.{apart_both}
 use Rattle.portal_store.proofs.Rounds.{judged_stands}
 use Rattle.portal_store.proofs.open.judge_both.Goals as goal

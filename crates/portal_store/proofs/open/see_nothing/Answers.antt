@@ -1,4 +1,5 @@
-use Rattle.portal_store.proofs.Base.{MatchResult-weaker, reads_as, reads_handed, reads_of, reads_open, reads_then_of, refl}
+use Rattle.portal_store.proofs.Base.{MatchResult-weaker, reads_as, reads_handed, reads_of, reads_open, reads_then_of}
+use Rattle.portal_store.proofs.Base.{refl}
 use Rattle.portal_store.proofs.Asked.{denies_more}
 use Rattle.portal_store.proofs.open.see_nothing.Goals as goal
 

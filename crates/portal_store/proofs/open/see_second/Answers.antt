@@ -1,4 +1,5 @@
-use Rattle.portal_store.proofs.Base.{◌∙◌, First, MatchResult-weaker, Second, reads_any, reads_as, reads_both, reads_open, reads_then, state, sym}
+use Rattle.portal_store.proofs.Base.{◌∙◌, First, MatchResult-weaker, Second, reads_any, reads_as, reads_both}
+use Rattle.portal_store.proofs.Base.{reads_open, reads_then, state, sym}
 use Rattle.portal_store.proofs.Asked.{denied_of, denies_more, reads_said}
 use Rattle.portal_store.proofs.Rounds.{first_by, second_by, none_told, one_told, stands_in, tells_phase}
 use Rattle.portal_store.proofs.open.see_second.Goals as goal

@@ -1,4 +1,7 @@
-use Rattle.portal_store.proofs.Base.{◌∙◌, ◌≡◌, if◌then◌else◌, Good, IfOk-weaker, IsCacheOf, IsNow, Key, OfficeCaller, ap, caller_among, equals, false, has_round, lecturer_with, reads_as, reads_of, reads_open, reads_then_of, reads_wide, sight_of, state, student_with, subst, sym, true, world_in, view, RemembersIn}
+use Rattle.portal_store.proofs.Base.{◌∙◌, ◌≡◌, if◌then◌else◌, Good, IfOk-weaker, IsCacheOf, IsNow, Key, OfficeCaller}
+use Rattle.portal_store.proofs.Base.{ap, caller_among, equals, false, has_round, lecturer_with, reads_as, reads_of}
+use Rattle.portal_store.proofs.Base.{reads_open, reads_then_of, reads_wide, sight_of, state, student_with, subst, sym}
+use Rattle.portal_store.proofs.Base.{true, world_in, view, RemembersIn}
 use Rattle.portal_store.proofs.Rounds.{now_in}
 use Rattle.portal_store.proofs.queries.show.Goals as goal
 

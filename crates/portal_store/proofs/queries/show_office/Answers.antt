@@ -1,4 +1,5 @@
-use Rattle.portal_store.proofs.Base.{◌∙◌, OfficeSight, ap, reads_handed, reads_more, reads_of, reads_open, reads_short, reads_then_of, state, sym}
+use Rattle.portal_store.proofs.Base.{◌∙◌, OfficeSight, ap, reads_handed, reads_more, reads_of, reads_open, reads_short}
+use Rattle.portal_store.proofs.Base.{reads_then_of, state, sym}
 use Rattle.portal_store.proofs.OfficeSeen.{has_whole_lists, office_told}
 use Rattle.portal_store.proofs.queries.show_office.Goals as goal
 

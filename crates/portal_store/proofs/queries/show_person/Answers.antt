@@ -1,4 +1,7 @@
-use Rattle.portal_store.proofs.Base.{◌∙◌, if◌then◌else◌, First, IfOk-weaker, Lecturer, OfficeCaller, Option, Round, ap, caller_among, catalogue, lecturer_from, lecturer_with, option_map, reads_as, reads_handed, reads_more, reads_open, reads_then, reads_then_of, sight_of, state, student_with, sym, world_in, LecturerSight, IsCatalogue}
+use Rattle.portal_store.proofs.Base.{◌∙◌, if◌then◌else◌, First, IfOk-weaker, Lecturer, OfficeCaller, Option, Round, ap}
+use Rattle.portal_store.proofs.Base.{caller_among, catalogue, lecturer_from, lecturer_with, option_map, reads_as}
+use Rattle.portal_store.proofs.Base.{reads_handed, reads_more, reads_open, reads_then, reads_then_of, sight_of, state}
+use Rattle.portal_store.proofs.Base.{student_with, sym, world_in, LecturerSight, IsCatalogue}
 use Rattle.portal_store.proofs.Applying.{lecturer_told}
 use Rattle.portal_store.proofs.Holding.{has_tables}
 use Rattle.portal_store.proofs.Queried.{lecturer_found}

@@ -1,4 +1,6 @@
-use Rattle.portal_store.proofs.Base.{◌∙◌, None, Option, Student, ap, caller_among, option_map, reads_handed, reads_more, reads_then, reads_then_of, sight_of, state, student_from, sym, world_in, StudentSight}
+use Rattle.portal_store.proofs.Base.{◌∙◌, None, Option, Student, ap, caller_among, option_map, reads_handed, reads_more}
+use Rattle.portal_store.proofs.Base.{reads_then, reads_then_of, sight_of, state, student_from, sym, world_in}
+use Rattle.portal_store.proofs.Base.{StudentSight}
 use Rattle.portal_store.proofs.Queried.{student_found, student_told}
 use Rattle.portal_store.proofs.queries.show_student.Goals as goal
 

@@ -1,4 +1,5 @@
-use Rattle.portal_store.proofs.Base.{IsNow, Office, Round, cases_Bool, inl, inr, is_setup, reads_any, reads_both, reads_handed, reads_more, reads_open, reads_then, state, subst, sym, world_of}
+use Rattle.portal_store.proofs.Base.{IsNow, Office, Round, cases_Bool, inl, inr, is_setup, reads_any, reads_both}
+use Rattle.portal_store.proofs.Base.{reads_handed, reads_more, reads_open, reads_then, state, subst, sym, world_of}
 use Rattle.portal_store.proofs.Rounds.{now_first, now_second}
 use Rattle.portal_store.proofs.round.current_round.Goals as goal
 

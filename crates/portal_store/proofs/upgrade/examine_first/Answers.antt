@@ -1,4 +1,5 @@
-use Rattle.portal_store.proofs.Base.{Database, HasGoodFirst, MatchResult-weaker, first_version, reads_any, reads_as, reads_open, reads_then_of, clean_before, looks_by, looks_then, on_ok_weaker, state}
+use Rattle.portal_store.proofs.Base.{Database, HasGoodFirst, MatchResult-weaker, first_version, reads_any, reads_as}
+use Rattle.portal_store.proofs.Base.{reads_open, reads_then_of, clean_before, looks_by, looks_then, on_ok_weaker, state}
 use Rattle.portal_store.proofs.Asked.{blamed, told_before, version_still}
 use Rattle.portal_store.proofs.upgrade.examine_first.Goals as goal
 

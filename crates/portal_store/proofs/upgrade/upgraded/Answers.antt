@@ -1,4 +1,5 @@
-use Rattle.portal_store.proofs.Base.{Err, ap, rules, sym, ◌∙◌, state, Upgrades, clean_before, commits_asked, stays_then, survives_weaker}
+use Rattle.portal_store.proofs.Base.{Err, ap, rules, sym, ◌∙◌, state, Upgrades, clean_before, commits_asked, stays_then}
+use Rattle.portal_store.proofs.Base.{survives_weaker}
 use Rattle.portal_store.proofs.Asked.{blames_none}
 use Rattle.portal_store.proofs.Calls.{looked_at, not_upgraded}
 use Rattle.portal_store.proofs.Keeps.{not_both}

@@ -1,5 +1,7 @@
-use Rattle.portal_tables.proofs.Base.{◌++◌, [], ap, subst, ◌∙◌, arith, rules, take_all, AreEntriesOf, map, map-append, cons_option, option_map, state, all_more, entry, with_list, IsRead, IsFine}
-use Rattle.portal_tables.proofs.InTurn.{reads_self, reads_then, reads_more, reads_handed, reads_short, at_item, next_given, map_one}
+use Rattle.portal_tables.proofs.Base.{◌++◌, [], ap, subst, ◌∙◌, arith, rules, take_all, AreEntriesOf, map, map-append}
+use Rattle.portal_tables.proofs.Base.{cons_option, option_map, state, all_more, entry, with_list, IsRead, IsFine}
+use Rattle.portal_tables.proofs.InTurn.{reads_self, reads_then, reads_more, reads_handed, reads_short, at_item}
+use Rattle.portal_tables.proofs.InTurn.{next_given, map_one}
 use Rattle.portal_tables.proofs.entries.entries_each.Goals as goal
 
 pub returns-in_err-entry : goal.returns-in_err-entry

@@ -1,4 +1,5 @@
-use Rattle.portal_tables.proofs.Base.{Ok, map, take, IsDatabase, state, round_of, with_list, TableFault, Reading, IfOpen, Gives, AreEntriesOf}
+use Rattle.portal_tables.proofs.Base.{Ok, map, take, IsDatabase, state, round_of, with_list, TableFault, Reading}
+use Rattle.portal_tables.proofs.Base.{IfOpen, Gives, AreEntriesOf}
 use Rattle.portal_tables.proofs.entries.entries_each.Given as goal
 
 abbrev pub invariant-loop-owner : goal.invariant-loop-owner

@@ -1,4 +1,5 @@
-use Rattle.portal_tables.proofs.Base.{sym, ap, subst, ◌∙◌, Err, if◌then◌else◌, Some, None, state, tree_of, list_in_order, IsListOf}
+use Rattle.portal_tables.proofs.Base.{sym, ap, subst, ◌∙◌, Err, if◌then◌else◌, Some, None, state, tree_of}
+use Rattle.portal_tables.proofs.Base.{list_in_order, IsListOf}
 use Rattle.portal_tables.proofs.Listed.{none_chosen}
 use Rattle.portal_tables.proofs.InTurn.{reads_open, reads_of, reads_then, reads_more, reads_handed, judged, both}
 use Rattle.portal_tables.proofs.entries.entry_in.Goals as goal

@@ -1,4 +1,5 @@
-use Rattle.portal_tables.proofs.Base.{◌≡◌, ◌∷◌, true, [], sym, subst, subst₂, ◌∙◌, AllByRecursion, state, is_key, ListsBy, has_text, columns, tree_of, shown_name, all_unmap, ap, Err}
+use Rattle.portal_tables.proofs.Base.{◌≡◌, ◌∷◌, true, [], sym, subst, subst₂, ◌∙◌, AllByRecursion, state, is_key}
+use Rattle.portal_tables.proofs.Base.{ListsBy, has_text, columns, tree_of, shown_name, all_unmap, ap, Err}
 use Rattle.portal_tables.proofs.Listed.{list_whole, list_names, list_counts}
 use Rattle.portal_tables.proofs.InTurn.{reads_more, judged, both, reads_handed}
 use Rattle.portal_tables.proofs.entries.list_in.Goals as goal

@@ -1,4 +1,6 @@
-use Rattle.portal_tables.proofs.Base.{◌≡◌, ◌∷◌, true, false, [], map, filter, sym, subst, AllByRecursion, state, Cells, all-filter, Key, has, all_map, columns, every, tree_of, row_key, first_cell, ap, Err}
+use Rattle.portal_tables.proofs.Base.{◌≡◌, ◌∷◌, true, false, [], map, filter, sym, subst, AllByRecursion, state, Cells}
+use Rattle.portal_tables.proofs.Base.{all-filter, Key, has, all_map, columns, every, tree_of, row_key, first_cell, ap}
+use Rattle.portal_tables.proofs.Base.{Err}
 use Rattle.portal_tables.proofs.InTurn.{reads_more, reads_handed}
 use Rattle.portal_tables.proofs.Listed.{permuted}
 use Rattle.portal_tables.proofs.Sorted.{all_permuted}

@@ -1,4 +1,5 @@
-use Rattle.portal_tables.proofs.Base.{◌≡◌, ◌++◌, rules, [], Ok, map, refl, sym, ap, ap₂, subst, ◌∙◌, append-nil, append_assoc, nil_from_length, take-append-drop, Does, GoesOn, Adds}
+use Rattle.portal_tables.proofs.Base.{◌≡◌, ◌++◌, rules, [], Ok, map, refl, sym, ap, ap₂, subst, ◌∙◌, append-nil}
+use Rattle.portal_tables.proofs.Base.{append_assoc, nil_from_length, take-append-drop, Does, GoesOn, Adds}
 use Rattle.portal_tables.proofs.Runs.{does_none, does_both, does_failed, goes_nowhere}
 use Rattle.portal_tables.proofs.Keeping.{adds_none, rows_run}
 use Rattle.portal_tables.proofs.insert.add_all.Goals as goal

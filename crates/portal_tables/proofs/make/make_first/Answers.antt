@@ -1,5 +1,6 @@
 use Rattle.portal_tables.proofs.Base.{◌∷◌, []}
-use Rattle.portal_tables.proofs.Making.{grown, grown_then, first_made, portal_made, lecturer_made, project_made, student_made, choice_made, ranking_made}
+use Rattle.portal_tables.proofs.Making.{grown, grown_then, first_made, portal_made, lecturer_made, project_made}
+use Rattle.portal_tables.proofs.Making.{student_made, choice_made, ranking_made}
 use Rattle.portal_tables.proofs.Runs.{does_both, does_failed}
 use Rattle.portal_tables.proofs.make.make_first.Goals as goal
 

@@ -1,5 +1,6 @@
 use Rattle.portal_tables.proofs.Base.{◌∷◌, [], first_trees}
-use Rattle.portal_tables.proofs.Making.{grown, grown_then, five_made, second_made, choice2_made, ranked2_made, ranking2_made, assigned2_made}
+use Rattle.portal_tables.proofs.Making.{grown, grown_then, five_made, second_made, choice2_made, ranked2_made}
+use Rattle.portal_tables.proofs.Making.{ranking2_made, assigned2_made}
 use Rattle.portal_tables.proofs.Runs.{does_both, does_failed}
 use Rattle.portal_tables.proofs.make.make_second.Goals as goal
 

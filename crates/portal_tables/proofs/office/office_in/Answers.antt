@@ -1,4 +1,5 @@
-use Rattle.portal_tables.proofs.Base.{◌∷◌, [], Err, sym, ap, subst, ◌∙◌, state, portal_tree, ListsBy, every, columns, IfOk-weaker}
+use Rattle.portal_tables.proofs.Base.{◌∷◌, [], Err, sym, ap, subst, ◌∙◌, state, portal_tree, ListsBy, every, columns}
+use Rattle.portal_tables.proofs.Base.{IfOk-weaker}
 use Rattle.portal_tables.proofs.InTurn.{reads_more, answered, reads_handed}
 use Rattle.portal_tables.proofs.OfficeRow.{office_found, office_there}
 use Rattle.portal_tables.proofs.office.office_in.Goals as goal

@@ -1,4 +1,5 @@
-use Rattle.portal_tables.proofs.Base.{◌∷◌, [], Err, sym, ap, subst, ◌∙◌, IfOk-weaker, state, second_tree, ListsBy, every, columns}
+use Rattle.portal_tables.proofs.Base.{◌∷◌, [], Err, sym, ap, subst, ◌∙◌, IfOk-weaker, state, second_tree, ListsBy}
+use Rattle.portal_tables.proofs.Base.{every, columns}
 use Rattle.portal_tables.proofs.InTurn.{reads_more, answered, reads_handed}
 use Rattle.portal_tables.proofs.OfficeRow.{second_found, second_there}
 use Rattle.portal_tables.proofs.office.second_in.Goals as goal

@@ -1,4 +1,5 @@
-use Rattle.portal_tables.proofs.Base.{◌∷◌, pair_told, [], ap, sym, subst, ◌∙◌, IfOk-weaker, AllByRecursion, filter_map, state, student_tree, OfRoll, Students, HasKeys}
+use Rattle.portal_tables.proofs.Base.{◌∷◌, pair_told, [], ap, sym, subst, ◌∙◌, IfOk-weaker, AllByRecursion, filter_map}
+use Rattle.portal_tables.proofs.Base.{state, student_tree, OfRoll, Students, HasKeys}
 use Rattle.portal_tables.proofs.InTurn.{reads_more, reads_handed, judged}
 use Rattle.portal_tables.proofs.Listed.{roll_rises, roll_shown}
 use Rattle.portal_tables.proofs.Texts.{key_texts}

@@ -1,5 +1,7 @@
-use Rattle.portal_tables.proofs.Base.{◌∙◌, ap, arith, rules, filter_map, take_all, state, pair_shown, IsStudent, HasPlacementAsked, shown_student}
-use Rattle.portal_tables.proofs.InTurn.{reads_self, reads_then, reads_more, reads_handed, reads_short, at_item, next_given}
+use Rattle.portal_tables.proofs.Base.{◌∙◌, ap, arith, rules, filter_map, take_all, state, pair_shown, IsStudent}
+use Rattle.portal_tables.proofs.Base.{HasPlacementAsked, shown_student}
+use Rattle.portal_tables.proofs.InTurn.{reads_self, reads_then, reads_more, reads_handed, reads_short, at_item}
+use Rattle.portal_tables.proofs.InTurn.{next_given}
 use Rattle.portal_tables.proofs.placements.pairs_in.Goals as goal
 
 pub returns-in_err-pair : goal.returns-in_err-pair

@@ -1,4 +1,5 @@
-use Rattle.portal_tables.proofs.Base.{◌≡◌, Ok, take, filter_map, IsDatabase, state, pair_shown, TableFault, Reading, IfOpen, Gives}
+use Rattle.portal_tables.proofs.Base.{◌≡◌, Ok, take, filter_map, IsDatabase, state, pair_shown, TableFault, Reading}
+use Rattle.portal_tables.proofs.Base.{IfOpen, Gives}
 use Rattle.portal_tables.proofs.placements.pairs_in.Given as goal
 
 abbrev pub invariant-loop-row : goal.invariant-loop-row

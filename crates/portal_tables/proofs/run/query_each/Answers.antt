@@ -1,5 +1,7 @@
-use Rattle.portal_tables.proofs.Base.{◌≡◌, [], rules, refl, sym, ap, subst, ◌∙◌, Ok, Err, option_copied, Memory, Advances, bound, given_begin, HasGiven, ShowsAs, ReadsEach}
-use Rattle.portal_tables.proofs.Decoded.{leaves_refused, leaves_stopped, leaves_way, begun, goes_on, broken, refused_row, all_read, ended, one_more}
+use Rattle.portal_tables.proofs.Base.{◌≡◌, [], rules, refl, sym, ap, subst, ◌∙◌, Ok, Err, option_copied, Memory}
+use Rattle.portal_tables.proofs.Base.{Advances, bound, given_begin, HasGiven, ShowsAs, ReadsEach}
+use Rattle.portal_tables.proofs.Decoded.{leaves_refused, leaves_stopped, leaves_way, begun, goes_on, broken}
+use Rattle.portal_tables.proofs.Decoded.{refused_row, all_read, ended, one_more}
 use Rattle.portal_tables.proofs.run.query_each.Goals as goal
 
 pub returns-in_err-rows : goal.returns-in_err-rows

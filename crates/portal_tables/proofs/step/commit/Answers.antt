@@ -1,4 +1,5 @@
-use Rattle.portal_tables.proofs.Base.{◌≡◌, rules, arith, IsTrue, subst, HasCleanDisk, Survives, Held, state, Commits, IsAfter, Stays}
+use Rattle.portal_tables.proofs.Base.{◌≡◌, rules, arith, IsTrue, subst, HasCleanDisk, Survives, Held, state, Commits}
+use Rattle.portal_tables.proofs.Base.{IsAfter, Stays}
 use Rattle.portal_tables.proofs.Queries.{on_err}
 use Rattle.portal_tables.proofs.Runs.{ended_well, ended_crash, ended_badly}
 use Rattle.portal_tables.proofs.step.commit.Goals as goal

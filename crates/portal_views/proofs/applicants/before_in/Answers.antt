@@ -1,5 +1,6 @@
 use Rattle.std.proofs.Common.{rules}
-use Rattle.portal_views.proofs.Base.{◌∙◌, Second, ap, persons_at, reads_both, reads_handed, reads_more, reads_open, reads_short}
+use Rattle.portal_views.proofs.Base.{◌∙◌, Second, ap, persons_at, reads_both, reads_handed, reads_more, reads_open}
+use Rattle.portal_views.proofs.Base.{reads_short}
 use Rattle.portal_views.proofs.ToldLines.{of_first}
 use Rattle.portal_views.proofs.applicants.before_in.Goals as goal
 

@@ -1,4 +1,6 @@
-use Rattle.portal_views.proofs.Base.{◌∙◌, ◌++◌, ◌∷◌, ◌≡◌, ApplicantLine, List, Person, [], ap, applicants_told, lines_shown, map, map-append, next_item, placed_at_shown, placed_told, reads_handed, reads_more, reads_short, reads_then, state, sym, take, ◌+◌}
+use Rattle.portal_views.proofs.Base.{◌∙◌, ◌++◌, ◌∷◌, ◌≡◌, ApplicantLine, List, Person, [], ap, applicants_told}
+use Rattle.portal_views.proofs.Base.{lines_shown, map, map-append, next_item, placed_at_shown, placed_told}
+use Rattle.portal_views.proofs.Base.{reads_handed, reads_more, reads_short, reads_then, state, sym, take, ◌+◌}
 use Rattle.portal_views.proofs.applicants.project_students.Goals as goal
 
 pub returns-in_err-lines : goal.returns-in_err-lines

@@ -1,4 +1,5 @@
-use Rattle.portal_views.proofs.Base.{◌∙◌, Global, Listing, Vec, ap, ap₂, first_pairs, offered_in, reads_handed, reads_more, reads_short, reads_then, state}
+use Rattle.portal_views.proofs.Base.{◌∙◌, Global, Listing, Vec, ap, ap₂, first_pairs, offered_in, reads_handed}
+use Rattle.portal_views.proofs.Base.{reads_more, reads_short, reads_then, state}
 use Rattle.portal_views.proofs.catalogue.catalogue_in.Goals as goal
 
 pub returns-in_err-listings : goal.returns-in_err-listings

@@ -1,4 +1,5 @@
-use Rattle.portal_views.proofs.Base.{◌∙◌, Second, ap, map-id, offered, offered_in, reads_handed, reads_more, reads_open, reads_self, reads_short}
+use Rattle.portal_views.proofs.Base.{◌∙◌, Second, ap, map-id, offered, offered_in, reads_handed, reads_more, reads_open}
+use Rattle.portal_views.proofs.Base.{reads_self, reads_short}
 use Rattle.portal_views.proofs.catalogue.listings_in.Goals as goal
 
 pub returns-in_ok-listings_of-in-First : goal.returns-in_ok-listings_of-in-First

@@ -1,4 +1,5 @@
-use Rattle.portal_views.proofs.Base.{◌∙◌, AllByRecursion, IsLecturer, ap, Err, map, reads_handed, reads_more, reads_open, reads_then, shown_lecturer, shown_project, subst, sym, IsProject}
+use Rattle.portal_views.proofs.Base.{◌∙◌, AllByRecursion, IsLecturer, ap, Err, map, reads_handed, reads_more}
+use Rattle.portal_views.proofs.Base.{reads_open, reads_then, shown_lecturer, shown_project, subst, sym, IsProject}
 use Rattle.portal_views.proofs.Turns.{reads_rejected}
 use Rattle.portal_views.proofs.catalogue.offers_in.Goals as goal
 

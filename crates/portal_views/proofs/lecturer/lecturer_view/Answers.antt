@@ -1,4 +1,6 @@
-use Rattle.portal_views.proofs.Base.{◌∙◌, ◌≡◌, Global, Err, Listing, Vec, ap, applicants_told, lecturer_shown, own_keys_shown, placed_told, reads_handed, reads_more, reads_of, reads_then, reads_then_of, state, subst, sym, HasOwnKeys}
+use Rattle.portal_views.proofs.Base.{◌∙◌, ◌≡◌, Global, Err, Listing, Vec, ap, applicants_told, lecturer_shown}
+use Rattle.portal_views.proofs.Base.{own_keys_shown, placed_told, reads_handed, reads_more, reads_of, reads_then}
+use Rattle.portal_views.proofs.Base.{reads_then_of, state, subst, sym, HasOwnKeys}
 use Rattle.portal_views.proofs.Turns.{reads_rejected}
 use Rattle.portal_views.proofs.lecturer.lecturer_view.Goals as goal
 

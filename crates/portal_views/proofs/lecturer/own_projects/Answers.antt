@@ -1,4 +1,6 @@
-use Rattle.portal_views.proofs.Base.{◌∙◌, ◌≡◌, AllByRecursion, IfOk-weaker, List, Listing, Row, all_unmap, ap, first_cell, is_key, judged, map, own_listed, reads_handed, reads_more, reads_open, reads_self, state, subst, sym, true}
+use Rattle.portal_views.proofs.Base.{◌∙◌, ◌≡◌, AllByRecursion, IfOk-weaker, List, Listing, Row, all_unmap, ap}
+use Rattle.portal_views.proofs.Base.{first_cell, is_key, judged, map, own_listed, reads_handed, reads_more, reads_open}
+use Rattle.portal_views.proofs.Base.{reads_self, state, subst, sym, true}
 use Rattle.portal_views.proofs.Turns.{reads_first}
 use Rattle.portal_views.proofs.RisingKeys.{own_rise}
 use Rattle.portal_views.proofs.OwnProjects.{listed_are, own_found}

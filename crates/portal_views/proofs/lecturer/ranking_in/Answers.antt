@@ -1,4 +1,5 @@
-use Rattle.portal_views.proofs.Base.{◌∙◌, ◌≡◌, Bool, Key, List, None, Option, Some, ap, cond, false, has_list, option_map, ranking_table, reads_handed, reads_more, refl, state, true}
+use Rattle.portal_views.proofs.Base.{◌∙◌, ◌≡◌, Bool, Key, List, None, Option, Some, ap, cond, false, has_list}
+use Rattle.portal_views.proofs.Base.{option_map, ranking_table, reads_handed, reads_more, refl, state, true}
 use Rattle.portal_views.proofs.Turns.{reads_moved}
 use Rattle.portal_views.proofs.lecturer.ranking_in.Goals as goal
 

@@ -1,4 +1,5 @@
-use Rattle.portal_views.proofs.Base.{◌∙◌, Err, MatchResult-weaker, Some, ap, reads_as, reads_handed, reads_then_of, state}
+use Rattle.portal_views.proofs.Base.{◌∙◌, Err, MatchResult-weaker, Some, ap, reads_as, reads_handed, reads_then_of}
+use Rattle.portal_views.proofs.Base.{state}
 use Rattle.portal_views.proofs.Turns.{reads_first, reads_rejected}
 use Rattle.portal_views.proofs.LineRows.{line_told}
 use Rattle.portal_views.proofs.ToldLines.{told_fine, lines_once, line_row}

@@ -1,4 +1,5 @@
-use Rattle.portal_views.proofs.Base.{◌∙◌, HasSecondPlace, reads_handed, reads_more, reads_open, rules, state, subst, sym}
+use Rattle.portal_views.proofs.Base.{◌∙◌, HasSecondPlace, reads_handed, reads_more, reads_open, rules, state, subst}
+use Rattle.portal_views.proofs.Base.{sym}
 use Rattle.portal_views.proofs.lines.line_of_round.Goals as goal
 
 pub returns-in_err-placed-in-Second : goal.returns-in_err-placed-in-Second

@@ -1,4 +1,5 @@
-use Rattle.portal_views.proofs.Base.{◌∙◌, IsStudentKey, ap, applicant_at, arith, at_item, common_steps, first_cell, reads_handed, reads_more, reads_open, reads_short, reads_then, state, subst, sym}
+use Rattle.portal_views.proofs.Base.{◌∙◌, IsStudentKey, ap, applicant_at, arith, at_item, common_steps, first_cell}
+use Rattle.portal_views.proofs.Base.{reads_handed, reads_more, reads_open, reads_short, reads_then, state, subst, sym}
 use Rattle.portal_views.proofs.lines.lines_each.Goals as goal
 
 pub returns-in_err-line_in : goal.returns-in_err-line_in

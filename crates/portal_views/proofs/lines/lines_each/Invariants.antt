@@ -1,4 +1,5 @@
-use Rattle.portal_views.proofs.Base.{◌≡◌, Gives, HasTables, MayRead, Ok, Some, TableFault, applicant_at, first_cell, map, take}
+use Rattle.portal_views.proofs.Base.{◌≡◌, Gives, HasTables, MayRead, Ok, Some, TableFault, applicant_at, first_cell}
+use Rattle.portal_views.proofs.Base.{map, take}
 use Rattle.portal_views.proofs.lines.lines_each.Given as goal
 
 abbrev pub invariant-loop-row : goal.invariant-loop-row

@@ -1,4 +1,6 @@
-use Rattle.portal_views.proofs.Base.{◌∙◌, ◌∷◌, AllByRecursion, IsStudentKey, List, ListsBy, MatchResult-weaker, Row, [], all_unmap, ap, applicant_at, choice_table, columns, first_cell, has_text, map, reads_as, reads_handed, reads_then, state, subst, sym, tree_of}
+use Rattle.portal_views.proofs.Base.{◌∙◌, ◌∷◌, AllByRecursion, IsStudentKey, List, ListsBy, MatchResult-weaker, Row, []}
+use Rattle.portal_views.proofs.Base.{all_unmap, ap, applicant_at, choice_table, columns, first_cell, has_text, map}
+use Rattle.portal_views.proofs.Base.{reads_as, reads_handed, reads_then, state, subst, sym, tree_of}
 use Rattle.portal_views.proofs.Turns.{reads_any}
 use Rattle.portal_views.proofs.Choosers.{choosers_known}
 use Rattle.portal_views.proofs.LineRows.{lines_are}

@@ -1,4 +1,6 @@
-use Rattle.portal_views.proofs.Base.{◌∙◌, Bool, List, Row, arith, at_drop_all, common_steps, first_cell, is_wanted_shown, map, reads_handed, reads_more, reads_then, shown_project, state, sym}
+use Rattle.portal_views.proofs.Base.{◌∙◌, Bool, List, Row, arith, at_drop_all, common_steps, first_cell}
+use Rattle.portal_views.proofs.Base.{is_wanted_shown, map, reads_handed, reads_more, reads_then, shown_project, state}
+use Rattle.portal_views.proofs.Base.{sym}
 use Rattle.portal_views.proofs.missing.has_applicant.Goals as goal
 
 pub returns-in_err-is_chosen_in-clause-reads : goal.returns-in_err-is_chosen_in-clause-reads

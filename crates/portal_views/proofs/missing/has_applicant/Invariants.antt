@@ -1,4 +1,5 @@
-use Rattle.portal_views.proofs.Base.{◌≡◌, Gives, HasWholeLists, MayRead, Ok, TableFault, drop, false, first_cell, is_wanted_shown, map, shown_project}
+use Rattle.portal_views.proofs.Base.{◌≡◌, Gives, HasWholeLists, MayRead, Ok, TableFault, drop, false, first_cell}
+use Rattle.portal_views.proofs.Base.{is_wanted_shown, map, shown_project}
 use Rattle.portal_views.proofs.missing.has_applicant.Given as goal
 
 abbrev pub invariant-loop-project : goal.invariant-loop-project

@@ -1,4 +1,6 @@
-use Rattle.portal_views.proofs.Base.{◌∙◌, ◌&&◌, ◌∷◌, ◌≡◌, Key, ListsBy, [], ap, choice_table, columns, equals, first_cell, has_text, is_chosen_shown, reads_more, reads_open, rules, shown_project, state, subst, sym, tree_of, true, FindsAny}
+use Rattle.portal_views.proofs.Base.{◌∙◌, ◌&&◌, ◌∷◌, ◌≡◌, Key, ListsBy, [], ap, choice_table, columns, equals}
+use Rattle.portal_views.proofs.Base.{first_cell, has_text, is_chosen_shown, reads_more, reads_open, rules}
+use Rattle.portal_views.proofs.Base.{shown_project, state, subst, sym, tree_of, true, FindsAny}
 use Rattle.portal_views.proofs.Turns.{reads_any}
 use Rattle.portal_views.proofs.OfficeLists.{some_chooser}
 use Rattle.portal_views.proofs.missing.is_chosen_in.Goals as goal

@@ -1,5 +1,6 @@
 use Rattle.std.proofs.Common.{get_or, ◌<◌}
-use Rattle.portal_views.proofs.Base.{◌∙◌, ap, length, map, next_given, reads_handed, reads_more, reads_short, reads_then, shown_project, state, subst, waiting_key}
+use Rattle.portal_views.proofs.Base.{◌∙◌, ap, length, map, next_given, reads_handed, reads_more, reads_short}
+use Rattle.portal_views.proofs.Base.{reads_then, shown_project, state, subst, waiting_key}
 use Rattle.portal_views.proofs.missing.still_to_rank.Goals as goal
 
 pub returns-in_err-key-clause-reads : goal.returns-in_err-key-clause-reads

@@ -1,4 +1,5 @@
-use Rattle.portal_views.proofs.Base.{◌≡◌, Gives, HasWholeLists, MayRead, Ok, TableFault, map, shown_project, take, waiting_keys}
+use Rattle.portal_views.proofs.Base.{◌≡◌, Gives, HasWholeLists, MayRead, Ok, TableFault, map, shown_project, take}
+use Rattle.portal_views.proofs.Base.{waiting_keys}
 use Rattle.portal_views.proofs.missing.still_to_rank.Given as goal
 
 abbrev pub invariant-loop-lecturer : goal.invariant-loop-lecturer

@@ -1,4 +1,6 @@
-use Rattle.portal_views.proofs.Base.{◌∙◌, if◌then◌else◌, ◌≡◌, Bool, IfOk-weaker, List, None, ProjectRow, Round, Row, Some, Trees, ap, cond, false, first_cell, has_list, is_wanted_shown, ranking_table, reads_as, reads_handed, reads_more, reads_then, true, waiting_key}
+use Rattle.portal_views.proofs.Base.{◌∙◌, if◌then◌else◌, ◌≡◌, Bool, IfOk-weaker, List, None, ProjectRow, Round, Row}
+use Rattle.portal_views.proofs.Base.{Some, Trees, ap, cond, false, first_cell, has_list, is_wanted_shown, ranking_table}
+use Rattle.portal_views.proofs.Base.{reads_as, reads_handed, reads_more, reads_then, true, waiting_key}
 use Rattle.portal_views.proofs.Turns.{reads_moved}
 use Rattle.portal_views.proofs.OfficeLists.{reads_whole}
 use Rattle.portal_views.proofs.missing.waiting_in.Goals as goal

@@ -1,4 +1,5 @@
-use Rattle.portal_views.proofs.Base.{◌∙◌, ◌∷◌, IfOk-weaker, ListsBy, [], choice_table, columns, has_number, judged, reads_handed, reads_more, state, subst, sym, tree_of}
+use Rattle.portal_views.proofs.Base.{◌∙◌, ◌∷◌, IfOk-weaker, ListsBy, [], choice_table, columns, has_number, judged}
+use Rattle.portal_views.proofs.Base.{reads_handed, reads_more, state, subst, sym, tree_of}
 use Rattle.portal_views.proofs.Turns.{reads_any}
 use Rattle.portal_views.proofs.RisingKeys.{listed_rise}
 use Rattle.portal_views.proofs.OfficeLists.{unlisted_are}

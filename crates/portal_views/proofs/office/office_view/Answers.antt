@@ -1,4 +1,8 @@
-use Rattle.portal_views.proofs.Base.{◌∙◌, AreReadable, Database, Err, HasFirstPlace, HasKey, HasPlacement, HasPlacementAsked, IfOk-weaker, IsLecturer, IsStudent, Lecturers, Projects, Round, Some, Students, all_two, all_weaker, ap, judged, office_sees_with, reads_handed, reads_more, reads_open, reads_then, shown_lecturer, shown_student, state, subst₃, sym}
+use Rattle.portal_views.proofs.Base.{◌∙◌, AreReadable, Database, Err, HasFirstPlace, HasKey, HasPlacement}
+use Rattle.portal_views.proofs.Base.{HasPlacementAsked, IfOk-weaker, IsLecturer, IsStudent, Lecturers, Projects, Round}
+use Rattle.portal_views.proofs.Base.{Some, Students, all_two, all_weaker, ap, judged, office_sees_with, reads_handed}
+use Rattle.portal_views.proofs.Base.{reads_more, reads_open, reads_then, shown_lecturer, shown_student, state, subst₃}
+use Rattle.portal_views.proofs.Base.{sym}
 use Rattle.portal_tables.specs.declared.sorted_rolls.Rolls.{Rolls}
 use Rattle.portal_tables.specs.inner.Rolls.{AreRolls}
 use Rattle.portal_views.specs.inner.Office.{IsReadableByOffice}

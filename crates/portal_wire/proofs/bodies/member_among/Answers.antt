@@ -1,4 +1,6 @@
-use Rattle.portal_wire.proofs.Base.{rules, ◌≡◌, List, [], ◌∷◌, length, map, refl, ◌∙◌, ap, arith, sym, String, ne_eqb, Global, object, view, members_view, Value, the_lemmas, eq-eqb, length-map, Data, members_of, members_len}
+use Rattle.portal_wire.proofs.Base.{rules, ◌≡◌, List, [], ◌∷◌, length, map, refl, ◌∙◌, ap, arith, sym, String, ne_eqb}
+use Rattle.portal_wire.proofs.Base.{Global, object, view, members_view, Value, the_lemmas, eq-eqb, length-map, Data}
+use Rattle.portal_wire.proofs.Base.{members_of, members_len}
 use Rattle.portal_wire.proofs.bodies.member_among.Goals as goal
 
 members_len_of : (ms : List (String Global × Data)) → members_len (members_of ms) ≡ length ms

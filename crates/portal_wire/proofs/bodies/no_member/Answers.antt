@@ -1,4 +1,5 @@
-use Rattle.portal_wire.proofs.Base.{rules, ◌≡◌, ℕ, List, [], ◌∷◌, length, refl, ◌∙◌, ap, String, None, Global, object, view, members_view, Value, the_lemmas, empty_object}
+use Rattle.portal_wire.proofs.Base.{rules, ◌≡◌, ℕ, List, [], ◌∷◌, length, refl, ◌∙◌, ap, String, None, Global, object}
+use Rattle.portal_wire.proofs.Base.{view, members_view, Value, the_lemmas, empty_object}
 use Rattle.portal_wire.proofs.bodies.no_member.Goals as goal
 
 some_member : (ms : List (String Global × Value)) (n : ℕ) → n ≡ length ms → (n ≡ 0 → ⊥) → empty_object (object (members_view ms)) ≡ None

@@ -1,4 +1,5 @@
-use Rattle.portal_wire.proofs.Base.{◌≡◌, ℕ, false, List, refl, sym, ap, ◌∙◌, codes, Option, Some, None, bytes_eq, bytes_decides, IfSome, IfNone, phase_of}
+use Rattle.portal_wire.proofs.Base.{◌≡◌, ℕ, false, List, refl, sym, ap, ◌∙◌, codes, Option, Some, None, bytes_eq}
+use Rattle.portal_wire.proofs.Base.{bytes_decides, IfSome, IfNone, phase_of}
 use Rattle.std.proofs.lemmas.Bool.{false_from_ne_true}
 use Rattle.portal_rules.specs.World.{phase_word}
 use Rattle.portal_rules.specs.declared.phase.Phase.{Phase}

@@ -1,4 +1,5 @@
-use Rattle.portal_words.proofs.Base.{◌∙◌, ap, map, subst, sym, IfErr-weaker, IfOk-weaker, App, is_simple, subcommand_of, takes, MeetsFile}
+use Rattle.portal_words.proofs.Base.{◌∙◌, ap, map, subst, sym, IfErr-weaker, IfOk-weaker, App, is_simple, subcommand_of}
+use Rattle.portal_words.proofs.Base.{takes, MeetsFile}
 use Rattle.portal_words.proofs.Known.{is_met, simple, taken}
 use Rattle.portal_words.proofs.command.parsed.Goals as goal
 

@@ -1,5 +1,6 @@
 use Rattle.std.proofs.Common.{rules}
-use Rattle.spa_check.proofs.Base.{◌≡◌, ◌⊎◌, arith, get_or, IsWith, SomeWorseWith, ranking_of, at_lecturer, Group, IsGroup, ltb-true, limit_of}
+use Rattle.spa_check.proofs.Base.{◌≡◌, ◌⊎◌, arith, get_or, IsWith, SomeWorseWith, ranking_of, at_lecturer, Group}
+use Rattle.spa_check.proofs.Base.{IsGroup, ltb-true, limit_of}
 use Rattle.spa_check.proofs.Grouping.{worse_with}
 use Rattle.spa_check.proofs.blocking.letter_of.Goals as goal
 use Rattle.spa_check.proofs.blocking.letter_of.Goals.{then-is_with, else-is_with}

@@ -1,4 +1,5 @@
-use Rattle.spa_check.proofs.Base.{◌≡◌, inl, inr, get_or, sym, ◌∙◌, refl, arith, Contains, cases_lt, get_or_default, Wants, Contains-get_or}
+use Rattle.spa_check.proofs.Base.{◌≡◌, inl, inr, get_or, sym, ◌∙◌, refl, arith, Contains, cases_lt, get_or_default}
+use Rattle.spa_check.proofs.Base.{Wants, Contains-get_or}
 use Rattle.spa_model.proofs.OneOnly.{blocks_wants}
 use Rattle.spa_check.proofs.Listing.{none_blocks}
 use Rattle.spa_check.proofs.stable.is_content.Goals as goal

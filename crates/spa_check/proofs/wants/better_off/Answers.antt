@@ -1,4 +1,5 @@
-use Rattle.spa_check.proofs.Base.{◌≡◌, inl, inr, arith, ℕ, ◌<◌, ◌≤◌, List, length, Option, None, Some, MatchOption, cases_lt, rules, Spa, project_of, IsBetterOff, IsFirstBetterOff}
+use Rattle.spa_check.proofs.Base.{◌≡◌, inl, inr, arith, ℕ, ◌<◌, ◌≤◌, List, length, Option, None, Some, MatchOption}
+use Rattle.spa_check.proofs.Base.{cases_lt, rules, Spa, project_of, IsBetterOff, IsFirstBetterOff}
 use Rattle.std.proofs.Math.ListN.{get_or-eq_default}
 use Rattle.std.proofs.lemmas.Iterator.{first_from_Range}
 use Rattle.spa_check.proofs.wants.better_off.Goals as goal

@@ -1,4 +1,7 @@
-use Rattle.spa_model.proofs.Base.{List, refl, Rows, IsLeastOf, HasNoneBefore, HasFault, IsRefusal, NotApplicant, ApplicantMissing, Memory, handed_on, AllZip, AllZip-long, AreNumbers, HaveNumbers, project_keys, student_keys, length-map, Student, Project, Ok, Err, refuse_ok, refuse_err, rows_of}
+use Rattle.spa_model.proofs.Base.{List, refl, Rows, IsLeastOf, HasNoneBefore, HasFault, IsRefusal, NotApplicant}
+use Rattle.spa_model.proofs.Base.{ApplicantMissing, Memory, handed_on, AllZip, AllZip-long, AreNumbers, HaveNumbers}
+use Rattle.spa_model.proofs.Base.{project_keys, student_keys, length-map, Student, Project, Ok, Err, refuse_ok}
+use Rattle.spa_model.proofs.Base.{refuse_err, rows_of}
 use Rattle.spa_model.proofs.Good.{AreGood, are_good}
 use Rattle.spa_model.proofs.Numbered.{AreNumbered}
 use Rattle.spa_model.proofs.Numbered

@@ -1,4 +1,5 @@
-use Rattle.spa_model.proofs.Base.{on_ok_weaker, NoSuchStudent, NoSuchProject, NotAcceptable, StudentTwice, ProjectOver, LecturerOver, err_from_is_err_and, MatchResult-weaker}
+use Rattle.spa_model.proofs.Base.{on_ok_weaker, NoSuchStudent, NoSuchProject, NotAcceptable, StudentTwice, ProjectOver}
+use Rattle.spa_model.proofs.Base.{LecturerOver, err_from_is_err_and, MatchResult-weaker}
 use Rattle.spa_model.proofs.FirstFault.{none_below_one, none_below_more, first_fault, sound_pairs}
 use Rattle.spa_model.proofs.pairs.check_pairs.Goals as goal
 

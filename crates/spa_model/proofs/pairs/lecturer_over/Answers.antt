@@ -1,4 +1,7 @@
-use Rattle.spa_model.proofs.Base.{◌≡◌, ◌+◌, ◌<◌, eqb, map, set, get_or, sym, ap, length, take, arith, ◌∙◌, get_or_default, get_or-map, length-map, length-set, count_by, LecturerOver, length-take-le, count_by-le-length, lecturer_of, project_in, lecturer_in, rules, ltb-true, lt-ltb, least_step, least_all}
+use Rattle.spa_model.proofs.Base.{◌≡◌, ◌+◌, ◌<◌, eqb, map, set, get_or, sym, ap, length, take, arith, ◌∙◌}
+use Rattle.spa_model.proofs.Base.{get_or_default, get_or-map, length-map, length-set, count_by, LecturerOver}
+use Rattle.spa_model.proofs.Base.{length-take-le, count_by-le-length, lecturer_of, project_in, lecturer_in, rules}
+use Rattle.spa_model.proofs.Base.{ltb-true, lt-ltb, least_step, least_all}
 use Rattle.spa_model.proofs.PairFaults.{IsBadPair, AreCounts, number_at, counts_more, count_pairs, lecturers_are}
 use Rattle.spa_model.proofs.pairs.lecturer_over.Goals as goal
 

@@ -1,4 +1,5 @@
-use Rattle.spa_model.proofs.Base.{◌≡◌, get_or, sym, ◌∙◌, ap, arith, NoSuchProject, project_in, HasPairFault, IsLeastOf, least_step, least_all}
+use Rattle.spa_model.proofs.Base.{◌≡◌, get_or, sym, ◌∙◌, ap, arith, NoSuchProject, project_in, HasPairFault, IsLeastOf}
+use Rattle.spa_model.proofs.Base.{least_step, least_all}
 use Rattle.spa_model.proofs.PairFaults.{IsBadPair, number_at, past_number, projects_below, if_none}
 use Rattle.spa_model.proofs.pairs.no_such_project.Goals as goal
 

@@ -1,4 +1,5 @@
-use Rattle.spa_model.proofs.Base.{◌≡◌, get_or, sym, ap, arith, NotAcceptable, student_in, project_in, length-map, least_step, least_all, rules}
+use Rattle.spa_model.proofs.Base.{◌≡◌, get_or, sym, ap, arith, NotAcceptable, student_in, project_in, length-map}
+use Rattle.spa_model.proofs.Base.{least_step, least_all, rules}
 use Rattle.spa_model.proofs.PairFaults.{IsBadPair, number_at}
 use Rattle.spa_rows.proofs.Deciding.{not_iff}
 use Rattle.spa_model.proofs.pairs.not_acceptable.Goals as goal

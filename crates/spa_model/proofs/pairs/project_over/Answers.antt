@@ -1,4 +1,6 @@
-use Rattle.spa_model.proofs.Base.{◌≡◌, ◌+◌, ◌<◌, eqb, set, get_or, sym, ap, length, take, arith, refl, ◌∙◌, get_or_default, length-map, length-set, count_by, ProjectOver, length-take-le, count_by-le-length, project_in, rules, ltb-true, lt-ltb, least_step, least_all}
+use Rattle.spa_model.proofs.Base.{◌≡◌, ◌+◌, ◌<◌, eqb, set, get_or, sym, ap, length, take, arith, refl, ◌∙◌}
+use Rattle.spa_model.proofs.Base.{get_or_default, length-map, length-set, count_by, ProjectOver, length-take-le}
+use Rattle.spa_model.proofs.Base.{count_by-le-length, project_in, rules, ltb-true, lt-ltb, least_step, least_all}
 use Rattle.spa_model.proofs.PairFaults.{IsBadPair, AreCounts, number_at, counts_more, count_pairs}
 use Rattle.spa_model.proofs.pairs.project_over.Goals as goal
 

@@ -1,4 +1,5 @@
-use Rattle.spa_model.proofs.Base.{◌≡◌, ◌<◌, true, false, get_or, sym, ap, length, arith, refl, ◌∙◌, get_or_default, length-map, length-set, StudentTwice, student_in, least_step, least_all, rules}
+use Rattle.spa_model.proofs.Base.{◌≡◌, ◌<◌, true, false, get_or, sym, ap, length, arith, refl, ◌∙◌, get_or_default}
+use Rattle.spa_model.proofs.Base.{length-map, length-set, StudentTwice, student_in, least_step, least_all, rules}
 use Rattle.spa_model.proofs.PairFaults.{IsBadPair, number_at, stands_before, stood_before, marks_more}
 use Rattle.spa_model.proofs.pairs.student_twice.Goals as goal
 

@@ -1,4 +1,5 @@
-use Rattle.spa_rows.proofs.Base.{Ok, Err, refl, HasNoneBefore, IsRefusal, TooMany, BadKey, KeyTwice, BadCapacity, NoSuchLecturer}
+use Rattle.spa_rows.proofs.Base.{Ok, Err, refl, HasNoneBefore, IsRefusal, TooMany, BadKey, KeyTwice, BadCapacity}
+use Rattle.spa_rows.proofs.Base.{NoSuchLecturer}
 use Rattle.spa_rows.proofs.FirstFault.{refuse_ok, refuse_err, none_before_first, handed_on}
 use Rattle.spa_rows.proofs.checks.check_lines.Goals as goal
 

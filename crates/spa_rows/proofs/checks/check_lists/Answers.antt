@@ -1,4 +1,5 @@
-use Rattle.spa_rows.proofs.Base.{Ok, Err, refl, HasNoneBefore, IsRefusal, NoSuchLecturer, NoSuchProject, RepeatInList, ListTooLong, NotApplicant}
+use Rattle.spa_rows.proofs.Base.{Ok, Err, refl, HasNoneBefore, IsRefusal, NoSuchLecturer, NoSuchProject, RepeatInList}
+use Rattle.spa_rows.proofs.Base.{ListTooLong, NotApplicant}
 use Rattle.spa_rows.proofs.FirstFault.{refuse_ok, refuse_err, handed_on}
 use Rattle.spa_rows.proofs.checks.check_lists.Goals as goal
 

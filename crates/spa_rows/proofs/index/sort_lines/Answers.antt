@@ -1,4 +1,5 @@
-use Rattle.spa_rows.proofs.Base.{◌≡◌, nat_cmp, slice_cmp, nat_list_cmp_total, IsSortedByKey, rules, is_lt, ranks_by, answers_always}
+use Rattle.spa_rows.proofs.Base.{◌≡◌, nat_cmp, slice_cmp, nat_list_cmp_total, IsSortedByKey, rules, is_lt, ranks_by}
+use Rattle.spa_rows.proofs.Base.{answers_always}
 use Rattle.std.proofs.lemmas.Result.{on_ok_weaker}
 use Rattle.spa_rows.proofs.index.sort_lines.Goals as goal
 

@@ -2,7 +2,8 @@ use Rattle.portal_desk.proofs.Base.{◌∙◌, refl, rules, sym, seen}
 use Rattle.portal_desk.proofs.Failing.{calm_before}
 use Rattle.portal_desk.proofs.Sent.{broke_store, broke_unread}
 use Rattle.portal_desk.proofs.Taking.{none_taken, follows_taken, missed_taken, ended_taken, cut_taken, cut_held}
-use Rattle.portal_desk.proofs.Telling.{so_far_none, missed, end_known, bad_known, cut_known, closes_known, more_known, broke_known, goes_on, still_failed}
+use Rattle.portal_desk.proofs.Telling.{so_far_none, missed, end_known, bad_known, cut_known, closes_known, more_known}
+use Rattle.portal_desk.proofs.Telling.{broke_known, goes_on, still_failed}
 use Rattle.portal_desk.proofs.Moving.{worked_none, worked_more}
 use Rattle.portal_desk.proofs.desk.Desk.serve.Goals as goal
 

@@ -1,4 +1,5 @@
-use Rattle.portal_list.proofs.Base.{◌≡◌, false, get_or, length, subst, sym, ap, ◌∙◌, arith, ◌||◌, or-false, is_among, is_noted_in, IsIndexOf, length-replicate, with_items_is}
+use Rattle.portal_list.proofs.Base.{◌≡◌, false, get_or, length, subst, sym, ap, ◌∙◌, arith, ◌||◌, or-false, is_among}
+use Rattle.portal_list.proofs.Base.{is_noted_in, IsIndexOf, length-replicate, with_items_is}
 use Rattle.portal_list.proofs.Noted.{passes_never, wanted_more, none_marked}
 use Rattle.portal_list.proofs.applicant_index.ApplicantIndex.marks.Goals as goal
 use Rattle.portal_list.proofs.applicant_index.ApplicantIndex.marks.Goals.{in-Some, in_default}

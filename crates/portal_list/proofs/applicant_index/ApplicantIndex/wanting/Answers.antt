@@ -1,4 +1,5 @@
-use Rattle.portal_list.proofs.Base.{◌≡◌, ◌<◌, false, [], ◌∷◌, ◌++◌, List, Bool, map, length, get_or, subst, sym, ◌∙◌, ap, arith, list_any, map_push, get_or_default, Key, has, Student, student_key}
+use Rattle.portal_list.proofs.Base.{◌≡◌, ◌<◌, false, [], ◌∷◌, ◌++◌, List, Bool, map, length, get_or, subst, sym, ◌∙◌}
+use Rattle.portal_list.proofs.Base.{ap, arith, list_any, map_push, get_or_default, Key, has, Student, student_key}
 use Rattle.portal_list.proofs.Noted.{passes_here}
 use Rattle.portal_rules.proofs.Growing.{kept_more, left_more}
 use Rattle.portal_list.proofs.applicant_index.ApplicantIndex.wanting.Goals as goal

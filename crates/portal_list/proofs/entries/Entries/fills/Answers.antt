@@ -1,4 +1,5 @@
-use Rattle.portal_list.proofs.Base.{◌≡◌, List, map, filter, Key, Lecturer, is_waiting, applicant_keys, World, rules, fill_missing}
+use Rattle.portal_list.proofs.Base.{◌≡◌, List, map, filter, Key, Lecturer, is_waiting, applicant_keys, World, rules}
+use Rattle.portal_list.proofs.Base.{fill_missing}
 use Rattle.portal_list.proofs.Rising.{map_map}
 use Rattle.portal_list.proofs.Parted.{applicants_are}
 use Rattle.portal_list.proofs.Waiting.{waiting_lecturers}

@@ -1,4 +1,6 @@
-use Rattle.portal_list.proofs.Base.{◌≡◌, sym, ◌∙◌, ap, IfOk-weaker, Second, AllEntries, false, AllByRecursion, World, is_still_to_rank, instance, instance_of, Sound, all_weaker, HasEntries, all_played, rules, alone, all_map, left_of, second_plays}
+use Rattle.portal_list.proofs.Base.{◌≡◌, sym, ◌∙◌, ap, IfOk-weaker, Second, AllEntries, false, AllByRecursion, World}
+use Rattle.portal_list.proofs.Base.{is_still_to_rank, instance, instance_of, Sound, all_weaker, HasEntries, all_played}
+use Rattle.portal_list.proofs.Base.{rules, alone, all_map, left_of, second_plays}
 use Rattle.portal_rules.proofs.InRound.{all_filter}
 use Rattle.portal_rules.proofs.Alone.{alone_sound, still_alone, rows_alone}
 use Rattle.portal_list.proofs.entries.Entries.instance.Goals as goal

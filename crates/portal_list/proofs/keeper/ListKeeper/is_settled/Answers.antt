@@ -1,4 +1,6 @@
-use Rattle.portal_list.proofs.Base.{◌≡◌, true, map, rules, sym, ap, ◌∙◌, filter, option_map, number_in, World, is_published, instance, AllEntries, entries_in, takes_part, ◌↔◌, ℕ, Bool, IsTrue, Option, List, subst₂, Spa, Student, IsStable, matching_of, IsStableIfPublished}
+use Rattle.portal_list.proofs.Base.{◌≡◌, true, map, rules, sym, ap, ◌∙◌, filter, option_map, number_in, World}
+use Rattle.portal_list.proofs.Base.{is_published, instance, AllEntries, entries_in, takes_part, ◌↔◌, ℕ, Bool, IsTrue}
+use Rattle.portal_list.proofs.Base.{Option, List, subst₂, Spa, Student, IsStable, matching_of, IsStableIfPublished}
 use Rattle.portal_list.proofs.Plays.{part_is}
 use Rattle.portal_list.proofs.keeper.ListKeeper.is_settled.Goals as goal
 

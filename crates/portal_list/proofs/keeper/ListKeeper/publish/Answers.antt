@@ -1,4 +1,5 @@
-use Rattle.portal_list.proofs.Base.{◌≡◌, catalogue_in, List, [], map, Setup, Key, with_place, AllEntries, world_with, rules, catalogue_placed}
+use Rattle.portal_list.proofs.Base.{◌≡◌, catalogue_in, List, [], map, Setup, Key, with_place, AllEntries, world_with}
+use Rattle.portal_list.proofs.Base.{rules, catalogue_placed}
 use Rattle.portal_list.proofs.keeper.ListKeeper.publish.Goals as goal
 
 -- A result leaves the catalogue of a round as it was.

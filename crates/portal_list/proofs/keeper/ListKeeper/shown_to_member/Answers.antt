@@ -1,4 +1,5 @@
-use Rattle.portal_list.proofs.Base.{◌≡◌, ap, ◌∙◌, Some, None, find, equals, Lecturer, Student, AllEntries, entries_in, lecturer_with, student_with, caller_among, sight_of}
+use Rattle.portal_list.proofs.Base.{◌≡◌, ap, ◌∙◌, Some, None, find, equals, Lecturer, Student, AllEntries, entries_in}
+use Rattle.portal_list.proofs.Base.{lecturer_with, student_with, caller_among, sight_of}
 use Rattle.portal_rules.specs.declared.view.View.TheVariants as views
 use Rattle.portal_list.proofs.keeper.ListKeeper.shown_to_member.Goals as goal
 

@@ -1,4 +1,5 @@
-use Rattle.portal_rules.proofs.Base.{◌≡◌, sym, ap, subst, Option, Some, None, IfSome, Change, Choices, Ranks, Students, Placements, Fill, changed, OfficeSees, catalogue, office_sees, World, change_model}
+use Rattle.portal_rules.proofs.Base.{◌≡◌, sym, ap, subst, Option, Some, None, IfSome, Change, Choices, Ranks, Students}
+use Rattle.portal_rules.proofs.Base.{Placements, Fill, changed, OfficeSees, catalogue, office_sees, World, change_model}
 use Rattle.portal_rules.proofs.Acts.{catalogue_chosen, catalogue_ranked, catalogue_joined, catalogue_placed}
 use Rattle.portal_rules.proofs.Fills.{catalogue_filled}
 use Rattle.portal_rules.specs.declared.view_cache.ViewCache.{ViewCache}

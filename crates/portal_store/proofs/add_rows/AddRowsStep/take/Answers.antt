@@ -1,4 +1,5 @@
-use Rattle.portal_store.proofs.Base.{sym, subst, subst₂, state, Round, Does, GoesOn, does_none, does_more, goes_nowhere, goes_more, with_rows_added, IsTransitionIn, NewRows}
+use Rattle.portal_store.proofs.Base.{sym, subst, subst₂, state, Round, Does, GoesOn, does_none, does_more, goes_nowhere}
+use Rattle.portal_store.proofs.Base.{goes_more, with_rows_added, IsTransitionIn, NewRows}
 use Rattle.portal_store.proofs.Adding.{lecturers_turn, projects_turn, students_turn, no_rows}
 use Rattle.portal_store.proofs.add_rows.AddRowsStep.take.Goals as goal
 

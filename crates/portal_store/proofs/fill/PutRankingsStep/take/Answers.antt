@@ -1,4 +1,5 @@
-use Rattle.portal_store.proofs.Base.{List, map, Ok, subst, arith, state, Key, Does, GoesOn, does_none, does_then, goes_nowhere, TurnsAll, TurnsThere, take_all}
+use Rattle.portal_store.proofs.Base.{List, map, Ok, subst, arith, state, Key, Does, GoesOn, does_none, does_then}
+use Rattle.portal_store.proofs.Base.{goes_nowhere, TurnsAll, TurnsThere, take_all}
 use Rattle.portal_store.proofs.FillTurns.{none_ranked, rankings_go_on}
 use Rattle.portal_store.proofs.fill.PutRankingsStep.take.Goals as goal
 

@@ -1,4 +1,6 @@
-use Rattle.portal_store.proofs.Base.{AreEntries, Commits, Good, IsAfter, IsCacheOf, IsCleanStore, IsCurrentSchema, IsTransition, IsTrue, OnOk, Seen, HasCleanDisk, Survives, change_model, kept_world, on_ok_weaker, rules, state, subst, survives_weaker, sym}
+use Rattle.portal_store.proofs.Base.{AreEntries, Commits, Good, IsAfter, IsCacheOf, IsCleanStore, IsCurrentSchema}
+use Rattle.portal_store.proofs.Base.{IsTransition, IsTrue, OnOk, Seen, HasCleanDisk, Survives, change_model, kept_world}
+use Rattle.portal_store.proofs.Base.{on_ok_weaker, rules, state, subst, survives_weaker, sym}
 use Rattle.portal_store.proofs.Ended.{ends_told}
 use Rattle.portal_store.proofs.Keeps.{change_call, change_follows, change_keeps, change_left, change_made, change_same}
 use Rattle.portal_store.proofs.keeper.StoreKeeper.apply.Goals as goal

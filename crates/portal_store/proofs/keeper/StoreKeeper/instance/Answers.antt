@@ -1,4 +1,5 @@
-use Rattle.portal_store.proofs.Base.{ap, sym, subst, ◌∙◌, Good, IsCacheOf, IfOk-weaker, IsCleanStore, kept_world, AreEntries, instance, rules}
+use Rattle.portal_store.proofs.Base.{ap, sym, subst, ◌∙◌, Good, IsCacheOf, IfOk-weaker, IsCleanStore, kept_world}
+use Rattle.portal_store.proofs.Base.{AreEntries, instance, rules}
 use Rattle.portal_store.proofs.Ended.{told_if}
 use Rattle.portal_store.proofs.Keeps.{read_by, when_ok}
 use Rattle.portal_store.proofs.keeper.StoreKeeper.instance.Goals as goal

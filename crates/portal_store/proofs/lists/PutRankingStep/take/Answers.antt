@@ -1,4 +1,5 @@
-use Rattle.portal_store.proofs.Base.{Ok, subst, ◌∙◌, ap, sym, Round, tree_of, PutsList, RanksSecond, Does, Made, GoesOn, does_then, ranking_table, TurnsThere}
+use Rattle.portal_store.proofs.Base.{Ok, subst, ◌∙◌, ap, sym, Round, tree_of, PutsList, RanksSecond, Does, Made, GoesOn}
+use Rattle.portal_store.proofs.Base.{does_then, ranking_table, TurnsThere}
 use Rattle.portal_tables.specs.inner.RowChanges.{Ranks}
 use Rattle.portal_store.proofs.RankTurns.{rank_made}
 use Rattle.portal_store.proofs.SecondRanks.{second_made}

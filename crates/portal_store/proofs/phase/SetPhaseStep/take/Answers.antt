@@ -1,4 +1,5 @@
-use Rattle.portal_store.proofs.Base.{sym, subst, Round, To, Does, GoesOn, does_more, made_more, made_goes, IsTransitionIn}
+use Rattle.portal_store.proofs.Base.{sym, subst, Round, To, Does, GoesOn, does_more, made_more, made_goes}
+use Rattle.portal_store.proofs.Base.{IsTransitionIn}
 use Rattle.portal_store.proofs.Holding.{phase_turns, second_turns}
 use Rattle.portal_store.proofs.phase.SetPhaseStep.take.Goals as goal
 

@@ -1,4 +1,5 @@
-use Rattle.portal_store.proofs.Base.{◌∙◌, AreEntries, IfOk-weaker, IsCacheOf, ap, kept_world, reads_both, rules, subst, sym}
+use Rattle.portal_store.proofs.Base.{◌∙◌, AreEntries, IfOk-weaker, IsCacheOf, ap, kept_world, reads_both, rules, subst}
+use Rattle.portal_store.proofs.Base.{sym}
 use Rattle.portal_store.proofs.Ended.{told_if}
 use Rattle.portal_store.proofs.Keeps.{read_by}
 use Rattle.portal_store.proofs.store.Store.office_code.Goals as goal

@@ -1,4 +1,5 @@
-use Rattle.spa_model.proofs.Base.{◌≡◌, None, arith, get_or_default, least_step, least_all, lecturer_at, row_at, rank_at, rules}
+use Rattle.spa_model.proofs.Base.{◌≡◌, None, arith, get_or_default, least_step, least_all, lecturer_at, row_at, rank_at}
+use Rattle.spa_model.proofs.Base.{rules}
 use Rattle.spa_model.proofs.Applicants.{rank_read, row_read, none_iff}
 use Rattle.spa_model.proofs.build.applicants.misses.Goals as goal
 

@@ -1,4 +1,5 @@
-use Rattle.spa_model.proofs.Base.{◌≡◌, ◌↔◌, IsTrue, ℕ, [], Any, sym, ap, arith, map_at, least_step, least_all, IsApplicantNumber, numbers_at}
+use Rattle.spa_model.proofs.Base.{◌≡◌, ◌↔◌, IsTrue, ℕ, [], Any, sym, ap, arith, map_at, least_step, least_all}
+use Rattle.spa_model.proofs.Base.{IsApplicantNumber, numbers_at}
 use Rattle.spa_rows.specs.Lines
 use Rattle.spa_model.proofs.build.applicants.not_applicant.Goals as goal
 

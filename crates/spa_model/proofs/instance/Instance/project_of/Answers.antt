@@ -1,4 +1,5 @@
-use Rattle.spa_model.proofs.Base.{◌≡◌, ℕ, ◌<◌, List, length, Option, Some, None, sym, Spa, project_of, IsMatching, IsLawful, IfSome}
+use Rattle.spa_model.proofs.Base.{◌≡◌, ℕ, ◌<◌, List, length, Option, Some, None, sym, Spa, project_of, IsMatching}
+use Rattle.spa_model.proofs.Base.{IsLawful, IfSome}
 use Rattle.spa_model.proofs.instance.Instance.project_of.Goals as goal
 
 known_project : (i : Spa) (m : List (Option ℕ)) → IsLawful i → IsMatching i m → (s : ℕ) (o : Option ℕ) → o ≡ project_of m s → IfSome o (λ p. p < length i.lecturers)

@@ -1,4 +1,5 @@
-use Rattle.spa_model.proofs.Base.{◌≡◌, map, length, sym, ap, ◌∙◌, arith, rules, length-map, nat_cmp, slice_cmp, nat_list_cmp_total, always_returns_same, searchable_from_sorted, Rise}
+use Rattle.spa_model.proofs.Base.{◌≡◌, map, length, sym, ap, ◌∙◌, arith, rules, length-map, nat_cmp, slice_cmp}
+use Rattle.spa_model.proofs.Base.{nat_list_cmp_total, always_returns_same, searchable_from_sorted, Rise}
 use Rattle.spa_model.proofs.Numbers.{number_found, number_none, sorted_rows}
 use Rattle.spa_model.proofs.instance.Instance.student_number.Goals as goal
 

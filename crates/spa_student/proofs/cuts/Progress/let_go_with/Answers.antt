@@ -1,4 +1,5 @@
-use Rattle.spa_student.proofs.Base.{◌≡◌, ◌<◌, length, get_or, arith, get_or-set_same, get_or_read, ranking_of, rank_of, IsWorstWith, rules}
+use Rattle.spa_student.proofs.Base.{◌≡◌, ◌<◌, length, get_or, arith, get_or-set_same, get_or_read, ranking_of, rank_of}
+use Rattle.spa_student.proofs.Base.{IsWorstWith, rules}
 use Rattle.std.proofs.lemmas.Option.{same_Some}
 use Rattle.spa_student.proofs.CutSteps.{rank_found, rank_with_below, fallen_lecturer_marks}
 use Rattle.spa_student.proofs.Machine.{student_in_range}

@@ -1,5 +1,6 @@
 use Rattle.std.proofs.Common.{rules}
-use Rattle.spa_student.proofs.Base.{◌≡◌, ℕ, ◌<◌, ◌≤◌, length, get_or, set, sum, Option, Some, None, refl, sym, ◌∙◌, ap, arith, choices_of, Progress, Puts, IfSome, MatchOption, Exchanges}
+use Rattle.spa_student.proofs.Base.{◌≡◌, ℕ, ◌<◌, ◌≤◌, length, get_or, set, sum, Option, Some, None, refl, sym, ◌∙◌, ap}
+use Rattle.spa_student.proofs.Base.{arith, choices_of, Progress, Puts, IfSome, MatchOption, Exchanges}
 use Rattle.spa_student.proofs.CutSteps.{moved_state, moved_next, sum_moved}
 use Rattle.spa_student.proofs.cuts.Progress.turn.Goals as goal
 

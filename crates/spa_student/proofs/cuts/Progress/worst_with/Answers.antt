@@ -1,4 +1,5 @@
-use Rattle.spa_student.proofs.Base.{◌≡◌, ◌-◌, ◌<◌, inl, inr, length, get_or, ◌∙◌, ap, arith, rules, get_or_read, cases_lt, ranking_of, lecturer_of, IsWith, iff_false}
+use Rattle.spa_student.proofs.Base.{◌≡◌, ◌-◌, ◌<◌, inl, inr, length, get_or, ◌∙◌, ap, arith, rules, get_or_read}
+use Rattle.spa_student.proofs.Base.{cases_lt, ranking_of, lecturer_of, IsWith, iff_false}
 use Rattle.spa_student.proofs.CutSteps.{ranked_in_range, found_worst_with, found_with}
 use Rattle.spa_student.proofs.cuts.Progress.worst_with.Goals as goal
 
