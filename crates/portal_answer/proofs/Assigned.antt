@@ -13,7 +13,8 @@ abbrev pub line : Spa → Text × Option ℕ → Text
 line i e = assign_line i e.0 e.1
 
 -- one line more
-pub line_more : (i : Spa) (m : List (Option ℕ)) (s : ℕ) (text : Text) (o : Option ℕ) → s < length i.student_keys → s < length m → o ≡ get_or m s None
+pub line_more : (i : Spa) (m : List (Option ℕ)) (s : ℕ) (text : Text) (o : Option ℕ) → s < length i.student_keys
+    → s < length m → o ≡ get_or m s None
     → text ≡ flat_map (λ e. assign_line i e.0 e.1) (take s (zip i.student_keys m))
     → text ++ assign_line i (get_or i.student_keys s []) o ≡ flat_map (λ e. assign_line i e.0 e.1) (take (s + 1) (zip i.student_keys m))
 line_more i m s text o h k e so_far =
@@ -23,7 +24,8 @@ line_more i m s text o h k e so_far =
     rw (more, at, flat_map-append (λ (e : Text × Option ℕ). assign_line i e.0 e.1), so_far, e, append-nil) refl
 
 -- the count after one student more
-pub one_more : (m : List (Option ℕ)) (s : ℕ) → s < length m → count_by is_some (take (s + 1) m) ≡ count_by is_some (take s m) + bool_byte (is_some (get_or m s None))
+pub one_more : (m : List (Option ℕ)) (s : ℕ) → s < length m
+    → count_by is_some (take (s + 1) m) ≡ count_by is_some (take s m) + bool_byte (is_some (get_or m s None))
 one_more m s h = elim (cases_Bool (is_some (get_or m s None))) [
   | inl placed ↦ rw placed (count_by_more_yes is_some m s None h placed)
   | inr free ↦ rw free (count_by_more_no is_some m s None h free ∙ omega arith)
@@ -36,5 +38,6 @@ counts (None ∷ m) = omega (arith, counts m, count_by-cons is_some None m, coun
 counts (Some p ∷ m) = omega (arith, counts m, count_by-cons is_some (Some p) m, count_by-cons is_none (Some p) m)
 
 -- all lines, and the line of the counts
-pub whole : (keys : List Text) (m : List (Option ℕ)) (n : ℕ) → n ≡ length m → length keys ≡ length m → (take n (zip keys m) ≡ zip keys m) × (take n m ≡ m)
+pub whole : (keys : List Text) (m : List (Option ℕ)) (n : ℕ) → n ≡ length m → length keys ≡ length m
+    → (take n (zip keys m) ≡ zip keys m) × (take n m ≡ m)
 whole keys m n e same = (take_all n (zip keys m) (omega (arith, length-zip keys m)), take_all n m (omega arith))

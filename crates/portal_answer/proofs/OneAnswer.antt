@@ -38,7 +38,8 @@ later y ys b up c =
     subst (λ (z : Block). IsEarlier y z) c.2 (up zero (suc c.0) b (omega arith) (omega arith))
 
 -- a member is the head, or one of the rest
-split : (y : Block) (ys : List Block) (b : Block) (k : ℕ) → k < length (y ∷ ys) → get_or (y ∷ ys) k b ≡ b → (y ≡ b) ⊎ Contains ys b
+split : (y : Block) (ys : List Block) (b : Block) (k : ℕ) → k < length (y ∷ ys) → get_or (y ∷ ys) k b ≡ b
+    → (y ≡ b) ⊎ Contains ys b
 split y ys b zero h e = inl e
 split y ys b (suc k) h e = inr (k, omega arith, e)
 
@@ -83,7 +84,8 @@ blocks_one i m a b of_a of_b = same_blocks a b of_a.sorted of_b.sorted (all_in i
 
 -- ---- matchings that have the same pairs are one
 
-has_too : (i : Spa) (pairs : List Pair) (m n : List (Option ℕ)) → HasPairs i pairs m → HasPairs i pairs n → (s p : ℕ) → project_of m s ≡ Some p → project_of n s ≡ Some p
+has_too : (i : Spa) (pairs : List Pair) (m n : List (Option ℕ)) → HasPairs i pairs m → HasPairs i pairs n → (s p : ℕ)
+    → project_of m s ≡ Some p → project_of n s ≡ Some p
 has_too i pairs m n a b s p e =
     let found = a.no_other s p e in
     let is : project_of n (student_in i found.1) ≡ Some (project_in i found.1) =
@@ -122,13 +124,15 @@ same_pair_fault f g e = sym (fault_of-number f) ∙ ap fault_of e ∙ fault_of-n
 
 -- ---- what is told
 
-tells_one : (task : Task) (i : Spa) (m n : List (Option ℕ)) (t u : Told) → m ≡ n → Tells task i m t → Tells task i n u → t ≡ u
+tells_one : (task : Task) (i : Spa) (m n : List (Option ℕ)) (t u : Told) → m ≡ n → Tells task i m t → Tells task i n u
+    → t ≡ u
 tells_one Check i m n t u e a b =
     let moved : AreAllBlocks i n a.0 = subst (λ (x : List (Option ℕ)). AreAllBlocks i x a.0) e a.1 in
     a.2 ∙ ap (blocking i) (blocks_one i n a.0 b.0 moved b.1) ∙ sym b.2
 tells_one Solve i m n t u e a b = a.2 ∙ ap (assignment i) (best_is_one i a.0 b.0 a.1 b.1) ∙ sym b.2
 
-told_is_one : (task : Task) (i : Spa) (pairs : List Pair) (t u : Told) → OfPairs task i pairs t → OfPairs task i pairs u → t ≡ u
+told_is_one : (task : Task) (i : Spa) (pairs : List Pair) (t u : Told) → OfPairs task i pairs t → OfPairs task i pairs u
+    → t ≡ u
 told_is_one task i pairs t u a b = elim a [
   | inl bad ↦ elim b [
     | inl worse ↦ bad.3 ∙ first_one number_of_pair_fault same_pair_fault (HasPairFault i pairs) refused_matching bad.0 worse.0 bad.1 worse.1 (bad.2.here, bad.2.least, bad.2.none_before) (worse.2.here, worse.2.least, worse.2.none_before) ∙ sym worse.3
@@ -166,11 +170,13 @@ file_is_one task f t u a b = elim a [
   ]
 ]
 
-read_is_one : (task : Task) (read : Result File RollFault) (t u : Told) → OfRead task read t → OfRead task read u → t ≡ u
+read_is_one : (task : Task) (read : Result File RollFault) (t u : Told) → OfRead task read t → OfRead task read u
+    → t ≡ u
 read_is_one task (Err fault) t u a b = a ∙ sym b
 read_is_one task (Ok f) t u a b = file_is_one task f t u a b
 
-longer_is_one : (task : Task) (longer : Bool) (bytes : Text) (t u : Told) → IfLonger task longer bytes t → IfLonger task longer bytes u → t ≡ u
+longer_is_one : (task : Task) (longer : Bool) (bytes : Text) (t u : Told) → IfLonger task longer bytes t
+    → IfLonger task longer bytes u → t ≡ u
 longer_is_one task true bytes t u a b = a ∙ sym b
 longer_is_one task false bytes t u a b = read_is_one task (rows bytes) t u a b
 

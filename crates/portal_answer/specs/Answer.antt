@@ -45,7 +45,8 @@ refused_file file.NoHeader = refused_plain (codes "no_header")
 refused_file file.BadHeader = refused_plain (codes "bad_header")
 refused_file (file.FieldCount row) = refused_row (codes "field_count") row
 refused_file (file.NotText row) = refused_row (codes "not_text") row
-refused_file (file.BadField row column) = refusal (codes "refused bad_field row " ++ decimal row ++ codes " column " ++ decimal column ++ codes "\n")
+refused_file (file.BadField row column) =
+    refusal (codes "refused bad_field row " ++ decimal row ++ codes " column " ++ decimal column ++ codes "\n")
 refused_file file.TooMany = refused_plain (codes "too_many_rows")
 refused_file file.Memory = refusal []
 
@@ -98,7 +99,8 @@ TellsBlocks i m told = (blocks : List Block) × AreAllBlocks i m blocks × (told
 -- the line of a student, with the project or none
 abbrev pub assign_line : Spa → Text → Option ℕ → Text
 assign_line i student None = codes "none " ++ student ++ codes "\n"
-assign_line i student (Some p) = codes "assign " ++ student ++ codes " " ++ slice_index_or i.project_keys p [] ++ codes "\n"
+assign_line i student (Some p) =
+    codes "assign " ++ student ++ codes " " ++ slice_index_or i.project_keys p [] ++ codes "\n"
 
 -- a line for each student, by key, then the numbers of students with and without a project
 abbrev pub assignment : Spa → List (Option ℕ) → Told

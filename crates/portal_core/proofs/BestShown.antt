@@ -28,30 +28,35 @@ step_outcome : (w v : World) (code : Key) (ask : AbstractCall) (reply : Answer) 
 step_outcome w v code ask reply s = outcome w v (caller w code) ask s.left
 
 -- A STEP THAT PUBLISHES HAS THE BEST RESULT
-pub step_best : (w v : World) (code : Key) (ask : AbstractCall) (reply : Answer) → Good w → is_published w.phase ≡ false → Step w code ask reply v → is_published v.phase ≡ true → HasBest v
+pub step_best : (w v : World) (code : Key) (ask : AbstractCall) (reply : Answer) → Good w → is_published w.phase ≡ false
+    → Step w code ask reply v → is_published v.phase ≡ true → HasBest v
 step_best w v code ask reply good closed_w s out = record { good = step_good w v code ask reply good s; published = out; best = by_outcome (step_outcome w v code ask reply s) }
   where
     by_outcome : Outcome w v → IsBest (instance v) (matching_of v)
     by_outcome o = grind (arith, closed_w, out)
 
 -- and what is best stays
-step_shows : (w v : World) (code : Key) (ask : AbstractCall) (reply : Answer) → ShowsBest w → Step w code ask reply v → ShowsBest v
+step_shows : (w v : World) (code : Key) (ask : AbstractCall) (reply : Answer) → ShowsBest w → Step w code ask reply v
+    → ShowsBest v
 step_shows w v code ask reply g s = record { good = step_good w v code ask reply g.good s; now = now (step_outcome w v code ask reply s); before = before (is_second w.round) refl }
   where
     now : Outcome w v → is_published v.phase ≡ true → IsBest (instance v) (matching_of v)
     now o out = grind (arith, g.now)
 
-    before : (b : Bool) → is_second w.round ≡ b → is_second v.round ≡ true → IsBest (instance (first v)) (matching_of (first v))
+    before : (b : Bool) → is_second w.round ≡ b → is_second v.round ≡ true
+        → IsBest (instance (first v)) (matching_of (first v))
     before true two e = subst (λ x. IsBest (instance x) (matching_of x)) (sym (first_stays w v code ask reply two s).1) (g.before two)
     before false one e = by_turn (step_turns w v code ask reply s)
       where
-        by_turn : (v.round ≡ w.round) ⊎ OpensSecond w code (Calls ask) reply v → IsBest (instance (first v)) (matching_of (first v))
+        by_turn : (v.round ≡ w.round) ⊎ OpensSecond w code (Calls ask) reply v
+            → IsBest (instance (first v)) (matching_of (first v))
         by_turn (inl same) = let none : is_second v.round ≡ false = ap is_second same ∙ one in absurd (cc)
         by_turn (inr o) =
             let back : first v ≡ w = ap first (o.after ∙ opens_to w o.first o.published) ∙ first_back w g.good.sound o.first o.published in
             subst (λ x. IsBest (instance x) (matching_of x)) (sym back) (g.now (ap is_published o.published))
 
-pub run_shows : (w : World) (asked : List Request) (told : List Answer) (after : List World) → ShowsBest w → Run w asked told after → AllByRecursion ShowsBest after
+pub run_shows : (w : World) (asked : List Request) (told : List Answer) (after : List World) → ShowsBest w
+    → Run w asked told after → AllByRecursion ShowsBest after
 run_shows = run_keeps ShowsBest step_shows
 
 pub starts : (w : World) → Good w → is_second w.round ≡ false → is_published w.phase ≡ false → ShowsBest w

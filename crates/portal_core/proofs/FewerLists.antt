@@ -27,7 +27,8 @@ module _ (w v : World) (group : List Key) (other : Good w) (one : HasBest v) (di
   no_list : AllByRecursion (λ (s : Student). has group s.row.key ≡ true → s.choice ≡ []) (alone (in_play v)).students
   no_list = all_map (λ (s : Student). has group s.row.key ≡ true → s.choice ≡ []) alone_student (students_in v.round v.students) (by_round v.round)
     where
-      by_round : (r : Round) → AllByRecursion (λ (s : Student). has group s.row.key ≡ true → s.choice ≡ []) (students_in r v.students)
+      by_round : (r : Round)
+          → AllByRecursion (λ (s : Student). has group s.row.key ≡ true → s.choice ≡ []) (students_in r v.students)
       by_round First = none
       by_round Second = all_filter (λ (s : Student). has group s.row.key ≡ true → s.choice ≡ []) is_left v.students none
 
@@ -36,7 +37,8 @@ module _ (w v : World) (group : List Key) (other : Good w) (one : HasBest v) (di
   members = map (number_in (student_keys (alone (in_play w)))) (filter (has (student_keys (alone (in_play w)))) group)
 
   -- whose number is of the group has a key of the group
-  member_key : (t : ℕ) → IsOn members t → (t < length (alone (in_play v)).students) × (has group (get_or (alone (in_play v)).students t no_student).row.key ≡ true)
+  member_key : (t : ℕ) → IsOn members t
+      → (t < length (alone (in_play v)).students) × (has group (get_or (alone (in_play v)).students t no_student).row.key ≡ true)
   member_key t on =
       let keys : List Key = student_keys (alone (in_play w)) in
       let k = key_of keys (filter (has keys) group) t on in
@@ -60,7 +62,8 @@ module _ (w v : World) (group : List Key) (other : Good w) (one : HasBest v) (di
       omega (arith, off)
 
   -- a student of this number, who is not of the group
-  by_number : is_published w.phase ≡ true → (s : ℕ) → has group (get_or (alone (in_play v)).students s no_student).row.key ≡ false
+  by_number : is_published w.phase ≡ true → (s : ℕ)
+      → has group (get_or (alone (in_play v)).students s no_student).row.key ≡ false
       → instances.IsNoWorse (instance_of (alone (in_play v))) s (project_of (places_of (alone (in_play v))) s) (project_of (places_of (alone (in_play w))) s)
   by_number out s stays p shows there =
       let rival : IsStableRound (alone (in_play w)) = stable_alone w other out in
@@ -72,7 +75,8 @@ module _ (w v : World) (group : List Key) (other : Good w) (one : HasBest v) (di
       (world_ranked (alone (in_play w)) rival.sound rival.one rival.published) apart_n empty rival.stable best.best off))
 
   -- THEY HARM NOBODY ELSE
-  pub fewer_never_harm : (code : Key) (a b : StudentSees) → view v code ≡ sees.Student a → view w code ≡ sees.Student b → has group a.me.key ≡ false → IsNoWorse a.choices a.result b.result
+  pub fewer_never_harm : (code : Key) (a b : StudentSees) → view v code ≡ sees.Student a → view w code ≡ sees.Student b
+      → has group a.me.key ≡ false → IsNoWorse a.choices a.result b.result
   fewer_never_harm code a b sees_a sees_b stays =
       let same : map (λ (s : Student). s.row) (alone (in_play w)).students ≡ map (λ (s : Student). s.row) (alone (in_play v)).students
       = sym (zip_same (ListAlike (λ k. has group k ≡ true)) (λ (s : Student). s.row) (λ x y r. r.0) (alone (in_play w)).students (alone (in_play v)).students apart.students) in

@@ -21,7 +21,8 @@ use Rattle.portal_rules.proofs.Published.{pairs_place}
 use Rattle.portal_rules.proofs.Steps.{step_good}
 
 -- where nobody is still to rank, the instance is ranked
-ranked_now : (w : World) → Sound w → is_setup w.phase ≡ false → AllByRecursion (λ l. is_still_to_rank w l ≡ false) w.lecturers → IsRanked (instance w)
+ranked_now : (w : World) → Sound w → is_setup w.phase ≡ false
+    → AllByRecursion (λ l. is_still_to_rank w l ≡ false) w.lecturers → IsRanked (instance w)
 ranked_now w sound late ranked = subst IsRanked (instance_placed w []) (by_round w.round refl)
   where
     placed : Sound (changed w (Placements []))
@@ -42,7 +43,8 @@ module _ (w : World) (g : Good w) where
   idle ask reply = (w, refl)
 
   -- there is a best result to publish
-  best : is_setup w.phase ≡ false → AllByRecursion (λ l. is_still_to_rank w l ≡ false) w.lecturers → (v : World) × (pairs : List (Key × Key)) × (v ≡ changed w (Placements pairs)) × IsBest (instance w) (matching_of v)
+  best : is_setup w.phase ≡ false → AllByRecursion (λ l. is_still_to_rank w l ≡ false) w.lecturers
+      → (v : World) × (pairs : List (Key × Key)) × (v ≡ changed w (Placements pairs)) × IsBest (instance w) (matching_of v)
   best late ranked =
       let one = best_of (instance w) (ranked_now w g.sound late ranked) in
       let pairs : List (Key × Key) = pairs_by (student_keys (in_play w)) (project_keys (in_play w)) one.0 in
@@ -67,21 +69,24 @@ module _ (w : World) (g : Good w) where
       }) ask
 
   -- EACH CALL HAS A STEP
-  pub step_there : (code : Key) (ask : AbstractCall) → HasForm ask → (v : World) × Step w code ask (answer (view w code) ask) v
+  pub step_there : (code : Key) (ask : AbstractCall) → HasForm ask
+      → (v : World) × Step w code ask (answer (view w code) ask) v
   step_there code ask form = let one = leads (caller w code) ask in (one.0, record { form = form; told = refl; left = one.1 })
 
 -- no reply to a call is 503
 told_else : (v : Sight) (ask : AbstractCall) → answer v ask ≡ unavailable → ⊥
 told_else v ask e = grind arith
 
-replied : (w : World) (r : Request) (x : Wish) → Good w → HasReply x → (a : Answer) × (v : World) × Answers w r x a v × (a ≢ unavailable) × Good v
+replied : (w : World) (r : Request) (x : Wish) → Good w → HasReply x
+    → (a : Answer) × (v : World) × Answers w r x a v × (a ≢ unavailable) × Good v
 replied w r (Calls ask) g form =
     let one = step_there w g r.code ask form in
     (answer (view w r.code) ask, one.0, one.1, told_else (view w r.code) ask, step_good w one.0 r.code ask (answer (view w r.code) ask) g one.1)
 replied w r (Refused refusal) g other = (refusal, w, (refl, refl), other, g)
 
 -- A RUN WITHOUT A 503
-pub run_there : (w : World) (asked : List Request) → Good w → AllByRecursion (λ r. HasReply r.wish) asked → (told : List Answer) × (after : List World) × Run w asked told after × AllAnswered told
+pub run_there : (w : World) (asked : List Request) → Good w → AllByRecursion (λ r. HasReply r.wish) asked
+    → (told : List Answer) × (after : List World) × Run w asked told after × AllAnswered told
 run_there w [] g all = ([], [], tt, tt)
 run_there w (r ∷ rs) g all =
     let one = replied w r r.wish g all.0 in
@@ -93,7 +98,8 @@ has_reply : (w v : World) (r : Request) (x : Wish) (a : Answer) → Answers w r 
 has_reply w v r (Calls ask) a step other = step.form
 has_reply w v r (Refused refusal) a told other = λ e. other (told.0 ∙ e)
 
-pub run_only : (w : World) (asked : List Request) (told : List Answer) (after : List World) → Run w asked told after → AllAnswered told → AllByRecursion (λ r. HasReply r.wish) asked
+pub run_only : (w : World) (asked : List Request) (told : List Answer) (after : List World) → Run w asked told after
+    → AllAnswered told → AllByRecursion (λ r. HasReply r.wish) asked
 run_only w [] told after run all = tt
 run_only w (r ∷ rs) [] after run all = absurd run
 run_only w (r ∷ rs) (a ∷ told) [] run all = absurd run

@@ -33,7 +33,9 @@ was_key f [] k there = absurd (cc)
 was_key f (g ∷ gs) k there = grind (arith, is_same k g, was_key f gs k)
 
 -- who is of the group by key is so by number
-pub of_group : (x : World) (group : List Key) → Rise (student_keys x) → (t : ℕ) → t < length x.students → has group (get_or (student_keys x) t []) ≡ true → IsOn (map (number_in (student_keys x)) (filter (has (student_keys x)) group)) t
+pub of_group : (x : World) (group : List Key) → Rise (student_keys x) → (t : ℕ) → t < length x.students
+    → has group (get_or (student_keys x) t []) ≡ true
+    → IsOn (map (number_in (student_keys x)) (filter (has (student_keys x)) group)) t
 of_group x group rise t t_in m =
     let keys : List Key = student_keys x in
     let ours : List Key = filter (has (student_keys x)) group in
@@ -54,7 +56,9 @@ module _ (w v r t : World) (best : IsBestRound r) (place : Student → Option Ke
   NoWorse s = instances.IsNoWorse (instance_of r) s (project_of (places_of r) s) (project_of (map (λ (z : Student). option_map (number_in (project_keys t)) (place z)) t.students) s)
 
   -- a student with a key of the group gains nothing, if that is so by number
-  pub of_key : (group : List Key) (k : Key) → has group k ≡ true → number_in (student_keys r) k < length (student_keys r) → NoWorse (number_in (student_keys r) k) → OneGainsNothing w v group
+  pub of_key : (group : List Key) (k : Key) → has group k ≡ true
+      → number_in (student_keys r) k < length (student_keys r) → NoWorse (number_in (student_keys r) k)
+      → OneGainsNothing w v group
   of_key group k of_k k_low by_number =
       let s : ℕ = number_in (student_keys r) k in
       let s_in : s < length r.students = omega (arith, k_low, length-map r.students student_key) in
@@ -81,17 +85,22 @@ module _ (w v r t : World) (best : IsBestRound r) (place : Student → Option Ke
       }
 
   -- nor does one whose number is of the group
-  pub of_number : (group : List Key) (s : ℕ) → IsOn (map (number_in (student_keys r)) (filter (has (student_keys r)) group)) s → NoWorse s → OneGainsNothing w v group
+  pub of_number : (group : List Key) (s : ℕ)
+      → IsOn (map (number_in (student_keys r)) (filter (has (student_keys r)) group)) s → NoWorse s
+      → OneGainsNothing w v group
   of_number group s on no_worse =
       let k = key_of (student_keys r) (filter (has (student_keys r)) group) s on in
       let mine = was_key (has (student_keys r)) group k.0 k.1 in
       of_key group k.0 mine.0 (has_number (student_keys r) k.0 mine.1) (subst NoWorse (sym k.2) no_worse)
 
 -- the students of a round, and what they are shown
-pub all_shown : (w : World) → Good w → (place : Student → Option Key) → ((u : Student) → u.earlier_placement ≡ None → (student_sees w u).result ≡ place (alone_student u)) → AllByRecursion (IsShown w place) (alone (in_play w)).students
+pub all_shown : (w : World) → Good w → (place : Student → Option Key)
+    → ((u : Student) → u.earlier_placement ≡ None → (student_sees w u).result ≡ place (alone_student u))
+    → AllByRecursion (IsShown w place) (alone (in_play w)).students
 all_shown w good place is = all_map (IsShown w place) alone_student (students_in w.round w.students) (by_round w.round refl)
   where
-    by_round : (r : Round) → w.round ≡ r → AllByRecursion (λ u. IsShown w place (alone_student u)) (students_in r w.students)
+    by_round : (r : Round) → w.round ≡ r
+        → AllByRecursion (λ u. IsShown w place (alone_student u)) (students_in r w.students)
     by_round First e = all_weaker _ _ (λ u h. (student_sees w u, h.0, refl, refl, is u h.1.1)) w.students (all_both _ _ w.students (students_named w good.sound) (good.sound.no_earlier_lists (ap is_second e)))
     by_round Second e = passes _ _ is_left (λ u h out. (student_sees w u, h, refl, refl, is u (is_none_of u.earlier_placement out))) w.students (students_named w good.sound)
 
@@ -130,7 +139,9 @@ module _ (w v : World) (one : HasBest w) (other : Good v) (same : map (λ (s : S
           of_key w v (alone (in_play w)) (alone (in_play v)) (best_alone w one) (λ s. None) same projects ones (all_shown v other (λ s. None) (λ u left. rw (left, e) refl)) group k of_k low
           (λ p shows. absurd (nobody (alone (in_play v)).students (number_in (student_keys (alone (in_play w))) k) p shows))
 
-pub no_group_gains : (w v : World) (group : List Key) (key : Key) → HasBest w → Good v → DifferInLists w v (λ k. has group k ≡ true) → has group key ≡ true → has (student_keys (in_play w)) key ≡ true → OneGainsNothing w v group
+pub no_group_gains : (w v : World) (group : List Key) (key : Key) → HasBest w → Good v
+    → DifferInLists w v (λ k. has group k ≡ true) → has group key ≡ true → has (student_keys (in_play w)) key ≡ true
+    → OneGainsNothing w v group
 no_group_gains w v group key one other differ in_group plays = by_phase (is_published v.phase) refl
   where
     apart : DifferInLists (alone (in_play w)) (alone (in_play v)) (λ k. has group k ≡ true)
@@ -161,7 +172,8 @@ no_group_gains w v group key one other differ in_group plays = by_phase (is_publ
 pub own_group : (k : Key) → has (k ∷ []) k ≡ true
 own_group k = rw (is_own k) refl
 
-pub differ_in_group : (w v : World) (key : Key) → DifferInOneList w v key → DifferInLists w v (λ k. has (key ∷ []) k ≡ true)
+pub differ_in_group : (w v : World) (key : Key) → DifferInOneList w v key
+    → DifferInLists w v (λ k. has (key ∷ []) k ≡ true)
 differ_in_group w v key differ = record {
   round = differ.round;
   lecturers = differ.lecturers;
@@ -170,7 +182,8 @@ differ_in_group w v key differ = record {
 }
 
 -- whoever of the group of one gains nothing is the student of this code
-pub one_gains_nothing : (w v : World) (code : Key) (a b : StudentSees) → Sound w → view w code ≡ sees.Student a → view v code ≡ sees.Student b → OneGainsNothing w v (a.me.key ∷ []) → IsNoWorse a.choices a.result b.result
+pub one_gains_nothing : (w v : World) (code : Key) (a b : StudentSees) → Sound w → view w code ≡ sees.Student a
+    → view v code ≡ sees.Student b → OneGainsNothing w v (a.me.key ∷ []) → IsNoWorse a.choices a.result b.result
 one_gains_nothing w v code a b sound sees_a sees_b o =
     let x = shown_student w code a sees_a in
     let y = shown_student w o.code o.one o.sees_one in
@@ -182,12 +195,14 @@ one_gains_nothing w v code a b sound sees_a sees_b o =
     let other : o.other ≡ b = cc in
     subst (λ (z : StudentSees). IsNoWorse a.choices a.result z.result) other (subst (λ (z : StudentSees). IsNoWorse z.choices z.result o.other.result) one o.no_worse)
 
-pub found_has : (q : Student → Bool) (ss : List Student) (x : Student) → find q ss ≡ Some x → has (map student_key ss) x.row.key ≡ true
+pub found_has : (q : Student → Bool) (ss : List Student) (x : Student) → find q ss ≡ Some x
+    → has (map student_key ss) x.row.key ≡ true
 found_has q [] x e = absurd (cc)
 found_has q (s ∷ ss) x e = grind (arith, is_own x.row.key, found_has q ss x)
 
 -- who does not take part in the round has no list
-pub if_playing : (w : World) (code : Key) (a : StudentSees) → Sound w → view w code ≡ sees.Student a → (o : Option Key) → (has (student_keys (in_play w)) a.me.key ≡ true → IsNoWorse a.choices a.result o) → IsNoWorse a.choices a.result o
+pub if_playing : (w : World) (code : Key) (a : StudentSees) → Sound w → view w code ≡ sees.Student a → (o : Option Key)
+    → (has (student_keys (in_play w)) a.me.key ≡ true → IsNoWorse a.choices a.result o) → IsNoWorse a.choices a.result o
 if_playing w code a sound sees_a o plays = by_place (is_left x.0) refl
   where
     x : (x : Student) × (student_with w code ≡ Some x) × (student_sees w x ≡ a)
@@ -204,7 +219,8 @@ if_playing w code a sound sees_a o plays = by_place (is_left x.0) refl
         subst (λ list. IsNoWorse list a.result o) (sym none ∙ ap (λ (z : StudentSees). z.choices) x.2) (λ q shows there. absurd (cc))
 
 -- NO OTHER LIST GAINS
-pub honest_is_best : (w v : World) (code : Key) (a b : StudentSees) → HasBest w → Good v → view w code ≡ sees.Student a → view v code ≡ sees.Student b → DifferInOneList w v a.me.key → IsNoWorse a.choices a.result b.result
+pub honest_is_best : (w v : World) (code : Key) (a b : StudentSees) → HasBest w → Good v → view w code ≡ sees.Student a
+    → view v code ≡ sees.Student b → DifferInOneList w v a.me.key → IsNoWorse a.choices a.result b.result
 honest_is_best w v code a b one other sees_a sees_b differ =
     if_playing w code a one.good.sound sees_a b.result
     (λ plays. one_gains_nothing w v code a b one.good.sound sees_a sees_b (no_group_gains w v (a.me.key ∷ []) a.me.key one other (differ_in_group w v a.me.key differ) (own_group a.me.key) plays))

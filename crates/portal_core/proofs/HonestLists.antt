@@ -36,28 +36,34 @@ module _ (keys : List Key) where
   same_key a b e low = sym (number_is keys a (subst (λ n. n < length keys) (sym e) low)) ∙ ap (λ n. get_or keys n []) e ∙ number_is keys b low
 
   -- the numbers stand on a list as the keys do
-  pub place_number : (list : List Key) (k : Key) → number_in keys k < length keys → place (map (number_in keys) list) (number_in keys k) ≡ number_in list k
+  pub place_number : (list : List Key) (k : Key) → number_in keys k < length keys
+      → place (map (number_in keys) list) (number_in keys k) ≡ number_in list k
   place_number [] k low = refl
   place_number (c ∷ cs) k low = grind (arith, same_key c k, eqb-true (number_in keys c) (number_in keys k), is_same c k, is_own k, place_number cs k low)
 
-  pub on_number : (list : List Key) (k : Key) → number_in keys k < length keys → has list k ≡ true → IsOn (map (number_in keys) list) (number_in keys k)
+  pub on_number : (list : List Key) (k : Key) → number_in keys k < length keys → has list k ≡ true
+      → IsOn (map (number_in keys) list) (number_in keys k)
   on_number list k low h = omega (arith, place_number list k low, has_number list k h, length-map list (number_in keys))
 
-  pub number_on : (list : List Key) (k : Key) → number_in keys k < length keys → IsOn (map (number_in keys) list) (number_in keys k) → has list k ≡ true
+  pub number_on : (list : List Key) (k : Key) → number_in keys k < length keys
+      → IsOn (map (number_in keys) list) (number_in keys k) → has list k ≡ true
   number_on list k low on = number_has list k (omega (arith, place_number list k low, length-map list (number_in keys)))
 
   -- what stands among the numbers is the number of a key
-  pub key_of : (list : List Key) (n : ℕ) → IsOn (map (number_in keys) list) n → (k : Key) × (has list k ≡ true) × (number_in keys k ≡ n)
+  pub key_of : (list : List Key) (n : ℕ) → IsOn (map (number_in keys) list) n
+      → (k : Key) × (has list k ≡ true) × (number_in keys k ≡ n)
   key_of [] n on = absurd (omega (arith, on))
   key_of (c ∷ cs) n on = grind (arith, is_own c, key_of cs n)
 
   -- keys that differ have numbers that differ
-  not_again : (cs : List Key) (c : Key) → AllByRecursion (λ l. has keys l ≡ true) cs → has cs c ≡ false → (k d : ℕ) → k < length (map (number_in keys) cs) → number_in keys c ≡ get_or (map (number_in keys) cs) k d → ⊥
+  not_again : (cs : List Key) (c : Key) → AllByRecursion (λ l. has keys l ≡ true) cs → has cs c ≡ false → (k d : ℕ)
+      → k < length (map (number_in keys) cs) → number_in keys c ≡ get_or (map (number_in keys) cs) k d → ⊥
   not_again [] c known new k d h e = omega arith
   not_again (x ∷ cs) c known new zero d h e = let same : c ≡ x = same_key c x e (has_number keys x known.0) in grind (arith, is_own x)
   not_again (x ∷ cs) c known new (suc k) d h e = not_again cs c known.1 (grind arith) k d (omega arith) e
 
-  numbers_distinct : (list : List Key) → AllByRecursion (λ l. has keys l ≡ true) list → AreDistinct list → IsDistinct (map (number_in keys) list)
+  numbers_distinct : (list : List Key) → AllByRecursion (λ l. has keys l ≡ true) list → AreDistinct list
+      → IsDistinct (map (number_in keys) list)
   numbers_distinct (c ∷ cs) known once zero (suc k) d less h e = not_again cs c known.1 once.0 k d (omega arith) e
   numbers_distinct (c ∷ cs) known once (suc j) (suc k) d less h e = numbers_distinct cs known.1 once.1 j k d (omega arith) (omega arith) e
   numbers_distinct list known once j k d less h e = omega arith
@@ -74,7 +80,8 @@ pub no_lecturer : Lecturer
 no_lecturer = record { row = record { key = []; name = []; code = []; capacity = 0 }; ranking = None; earlier_ranking = None }
 
 -- an applicant stands on the ranking, where nobody is still to rank
-on_ranking : (apps : List Student) (k : Key) (o : Option (List Key)) → IfSome o (IsRanking (map student_key apps)) → (not (is_empty apps) && is_none o) ≡ false → has (map student_key apps) k ≡ true → has (unwrap_or o []) k ≡ true
+on_ranking : (apps : List Student) (k : Key) (o : Option (List Key)) → IfSome o (IsRanking (map student_key apps))
+    → (not (is_empty apps) && is_none o) ≡ false → has (map student_key apps) k ≡ true → has (unwrap_or o []) k ≡ true
 on_ranking apps k None ranks ranked there = grind arith
 on_ranking apps k (Some r) ranks ranked there =
     let at = has_contains (map student_key apps) k there in
@@ -84,7 +91,8 @@ module _ (w : World) (sound : Sound w) (one : w.round ≡ First) (published : is
   chosen : AllByRecursion (λ (x : Student). IsChoice (project_keys w) x.choice) w.students
   chosen = subst (λ u. AllByRecursion (λ (x : Student). IsChoice (project_keys u) x.choice) w.students) (first_plays w one) sound.choices
 
-  pub choices : (s : ℕ) (d : Student) → s < length w.students → choices_of (instance_of w) s ≡ map (number_in (project_keys w)) (get_or w.students s d).choice
+  pub choices : (s : ℕ) (d : Student) → s < length w.students
+      → choices_of (instance_of w) s ≡ map (number_in (project_keys w)) (get_or w.students s d).choice
   choices s d h = get_or-map (λ (x : Student). map (number_in (project_keys w)) x.choice) w.students s d [] h
 
   pub choice : (s : ℕ) (d : Student) → s < length w.students → IsChoice (project_keys w) (get_or w.students s d).choice
@@ -99,14 +107,18 @@ module _ (w : World) (sound : Sound w) (one : w.round ≡ First) (published : is
   known : (s p : ℕ) → IsAcceptable (instance_of w) s p → p < length w.projects
   known s p on = omega (arith, known_key s p on, length-map w.projects project_key)
 
-  pub lecturer_at : (p : ℕ) → p < length w.projects → lecturer_of (instance_of w) p ≡ number_in (lecturer_keys w) (get_or w.projects p no_project).lecturer
+  pub lecturer_at : (p : ℕ) → p < length w.projects
+      → lecturer_of (instance_of w) p ≡ number_in (lecturer_keys w) (get_or w.projects p no_project).lecturer
   lecturer_at p h = get_or-map (λ (q : ProjectRow). number_in (lecturer_keys w) q.lecturer) w.projects p no_project 0 h
 
-  pub lecturer_known : (p : ℕ) → p < length w.projects → number_in (lecturer_keys w) (get_or w.projects p no_project).lecturer < length (lecturer_keys w)
+  pub lecturer_known : (p : ℕ) → p < length w.projects
+      → number_in (lecturer_keys w) (get_or w.projects p no_project).lecturer < length (lecturer_keys w)
   lecturer_known p h = has_number (lecturer_keys w) (get_or w.projects p no_project).lecturer (all_at (λ (q : ProjectRow). has (lecturer_keys w) q.lecturer ≡ true) w.projects p no_project sound.lecturers_known h)
 
   -- a student whose list holds a project is an applicant of its lecturer
-  applies : (s p : ℕ) (l : Key) → s < length w.students → p < length w.projects → (get_or w.projects p no_project).lecturer ≡ l → has (get_or w.students s no_student).choice (get_or w.projects p no_project).key ≡ true
+  applies : (s p : ℕ) (l : Key) → s < length w.students → p < length w.projects
+      → (get_or w.projects p no_project).lecturer ≡ l
+      → has (get_or w.students s no_student).choice (get_or w.projects p no_project).key ≡ true
       → has (map student_key (applicants_of w l)) (get_or w.students s no_student).row.key ≡ true
   applies s p l s_in p_in own there =
       let x : Student = get_or w.students s no_student in
@@ -119,7 +131,8 @@ module _ (w : World) (sound : Sound w) (one : w.round ≡ First) (published : is
       ∙ list_any_at (λ (y : Student). list_any (λ (q : ProjectRow). has y.choice q.key) (projects_of w l) && equals x.row.key y.row.key) w.students s no_student s_in
       (and_from (list_any (λ (q : ProjectRow). has x.choice q.key) (projects_of w l)) (equals x.row.key x.row.key) wants (is_own x.row.key))
 
-  ranked : (s p : ℕ) → IsAcceptable (instance_of w) s p → IsOn (ranking_of (instance_of w) (lecturer_of (instance_of w) p)) s
+  ranked : (s p : ℕ) → IsAcceptable (instance_of w) s p
+      → IsOn (ranking_of (instance_of w) (lecturer_of (instance_of w) p)) s
   ranked s p on =
       let s_in : s < length w.students = in_range s p on in
       let p_in : p < length w.projects = known s p on in
@@ -159,13 +172,15 @@ module _ (w : World) (sound : Sound w) (one : w.round ≡ First) (published : is
     offered : (p : ℕ) → p < length w.projects → lecturer_of (instance_of w) p < length (instance_of w).rankings
     offered p h = rw (lecturer_at p h) (omega (arith, lecturer_known p h, length-map w.lecturers lecturer_key, length-map w.lecturers (λ (y : Lecturer). map (number_in (student_keys w)) (unwrap_or y.ranking []))))
 
-    distinct : (ss : List Student) → AllByRecursion (λ x. IsChoice (project_keys w) x.choice) ss → (s : ℕ) → IsDistinct (get_or (map (λ (x : Student). map (number_in (project_keys w)) x.choice) ss) s [])
+    distinct : (ss : List Student) → AllByRecursion (λ x. IsChoice (project_keys w) x.choice) ss → (s : ℕ)
+        → IsDistinct (get_or (map (λ (x : Student). map (number_in (project_keys w)) x.choice) ss) s [])
     distinct [] all s = λ j k d less h. absurd (omega arith)
     distinct (x ∷ ss) all zero = numbers_distinct (project_keys w) x.choice all.0.known all.0.once
     distinct (x ∷ ss) all (suc s) = distinct ss all.1 s
 
   -- the project that the matching gives is the place in the result
-  pub given : (s : ℕ) (d : Student) → s < length w.students → project_of (places_of w) s ≡ option_map (number_in (project_keys w)) (get_or w.students s d).placed
+  pub given : (s : ℕ) (d : Student) → s < length w.students
+      → project_of (places_of w) s ≡ option_map (number_in (project_keys w)) (get_or w.students s d).placed
   given s d h = get_or-map (λ (x : Student). option_map (number_in (project_keys w)) x.placed) w.students s d None h
 
 -- the student of this number on the roll
@@ -181,7 +196,8 @@ module _ (w : World) (sound : Sound w) (one : w.round ≡ First) (published : is
   pub x_given : project_of (places_of w) s ≡ option_map (number_in (project_keys w)) x.placed
   x_given = subst (λ (y : Student). project_of (places_of w) s ≡ option_map (number_in (project_keys w)) y.placed) is_x.is (given w sound one published s x is_x.in_range)
 
-  x_no_worse : (p : Key) → number_in (project_keys w) p < length (project_keys w) → has x.choice p ≡ true → (o : Option Key) → ((q : Key) → o ≡ Some q → IsAcceptable (instance_of w) s (number_in (project_keys w) q))
+  x_no_worse : (p : Key) → number_in (project_keys w) p < length (project_keys w) → has x.choice p ≡ true
+      → (o : Option Key) → ((q : Key) → o ≡ Some q → IsAcceptable (instance_of w) s (number_in (project_keys w) q))
       → IsAsGood (instance_of w) s (option_map (number_in (project_keys w)) o) (Some (number_in (project_keys w) p))
       → (q : Key) × (o ≡ Some q) × (has x.choice q ≡ true) × (number_in x.choice q ≤ number_in x.choice p)
   x_no_worse p low there None on good = absurd good
@@ -205,16 +221,21 @@ module _ (w : World) (sound : Sound w) (one : w.round ≡ First) (published : is
 -- from rows to instances
 
 -- who passes a test is on the roll
-kept_has : (f : Student → Bool) (ss : List Student) (k : Key) → has (map student_key (filter f ss)) k ≡ true → has (map student_key ss) k ≡ true
+kept_has : (f : Student → Bool) (ss : List Student) (k : Key) → has (map student_key (filter f ss)) k ≡ true
+    → has (map student_key ss) k ≡ true
 kept_has f [] k h = h
 kept_has f (s ∷ ss) k h = grind (arith, kept_has f ss k)
 
 -- who stands on a ranking is on the roll
-rank_known : (w : World) → Sound w → (l : ℕ) (d : Lecturer) → l < length w.lecturers → (k : Key) → has (unwrap_or (get_or w.lecturers l d).ranking []) k ≡ true → number_in (student_keys w) k < length (student_keys w)
+rank_known : (w : World) → Sound w → (l : ℕ) (d : Lecturer) → l < length w.lecturers → (k : Key)
+    → has (unwrap_or (get_or w.lecturers l d).ranking []) k ≡ true
+    → number_in (student_keys w) k < length (student_keys w)
 rank_known w sound l d l_in k there =
     has_number (student_keys w) k (by_ranking (get_or w.lecturers l d).ranking (all_at (λ (y : Lecturer). IfSome y.ranking (IsRanking (map student_key (applicants_of w y.row.key)))) w.lecturers l d sound.rankings l_in) there)
   where
-    by_ranking : (o : Option (List Key)) → IfSome o (IsRanking (map student_key (applicants_of w (get_or w.lecturers l d).row.key))) → has (unwrap_or o []) k ≡ true → has (student_keys w) k ≡ true
+    by_ranking : (o : Option (List Key))
+        → IfSome o (IsRanking (map student_key (applicants_of w (get_or w.lecturers l d).row.key)))
+        → has (unwrap_or o []) k ≡ true → has (student_keys w) k ≡ true
     by_ranking None ranks h = absurd (cc)
     by_ranking (Some r) ranks h =
         let at = has_contains r k h in
@@ -223,7 +244,8 @@ rank_known w sound l d l_in k there =
         (subst (λ x. has apps x ≡ true) at.2 (all_at (λ x. has apps x ≡ true) r at.0 k ranks.only at.1))
 
 -- rankings of keys that order alike do so by number
-order_numbers : (keys xs ys : List Key) → ((k : Key) → has ys k ≡ true → number_in keys k < length keys) → OrderAlike xs ys → instances.OrderAlike (map (number_in keys) xs) (map (number_in keys) ys)
+order_numbers : (keys xs ys : List Key) → ((k : Key) → has ys k ≡ true → number_in keys k < length keys)
+    → OrderAlike xs ys → instances.OrderAlike (map (number_in keys) xs) (map (number_in keys) ys)
 order_numbers keys xs ys low alike a b on_a on_b before =
     let key_a = key_of keys ys a on_a in
     let key_b = key_of keys ys b on_b in
@@ -245,10 +267,12 @@ module _ (w v : World) (good : Sound v) (May : Key → Type 0) (ByNumber : ℕ �
   count_lecturers : length v.lecturers ≡ length w.lecturers
   count_lecturers = AllZip-long RankAlike w.lecturers v.lecturers differ.lecturers
 
-  choices_in : (x : World) (t : ℕ) → t < length x.students → choices_of (instance_of x) t ≡ map (number_in (project_keys x)) (get_or x.students t no_student).choice
+  choices_in : (x : World) (t : ℕ) → t < length x.students
+      → choices_of (instance_of x) t ≡ map (number_in (project_keys x)) (get_or x.students t no_student).choice
   choices_in x t h = get_or-map (λ (y : Student). map (number_in (project_keys x)) y.choice) x.students t no_student [] h
 
-  ranking_in : (x : World) (l : ℕ) → l < length x.lecturers → ranking_of (instance_of x) l ≡ map (number_in (student_keys x)) (unwrap_or (get_or x.lecturers l no_lecturer).ranking [])
+  ranking_in : (x : World) (l : ℕ) → l < length x.lecturers
+      → ranking_of (instance_of x) l ≡ map (number_in (student_keys x)) (unwrap_or (get_or x.lecturers l no_lecturer).ranking [])
   ranking_in x l h = get_or-map (λ (y : Lecturer). map (number_in (student_keys x)) (unwrap_or y.ranking [])) x.lecturers l no_lecturer [] h
 
   pub differ_by_number : instances.DifferInLists (instance_of w) (instance_of v) ByNumber
@@ -289,7 +313,8 @@ module _ (w v : World) (good : Sound v) (May : Key → Type 0) (ByNumber : ℕ �
 
 -- who is shown what
 
-pub shown_student : (w : World) (code : Key) (a : StudentSees) → view w code ≡ sees.Student a → (x : Student) × (student_with w code ≡ Some x) × (student_sees w x ≡ a)
+pub shown_student : (w : World) (code : Key) (a : StudentSees) → view w code ≡ sees.Student a
+    → (x : Student) × (student_with w code ≡ Some x) × (student_sees w x ≡ a)
 shown_student w code a e = grind arith
 
 -- a world of one round in published, whose result is the best for the students
@@ -307,7 +332,8 @@ pub record IsStableRound (w : World) : Type 0 where
   pub stable : IsStable (instance_of w) (places_of w)
 
 -- from what is as good by number to what is no worse by key
-pub no_worse_by_number : (w : World) (s : ℕ) (x : Student) → IsBestRound w → IsStudent w s x → (p : Key) → has x.choice p ≡ true
+pub no_worse_by_number : (w : World) (s : ℕ) (x : Student) → IsBestRound w → IsStudent w s x → (p : Key)
+    → has x.choice p ≡ true
     → (IsAcceptable (instance_of w) s (number_in (project_keys w) p) → IsAsGood (instance_of w) s (project_of (places_of w) s) (Some (number_in (project_keys w) p)))
     → (q : Key) × (x.placed ≡ Some q) × (has x.choice q ≡ true) × (number_in x.choice q ≤ number_in x.choice p)
 no_worse_by_number w s x one is_x p there good =
@@ -324,13 +350,15 @@ no_worse_by_number w s x one is_x p there good =
 -- from a round to the world that it is played in
 
 module _ (ps : List ProjectRow) (ss : List Student) where
-  staff_zip : (r : Round) (ls ks : List Lecturer) → AllZip RankAlike ls ks → AllZip RankAlike (lecturers_in r ls ps ss) (lecturers_in r ks ps ss)
+  staff_zip : (r : Round) (ls ks : List Lecturer) → AllZip RankAlike ls ks
+      → AllZip RankAlike (lecturers_in r ls ps ss) (lecturers_in r ks ps ss)
   staff_zip First ls ks z = z
   staff_zip Second ls ks z =
       zip_kept RankAlike (λ l. nat_lt 0 l.row.capacity) (λ l k r. ap (λ row. nat_lt 0 row.capacity) r.0) (map (lowered_lecturer ps ss) ls) (map (lowered_lecturer ps ss) ks)
       (zip_mapped RankAlike (lowered_lecturer ps ss) (lowered_lecturer ps ss) (λ l k r. ((λ i. record (r.0 i) { capacity = (r.0 i).capacity - given_with ps ss (r.0 i).key }), r.1)) ls ks z)
 
-  offers_same : (r : Round) (ls ks : List Lecturer) → AllZip RankAlike ls ks → projects_in r ks ps ss ≡ projects_in r ls ps ss
+  offers_same : (r : Round) (ls ks : List Lecturer) → AllZip RankAlike ls ks
+      → projects_in r ks ps ss ≡ projects_in r ls ps ss
   offers_same First ls ks z = refl
   offers_same Second ls ks z =
       let keys : map lecturer_key (lecturers_left ks ps ss) ≡ map lecturer_key (lecturers_left ls ps ss) =
@@ -369,10 +397,12 @@ stable_alone v good published = record {
 }
 
 -- who is left by the first round is found among those who are
-pub find_left : (q : Student → Bool) (ss : List Student) (x : Student) → find q ss ≡ Some x → is_left x ≡ true → find q (students_left ss) ≡ Some x
+pub find_left : (q : Student → Bool) (ss : List Student) (x : Student) → find q ss ≡ Some x → is_left x ≡ true
+    → find q (students_left ss) ≡ Some x
 find_left q [] x e left = absurd (cc)
 find_left q (s ∷ ss) x e left = grind (arith, find_left q ss x)
 
 -- who is left is shown the place of the round
-pub shown : (w : World) (x : Student) → is_published w.phase ≡ true → x.earlier_placement ≡ None → (student_sees w x).result ≡ x.placed
+pub shown : (w : World) (x : Student) → is_published w.phase ≡ true → x.earlier_placement ≡ None
+    → (student_sees w x).result ≡ x.placed
 shown w x published left = rw (left, published) refl

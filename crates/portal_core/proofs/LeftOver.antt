@@ -26,13 +26,15 @@ use Rattle.portal_core.proofs.HonestLists.{lecturer_known, choice, choices, give
 -- lists and tests
 
 -- where a test holds of some element, it holds at a place
-pub any_place : {X : Type 0} (q : X → Bool) (xs : List X) (d : X) → list_any q xs ≡ true → (k : ℕ) × (k < length xs) × (q (get_or xs k d) ≡ true)
+pub any_place : {X : Type 0} (q : X → Bool) (xs : List X) (d : X) → list_any q xs ≡ true
+    → (k : ℕ) × (k < length xs) × (q (get_or xs k d) ≡ true)
 any_place q xs d h =
     let at = Any-from_list_any q xs h in
     (at.0, at.2, ap q (get_or_default xs at.0 d at.1 at.2 ∙ at.3) ∙ at.4)
 
 -- what holds at each place holds of each
-pub all_from : {X : Type 0} (P : X → Type 0) (xs : List X) (d : X) → ((k : ℕ) → k < length xs → P (get_or xs k d)) → AllByRecursion P xs
+pub all_from : {X : Type 0} (P : X → Type 0) (xs : List X) (d : X) → ((k : ℕ) → k < length xs → P (get_or xs k d))
+    → AllByRecursion P xs
 all_from P xs d each = recursion_from_All P xs (All-from_get_or P xs d each)
 
 pub is_none_of : {X : Type 0} (o : Option X) → is_none o ≡ true → o ≡ None
@@ -41,12 +43,14 @@ is_none_of o h = grind arith
 -- one published round, by its rows
 module _ (v : World) (sound : Sound v) (one : v.round ≡ First) (published : is_published v.phase ≡ true) where
   -- the project of a number that a student has is the one of this key
-  at_key : (k : ℕ) → k < length v.projects → (q : Key) → number_in (project_keys v) q < length (project_keys v) → number_in (project_keys v) q ≡ k → q ≡ (get_or v.projects k no_project).key
+  at_key : (k : ℕ) → k < length v.projects → (q : Key) → number_in (project_keys v) q < length (project_keys v)
+      → number_in (project_keys v) q ≡ k → q ≡ (get_or v.projects k no_project).key
   at_key k h q low same = sym (number_is (project_keys v) q low) ∙ ap (λ n. get_or (project_keys v) n []) same ∙ get_or-map project_key v.projects k no_project [] h
 
   -- students at known projects, by number and by key
   module _ (place : Student → Option Key) (ss : List Student) (known : AllByRecursion (λ s. (q : Key) → place s ≡ Some q → number_in (project_keys v) q < length (project_keys v)) ss) where
-    pub few_at : (k : ℕ) → k < length v.projects → at_project (map (λ s. option_map (number_in (project_keys v)) (place s)) ss) k ≤ count_at place ss (get_or v.projects k no_project).key
+    pub few_at : (k : ℕ) → k < length v.projects
+        → at_project (map (λ s. option_map (number_in (project_keys v)) (place s)) ss) k ≤ count_at place ss (get_or v.projects k no_project).key
     few_at k h =
         let counted : at_project (map (λ s. option_map (number_in (project_keys v)) (place s)) ss) k ≡ count_by (λ s. is_project k (option_map (number_in (project_keys v)) (place s))) ss
         = count_by-map (is_project k) (λ (s : Student). option_map (number_in (project_keys v)) (place s)) ss in
@@ -54,11 +58,14 @@ module _ (v : World) (sound : Sound v) (one : v.round ≡ First) (published : is
         = count_mono _ _ ss (all_weaker _ _ (λ s low. here (place s) low) ss known) in
         omega (arith, counted, fewer)
       where
-        here : (o : Option Key) → ((q : Key) → o ≡ Some q → number_in (project_keys v) q < length (project_keys v)) → is_project k (option_map (number_in (project_keys v)) o) ≡ true → is_at (get_or v.projects k no_project).key o ≡ true
+        here : (o : Option Key) → ((q : Key) → o ≡ Some q → number_in (project_keys v) q < length (project_keys v))
+            → is_project k (option_map (number_in (project_keys v)) o) ≡ true
+            → is_at (get_or v.projects k no_project).key o ≡ true
         here None low e = absurd (cc)
         here (Some q) low e = subst (λ x. equals q x ≡ true) (at_key k h q (low q refl) (eqb-true (number_in (project_keys v) q) k e)) (is_own q)
 
-    pub few_with : (h : ℕ) → h < length v.lecturers → at_lecturer (instance_of v) (map (λ s. option_map (number_in (project_keys v)) (place s)) ss) h ≤ count_with place v.projects ss (get_or v.lecturers h no_lecturer).row.key
+    pub few_with : (h : ℕ) → h < length v.lecturers
+        → at_lecturer (instance_of v) (map (λ s. option_map (number_in (project_keys v)) (place s)) ss) h ≤ count_with place v.projects ss (get_or v.lecturers h no_lecturer).row.key
     few_with h h_in =
         let counted : at_lecturer (instance_of v) (map (λ s. option_map (number_in (project_keys v)) (place s)) ss) h ≡ count_by (λ s. is_lecturer (instance_of v) h (option_map (number_in (project_keys v)) (place s))) ss
         = count_by-map (is_lecturer (instance_of v) h) (λ (s : Student). option_map (number_in (project_keys v)) (place s)) ss in
@@ -66,7 +73,8 @@ module _ (v : World) (sound : Sound v) (one : v.round ≡ First) (published : is
         = count_mono _ _ ss (all_weaker _ _ (λ s low. here (place s) low) ss known) in
         omega (arith, counted, fewer)
       where
-        here : (o : Option Key) → ((q : Key) → o ≡ Some q → number_in (project_keys v) q < length (project_keys v)) → is_lecturer (instance_of v) h (option_map (number_in (project_keys v)) o) ≡ true
+        here : (o : Option Key) → ((q : Key) → o ≡ Some q → number_in (project_keys v) q < length (project_keys v))
+            → is_lecturer (instance_of v) h (option_map (number_in (project_keys v)) o) ≡ true
             → list_any (λ (p : ProjectRow). equals p.lecturer (get_or v.lecturers h no_lecturer).row.key && is_at p.key o) v.projects ≡ true
         here None low e = absurd (cc)
         here (Some q) low e =
@@ -86,17 +94,21 @@ module _ (v : World) (sound : Sound v) (one : v.round ≡ First) (published : is
             (subst (λ x. equals q x ≡ true) q_is (is_own q)))
 
     -- and nobody past the rolls
-    pub none_at : (k : ℕ) → length v.projects ≤ k → at_project (map (λ s. option_map (number_in (project_keys v)) (place s)) ss) k ≡ 0
+    pub none_at : (k : ℕ) → length v.projects ≤ k
+        → at_project (map (λ s. option_map (number_in (project_keys v)) (place s)) ss) k ≡ 0
     none_at k past = count_by-map (is_project k) (λ (s : Student). option_map (number_in (project_keys v)) (place s)) ss ∙ count_none _ ss (all_weaker _ _ (λ s low. off (place s) low) ss known)
       where
-        off : (o : Option Key) → ((q : Key) → o ≡ Some q → number_in (project_keys v) q < length (project_keys v)) → is_project k (option_map (number_in (project_keys v)) o) ≡ false
+        off : (o : Option Key) → ((q : Key) → o ≡ Some q → number_in (project_keys v) q < length (project_keys v))
+            → is_project k (option_map (number_in (project_keys v)) o) ≡ false
         off None low = refl
         off (Some q) low = let k_low = low q refl in ne_eqb (number_in (project_keys v) q) k (λ same. omega (arith, k_low, past, length-map v.projects project_key))
 
-    pub none_with : (h : ℕ) → length v.lecturers ≤ h → at_lecturer (instance_of v) (map (λ s. option_map (number_in (project_keys v)) (place s)) ss) h ≡ 0
+    pub none_with : (h : ℕ) → length v.lecturers ≤ h
+        → at_lecturer (instance_of v) (map (λ s. option_map (number_in (project_keys v)) (place s)) ss) h ≡ 0
     none_with h past = count_by-map (is_lecturer (instance_of v) h) (λ (s : Student). option_map (number_in (project_keys v)) (place s)) ss ∙ count_none _ ss (all_weaker _ _ (λ s low. off (place s) low) ss known)
       where
-        off : (o : Option Key) → ((q : Key) → o ≡ Some q → number_in (project_keys v) q < length (project_keys v)) → is_lecturer (instance_of v) h (option_map (number_in (project_keys v)) o) ≡ false
+        off : (o : Option Key) → ((q : Key) → o ≡ Some q → number_in (project_keys v) q < length (project_keys v))
+            → is_lecturer (instance_of v) h (option_map (number_in (project_keys v)) o) ≡ false
         off None low = refl
         off (Some q) low =
             let k_low = low q refl in
@@ -114,7 +126,8 @@ module _ (v : World) (sound : Sound v) (one : v.round ≡ First) (published : is
   placed_known = subst (λ u. AllByRecursion (λ (s : Student). (q : Key) → s.placed ≡ Some q → number_in (project_keys u) q < length (project_keys u)) u.students) (first_plays v one) (known_in v sound stable.matching)
 
   -- a row with room, whose lecturer has room, has it by number
-  has_room : (k h : ℕ) → k < length v.projects → h < length v.lecturers → (get_or v.projects k no_project).lecturer ≡ (get_or v.lecturers h no_lecturer).row.key
+  has_room : (k h : ℕ) → k < length v.projects → h < length v.lecturers
+      → (get_or v.projects k no_project).lecturer ≡ (get_or v.lecturers h no_lecturer).row.key
       → placed_to v.students (get_or v.projects k no_project).key < (get_or v.projects k no_project).capacity
       → placed_with v.projects v.students (get_or v.lecturers h no_lecturer).row.key < (get_or v.lecturers h no_lecturer).row.capacity
       → HasRoom (instance_of v) (places_of v) k
@@ -143,7 +156,8 @@ abbrev is_open : World → ProjectRow → Bool
 is_open w x = nat_lt 0 x.capacity && has (map lecturer_key (lecturers_left w.lecturers w.projects w.students)) x.lecturer
 
 -- a row that is changed and passes a test, by its key
-kept_row : {X : Type 0} (key : X → Key) (f : X → X) (t : X → Bool) (xs : List X) (d : X) (k : Key) → has (map key (filter t (map f xs))) k ≡ true
+kept_row : {X : Type 0} (key : X → Key) (f : X → X) (t : X → Bool) (xs : List X) (d : X) (k : Key)
+    → has (map key (filter t (map f xs))) k ≡ true
     → (n : ℕ) × (n < length xs) × (t (f (get_or xs n d)) ≡ true) × (k ≡ key (f (get_or xs n d)))
 kept_row key f t xs d k there =
     let at = any_place (λ x. t (f x) && equals k (key (f x))) xs d
@@ -173,7 +187,8 @@ has_rows w p two there =
     below c n h = let some : 0 < c - n = grind (arith, nat_tests) in omega arith
 
 -- what takes part is on the roll
-pub plays_known : (w : World) (p : Key) → w.round ≡ Second → has (project_keys (in_play w)) p ≡ true → has (project_keys w) p ≡ true
+pub plays_known : (w : World) (p : Key) → w.round ≡ Second → has (project_keys (in_play w)) p ≡ true
+    → has (project_keys w) p ≡ true
 plays_known w p two there =
     let r : HasRows w p = has_rows w p two there in
     let low = r.project_in in
@@ -181,7 +196,8 @@ plays_known w p two there =
 
 -- what takes part in the second round has room after the first
 module _ (w : World) (sound : Sound w) (two : w.round ≡ Second) (before : IsRound (first w)) where
-  room_by_rows : (p : Key) → HasRows w p → HasRoom (instance_of (first w)) (places_of (first w)) (number_in (project_keys w) p)
+  room_by_rows : (p : Key) → HasRows w p
+      → HasRoom (instance_of (first w)) (places_of (first w)) (number_in (project_keys w) p)
   room_by_rows p r =
       let row : get_or (first w).lecturers r.lecturer no_lecturer ≡ first_published (get_or w.lecturers r.lecturer no_lecturer) = get_or-map first_published w.lecturers r.lecturer no_lecturer no_lecturer r.lecturer_in in
       let low : r.project < length (project_keys w) = let h = r.project_in in omega (arith, h, length-map w.projects project_key) in
@@ -196,7 +212,8 @@ module _ (w : World) (sound : Sound w) (two : w.round ≡ Second) (before : IsRo
       (subst (λ n. n < (get_or w.projects r.project no_project).capacity) (sym given_p) r.room)
       (subst (λ (l : Lecturer). placed_with w.projects (first w).students l.row.key < l.row.capacity) (sym row) (subst (λ n. n < (get_or w.lecturers r.lecturer no_lecturer).row.capacity) (sym given_l) r.lecturer_room)))
 
-  pub stays_open : (p : Key) → has (project_keys (in_play w)) p ≡ true → HasRoom (instance_of (first w)) (places_of (first w)) (number_in (project_keys w) p)
+  pub stays_open : (p : Key) → has (project_keys (in_play w)) p ≡ true
+      → HasRoom (instance_of (first w)) (places_of (first w)) (number_in (project_keys w) p)
   stays_open p there = room_by_rows p (has_rows w p two there)
 
   -- what is in the catalogue takes part
@@ -206,7 +223,9 @@ module _ (w : World) (sound : Sound w) (two : w.round ≡ Second) (before : IsRo
       (any_map (equals p) (λ (l : Listing). l.key) (catalogue w) ∙ any_alike (λ (l : Listing). equals p l.key) (λ (l : Listing). equals l.key p) (λ l. is_sym p l.key) (catalogue w) ∙ there)
 
   -- the student of this number, whom the first round left
-  none_listed : (n : ℕ) → n < length w.students → is_left (get_or w.students n no_student) ≡ true → (p : Key) → has (get_or w.students n no_student).earlier_choice p ≡ true → has (project_keys w) p ≡ true → has (project_keys (in_play w)) p ≡ true → ⊥
+  none_listed : (n : ℕ) → n < length w.students → is_left (get_or w.students n no_student) ≡ true → (p : Key)
+      → has (get_or w.students n no_student).earlier_choice p ≡ true → has (project_keys w) p ≡ true
+      → has (project_keys (in_play w)) p ≡ true → ⊥
   none_listed n n_in left p on known there =
       let n_first : n < length (first w).students = omega (arith, length-map w.students first_placed) in
       let low : number_in (project_keys w) p < length (project_keys w) = has_number (project_keys w) p known in
@@ -218,10 +237,12 @@ module _ (w : World) (sound : Sound w) (two : w.round ≡ Second) (before : IsRo
       left_by_number (instance_of (first w)) (places_of (first w)) n (number_in (project_keys w) p) (stable_rows (first w) before.sound refl refl (before.stable refl)) none accepts (stays_open p there)
 
 -- WHO IS LEFT FINDS NONE
-pub left_finds_none : (w : World) → Good w → is_second w.round ≡ true → AllByRecursion (λ s. is_left s ≡ true → AllByRecursion (λ p. in_catalogue (catalogue w) p ≡ false) s.earlier_choice) w.students
+pub left_finds_none : (w : World) → Good w → is_second w.round ≡ true
+    → AllByRecursion (λ s. is_left s ≡ true → AllByRecursion (λ p. in_catalogue (catalogue w) p ≡ false) s.earlier_choice) w.students
 left_finds_none w good e = all_from _ w.students no_student each
   where
-    each : (n : ℕ) → n < length w.students → is_left (get_or w.students n no_student) ≡ true → AllByRecursion (λ p. in_catalogue (catalogue w) p ≡ false) (get_or w.students n no_student).earlier_choice
+    each : (n : ℕ) → n < length w.students → is_left (get_or w.students n no_student) ≡ true
+        → AllByRecursion (λ p. in_catalogue (catalogue w) p ≡ false) (get_or w.students n no_student).earlier_choice
     each n n_in left =
         all_from _ (get_or w.students n no_student).earlier_choice []
         (λ k k_in. by_test (get_or (get_or w.students n no_student).earlier_choice k [])
@@ -233,7 +254,8 @@ left_finds_none w good e = all_from _ w.students no_student each
         known = (subst (λ (s : Student). IsChoice (project_keys w) s.choice) (get_or-map first_placed w.students n no_student no_student n_in)
             (choice (first w) (good.before e).sound refl refl n no_student (omega (arith, length-map w.students first_placed)))).known
 
-        by_test : (p : Key) → has (get_or w.students n no_student).earlier_choice p ≡ true → has (project_keys w) p ≡ true → (b : Bool) → in_catalogue (catalogue w) p ≡ b → b ≡ false
+        by_test : (p : Key) → has (get_or w.students n no_student).earlier_choice p ≡ true
+            → has (project_keys w) p ≡ true → (b : Bool) → in_catalogue (catalogue w) p ≡ b → b ≡ false
         by_test p on low false there = refl
         by_test p on low true there =
             let two : w.round ≡ Second = the_second w.round e in

@@ -29,11 +29,13 @@ use Rattle.portal_rules.proofs.Zips.{zip_same}
 -- ---- what is shown of both rounds
 
 -- a count is at most that of the first round and that of the second
-either_sizes : {X : Type 0} (a b c : X → Bool) (xs : List X) → AllByRecursion (λ x. a x ≡ true → (b x || c x) ≡ true) xs → length (filter a xs) ≤ length (filter b xs) + length (filter c xs)
+either_sizes : {X : Type 0} (a b c : X → Bool) (xs : List X) → AllByRecursion (λ x. a x ≡ true → (b x || c x) ≡ true) xs
+    → length (filter a xs) ≤ length (filter b xs) + length (filter c xs)
 either_sizes a b c [] all = omega arith
 either_sizes a b c (x ∷ xs) all = grind (arith, all.0, either_sizes a b c xs all.1)
 
-shown_counts : (t : Option Key → Bool) (phase : Phase) → t None ≡ false → (ss : List Student) → count_by (λ s. t (shown_placement phase s)) ss ≤ count_by (λ (s : Student). t s.earlier_placement) ss + count_by (λ (s : Student). t s.placed) ss
+shown_counts : (t : Option Key → Bool) (phase : Phase) → t None ≡ false → (ss : List Student)
+    → count_by (λ s. t (shown_placement phase s)) ss ≤ count_by (λ (s : Student). t s.earlier_placement) ss + count_by (λ (s : Student). t s.placed) ss
 shown_counts t phase off ss =
     omega (
       arith,
@@ -44,17 +46,21 @@ shown_counts t phase off ss =
     )
 
 -- what the first round gave is shown
-shown_stays : (keys : List Key) (phase : Phase) (ss : List Student) (s p : ℕ) → project_of (map (λ (x : Student). option_map (number_in keys) x.placed) (map first_placed ss)) s ≡ Some p → project_of (map (λ x. option_map (number_in keys) (shown_placement phase x)) ss) s ≡ Some p
+shown_stays : (keys : List Key) (phase : Phase) (ss : List Student) (s p : ℕ)
+    → project_of (map (λ (x : Student). option_map (number_in keys) x.placed) (map first_placed ss)) s ≡ Some p
+    → project_of (map (λ x. option_map (number_in keys) (shown_placement phase x)) ss) s ≡ Some p
 shown_stays keys phase [] s p e = e
 shown_stays keys phase (x ∷ ss) zero p e = by_first x.earlier_placement e
   where
-    by_first : (o : Option Key) → option_map (number_in keys) o ≡ Some p → option_map (number_in keys) (shown_placement phase (record x { earlier_placement = o })) ≡ Some p
+    by_first : (o : Option Key) → option_map (number_in keys) o ≡ Some p
+        → option_map (number_in keys) (shown_placement phase (record x { earlier_placement = o })) ≡ Some p
     by_first None e = absurd (cc)
     by_first (Some q) e = e
 shown_stays keys phase (x ∷ ss) (suc s) p e = shown_stays keys phase ss s p e
 
 -- who takes part, from those who passed
-unfiltered : {X : Type 0} (P : X → Type 0) (q : X → Bool) (xs : List X) → AllByRecursion P (filter q xs) → AllByRecursion (λ x. q x ≡ true → P x) xs
+unfiltered : {X : Type 0} (P : X → Type 0) (q : X → Bool) (xs : List X) → AllByRecursion P (filter q xs)
+    → AllByRecursion (λ x. q x ≡ true → P x) xs
 unfiltered P q [] all = tt
 unfiltered P q (x ∷ xs) all = grind (arith, unfiltered P q xs)
 
@@ -72,7 +78,8 @@ module _ (u : World) (good : Good u) (second : is_second u.round ≡ true) where
   second_known : AllByRecursion (λ (s : Student). is_left s ≡ true → is_published u.phase ≡ true → Known s.placed) u.students
   second_known = by_phase (is_published u.phase) refl
     where
-      by_phase : (out : Bool) → is_published u.phase ≡ out → AllByRecursion (λ (s : Student). is_left s ≡ true → is_published u.phase ≡ true → (q : Key) → s.placed ≡ Some q → number_in (project_keys u) q < length (project_keys u)) u.students
+      by_phase : (out : Bool) → is_published u.phase ≡ out
+          → AllByRecursion (λ (s : Student). is_left s ≡ true → is_published u.phase ≡ true → (q : Key) → s.placed ≡ Some q → number_in (project_keys u) q < length (project_keys u)) u.students
       by_phase false e = each_one _ (λ s left out. let no : true ≡ false = sym out ∙ e in cc) u.students
       by_phase true e =
           all_weaker _ _ (λ s h left out q shows. has_number (project_keys u) q (plays_known u q two (number_has (project_keys (in_play u)) q (h left q shows)))) u.students
@@ -86,7 +93,9 @@ module _ (u : World) (good : Good u) (second : is_second u.round ≡ true) where
       (all_unmap (λ (s : Student). (q : Key) → s.placed ≡ Some q → number_in (project_keys u) q < length (project_keys u)) first_placed u.students (placed_known (first u) (good.before second).sound refl refl ((good.before second).stable refl)))
       second_known)
     where
-      here : (out : Bool) → is_published u.phase ≡ out → (o p : Option Key) → ((q : Key) → o ≡ Some q → number_in (project_keys u) q < length (project_keys u)) → (is_none o ≡ true → is_published u.phase ≡ true → (q : Key) → p ≡ Some q → number_in (project_keys u) q < length (project_keys u))
+      here : (out : Bool) → is_published u.phase ≡ out → (o p : Option Key)
+          → ((q : Key) → o ≡ Some q → number_in (project_keys u) q < length (project_keys u))
+          → (is_none o ≡ true → is_published u.phase ≡ true → (q : Key) → p ≡ Some q → number_in (project_keys u) q < length (project_keys u))
           → (q : Key) → shown_placement u.phase (record no_student { earlier_placement = o; placed = p }) ≡ Some q → number_in (project_keys u) q < length (project_keys u)
       here out e (Some z) p one two' q shows = one q shows
       here true e None p one two' q shows = two' refl e q (rw e at shows)
@@ -121,7 +130,8 @@ module _ (u : World) (good : Good u) (second : is_second u.round ≡ true) where
     kept : KeepsCapacities u
     kept = keeps u good
 
-    with_lecturer : (h : ℕ) → h < length u.lecturers → at_lecturer (instance_of (first u)) (both_places u) h ≤ limit_of (instance_of (first u)) h
+    with_lecturer : (h : ℕ) → h < length u.lecturers
+        → at_lecturer (instance_of (first u)) (both_places u) h ≤ limit_of (instance_of (first u)) h
     with_lecturer h h_in =
         let h_first : h < length (first u).lecturers = omega (arith, h_in, length-map u.lecturers first_published) in
         let row : get_or (first u).lecturers h no_lecturer ≡ first_published (get_or u.lecturers h no_lecturer) = get_or-map first_published u.lecturers h no_lecturer no_lecturer h_in in
@@ -150,7 +160,9 @@ stable_first u good second = record {
 }
 
 -- NO GROUP GAINS
-pub no_group_gains_over_both : (w u : World) (group : List Key) (key : Key) → HasBest w → Good u → is_second u.round ≡ true → DifferInLists w (first u) (λ k. has group k ≡ true) → has group key ≡ true → has (student_keys w) key ≡ true → OneGainsNothing w u group
+pub no_group_gains_over_both : (w u : World) (group : List Key) (key : Key) → HasBest w → Good u
+    → is_second u.round ≡ true → DifferInLists w (first u) (λ k. has group k ≡ true) → has group key ≡ true
+    → has (student_keys w) key ≡ true → OneGainsNothing w u group
 no_group_gains_over_both w u group key best good second differ in_group there =
     let honest : IsBestRound w = honest_round w best (sym differ.round) in
     let other : IsStableRound (first u) = stable_first u good second in
@@ -171,7 +183,9 @@ no_group_gains_over_both w u group key best good second differ in_group there =
     of_number w u w u honest (shown_placement u.phase) same (ap (map project_key) differ.projects) ones others group found.0 found.1 found.2
 
 -- NO LIST GAINS OVER BOTH ROUNDS
-pub honest_over_both : (w u : World) (code : Key) (a b : StudentSees) → HasBest w → Good u → is_second u.round ≡ true → DifferInOneList w (first u) a.me.key → view w code ≡ sees.Student a → view u code ≡ sees.Student b → IsNoWorse a.choices a.result b.result
+pub honest_over_both : (w u : World) (code : Key) (a b : StudentSees) → HasBest w → Good u → is_second u.round ≡ true
+    → DifferInOneList w (first u) a.me.key → view w code ≡ sees.Student a → view u code ≡ sees.Student b
+    → IsNoWorse a.choices a.result b.result
 honest_over_both w u code a b best good second differ sees_a sees_b =
     let x = shown_student w code a sees_a in
     let there : has (student_keys w) a.me.key ≡ true = subst (λ (z : StudentSees). has (student_keys w) z.me.key ≡ true) x.2 (found_has _ w.students x.0 x.1) in

@@ -33,7 +33,8 @@ module _ (v : World) (one : v.round ≡ First) (out : v.phase ≡ Published) whe
       let out_w : w.phase ≡ Published = ap (λ (x : World). x.phase) is ∙ out in
       (ap (λ (x : World). is_second x.round) (opens ∙ opens_to w one_w out_w), ap first opens ∙ (first_kept w good one_w out_w ∙ is))
 
-  step_reaches : (w u : World) (code : Key) (ask : AbstractCall) (reply : Answer) → Reached w → Step w code ask reply u → Reached u
+  step_reaches : (w u : World) (code : Key) (ask : AbstractCall) (reply : Answer) → Reached w → Step w code ask reply u
+      → Reached u
   step_reaches w u code ask reply (good, inl is) s = (
     step_good w u code ask reply good s,
     elim (outcome w u (ap (λ (x : World). x.phase) is ∙ out) (caller w code) ask s.left) [
@@ -46,19 +47,22 @@ module _ (v : World) (one : v.round ≡ First) (out : v.phase ≡ Published) whe
       (step_good w u code ask reply good s, inr (ap is_second stays.0 ∙ two, stays.1 ∙ is))
 
 -- NO LIST GAINS IN A SECOND ROUND THAT A RUN REACHES
-pub honest_over_runs : (w v : World) (code : Key) (a : StudentSees) (asked : List Request) (told : List Answer) (after : List World) → HasBest w → Good v → v.round ≡ First → v.phase ≡ Published
+pub honest_over_runs : (w v : World) (code : Key) (a : StudentSees) (asked : List Request) (told : List Answer) (after : List World)
+    → HasBest w → Good v → v.round ≡ First → v.phase ≡ Published
     → DifferInOneList w v a.me.key → view w code ≡ sees.Student a → Run v asked told after
     → AllByRecursion (λ u. (b : StudentSees) → is_second u.round ≡ true → view u code ≡ sees.Student b → IsNoWorse a.choices a.result b.result) after
 honest_over_runs w v code a asked told after best good one out differ sees_a run =
     all_weaker _ _ no_worse after (run_keeps (Reached v one out) (step_reaches v one out) v asked told after (good, inl refl) run)
   where
-    no_worse : (u : World) → Reached v one out u → (b : StudentSees) → is_second u.round ≡ true → view u code ≡ sees.Student b → IsNoWorse a.choices a.result b.result
+    no_worse : (u : World) → Reached v one out u → (b : StudentSees) → is_second u.round ≡ true
+        → view u code ≡ sees.Student b → IsNoWorse a.choices a.result b.result
     no_worse u (good_u, inl is) b two sees_b = let no : is_second u.round ≡ false = ap (λ (x : World). is_second x.round) is ∙ ap is_second one in absurd (cc)
     no_worse u (good_u, inr (two_u, is)) b two sees_b =
         honest_over_both w u code a b best good_u two (subst (λ x. DifferInOneList w x a.me.key) (sym is) differ) sees_a sees_b
 
 -- NOR DOES A GROUP
-pub no_group_over_runs : (w v : World) (group : List Key) (key : Key) (asked : List Request) (told : List Answer) (after : List World) → HasBest w → Good v → v.round ≡ First → v.phase ≡ Published
+pub no_group_over_runs : (w v : World) (group : List Key) (key : Key) (asked : List Request) (told : List Answer) (after : List World)
+    → HasBest w → Good v → v.round ≡ First → v.phase ≡ Published
     → DifferInLists w v (λ k. has group k ≡ true) → has group key ≡ true → has (student_keys w) key ≡ true → Run v asked told after
     → AllByRecursion (λ u. is_second u.round ≡ true → OneGainsNothing w u group) after
 no_group_over_runs w v group key asked told after best good one out differ in_group there run =

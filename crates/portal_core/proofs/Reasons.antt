@@ -23,16 +23,19 @@ module _ (v : World) (good : Good v) (one : v.round ≡ First) (published : is_p
   round : IsStableRound v
   round = record { sound = good.sound; one = one; published = published; stable = stable_rows v good.sound one published (good.stable published) }
 
-  student_number : (n : ℕ) → n < length v.students → number_in (student_keys v) (get_or v.students n no_student).row.key ≡ n
+  student_number : (n : ℕ) → n < length v.students
+      → number_in (student_keys v) (get_or v.students n no_student).row.key ≡ n
   student_number n n_in = ap (number_in (student_keys v)) (sym (get_or-map student_key v.students n no_student [] n_in)) ∙ number_back (student_keys v) n good.sound.students_rise (omega (arith, n_in, length-map v.students student_key))
 
   project_number : (n : ℕ) → n < length v.projects → number_in (project_keys v) (get_or v.projects n no_project).key ≡ n
   project_number n n_in = ap (number_in (project_keys v)) (sym (get_or-map project_key v.projects n no_project [] n_in)) ∙ number_back (project_keys v) n good.sound.projects_rise (omega (arith, n_in, length-map v.projects project_key))
 
-  lecturer_number : (n : ℕ) → n < length v.lecturers → number_in (lecturer_keys v) (get_or v.lecturers n no_lecturer).row.key ≡ n
+  lecturer_number : (n : ℕ) → n < length v.lecturers
+      → number_in (lecturer_keys v) (get_or v.lecturers n no_lecturer).row.key ≡ n
   lecturer_number n n_in = ap (number_in (lecturer_keys v)) (sym (get_or-map lecturer_key v.lecturers n no_lecturer [] n_in)) ∙ number_back (lecturer_keys v) n good.sound.lecturers_rise (omega (arith, n_in, length-map v.lecturers lecturer_key))
 
-  place_of : (n : ℕ) → n < length v.students → project_of (places_of v) n ≡ option_map (number_in (project_keys v)) (get_or v.students n no_student).placed
+  place_of : (n : ℕ) → n < length v.students
+      → project_of (places_of v) n ≡ option_map (number_in (project_keys v)) (get_or v.students n no_student).placed
   place_of n n_in = given v good.sound one published n no_student n_in
 
   -- student s, project k and its lecturer h
@@ -51,7 +54,8 @@ module _ (v : World) (good : Good v) (one : v.round ≡ First) (published : is_p
     on = subst (IsAcceptable (instance_of v) s) (project_number k k_in)
         (subst (λ list. IsOn list (number_in (project_keys v) (get_or v.projects k no_project).key)) (sym list_is) (on_number (project_keys v) (get_or v.students s no_student).choice (get_or v.projects k no_project).key key_low prefers.0))
 
-    better : (o : Option Key) → (get_or v.students s no_student).placed ≡ o → Improves (instance_of v) s k (option_map (number_in (project_keys v)) o)
+    better : (o : Option Key) → (get_or v.students s no_student).placed ≡ o
+        → Improves (instance_of v) s k (option_map (number_in (project_keys v)) o)
     better None e = tt
     better (Some q) e =
         let q_on : IsAcceptable (instance_of v) s (number_in (project_keys v) q) = round.stable.matching.acceptable s (number_in (project_keys v) q) (place_of s s_in ∙ ap (option_map (number_in (project_keys v))) e) in
@@ -86,7 +90,8 @@ module _ (v : World) (good : Good v) (one : v.round ≡ First) (published : is_p
         )
 
     -- who is at a project of the lecturer
-    at_own : (n : ℕ) → n < length v.students → list_any (λ (p : ProjectRow). equals p.lecturer (get_or v.lecturers h no_lecturer).row.key && is_at p.key (get_or v.students n no_student).placed) v.projects ≡ true
+    at_own : (n : ℕ) → n < length v.students
+        → list_any (λ (p : ProjectRow). equals p.lecturer (get_or v.lecturers h no_lecturer).row.key && is_at p.key (get_or v.students n no_student).placed) v.projects ≡ true
         → IsWith (instance_of v) (places_of v) (lecturer_of (instance_of v) k) n
     at_own n n_in some =
         let at = any_place (λ (p : ProjectRow). equals p.lecturer (get_or v.lecturers h no_lecturer).row.key && is_at p.key (get_or v.students n no_student).placed) v.projects no_project some in

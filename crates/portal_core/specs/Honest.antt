@@ -38,7 +38,8 @@ RankAlike l k = (k.row ≡ l.row) × OrderAlike (unwrap_or l.ranking []) (unwrap
 
 -- the same student with the same first result, and with the same list unless the key is a `May` key
 abbrev pub ListAlike : (Key → Type 0) → Student → Student → Type 0
-ListAlike May x y = (y.row ≡ x.row) × ((May x.row.key → ⊥) → y.choice ≡ x.choice) × (y.earlier_placement ≡ x.earlier_placement)
+ListAlike May x y =
+    (y.row ≡ x.row) × ((May x.row.key → ⊥) → y.choice ≡ x.choice) × (y.earlier_placement ≡ x.earlier_placement)
 
 -- worlds of one round with the same rolls and first result; the lists of `May` students may differ
 pub record DifferInLists (w v : World) (May : Key → Type 0) : Type 0 where

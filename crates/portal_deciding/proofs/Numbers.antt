@@ -9,7 +9,8 @@ use Rattle.serde_json.specs.Written.{has_float, items_have_float, members_have_f
 
 -- no body has a number that is not whole
 
-none_of : {X : Type 0} (f : X → Data) → ((x : X) → has_float (f x) ≡ false) → (xs : List X) → items_have_float (items_of (map f xs)) ≡ false
+none_of : {X : Type 0} (f : X → Data) → ((x : X) → has_float (f x) ≡ false) → (xs : List X)
+    → items_have_float (items_of (map f xs)) ≡ false
 none_of f each [] = refl
 none_of f each (x ∷ xs) = rw (each x, none_of f each xs) refl
 
@@ -54,7 +55,8 @@ lecturer_whole v ask =
     let listed = none_of listing (λ l. refl) v.catalogue in
     grind (arith, listed, of_texts, of_option v.ranking, applicants_whole v.applicants, placed_whole v.placed, round_whole)
 
-status_whole : (v : OfficeSees) (r : Round) → v.round ≡ r → (b : Bool) → has_result v.round v.phase ≡ b → has_float (status_body v) ≡ false
+status_whole : (v : OfficeSees) (r : Round) → v.round ≡ r → (b : Bool) → has_result v.round v.phase ≡ b
+    → has_float (status_body v) ≡ false
 status_whole v r f b e = grind (arith, of_texts)
 
 as_pair : Key × Key → Data
@@ -76,11 +78,14 @@ unwritten_whole a s e = grind arith
 
 -- what is decided for each role
 
-pub whole_office : (v : OfficeSees) (ask : AbstractCall) (d : Decision) → d ≡ emptied (to_office v ask) → HasWholeNumbers d.reply.body
+pub whole_office : (v : OfficeSees) (ask : AbstractCall) (d : Decision) → d ≡ emptied (to_office v ask)
+    → HasWholeNumbers d.reply.body
 whole_office v ask d e = subst (λ (x : Decision). HasWholeNumbers x.reply.body) (sym e) (unwritten_whole (to_office v ask).act (to_office v ask).reply.body (office_whole v ask))
 
-pub whole_lecturer : (v : LecturerSees) (ask : AbstractCall) (d : Decision) → d ≡ to_lecturer v ask → HasWholeNumbers d.reply.body
+pub whole_lecturer : (v : LecturerSees) (ask : AbstractCall) (d : Decision) → d ≡ to_lecturer v ask
+    → HasWholeNumbers d.reply.body
 whole_lecturer v ask d e = subst (λ (x : Decision). HasWholeNumbers x.reply.body) (sym e) (lecturer_whole v ask)
 
-pub whole_student : (v : StudentSees) (ask : AbstractCall) (d : Decision) → d ≡ to_student v ask → HasWholeNumbers d.reply.body
+pub whole_student : (v : StudentSees) (ask : AbstractCall) (d : Decision) → d ≡ to_student v ask
+    → HasWholeNumbers d.reply.body
 whole_student v ask d e = subst (λ (x : Decision). HasWholeNumbers x.reply.body) (sym e) (student_whole v ask)

@@ -20,7 +20,8 @@ heads stream after rest ended (frame.Request request used) e last framed not_nee
 heads stream after rest ended (frame.Bad refusal head_only) e last framed not_need =
     subst (λ s. Opens s (fault (refused refusal) head_only)) e (framed rest last)
 
-pub follows : (old new : Option (List ℕ)) (before after : List ℕ) (ended : Bool) (f : Frame) → ReadsMore old new before after ended
+pub follows : (old new : Option (List ℕ)) (before after : List ℕ) (ended : Bool) (f : Frame)
+    → ReadsMore old new before after ended
     → Framed after ended f → f ≢ frame.Need → IsWithin after f → Follows old new before after f
 follows None new before after ended f reads framed not_need held = record { goes = tt; whole = not_need; within = held }
 follows (Some more) new before after ended f (rest, known, same, last) framed not_need held =
@@ -34,7 +35,8 @@ pub within : (buffer : List ℕ) (f : Frame) → IsWithinLimits buffer f → IsW
 within buffer (frame.Request request used) limits = (limits.1, limits.2)
 within buffer _ limits = tt
 
-too_short : (n : ℕ) (rest : List ℕ) (short : length rest < n) (h : RequestHead) (b : Bool) (a : Asked) (after : List ℕ) → nat_le n (length rest) ≡ b
+too_short : (n : ℕ) (rest : List ℕ) (short : length rest < n) (h : RequestHead) (b : Bool) (a : Asked) (after : List ℕ)
+    → nat_le n (length rest) ≡ b
     → whole a after ≡ (if b then whole (asked_of h (take n rest)) (drop n rest) else fault bad_length (is_head h.method)) → ⊥
 too_short n rest short h true a after le e = omega (arith, short, leb-true n (length rest) le)
 too_short n rest short h false a after le e = absurd (cc)
@@ -54,6 +56,7 @@ none_whole bytes ended (on, inr (h, rest, n, takes, size, short)) a after (inl (
     (subst (λ r. whole a after ≡ item_of h r) (sym same.1) (subst (λ (x : RequestHead). whole a after ≡ item_of x other) (sym same.0) e))
 none_whole bytes ended (on, inr (h, rest, n, takes, size, short)) a after (inr (nothing, e)) = nothing h rest takes
 
-pub none_err : {A : Type 0} (r : Result A Cause) (P : Cause → Type 0) (bytes : List ℕ) → NoneWhole bytes → IfErr r (λ why. P why → NoneWhole bytes)
+pub none_err : {A : Type 0} (r : Result A Cause) (P : Cause → Type 0) (bytes : List ℕ) → NoneWhole bytes
+    → IfErr r (λ why. P why → NoneWhole bytes)
 none_err (Ok a) P bytes none = tt
 none_err (Err why) P bytes none = λ is. none

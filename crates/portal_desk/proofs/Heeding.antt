@@ -22,13 +22,15 @@ texts_by [] answers = []
 texts_by (m ∷ ms) [] = []
 texts_by (m ∷ ms) (a ∷ answers) = reply_text a m.0 m.1 ∷ texts_by ms answers
 
-unmarked : (b : Bool) (old new : Sight) (seen rest : List HeardItem) → SeenIf b old new seen → marks (seen ++ rest) ≡ marks rest
+unmarked : (b : Bool) (old new : Sight) (seen rest : List HeardItem) → SeenIf b old new seen
+    → marks (seen ++ rest) ≡ marks rest
 unfolding marks
 unmarked true old new seen rest (inl x) = ap (λ s. marks (s ++ rest)) x.1
 unmarked true old new seen rest (inr x) = ap (λ s. marks (s ++ rest)) x.1
 unmarked false old new seen rest e = ap (λ s. marks (s ++ rest)) e
 
-one : (b : Bool) (e : Exchange) (seen rest : List HeardItem) (texts : List (List ℕ)) (answers : List Answer) → marks (seen ++ rest) ≡ marks rest
+one : (b : Bool) (e : Exchange) (seen rest : List HeardItem) (texts : List (List ℕ)) (answers : List Answer)
+    → marks (seen ++ rest) ≡ marks rest
     → texts ≡ texts_by (marks rest) answers
     → (if b then exchange_text e ∷ texts else texts)
     ≡ texts_by (marks (((if b then Asked e.request.head e.request.closes e.request.wish ∷ [] else []) ++ seen) ++ rest)) (if b then e.reply ∷ answers else answers)
@@ -36,7 +38,8 @@ unfolding marks texts_by
 one true e seen rest texts answers none same = ap (λ ts. exchange_text e ∷ ts) (same ∙ ap (λ ms. texts_by ms answers) (sym none))
 one false e seen rest texts answers none same = same ∙ ap (λ ms. texts_by ms answers) (sym none)
 
-texts_heard : (c : Key) (w : World) (es : List Exchange) (worlds : List World) (items : List HeardItem) → Run w (asked_in es) (told_in es) worlds
+texts_heard : (c : Key) (w : World) (es : List Exchange) (worlds : List World) (items : List HeardItem)
+    → Run w (asked_in es) (told_in es) worlds
     → Heard c w (asked_in es) worlds items → texts_to c es ≡ texts_by (marks items) (replies_to c (asked_in es) (told_in es))
 unfolding marks texts_by
 texts_heard c w [] [] items run heard = ap (λ xs. texts_by (marks xs) []) (sym heard)
@@ -48,7 +51,8 @@ texts_heard c w (e ∷ es) (v ∷ worlds) items run (first, rest, (seen, see, is
     ∙ ap (λ xs. texts_by (marks xs) (replies_to c (asked_in (e ∷ es)) (told_in (e ∷ es)))) (sym whole)
 texts_heard c w _ _ items run heard = absurd run
 
-pub whole_run : (w : World) (vs : List Visit) → AreVisits w vs → Run w (asked_in (exchanges_of vs)) (told_in (exchanges_of vs)) (worlds_of vs)
+pub whole_run : (w : World) (vs : List Visit) → AreVisits w vs
+    → Run w (asked_in (exchanges_of vs)) (told_in (exchanges_of vs)) (worlds_of vs)
 whole_run w [] visits = tt
 whole_run w (v ∷ vs) (first, rest) = Run-append w v.exchanges (exchanges_of vs) v.worlds (worlds_of vs) first.run (whole_run (end_of w v.worlds) vs rest)
 
@@ -68,7 +72,8 @@ text_same e f same equals =
     ap (λ a. reply_text a e.request.head e.request.closes) equals
     ∙ (ap (λ h. reply_text f.reply h e.request.closes) same.head ∙ ap (λ x. reply_text f.reply f.request.head x) same.closes)
 
-alike : (es fs : List Exchange) → AllZip SameRequest (asked_in es) (asked_in fs) → AlikeUntilPublished (asked_in es) (told_in es) (told_in fs) → AlikeTexts es fs
+alike : (es fs : List Exchange) → AllZip SameRequest (asked_in es) (asked_in fs)
+    → AlikeUntilPublished (asked_in es) (told_in es) (told_in fs) → AlikeTexts es fs
 alike [] fs zip told = tt
 alike (e ∷ es) [] zip told = tt
 alike (e ∷ es) (f ∷ fs) zip told = (

@@ -29,7 +29,8 @@ uses_then a r old mid new made turned h k more = record {
 }
 
 -- the same of a change
-pub changes_then : {A B : Type 0} (a : A) (r : Result B KeepFault) (old mid new : KeeperState) (made turned : World → Type 0) → Looks (Ok a) old mid → Changes r mid new made
+pub changes_then : {A B : Type 0} (a : A) (r : Result B KeepFault) (old mid new : KeeperState) (made turned : World → Type 0)
+    → Looks (Ok a) old mid → Changes r mid new made
     → (mid.clean → (w : World) → made w → turned w) → Changes r old new turned
 changes_then a r old mid new made turned h k more = record {
   uses = uses_then a r old mid new _ _ h.uses k.uses (λ disk w so on. let up = (h.uses.lasts (k.uses.breaks disk).0).1 on in more up w (so up));
@@ -48,6 +49,7 @@ pub uses_on : {A B : Type 0} (a : A) (r : Result B KeepFault) (old new : KeeperS
 uses_on a r old new made h = record { clean = h.clean; lasts = at_ok r h.lasts; breaks = h.breaks; settled = h.settled; leaves = h.leaves }
 
 -- what a call that failed says, where its fault is handed on
-pub uses_err : {A B : Type 0} (s : Result A KeepFault) (r : Result B KeepFault) (old new : KeeperState) (made : World → Type 0) → Uses s old new made → IsErr r → Uses r old new made
+pub uses_err : {A B : Type 0} (s : Result A KeepFault) (r : Result B KeepFault) (old new : KeeperState) (made : World → Type 0)
+    → Uses s old new made → IsErr r → Uses r old new made
 uses_err s (Ok b) old new made h failed = let e : false ≡ true = failed in absurd (cc)
 uses_err s (Err e) old new made h failed = record { clean = h.clean; lasts = tt; breaks = h.breaks; settled = h.settled; leaves = h.leaves }

@@ -11,7 +11,8 @@ unfoldable pub exchange : Wanted → Answer → Exchange
 exchange r a = record { request = r; reply = a }
 
 -- whether the reply closes does not matter
-pub acted_as : (old new : KeeperState) (b c : Bool) (a : Asked) (reply : Answer) → Acted old new (request_of b a) reply → Acted old new (request_of c a) reply
+pub acted_as : (old new : KeeperState) (b c : Bool) (a : Asked) (reply : Answer) → Acted old new (request_of b a) reply
+    → Acted old new (request_of c a) reply
 acted_as old new b c a reply h = record {
   clean = h.clean;
   serves = h.serves;
@@ -38,7 +39,8 @@ Moves-none s = record {
 }
 
 -- one exchange
-pub Moves-one : (old new : KeeperState) (r : Wanted) (reply : Answer) → Acted old new r reply → Moves old new (exchange r reply ∷ [])
+pub Moves-one : (old new : KeeperState) (r : Wanted) (reply : Answer) → Acted old new r reply
+    → Moves old new (exchange r reply ∷ [])
 unfolding exchange
 Moves-one old new r reply acted = record {
   clean = acted.clean;
@@ -111,12 +113,14 @@ Moves-append a b c es fs h k = record {
       ];
 }
 
-pub Moves-snoc : (old mid new : KeeperState) (es : List Exchange) (r : Wanted) (reply : Answer) → Moves old mid es → Acted mid new r reply
+pub Moves-snoc : (old mid new : KeeperState) (es : List Exchange) (r : Wanted) (reply : Answer) → Moves old mid es
+    → Acted mid new r reply
     → Moves old new (es ++ exchange r reply ∷ [])
 Moves-snoc old mid new es r reply moves acted = Moves-append old mid new es (exchange r reply ∷ []) moves (Moves-one mid new r reply acted)
 
 -- what a desk did, and one more exchange
-pub worked_more : {K : Type 0} (state : K → KeeperState) (a b c : Kept K) (r : Wanted) (reply : Answer) → Worked state a b → Acted (state b.keeper) (state c.keeper) r reply
+pub worked_more : {K : Type 0} (state : K → KeeperState) (a b c : Kept K) (r : Wanted) (reply : Answer)
+    → Worked state a b → Acted (state b.keeper) (state c.keeper) r reply
     → FailsByCount b.failed c.failed (state b.keeper).faults (state c.keeper).faults → Worked state a c
 worked_more state a b c r reply h acted counts = record {
   moves = (h.moves.0 ++ exchange r reply ∷ [], Moves-snoc (state a.keeper) (state b.keeper) (state c.keeper) h.moves.0 r reply h.moves.1 acted);
@@ -124,7 +128,8 @@ worked_more state a b c r reply h acted counts = record {
 }
 
 -- and what it did then
-pub worked_then : {K : Type 0} (state : K → KeeperState) (a b c : Kept K) → Worked state a b → Worked state b c → Worked state a c
+pub worked_then : {K : Type 0} (state : K → KeeperState) (a b c : Kept K) → Worked state a b → Worked state b c
+    → Worked state a c
 worked_then state a b c h k = record {
   moves = (h.moves.0 ++ k.moves.0, Moves-append (state a.keeper) (state b.keeper) (state c.keeper) h.moves.0 k.moves.0 h.moves.1 k.moves.1);
   counts = fails_then _ _ _ _ _ _ h.counts k.counts;

@@ -17,24 +17,28 @@ use Rattle.portal_rules.proofs.Steps.{step_good}
 use Rattle.portal_desk.proofs.InTurn.{uses_then}
 
 -- the solved pairs place the students as the best matching does
-pub solved_best : (w : World) (i : Spa) (pairs : List (Key × Key)) → Good w → i ≡ instance w → IsSolved i pairs → IsBest (instance w) (matching_of (changed w (Placements pairs)))
+pub solved_best : (w : World) (i : Spa) (pairs : List (Key × Key)) → Good w → i ≡ instance w → IsSolved i pairs
+    → IsBest (instance w) (matching_of (changed w (Placements pairs)))
 solved_best w i pairs g is solved =
     let best : IsBest (instance w) solved.0 = subst (λ j. IsBest j solved.0) is solved.1 in
     let by : pairs ≡ pairs_by (instance w).student_keys (instance w).project_keys solved.0 = solved.2 ∙ ap (λ (j : Spa). pairs_by j.student_keys j.project_keys solved.0) is in
     subst (λ ps. IsBest (instance w) (matching_of (changed w (Placements ps)))) (sym by)
     (subst (IsBest (instance w)) (sym (pairs_place w solved.0 g.sound best.stable.matching)) best)
 
-pub solved_good : (w : World) (i : Spa) (pairs : List (Key × Key)) → Good w → CanPublish w → i ≡ instance w → IsSolved i pairs → Good (changed w (Placements pairs))
+pub solved_good : (w : World) (i : Spa) (pairs : List (Key × Key)) → Good w → CanPublish w → i ≡ instance w
+    → IsSolved i pairs → Good (changed w (Placements pairs))
 solved_good w i pairs g ready is solved = to_published w pairs g (ap is_setup ready.phase) ready.all_ranked (solved_best w i pairs g is solved)
 
 -- what was decided of a view, where it is known which view that is
-pub of_shown : {T E V D A B : Type 0} (r : Result T E) (f : T → D) (h : V → D) (v u : V) → (A → B → v ≡ u) → IfOk r (λ d. f d ≡ h v)
+pub of_shown : {T E V D A B : Type 0} (r : Result T E) (f : T → D) (h : V → D) (v u : V) → (A → B → v ≡ u)
+    → IfOk r (λ d. f d ≡ h v)
     → IfOk r (λ d. A → B → f d ≡ h u)
 of_shown (Ok d) f h v u shown decided = λ a b. decided ∙ ap h (shown a b)
 of_shown (Err e) f h v u shown decided = tt
 
 -- what was decided may be done
-pub can_do : (w : World) (code : Key) (ask : AbstractCall) (d : Decision) → Good w → HasForm ask → d ≡ decision (view w code) ask → CanDo w d.act
+pub can_do : (w : World) (code : Key) (ask : AbstractCall) (d : Decision) → Good w → HasForm ask
+    → d ≡ decision (view w code) ask → CanDo w d.act
 can_do w code ask d g form is = go d.act (sym (ap (λ (e : Decision). e.act) is))
   where
     go : (a : Act) → (decision (view w code) ask).act ≡ a → CanDo w a
@@ -43,7 +47,8 @@ can_do w code ask d g form is = go d.act (sym (ap (λ (e : Decision). e.act) is)
     go Publish e = can_publish w code ask e
     go (Render sheet) e = tt
 
-pub stepped : (w v : World) (code : Key) (ask : AbstractCall) (d : Decision) → HasForm ask → d ≡ decision (view w code) ask → StepLeaves w d.act v → Step w code ask d.reply v
+pub stepped : (w v : World) (code : Key) (ask : AbstractCall) (d : Decision) → HasForm ask
+    → d ≡ decision (view w code) ask → StepLeaves w d.act v → Step w code ask d.reply v
 stepped w v code ask d form is left =
     record {
       form = form;
@@ -51,17 +56,20 @@ stepped w v code ask d form is left =
       left = subst (λ (e : Decision). StepLeaves w e.act v) is left;
     }
 
-pub good_after : (w v : World) (code : Key) (ask : AbstractCall) (d : Decision) → Good w → HasForm ask → d ≡ decision (view w code) ask → StepLeaves w d.act v → Good v
+pub good_after : (w v : World) (code : Key) (ask : AbstractCall) (d : Decision) → Good w → HasForm ask
+    → d ≡ decision (view w code) ask → StepLeaves w d.act v → Good v
 good_after w v code ask d g form is left = step_good w v code ask d.reply g (stepped w v code ask d form is left)
 
 -- what publishing leaves
-pub published : (w u v : World) (i : Spa) (pairs : List (Key × Key)) → Good w → i ≡ instance w → IsSolved i pairs → u ≡ w → v ≡ changed u (Placements pairs) → StepLeaves w Publish v
+pub published : (w u v : World) (i : Spa) (pairs : List (Key × Key)) → Good w → i ≡ instance w → IsSolved i pairs
+    → u ≡ w → v ≡ changed u (Placements pairs) → StepLeaves w Publish v
 published w u v i pairs g is solved same made =
     let end : v ≡ changed w (Placements pairs) = made ∙ ap (λ x. changed x (Placements pairs)) same in
     (pairs, end, subst (λ x. IsBest (instance w) (matching_of x)) (sym end) (solved_best w i pairs g is solved))
 
 -- what performing the act that was decided makes
-pub performed : {A B : Type 0} (d : A) (r : Result B KeepFault) (old mid new : KeeperState) (code : Key) (ask : AbstractCall) (e : Decision) → HasForm ask → Looks (Ok d) old mid → IsAlive mid
+pub performed : {A B : Type 0} (d : A) (r : Result B KeepFault) (old mid new : KeeperState) (code : Key) (ask : AbstractCall) (e : Decision)
+    → HasForm ask → Looks (Ok d) old mid → IsAlive mid
     → (mid.clean → e ≡ decision (view old.world code) ask) → Changes r mid new (StepLeaves mid.world e.act)
     → Uses r old new (λ w. (old.broken → ⊥) × (old.clean → (reply : Answer) × Step old.world code ask reply w))
 performed d r old mid new code ask e form looks alive decided changes = uses_then d r old mid new _ _ looks.uses changes.uses (λ disk w made.
@@ -73,20 +81,25 @@ performed d r old mid new code ask e form looks alive decided changes = uses_the
     ))
 
 -- what playing a call for a request does to a keeper
-pub acted : (r : Result Reply KeepFault) (old new : KeeperState) (closes : Bool) (a : Asked) (code : Key) (ask : AbstractCall) (reply : Reply) → code ≡ a.code → wish_of a ≡ Calls ask
+pub acted : (r : Result Reply KeepFault) (old new : KeeperState) (closes : Bool) (a : Asked) (code : Key) (ask : AbstractCall) (reply : Reply)
+    → code ≡ a.code → wish_of a ≡ Calls ask
     → Uses r old new (λ w. (old.broken → ⊥) × (old.clean → (other : Answer) × Step old.world code ask other w)) → OnOk r (IsAlive new)
     → IfOk r (λ told. new.clean → Step old.world code ask (reply_model told) new.world) → OnErr r (new.clean → new.world ≡ old.world)
     → MatchResult r (λ told. reply ≡ told) (λ _. reply_model reply ≡ unavailable) → Acted old new (request_of closes a) (reply_model reply)
 acted r old new closes a code ask reply own is uses alive step same told = go r uses alive step same told
   where
-    answers : (other : Answer) (w : World) → Step old.world code ask other w → Serves old.world (request_of closes a) other w
+    answers : (other : Answer) (w : World) → Step old.world code ask other w
+        → Serves old.world (request_of closes a) other w
     answers other w made = inl (subst (λ wish. Answers old.world (request_of closes a) wish other w) (sym is) (subst (λ c. Step old.world c ask other w) own made))
 
-    may_leave : (w : World) → (new.broken → reply_model reply ≡ unavailable) → (old.broken → ⊥) × (old.clean → (other : Answer) × Step old.world code ask other w)
+    may_leave : (w : World) → (new.broken → reply_model reply ≡ unavailable)
+        → (old.broken → ⊥) × (old.clean → (other : Answer) × Step old.world code ask other w)
         → MayLeave old new (request_of closes a) (reply_model reply) w
     may_leave w untold (alive, made) = record { alive = alive; untold = untold; turned = λ on. let m = made on in (m.0, answers m.0 w m.1) }
 
-    go : (r : Result Reply KeepFault) → Uses r old new (λ w. (old.broken → ⊥) × (old.clean → (other : Answer) × Step old.world code ask other w)) → OnOk r (IsAlive new)
+    go : (r : Result Reply KeepFault)
+        → Uses r old new (λ w. (old.broken → ⊥) × (old.clean → (other : Answer) × Step old.world code ask other w))
+        → OnOk r (IsAlive new)
         → IfOk r (λ told. new.clean → Step old.world code ask (reply_model told) new.world) → OnErr r (new.clean → new.world ≡ old.world)
         → MatchResult r (λ told. reply ≡ told) (λ _. reply_model reply ≡ unavailable) → Acted old new (request_of closes a) (reply_model reply)
     go (Ok v) uses alive step same told = record {
@@ -109,7 +122,8 @@ acted r old new closes a code ask reply own is uses alive step same told = go r 
     }
 
 -- a request that leaves the keeper alone
-pub acted_none : (s : KeeperState) (r : Wanted) (reply : Answer) → ((w : World) → Serves w r reply w) → Acted s s r reply
+pub acted_none : (s : KeeperState) (r : Wanted) (reply : Answer) → ((w : World) → Serves w r reply w)
+    → Acted s s r reply
 acted_none s r reply serves = record {
   clean = λ on. on;
   serves = λ on. serves s.world;

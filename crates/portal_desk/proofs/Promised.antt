@@ -14,7 +14,8 @@ use Rattle.portal_desk.proofs.Steps.{answered_apart}
 use Rattle.portal_desk.proofs.Telling.{SomeSession}
 
 -- what the last disk returned keeps each keeper clean
-pub stays_served : {K : Type 0} (state : K → KeeperState) (k : K) (ss : List (Session K)) → AreServedOn state k ss → AllAnswered (told_in (exchanges_in ss))
+pub stays_served : {K : Type 0} (state : K → KeeperState) (k : K) (ss : List (Session K)) → AreServedOn state k ss
+    → AllAnswered (told_in (exchanges_in ss))
     → (state (left_by k ss)).disk → (state k).disk × ((state k).clean → AreServed state k ss)
 stays_served state k [] served all last = (last, λ on. tt)
 stays_served state k (s ∷ ss) (resumes, serves, later) all last =
@@ -36,7 +37,8 @@ same_exchanges state _ _ tell = absurd tell
 
 -- one step
 
-answered_unseen : (c : Key) (w v : World) (r : Request) (wish : Wish) (a : Answer) → Good w → Answers w r wish a v → IsUnseen c w r v
+answered_unseen : (c : Key) (w v : World) (r : Request) (wish : Wish) (a : Answer) → Good w → Answers w r wish a v
+    → IsUnseen c w r v
 answered_unseen c w v r (Calls ask) a good step = λ member other office. others w v c r.code ask a good step member other office
 answered_unseen c w v r (Refused refusal) a good step = λ member other office. ap (λ u. view u c) step.1
 
@@ -71,13 +73,15 @@ one_best step_best w v r a good (inr none) off on = not_published w v none.1 off
 
 -- a run
 
-pub are_unseen : (c : Key) (w : World) (rs : List Request) (told : List Answer) (vs : List World) → Good w → AllByRecursion Good vs → Run w rs told vs → AreUnseen c w rs vs
+pub are_unseen : (c : Key) (w : World) (rs : List Request) (told : List Answer) (vs : List World) → Good w
+    → AllByRecursion Good vs → Run w rs told vs → AreUnseen c w rs vs
 are_unseen c w [] told vs good all run = tt
 are_unseen c w (r ∷ rs) told [] good all run = tt
 are_unseen c w (r ∷ rs) [] (v ∷ vs) good all run = absurd run
 are_unseen c w (r ∷ rs) (a ∷ told) (v ∷ vs) good all run = (one_unseen c w v r a good run.0, are_unseen c v rs told vs all.0 all.1 run.1)
 
-pub publishes_best : StepsBest → (w : World) (rs : List Request) (told : List Answer) (vs : List World) → Good w → AllByRecursion Good vs → Run w rs told vs
+pub publishes_best : StepsBest → (w : World) (rs : List Request) (told : List Answer) (vs : List World) → Good w
+    → AllByRecursion Good vs → Run w rs told vs
     → PublishesBest w vs
 publishes_best step_best w rs told [] good all run = tt
 publishes_best step_best w [] [] (v ∷ vs) good all run = absurd run
@@ -86,7 +90,8 @@ publishes_best step_best w (r ∷ rs) [] (v ∷ vs) good all run = absurd run
 publishes_best step_best w (r ∷ rs) (a ∷ told) (v ∷ vs) good all run =
     (one_best step_best w v r a good run.0, publishes_best step_best v rs told vs all.0 all.1 run.1)
 
-pub upheld : RunsGood → StepsBest → RunsBest → (w : World) (visits : List Visit) → Good w → AreVisits w visits → IsUpheld w visits
+pub upheld : RunsGood → StepsBest → RunsBest → (w : World) (visits : List Visit) → Good w → AreVisits w visits
+    → IsUpheld w visits
 upheld run_good step_best run_best w visits good are =
     let run = whole_run w visits are in
     let all = run_good w (asked_in (exchanges_of visits)) (told_in (exchanges_of visits)) (worlds_of visits) good run in
@@ -98,7 +103,8 @@ upheld run_good step_best run_best w visits good are =
       best = λ first. run_best w _ _ (worlds_of visits) first run;
     }
 
-pub headline : RunsGood → StepsBest → RunsBest → {K L : Type 0} (state : K → KeeperState) (states : L → KeeperState) (k : K) (l : L)
+pub headline : RunsGood → StepsBest → RunsBest
+    → {K L : Type 0} (state : K → KeeperState) (states : L → KeeperState) (k : K) (l : L)
     (ss : List (Session K)) (ts : List (Session L)) → IsServed state k ss → IsServed states l ts → MainPromise state states (state k).world (states l).world ss ts
 headline run_good step_best run_best state states k l ss ts one other =
     let a = are_visits state k ss ((stays_served state k ss one.served one.answered one.disk).1 one.clean) in
@@ -116,7 +122,8 @@ headline run_good step_best run_best state states k l ss ts one other =
 
 -- one stream more
 
-one_more : {K : Type 0} (state : K → KeeperState) (k : K) (ss : List (Session K)) (s : Session K) → AreServedOn state k ss → left_by k ss ≡ s.old → IsSession state s
+one_more : {K : Type 0} (state : K → KeeperState) (k : K) (ss : List (Session K)) (s : Session K)
+    → AreServedOn state k ss → left_by k ss ≡ s.old → IsSession state s
     → AreServedOn state k (ss ++ s ∷ [])
 one_more state k [] s served same did = (λ now. (subst (λ j. (state j).disk) (sym same) now, λ on. (subst (λ j. (state j).clean) same on, ap (λ j. (state j).world) (sym same))), did, tt)
 one_more state k (x ∷ ss) s (first, told, rest) same did = (first, told, one_more state x.new ss s rest same did)
@@ -125,13 +132,15 @@ left_more : {K : Type 0} (k : K) (ss : List (Session K)) (s : Session K) → lef
 left_more k [] s = refl
 left_more k (x ∷ ss) s = left_more x.new ss s
 
-of_more : {K : Type 0} (ss : List (Session K)) (xs ts : List (List ℕ)) (s : Session K) (t : List ℕ) → AreOf ss xs ts → s.before ≡ Some [] → s.after ≡ Some t → IsEnded s.finish
+of_more : {K : Type 0} (ss : List (Session K)) (xs ts : List (List ℕ)) (s : Session K) (t : List ℕ) → AreOf ss xs ts
+    → s.before ≡ Some [] → s.after ≡ Some t → IsEnded s.finish
     → AreOf (ss ++ s ∷ []) (xs ++ s.bytes ∷ []) (ts ++ t ∷ [])
 of_more [] [] [] s t are none all ended = (refl, none, all, ended, tt)
 of_more (r ∷ ss) (x ∷ xs) (u ∷ ts) s t are none all ended = (are.0, are.1, are.2, are.3, of_more ss xs ts s t are.4 none all ended)
 of_more _ _ _ s t are none all ended = absurd are
 
-pub each_more : {K : Type 0} (state : K → KeeperState) (k old new : K) (xs ts : List (List ℕ)) (x t : List ℕ) (count : ℕ) (ending : Last) → ServesEach state k old xs ts
+pub each_more : {K : Type 0} (state : K → KeeperState) (k old new : K) (xs ts : List (List ℕ)) (x t : List ℕ) (count : ℕ) (ending : Last)
+    → ServesEach state k old xs ts
     → SomeSession state old new (Some []) (Some t) count (Ended ending) x → ServesEach state k new (xs ++ x ∷ []) (ts ++ t ∷ [])
 each_more {K = K} state k old new xs ts x t count ending (ss, served, same, are) (es, did) =
     let s : Session K = record { old = old; new = new; bytes = x; before = Some []; after = Some t; count = count; finish = Ended ending; exchanges = es } in

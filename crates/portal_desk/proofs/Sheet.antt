@@ -60,7 +60,8 @@ row_said : (status : ℕ) (word : List ℕ) (row : Option ℕ) → IsSaid (row_f
 row_said status word None = tt
 row_said status word (Some n) = tt
 
-added_filled : {X : Type 0} (v : OfficeSees) (change : List X → Change) (t : Taken X) → IsFilled (Office v) (added change t)
+added_filled : {X : Type 0} (v : OfficeSees) (change : List X → Change) (t : Taken X)
+    → IsFilled (Office v) (added change t)
 added_filled v change (Faulty fault) = (refl, row_said fault.status fault.word fault.row)
 added_filled v change (Took new same) = idle_or_applied v (is_empty new) _ (change new)
 

@@ -28,7 +28,8 @@ Reaches-append w u v es fs (us, run, same) (vs, next, last) = (
 )
 
 -- where no reply is 503, none is in either part
-pub answered_apart : (es fs : List Exchange) → AllAnswered (told_in (es ++ fs)) → AllAnswered (told_in es) × AllAnswered (told_in fs)
+pub answered_apart : (es fs : List Exchange) → AllAnswered (told_in (es ++ fs))
+    → AllAnswered (told_in es) × AllAnswered (told_in fs)
 answered_apart [] fs all = (tt, all)
 answered_apart (e ∷ es) fs all = let rest = answered_apart es fs all.1 in ((all.0, rest.0), rest.1)
 

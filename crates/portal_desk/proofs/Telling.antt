@@ -36,7 +36,8 @@ pub record SoFar {K : Type 0} (state : K → KeeperState) (src rem : Option (Lis
   pub dealt : IfSome src (λ bytes. (rest : List ℕ) × (rem ≡ Some rest) × Dealt (state old) (state mid) before w bytes count (more (front ++ rest)))
 
 -- before the first turn
-pub so_far_none : {K : Type 0} (state : K → KeeperState) (src : Option (List ℕ)) (k : K) (w : Option (List ℕ)) (front : List ℕ) → front ≡ [] → SoFar state src src k k w w front 0
+pub so_far_none : {K : Type 0} (state : K → KeeperState) (src : Option (List ℕ)) (k : K) (w : Option (List ℕ)) (front : List ℕ)
+    → front ≡ [] → SoFar state src src k k w w front 0
 so_far_none state None k w front empty = record { dealt = tt }
 so_far_none state (Some bytes) k w front empty = record {
   dealt = (
@@ -55,7 +56,8 @@ so_far_none state (Some bytes) k w front empty = record {
     nothing (Some x) = sym (append-nil x)
 
 -- some exchanges make a call a session
-abbrev pub SomeSession : {K : Type 0} → (K → KeeperState) → K → K → Option (List ℕ) → Option (List ℕ) → ℕ → Finish → List ℕ → Type 0
+abbrev pub SomeSession : {K : Type 0} → (K → KeeperState) → K → K → Option (List ℕ) → Option (List ℕ) → ℕ → Finish
+    → List ℕ → Type 0
 SomeSession state old new before after count finish bytes =
     (es : List Exchange) × IsSession state (record { old = old; new = new; bytes = bytes; before = before; after = after; count = count; finish = finish; exchanges = es })
 
@@ -102,16 +104,19 @@ Dealt-snoc old mid new before w now bytes left after count a closes d opens at (
     }
 
 module _ {K : Type 0} {state : K → KeeperState} {src rem : Option (List ℕ)} {old mid : K} {before w : Option (List ℕ)} {front : List ℕ} {count : ℕ} (so : SoFar state src rem old mid before w front count) where
-  made : (new : K) (after : Option (List ℕ)) (n : ℕ) (finish : Finish) {bytes : List ℕ} {es : List Exchange} {rest : Rest} (written : List ℕ) → Deals (state old) (state new) bytes n es rest
+  made : (new : K) (after : Option (List ℕ)) (n : ℕ) (finish : Finish) {bytes : List ℕ} {es : List Exchange} {rest : Rest} (written : List ℕ)
+      → Deals (state old) (state new) bytes n es rest
       → Appends before after written → Tells finish bytes es written → SomeSession state old new before after n finish bytes
   made new after n finish {es = es} written deals adds tells =
       (es, record { moves = deals.moves; counted = deals.counted; written = written; adds = adds; tells = tells })
 
-  pub missed : (known : Option (List ℕ)) (buffer : List ℕ) (why : Cause) (failed : Bool) → (why ≡ cause.Read) ⊎ (why ≡ cause.Memory)
+  pub missed : (known : Option (List ℕ)) (buffer : List ℕ) (why : Cause) (failed : Bool)
+      → (why ≡ cause.Read) ⊎ (why ≡ cause.Memory)
       → (why ≡ cause.Read → KeepsStream rem known front buffer) → (why ≡ cause.Read → NoneWhole buffer) → IfSome src (SomeSession state old mid before w count (Stopped why failed known))
   missed known buffer why failed causes stays none = go src so.dealt why causes stays none
     where
-      go : (src : Option (List ℕ)) → IfSome src (λ bytes. (rest : List ℕ) × (rem ≡ Some rest) × Dealt (state old) (state mid) before w bytes count (more (front ++ rest)))
+      go : (src : Option (List ℕ))
+          → IfSome src (λ bytes. (rest : List ℕ) × (rem ≡ Some rest) × Dealt (state old) (state mid) before w bytes count (more (front ++ rest)))
           → (why : Cause) → (why ≡ cause.Read) ⊎ (why ≡ cause.Memory) → (why ≡ cause.Read → KeepsStream rem known front buffer) → (why ≡ cause.Read → NoneWhole buffer)
           → IfSome src (SomeSession state old mid before w count (Stopped why failed known))
       go None x why causes stays none = tt
@@ -131,18 +136,21 @@ module _ {K : Type 0} {state : K → KeeperState} {src rem : Option (List ℕ)} 
     abbrev closing : List ℕ
     closing = reply_text (answer_to (refused refusal)) head_only true
 
-    pub bad_known : Appends w now closing → IfSome src (SomeSession state old mid before now count (Ended (talk.Refused refusal.word.now)))
+    pub bad_known : Appends w now closing
+        → IfSome src (SomeSession state old mid before now count (Ended (talk.Refused refusal.word.now)))
     bad_known adds =
         turn state src rem known old mid before w front buffer count (frame.Bad refusal head_only) (SomeSession state old mid before now count (Ended (talk.Refused refusal.word.now))) so follows
         (λ bytes stream rest d is opens. made mid now count _ (text d.es ++ closing) d.deals (Appends-append before w now (text d.es) closing d.adds adds)
         (closing, (more stream, d.deals.leads, (refused refusal, head_only, opens, refl, refl)), refl))
 
-    pub cut_known : (why : Cause) (failed : Bool) (left : Option (List ℕ)) → Partly why w now closing → IfSome src (SomeSession state old mid before now count (Stopped why failed left))
+    pub cut_known : (why : Cause) (failed : Bool) (left : Option (List ℕ)) → Partly why w now closing
+        → IfSome src (SomeSession state old mid before now count (Stopped why failed left))
     cut_known why failed left part =
         turn state src rem known old mid before w front buffer count (frame.Bad refusal head_only) (SomeSession state old mid before now count (Stopped why failed left)) so follows
         (λ bytes stream rest d is opens. go bytes stream d opens why part)
       where
-        go : (bytes stream : List ℕ) → Dealt (state old) (state mid) before w bytes count (more stream) → Opens stream (fault (refused refusal) head_only) → (why : Cause)
+        go : (bytes stream : List ℕ) → Dealt (state old) (state mid) before w bytes count (more stream)
+            → Opens stream (fault (refused refusal) head_only) → (why : Cause)
             → Partly why w now closing → SomeSession state old mid before now count (Stopped why failed left) bytes
         go bytes stream d opens cause.Write (k, adds) =
             made mid now count _ (text d.es ++ take k closing) d.deals (Appends-append before w now (text d.es) (take k closing) d.adds adds)
@@ -163,7 +171,8 @@ module _ {K : Type 0} {state : K → KeeperState} {src rem : Option (List ℕ)} 
         (Dealt-snoc (state old) (state mid) (state new) before w now bytes stream after count (seen request) closes d opens at did) in
         made new now (count + 1) _ (text t.es) t.deals t.adds ([], (shut request.close, t.deals.leads, shut_ends request.close), sym (append-nil (text t.es))))
 
-    pub more_known : (kept : List ℕ) → Did (state mid) (state new) (seen request) closes w now → closes ≡ false → kept ≡ drop used buffer
+    pub more_known : (kept : List ℕ) → Did (state mid) (state new) (seen request) closes w now → closes ≡ false
+        → kept ≡ drop used buffer
         → SoFar state src known old new before now kept (count + 1)
     more_known kept did stays e = record {
       dealt = turn state src rem known old mid before w front buffer count (frame.Request request used)
@@ -192,7 +201,8 @@ module _ {K : Type 0} {state : K → KeeperState} {src rem : Option (List ℕ)} 
         after : List ℕ → Rest
         after rest = after_one closes (seen request) (drop used buffer ++ rest)
 
-        go : (bytes stream rest : List ℕ) (d : Dealt (state old) (state mid) before w bytes count (more stream)) → Deals (state old) (state new) bytes (count + 1) (d.es ++ e ∷ []) (after rest)
+        go : (bytes stream rest : List ℕ) (d : Dealt (state old) (state mid) before w bytes count (more stream))
+            → Deals (state old) (state new) bytes (count + 1) (d.es ++ e ∷ []) (after rest)
             → (why : Cause) → Broke why failed reply (is_head request.method.items) closes w now → SomeSession state old new before now (count + 1) (Stopped why failed left) bytes
         go bytes stream rest d deals cause.Read broke = absurd broke
         go bytes stream rest d deals cause.Write (k, adds) =
@@ -205,13 +215,15 @@ module _ {K : Type 0} {state : K → KeeperState} {src rem : Option (List ℕ)} 
             made new now (count + 1) _ (text d.es ++ reply_text unavailable (is_head request.method.items) true) deals (Appends-append before w now (text d.es) _ d.adds adds)
             (after rest, deals.leads, (is_failed, d.es, e, refl, same, refl))
 
-pub goes_on : (count : ℕ) (asked : Asked) (closes : Bool) → count < connection_limit → closes ≡ false → closes ≡ closes_at (connection_limit - count) asked → count + 1 < connection_limit
+pub goes_on : (count : ℕ) (asked : Asked) (closes : Bool) → count < connection_limit → closes ≡ false
+    → closes ≡ closes_at (connection_limit - count) asked → count + 1 < connection_limit
 goes_on count asked closes small stays at =
     let many = leb-false (connection_limit - count) 1 (or_parts asked.close (nat_le (connection_limit - count) 1) (sym at ∙ stays)).1 in
     omega (arith, small, many)
 
 -- a desk that had failed is as it was, and so it cannot have answered
-pub still_failed : {K : Type 0} (first now next : Kept K) → (first.failed ≡ true → now ≡ first) → (now.failed ≡ true → next ≡ now) → next.failed ≡ false
+pub still_failed : {K : Type 0} (first now next : Kept K) → (first.failed ≡ true → now ≡ first)
+    → (now.failed ≡ true → next ≡ now) → next.failed ≡ false
     → first.failed ≡ true → ⊥
 still_failed {K = K} first now next waits stays calm failed =
     let was = ap (λ (k : Kept K). k.failed) (waits failed) ∙ failed in

@@ -96,7 +96,8 @@ pub record IsServed {K : Type 0} (state : K → KeeperState) (k : K) (sessions :
 
 -- a request of a student or a lecturer changes no view but the own one and the office's
 abbrev pub IsUnseen : Key → World → Request → World → Type 0
-IsUnseen c old r new = IsMember (view old r.code) → equals r.code c ≡ false → equals old.office c ≡ false → view new c ≡ view old c
+IsUnseen c old r new =
+    IsMember (view old r.code) → equals r.code c ≡ false → equals old.office c ≡ false → view new c ≡ view old c
 
 abbrev pub AreUnseen : Key → World → List Request → List World → Type 0
 AreUnseen c w (r ∷ rs) (v ∷ vs) = IsUnseen c w r v × AreUnseen c v rs vs
@@ -123,14 +124,16 @@ AreEqual w v first second =
 
 -- any other visits without a 503 give a caller who starts alike and hears the same the same replies
 abbrev pub IsLikeAll : World → List Visit → Type 0
-IsLikeAll w visits = (v : World) (others : List Visit) → AreVisits v others → AreAnswered others → AreEqual w v visits others
+IsLikeAll w visits =
+    (v : World) (others : List Visit) → AreVisits v others → AreAnswered others → AreEqual w v visits others
 
 -- the main promise holds of these visits, compared with any other visits without a 503
 abbrev pub HasPromise : World → List Visit → Type 0
 HasPromise w visits = IsUpheld w visits × IsLikeAll w visits
 
 -- visits describe the sessions of both lists, and the main promise holds of these visits
-abbrev pub MainPromise : {K L : Type 0} → (K → KeeperState) → (L → KeeperState) → World → World → List (Session K) → List (Session L) → Type 0
+abbrev pub MainPromise : {K L : Type 0} → (K → KeeperState) → (L → KeeperState) → World → World → List (Session K)
+    → List (Session L) → Type 0
 MainPromise state states w v sessions others =
     (first second : List Visit) × AllZip (TellsOf state) sessions first × AllZip (TellsOf states) others second
     × IsUpheld w first × IsUpheld v second × AreEqual w v first second

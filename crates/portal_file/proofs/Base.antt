@@ -10,11 +10,13 @@ pub if_ok : {A E : Type 0} (r : Result A E) (P Q : A → Type 0) → ((x : A) �
 if_ok (Ok x) P Q more h = more x h
 if_ok (Err e) P Q more h = tt
 
-pub if_ok_both : {A E : Type 0} (r : Result A E) (P Q R : A → Type 0) → ((x : A) → P x → Q x → R x) → IfOk r P → IfOk r Q → IfOk r R
+pub if_ok_both : {A E : Type 0} (r : Result A E) (P Q R : A → Type 0) → ((x : A) → P x → Q x → R x) → IfOk r P
+    → IfOk r Q → IfOk r R
 if_ok_both (Ok x) P Q R more h k = more x h k
 if_ok_both (Err e) P Q R more h k = tt
 
-pub if_ok_on : {A E : Type 0} (r : Result A E) (L : Type 0) (P Q : A → Type 0) → ((x : A) → L → P x → Q x) → OnOk r L → IfOk r P → IfOk r Q
+pub if_ok_on : {A E : Type 0} (r : Result A E) (L : Type 0) (P Q : A → Type 0) → ((x : A) → L → P x → Q x) → OnOk r L
+    → IfOk r P → IfOk r Q
 if_ok_on (Ok x) L P Q more h k = more x h k
 if_ok_on (Err e) L P Q more h k = tt
 

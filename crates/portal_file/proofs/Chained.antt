@@ -57,7 +57,8 @@ abbrev AreTold : World → Image → List Process → Type 0
 AreTold w image ps = (vs : List Visit) × AllTellOfProcesses ps vs × AreVisits w vs × HoldsWorld (left_after image ps) (end_of w (worlds_of vs))
 
 -- a process that has requests is a visit, and then the others are
-one_more : (w : World) (image : Image) (p : Process) (ps : List Process) → IsProcess p → HoldsWorld p.found w → IsSome p.stream → AllAnswered (told_in p.exchanges)
+one_more : (w : World) (image : Image) (p : Process) (ps : List Process) → IsProcess p → HoldsWorld p.found w
+    → IsSome p.stream → AllAnswered (told_in p.exchanges)
     → ((v : World) → HoldsWorld p.left v → AreTold v p.left ps) → AreTold w image (p ∷ ps)
 one_more w image p ps process holds known answered others =
     let turn = process.turns w holds answered in
@@ -71,12 +72,14 @@ one_more w image p ps process holds known answered others =
     )
 
 -- one that has none is none
-no_more : (w : World) (image : Image) (p : Process) (ps : List Process) → IsProcess p → HoldsWorld p.found w → p.exchanges ≡ []
+no_more : (w : World) (image : Image) (p : Process) (ps : List Process) → IsProcess p → HoldsWorld p.found w
+    → p.exchanges ≡ []
     → ((v : World) → HoldsWorld p.left v → AreTold v p.left ps) → AreTold w image (p ∷ ps)
 no_more w image p ps process holds none others =
     let more = others w (quiet w p process holds none) in (more.0, inl (none, more.1), more.2, more.3)
 
-are_visits : (w : World) (image : Image) (ps : List Process) → HoldsWorld image w → AreProcesses image ps → AllByRecursion IsKnown ps
+are_visits : (w : World) (image : Image) (ps : List Process) → HoldsWorld image w → AreProcesses image ps
+    → AllByRecursion IsKnown ps
     → AllAnswered (told_in (exchanges_by ps)) → AreTold w image ps
 are_visits w image [] holds are known all = ([], refl, tt, holds)
 are_visits w image (p ∷ ps) holds (is, process, later) known all =
@@ -121,7 +124,8 @@ stands_both (e ∷ es) [] xs ys one two = absurd one
 stands_both (e ∷ es) (f ∷ fs) xs ys one two = (one.0, one.1, stands_both es fs xs ys one.2 two)
 
 -- the world was reached by these requests, or by those of which one was carried out after all
-reached : (w v : World) (es : List Exchange) → MayReach w es v → (fs : List Exchange) × MayStandFor es fs × Reaches w fs v
+reached : (w v : World) (es : List Exchange) → MayReach w es v
+    → (fs : List Exchange) × MayStandFor es fs × Reaches w fs v
 reached w v es (inl run) = (es, stands_same es, run)
 reached w v es (inr (front, back, e, other, is, untold, run)) =
     let f : Exchange = record e { reply = other } in (
@@ -143,7 +147,8 @@ RunsOver w image ps =
     (es : List Exchange) × MayStandFor (exchanges_by ps) es × (worlds : List World) × Run w (asked_in es) (told_in es) worlds
     × HoldsWorld (left_after image ps) (end_of w worlds)
 
-runs_over : (w : World) (image : Image) (ps : List Process) → HoldsWorld image w → AreProcesses image ps → ∥ RunsOver w image ps ∥₁
+runs_over : (w : World) (image : Image) (ps : List Process) → HoldsWorld image w → AreProcesses image ps
+    → ∥ RunsOver w image ps ∥₁
 runs_over w image [] holds are = let r : RunsOver w image [] = ([], tt, [], tt, holds) in ∣ r ∣₁
 runs_over w image (p ∷ ps) holds (is, process, later) =
     ∥∥₁_elim (process.stops w (subst (λ i. HoldsWorld i w) (sym is) holds)) squash₁ (λ t.
@@ -161,7 +166,8 @@ runs_over w image (p ∷ ps) holds (is, process, later) =
 
 -- a run
 
-kept_run : RunsGood → StepsBest → RunsBest → (w : World) (es : List Exchange) (worlds : List World) → Good w → Run w (asked_in es) (told_in es) worlds → IsKeptRun w es worlds
+kept_run : RunsGood → StepsBest → RunsBest → (w : World) (es : List Exchange) (worlds : List World) → Good w
+    → Run w (asked_in es) (told_in es) worlds → IsKeptRun w es worlds
 kept_run run_good step_best run_best w es worlds good run =
     let all = run_good w (asked_in es) (told_in es) worlds good run in
     record {

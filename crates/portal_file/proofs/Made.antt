@@ -24,7 +24,8 @@ use Rattle.portal_file.specs.Tables.{AllStand, AreOf, ClosesAs, Shows, Stands, F
 use Rattle.portal_file.proofs.Served.{closed_world, no_proof}
 
 -- tables of version 1 that were upgraded
-pub same_world : {S : Type 0} (g : Ghosts S) (old new : Held S) (made : Seen S) → ClosesAs g made new → UpgradesStore g old made
+pub same_world : {S : Type 0} (g : Ghosts S) (old new : Held S) (made : Seen S) → ClosesAs g made new
+    → UpgradesStore g old made
     → HasCleanDisk (state g new) → (w : World) → Shows First (state g old) w
     → AllStand Current (state g new).may_leave (λ v. v ≡ w)
 same_world g old new made closes is clean w shows db may =
@@ -35,7 +36,8 @@ same_world g old new made closes is clean w shows db may =
     closed_world g made new closes on w same (subst Good same (is.makes.good on)) db may)
 
 -- tables that were made where there were none
-pub fresh_world : {S : Type 0} (g : Ghosts S) (old new : Held S) (made : Seen S) (office : List _) → ClosesAs g made new → CreatesStore g office old made
+pub fresh_world : {S : Type 0} (g : Ghosts S) (old new : Held S) (made : Seen S) (office : List _) → ClosesAs g made new
+    → CreatesStore g office old made
     → old.schema ≡ no_schema → HasCleanDisk (state g new) → Good (first_world office)
     × AllStand Current (state g new).may_leave (λ v. v ≡ first_world office)
 fresh_world g old new made office closes is none clean =
@@ -83,7 +85,8 @@ current_taken g old w free shows =
     ∥∥₁_elim shows.stands no_proof (λ stands. both_ways _ free (named_as OfSecond old.schema portal_schema stands.consistent.1.current ∙ current_named OfSecond))
 
 -- an upgrade leaves those of version 2 as they are, and those of version 1 with the same world
-pub upgrade_leaves : (old new : State) → Survives old new (LeavesUpgraded old) → (IsFirstSchema old.now.schema → Survives old new (IsUpgradedFrom old.now.trees))
+pub upgrade_leaves : (old new : State) → Survives old new (LeavesUpgraded old)
+    → (IsFirstSchema old.now.schema → Survives old new (IsUpgradedFrom old.now.trees))
     → HasCleanDisk new → (w : World) → Stands Either old.now w → (db : Trees) → new.may_leave db
     → old.may_leave db ⊎ AreOf Either db w
 upgrade_leaves old new upgrades left clean w (inl current) db may = elim (upgrades.crash clean db may) [

@@ -58,7 +58,8 @@ some_same x y same = cc
 none_some : {A : Type 0} (x : A) → None ≡ Some x → ⊥
 none_some x same = cc
 
-added : (old new : Option (List ℕ)) (written before after : List ℕ) → Appends old new written → old ≡ Some before → new ≡ Some after → after ≡ before ++ written
+added : (old new : Option (List ℕ)) (written before after : List ℕ) → Appends old new written → old ≡ Some before
+    → new ≡ Some after → after ≡ before ++ written
 added (Some xs) (Some ys) written before after adds was now = sym (some_same ys after now) ∙ adds ∙ ap (λ z. z ++ written) (some_same xs before was)
 added (Some xs) None written before after adds was now = absurd adds
 added None new written before after adds was now = absurd (none_some before was)
@@ -212,7 +213,8 @@ module _ {S : Type 0} (g : Ghosts S) (old new : Held S) (opened served : Seen S)
       (elim (uses.leaves disk v left) [ inl was ↦ settled v was | inr never ↦ absurd never ])) w clean)
 
   -- the report is of the world that the connection showed
-  pub reported : KeepsClean g opened served → (text : List ℕ) → (IsCleanStore g served → Good (kept_world g opened) → text ≡ told_of (office_sees (kept_world g opened)))
+  pub reported : KeepsClean g opened served → (text : List ℕ)
+      → (IsCleanStore g served → Good (kept_world g opened) → text ≡ told_of (office_sees (kept_world g opened)))
       → HasCleanDisk (state g new) → (w : World) → Shows Either (state g old) w → text ≡ told_of (office_sees w)
   reported lasts text is clean w shows =
       let kept = lasts (disk_at clean) in
@@ -220,7 +222,8 @@ module _ {S : Type 0} (g : Ghosts S) (old new : Held S) (opened served : Seen S)
       is (kept.1 first.0) (opens.makes.good first.0) ∙ ap (λ u. told_of (office_sees u)) first.1
 
   -- what a call of `pipe` did, however it ended
-  pub serves_stream : (r : Result Served ServeFault) (failed : Bool) (remaining left before after : Option (List ℕ)) → IsMoved (keeper opened) (keeper served)
+  pub serves_stream : (r : Result Served ServeFault) (failed : Bool) (remaining left before after : Option (List ℕ))
+      → IsMoved (keeper opened) (keeper served)
       → IfSome remaining (λ bytes. (es : List Exchange)
       × IsSession keeper (record { old = opened; new = served; bytes = bytes; before = before; after = after; count = count_of r; finish = finish_of r failed left; exchanges = es }))
       → HasCleanDisk (state g new)

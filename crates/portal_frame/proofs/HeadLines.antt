@@ -13,8 +13,10 @@ longer (x ∷ y ∷ line) b full = refl
 -- behind a line that is not empty: at the start of a line, after its CR, and inside of one
 pub record IsCounted (bytes : List ℕ) : Type 0 where
   pub fresh : lines_from Fresh bytes ≡ length (before_empty (lines_after [] bytes))
-  pub fresh_cr : (b : ℕ) → (b == 13) ≡ true → lines_from FreshCr bytes ≡ length (before_empty (lines_after (b ∷ []) bytes))
-  pub inside : (line : List ℕ) → is_empty_line line ≡ false → lines_from Inside bytes ≡ length (before_empty (lines_after line bytes))
+  pub fresh_cr : (b : ℕ) → (b == 13) ≡ true
+      → lines_from FreshCr bytes ≡ length (before_empty (lines_after (b ∷ []) bytes))
+  pub inside : (line : List ℕ) → is_empty_line line ≡ false
+      → lines_from Inside bytes ≡ length (before_empty (lines_after line bytes))
 
 counted : (bytes : List ℕ) → IsCounted bytes
 counted [] = record { fresh = refl; fresh_cr = λ b cr. refl; inside = λ line full. refl }
@@ -39,20 +41,23 @@ counted (b ∷ bytes) =
     }
 
 -- a line that is not empty is the first
-kept : (line bytes : List ℕ) → is_empty_line line ≡ false → without_leading (lines_after line bytes) ≡ lines_after line bytes
+kept : (line bytes : List ℕ) → is_empty_line line ≡ false
+    → without_leading (lines_after line bytes) ≡ lines_after line bytes
 kept line [] full = refl
 kept line (b ∷ bytes) full = elim (cases_Bool (b == 10)) [
   | inl lf ↦ rw (lf, full) refl
   | inr other ↦ rw other (kept (line ++ b ∷ []) bytes (longer line b full))
 ]
 
-first : (line bytes : List ℕ) → is_empty_line line ≡ false → lines_from Inside bytes ≡ length (before_empty (without_leading (lines_after line bytes)))
+first : (line bytes : List ℕ) → is_empty_line line ≡ false
+    → lines_from Inside bytes ≡ length (before_empty (without_leading (lines_after line bytes)))
 first line bytes full = (counted bytes).inside line full ∙ ap (λ lines. length (before_empty lines)) (sym (kept line bytes full))
 
 -- before the first line that is not empty
 pub record LeadsIn (bytes : List ℕ) : Type 0 where
   pub start : lines_from Leading bytes ≡ length (header_lines bytes)
-  pub after_cr : (b : ℕ) → (b == 13) ≡ true → lines_from LeadingCr bytes ≡ length (before_empty (without_leading (lines_after (b ∷ []) bytes)))
+  pub after_cr : (b : ℕ) → (b == 13) ≡ true
+      → lines_from LeadingCr bytes ≡ length (before_empty (without_leading (lines_after (b ∷ []) bytes)))
 
 leads : (bytes : List ℕ) → LeadsIn bytes
 leads [] = record { start = refl; after_cr = λ b cr. refl }

@@ -32,7 +32,8 @@ pub none_so_far : (bytes : List ℕ) → HasNoRequest (take head_limit bytes) �
 none_so_far bytes none h rest t =
     none h (take (head_limit - length (print_request h)) rest) (t.reads.0, cut head_limit bytes (print_request h) rest t.reads.1 t.short)
 
-pub none_later : (bytes more : List ℕ) → HasNoRequest (take head_limit bytes) → head_limit ≤ length bytes → HasNoHead (bytes ++ more)
+pub none_later : (bytes more : List ℕ) → HasNoRequest (take head_limit bytes) → head_limit ≤ length bytes
+    → HasNoHead (bytes ++ more)
 none_later bytes more none full =
     none_so_far (bytes ++ more) (rw (take-append-le head_limit bytes more full) none)
 
@@ -113,7 +114,8 @@ opens_never bytes more overflows = inr (
 )
 
 -- the longest head is passed, and none stands there
-pub opens_full : (bytes more : List ℕ) → HasNoHead (bytes ++ more) → head_limit ≤ length bytes → Opens (bytes ++ more) (fault bad_head false)
+pub opens_full : (bytes more : List ℕ) → HasNoHead (bytes ++ more) → head_limit ≤ length bytes
+    → Opens (bytes ++ more) (fault bad_head false)
 opens_full bytes more none full =
     let long : nat_lt (length (bytes ++ more)) head_limit ≡ false = rw (length-append bytes more) (grind (arith, common_steps, full)) in
     inr (none, elim (cases_Bool (is_blank (bytes ++ more))) [ inl blank ↦ rw (blank, long) | inr other ↦ rw other ])
@@ -177,5 +179,6 @@ front_is n bytes e = elim (cases_lt (length bytes) head_limit) [
 pub length_front : (n : ℕ) (bytes : List ℕ) → n ≡ min (length bytes) head_limit → length (take n bytes) ≤ head_limit
 length_front n bytes e = rw (length-take n bytes) (omega (arith, e))
 
-pub front_all : (n : ℕ) (bytes : List ℕ) → n ≡ min (length bytes) head_limit → length bytes < head_limit → take n bytes ≡ bytes
+pub front_all : (n : ℕ) (bytes : List ℕ) → n ≡ min (length bytes) head_limit → length bytes < head_limit
+    → take n bytes ≡ bytes
 front_all n bytes e short = take_all n bytes (omega (arith, e, short))

@@ -22,7 +22,8 @@ after_host true coded values n e = absurd (cc)
 after_host false true values n e = absurd (cc)
 after_host false false values n e = length_of-le values n e
 
-pub body_length-le : (minor : ℕ) (lines : List (List ℕ × List ℕ)) (n : ℕ) → body_length minor lines ≡ Ok n → n ≤ body_limit
+pub body_length-le : (minor : ℕ) (lines : List (List ℕ × List ℕ)) (n : ℕ) → body_length minor lines ≡ Ok n
+    → n ≤ body_limit
 body_length-le minor lines n e =
     after_host (has_bad_host minor (values_of (codes "host") lines)) (has_any (values_of (codes "transfer-encoding") lines)) (values_of (codes "content-length") lines) n e
 
@@ -31,7 +32,8 @@ unfolding print_request
 head-some h = simp length-append (omega arith)
 
 -- what a request takes
-pub whole-within : (h : RequestHead) (len n : ℕ) → len ≡ length (print_request h) → length (print_request h) ≤ head_limit
+pub whole-within : (h : RequestHead) (len n : ℕ) → len ≡ length (print_request h)
+    → length (print_request h) ≤ head_limit
     → body_length h.minor (fields_of h) ≡ Ok n → (0 < len + n) × (len + n ≤ request_limit)
 whole-within h len n same short sized =
     let some = head-some h in

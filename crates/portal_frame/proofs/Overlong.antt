@@ -33,16 +33,19 @@ no_lf-append [] ys a b = b
 no_lf-append (x ∷ xs) ys a b = (a.0, no_lf-append xs ys a.1 b)
 
 -- a line that is being read
-inside : (xs : List ℕ) (e : LineEnd) (rest : List ℕ) → NoLf xs → lines_from Inside (xs ++ (print_end e ++ rest)) ≡ 1 + lines_from Fresh rest
+inside : (xs : List ℕ) (e : LineEnd) (rest : List ℕ) → NoLf xs
+    → lines_from Inside (xs ++ (print_end e ++ rest)) ≡ 1 + lines_from Fresh rest
 inside [] crlf rest none = zero-add (1 + lines_from Fresh rest)
 inside [] lf rest none = refl
 inside (x ∷ xs) e rest none = rw none.0 (zero-add (lines_from Inside (xs ++ (print_end e ++ rest))) ∙ inside xs e rest none.1)
 
-fresh : (xs : List ℕ) (e : LineEnd) (rest : List ℕ) → Starts xs → lines_from Fresh (xs ++ (print_end e ++ rest)) ≡ 1 + lines_from Fresh rest
+fresh : (xs : List ℕ) (e : LineEnd) (rest : List ℕ) → Starts xs
+    → lines_from Fresh (xs ++ (print_end e ++ rest)) ≡ 1 + lines_from Fresh rest
 fresh [] e rest starts = absurd starts
 fresh (x ∷ xs) e rest starts = rw (starts.0, starts.1) (zero-add (lines_from Inside (xs ++ (print_end e ++ rest))) ∙ inside xs e rest starts.2)
 
-leading : (xs : List ℕ) (e : LineEnd) (rest : List ℕ) → Starts xs → lines_from Leading (xs ++ (print_end e ++ rest)) ≡ 1 + lines_from Fresh rest
+leading : (xs : List ℕ) (e : LineEnd) (rest : List ℕ) → Starts xs
+    → lines_from Leading (xs ++ (print_end e ++ rest)) ≡ 1 + lines_from Fresh rest
 leading [] e rest starts = absurd starts
 leading (x ∷ xs) e rest starts = rw (starts.0, starts.1) (zero-add (lines_from Inside (xs ++ (print_end e ++ rest))) ∙ inside xs e rest starts.2)
 
@@ -77,7 +80,8 @@ pub record IsLined (h : RequestHead) : Type 0 where
   pub start : Starts (h.method ++ 32 ∷ h.target ++ 32 ∷ print_version h.minor)
   pub lines : FieldLines h.fields
 
-pub lines_counted : (h : RequestHead) (rest : List ℕ) → IsLined h → lines_from Leading (print_request h ++ rest) ≡ 1 + length h.fields
+pub lines_counted : (h : RequestHead) (rest : List ℕ) → IsLined h
+    → lines_from Leading (print_request h ++ rest) ≡ 1 + length h.fields
 unfolding print_request
 lines_counted h rest lined =
     let start = h.method ++ 32 ∷ h.target ++ 32 ∷ print_version h.minor in

@@ -131,7 +131,8 @@ pub record Asked : Type 0 where
   pub body : List ℕ
 
 abbrev pub seen : Request → Asked
-seen r = record { method = r.method.items; path = r.path.items; code = r.code.items; close = r.close; body = r.body.items }
+seen r =
+    record { method = r.method.items; path = r.path.items; code = r.code.items; close = r.close; body = r.body.items }
 
 -- the content of a refusal; `allow` lists the methods of the path for a wrong method
 pub record Refuses : Type 0 where

@@ -19,6 +19,8 @@ all_decided {B = B} {v = v} {all = all} u f r P ran chain tells = decided r (cas
     each [] h = tt
     each (x ∷ xs) h = (h 0 x (omega arith) (omega arith), each xs (λ k d low high. h (suc k) d (omega arith) (omega arith)))
 
-    decided : (b : Bool) → MatchBool b (AllWithin P all 0 (length all)) ((k : ℕ) × (k < length all) × HoldsAt (λ y. P y → ⊥) all k) → IsTrue b ↔ AllByRecursion P all
+    decided : (b : Bool)
+        → MatchBool b (AllWithin P all 0 (length all)) ((k : ℕ) × (k < length all) × HoldsAt (λ y. P y → ⊥) all k)
+        → IsTrue b ↔ AllByRecursion P all
     decided true h = (λ _. each all h, λ _. refl)
     decided false (k, low, fails) = (λ e. absurd (false≢true e), λ holds. let x = at_place all k low in absurd (fails x.0 (all_at P all k x.0 holds low)))

@@ -8,14 +8,16 @@ use Rattle.portal_list.proofs.Rising.{map_map, pairs_rise}
 use Rattle.portal_list.proofs.Standing.{spa_of_rows, only_instance}
 use Rattle.portal_list.proofs.Faultless.{faultless}
 
-keys_rise : {X L : Type 0} (f : X → L) (key : L → Key) (xs : List X) → Rise (map (λ x. key (f x)) xs) → spa.Rise (map key (map f xs))
+keys_rise : {X L : Type 0} (f : X → L) (key : L → Key) (xs : List X) → Rise (map (λ x. key (f x)) xs)
+    → spa.Rise (map key (map f xs))
 keys_rise f key xs rise = subst spa.Rise (sym (map_map key f xs)) (pairs_rise (map (λ x. key (f x)) xs) rise)
 
 -- the instance of the lines is that of the entries
 same_instance : (w : World) → spa_of_rows (instance_rows (entries_in w)) ≡ instance_of w
 same_instance w = search (rules, map_map)
 
-exact : (w : World) (i : Spa) → Sound w → w.round ≡ First → IsLawful i → StandsFor (instance_rows (entries_in w)) i → i ≡ instance w
+exact : (w : World) (i : Spa) → Sound w → w.round ≡ First → IsLawful i → StandsFor (instance_rows (entries_in w)) i
+    → i ≡ instance w
 exact w i sound one lawful for =
     only_instance (instance_rows (entries_in w)) i lawful for
     (keys_rise instance_student (λ x. x.key) w.students sound.students_rise)
@@ -29,7 +31,8 @@ module _ (e : AllEntries) (one : e.round ≡ First) (w : World) (has : HasEntrie
   is_first : w.round ≡ First
   is_first = ap (λ a. a.round) has.there ∙ one
 
-  pub none_before_memory : AllByRecursion (λ l. is_still_to_rank w l ≡ false) w.lecturers → HasNoneBefore (instance_rows e) Memory
+  pub none_before_memory : AllByRecursion (λ l. is_still_to_rank w l ≡ false) w.lecturers
+      → HasNoneBefore (instance_rows e) Memory
   none_before_memory ranked = subst (λ a. HasNoneBefore (instance_rows a) Memory) has.there (faultless w sound is_first ranked)
 
   pub only_meant : (i : Spa) → IsLawful i → StandsFor (instance_rows e) i → i ≡ instance w

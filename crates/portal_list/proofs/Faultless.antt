@@ -59,7 +59,8 @@ module _ (w : World) where
       let parts : (wants l found.1 ≡ true) × (equals k found.1.row.key ≡ true) = and_parts (wants l found.1) (equals k found.1.row.key) found.4 in
       any_map (λ x. (x.key ≡ k) × FindsOne rows x l) instance_student w.students found.0 found.1 found.2 (sym found.3) (sym (is_same k found.1.row.key parts.1), wants_finds l found.1 parts.0)
 
-  is_applicant : (l : Key) (j : ℕ) (s : Student) → j < length w.students → get_or w.students j s ≡ s → FindsOne rows (instance_student s) l → has (applicant_keys l) s.row.key ≡ true
+  is_applicant : (l : Key) (j : ℕ) (s : Student) → j < length w.students → get_or w.students j s ≡ s
+      → FindsOne rows (instance_student s) l → has (applicant_keys l) s.row.key ≡ true
   is_applicant l j s low at finds = among l s.row.key ∙ list_any-from_Any (λ t. wants l t && equals s.row.key t.row.key) w.students (j, s, low, at, and_from (wants l s) (equals s.row.key s.row.key) (finds_wants l s finds) (is_own s.row.key))
 
   abbrev Ranks : Key → Option (List Key) → Type 0
@@ -69,15 +70,19 @@ module _ (w : World) where
   no_repeat l None ranks (j, text, low, at, any) = absurd (omega arith)
   no_repeat l (Some r) ranks repeats = repeats_not r ranks.once repeats
 
-  no_other : (l : Key) (o : Option (List Key)) → Ranks l o → Any (λ text. IsApplicant rows l text → ⊥) (unwrap_or o []) → ⊥
+  no_other : (l : Key) (o : Option (List Key)) → Ranks l o → Any (λ text. IsApplicant rows l text → ⊥) (unwrap_or o [])
+      → ⊥
   no_other l None ranks (j, text, low, at, no_one) = absurd (omega arith)
   no_other l (Some r) ranks (j, text, low, at, no_one) = no_one (has_applicant l text (subst (λ k. has (applicant_keys l) k ≡ true) at (laws.all_at (λ k. has (applicant_keys l) k ≡ true) r j text ranks.only low)))
 
-  none_empty : {X : Type 0} (key : X → Key) (xs : List X) (k : Key) → (not (is_empty xs) && true) ≡ false → has (map key xs) k ≡ true → ⊥
+  none_empty : {X : Type 0} (key : X → Key) (xs : List X) (k : Key) → (not (is_empty xs) && true) ≡ false
+      → has (map key xs) k ≡ true → ⊥
   none_empty key [] k e h = cc
   none_empty key (x ∷ xs) k e h = cc
 
-  by_ranking : (l k : Key) (o : Option (List Key)) → Ranks l o → (not (is_empty (applicants_of w l)) && is_none o) ≡ false → has (applicant_keys l) k ≡ true → (Any (λ text. text ≡ k) (unwrap_or o []) → ⊥) → ⊥
+  by_ranking : (l k : Key) (o : Option (List Key)) → Ranks l o
+      → (not (is_empty (applicants_of w l)) && is_none o) ≡ false → has (applicant_keys l) k ≡ true
+      → (Any (λ text. text ≡ k) (unwrap_or o []) → ⊥) → ⊥
   by_ranking l k None ranks none is_one off = none_empty student_key (applicants_of w l) k none is_one
   by_ranking l k (Some r) ranks none is_one off = off (there r k (has_all (λ x. has r x ≡ true) (applicant_keys l) k ranks.all is_one))
 
@@ -101,7 +106,8 @@ module _ (w : World) where
     bad_key : (k : Key) → is_key k ≡ true → is_key k ≡ false → ⊥
     bad_key k h e = cc
 
-    twice : {E L : Type 0} (f : E → L) (row : L → ℕ) (key : L → Key) (es : List E) → Rise (map (λ e. key (f e)) es) → (q : ℕ) → BadAt (map f es) row (λ j x. IsEarlierKey (map f es) key j (key x)) q → ⊥
+    twice : {E L : Type 0} (f : E → L) (row : L → ℕ) (key : L → Key) (es : List E) → Rise (map (λ e. key (f e)) es)
+        → (q : ℕ) → BadAt (map f es) row (λ j x. IsEarlierKey (map f es) key j (key x)) q → ⊥
     twice f row key es rise q (j, x, low, long, at, is_row, earlier) = earlier_not key (map f es) j x (subst Rise (sym (map_map key f es)) rise) low at earlier
 
     pub faultless : HasNoneBefore rows Memory
@@ -127,6 +133,7 @@ module _ (w : World) where
     faultless Memory low q bad = bad
 
 -- what is refused of rows without a fault is memory
-pub only_memory : (rows : Rows) (fault : InstanceFault) (r : ℕ) → HasNoneBefore rows Memory → (fault ≡ Memory → ⊥) → IsRefusal rows fault r → ⊥
+pub only_memory : (rows : Rows) (fault : InstanceFault) (r : ℕ) → HasNoneBefore rows Memory → (fault ≡ Memory → ⊥)
+    → IsRefusal rows fault r → ⊥
 only_memory rows Memory r none other first = other refl
 only_memory rows fault r none other first = none fault (omega arith) r first.here

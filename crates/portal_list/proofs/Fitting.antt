@@ -18,7 +18,8 @@ rest_map f k [] = refl
 rest_map {V} {W} f k (p ∷ ps) = elim (equals p.0 k) as (λ b. map {B = Key × W} (λ (q : Key × V). (q.0, f q.1)) (cond b ps (p ∷ ps)) ≡ cond b (map {B = Key × W} (λ (q : Key × V). (q.0, f q.1)) ps) ((p.0, f p.1) ∷ map {B = Key × W} (λ (q : Key × V). (q.0, f q.1)) ps)) [ true ↦ refl | false ↦ refl ]
 
 -- one more in front of what is still to come, or behind what is there
-pub moved : {X : Type 0} (es : List X) (e : X) (o : Option (List X)) → option_map (λ xs. (es ++ e ∷ []) ++ xs) o ≡ option_map (λ xs. es ++ xs) (option_map (λ xs. e ∷ xs) o)
+pub moved : {X : Type 0} (es : List X) (e : X) (o : Option (List X))
+    → option_map (λ xs. (es ++ e ∷ []) ++ xs) o ≡ option_map (λ xs. es ++ xs) (option_map (λ xs. e ∷ xs) o)
 moved es e None = refl
 moved es e (Some xs) = ap Some (append_assoc es (e ∷ []) xs)
 
@@ -28,7 +29,8 @@ module _ {X V : Type 0} (key : X → Key) (opt : X → Option V) where
   there xs = filter_map (λ x. option_map (λ v. (key x, v)) (opt x)) xs
 
   -- nothing is there for a key before all of these
-  nothing : (k : Key) (xs : List X) → AllByRecursion (λ l. is_before k l ≡ true) (map key xs) → (next_for k (there xs) ≡ None) × (rest_for k (there xs) ≡ there xs)
+  nothing : (k : Key) (xs : List X) → AllByRecursion (λ l. is_before k l ≡ true) (map key xs)
+      → (next_for k (there xs) ≡ None) × (rest_for k (there xs) ≡ there xs)
   nothing k [] all = (refl, refl)
   nothing k (x ∷ xs) all = at (opt x) (nothing k xs all.1)
     where
@@ -42,31 +44,37 @@ module _ {X V : Type 0} (key : X → Key) (opt : X → Option V) where
       at (Some v) rest = let no : equals (key x) k ≡ false = differ (equals (key x) k) refl in rw no (refl, refl)
 
   -- the first row takes its own
-  own : (x : X) (xs : List X) → AllByRecursion (λ l. is_before (key x) l ≡ true) (map key xs) → (next_for (key x) (there (x ∷ xs)) ≡ opt x) × (rest_for (key x) (there (x ∷ xs)) ≡ there xs)
+  own : (x : X) (xs : List X) → AllByRecursion (λ l. is_before (key x) l ≡ true) (map key xs)
+      → (next_for (key x) (there (x ∷ xs)) ≡ opt x) × (rest_for (key x) (there (x ∷ xs)) ≡ there xs)
   own x xs all = at (opt x)
     where
-      at : (o : Option V) → (next_for (key x) (cons_option (option_map (λ v. (key x, v)) o) (there xs)) ≡ o) × (rest_for (key x) (cons_option (option_map (λ v. (key x, v)) o) (there xs)) ≡ there xs)
+      at : (o : Option V)
+          → (next_for (key x) (cons_option (option_map (λ v. (key x, v)) o) (there xs)) ≡ o) × (rest_for (key x) (cons_option (option_map (λ v. (key x, v)) o) (there xs)) ≡ there xs)
       at None = nothing (key x) xs all
       at (Some v) = rw (is_own (key x)) (refl, refl)
 
 -- what is taken and what is left is what was there
-pub put_back : {V : Type 0} (k : Key) (ps : List (Key × V)) → cons_option (option_map (λ v. (k, v)) (next_for k ps)) (rest_for k ps) ≡ ps
+pub put_back : {V : Type 0} (k : Key) (ps : List (Key × V))
+    → cons_option (option_map (λ v. (k, v)) (next_for k ps)) (rest_for k ps) ≡ ps
 put_back k [] = refl
 put_back {V} k (p ∷ ps) = at (equals p.0 k) refl
   where
-    at : (b : Bool) → equals p.0 k ≡ b → cons_option (option_map (λ v. (k, v)) (cond b (Some p.1) None)) (cond b ps (p ∷ ps)) ≡ p ∷ ps
+    at : (b : Bool) → equals p.0 k ≡ b
+        → cons_option (option_map (λ v. (k, v)) (cond b (Some p.1) None)) (cond b ps (p ∷ ps)) ≡ p ∷ ps
     at true e = λ i. (sym (is_same p.0 k e) i, p.1) ∷ ps
     at false e = refl
 
 -- nothing is left of any
-four_left : {W X Y Z V : Type 0} (cs : List W) (ps : List X) (es : List Y) (qs : List Z) (y z : V) → cond (is_empty cs && is_empty ps && is_empty es && is_empty qs) (Some y) None ≡ Some z
+four_left : {W X Y Z V : Type 0} (cs : List W) (ps : List X) (es : List Y) (qs : List Z) (y z : V)
+    → cond (is_empty cs && is_empty ps && is_empty es && is_empty qs) (Some y) None ≡ Some z
     → (cs ≡ []) × (ps ≡ []) × (es ≡ []) × (qs ≡ []) × (y ≡ z)
 four_left [] [] [] [] y z e = let same : y ≡ z = cc in (refl, refl, refl, refl, same)
 four_left _ ps es qs y z e = cc
 
 -- lecturers
 
-pub lecturers_back : (ls : List Lecturer) → Rise (map (λ l. l.row.key) ls) → lecturers_fitting (map (λ l. l.row) ls) (rankings_with (λ l. l.ranking) ls) (rankings_with (λ l. l.earlier_ranking) ls) ≡ Some ls
+pub lecturers_back : (ls : List Lecturer) → Rise (map (λ l. l.row.key) ls)
+    → lecturers_fitting (map (λ l. l.row) ls) (rankings_with (λ l. l.ranking) ls) (rankings_with (λ l. l.earlier_ranking) ls) ≡ Some ls
 lecturers_back [] rise = refl
 lecturers_back (l ∷ ls) rise =
     let mine = own (λ (m : Lecturer). m.row.key) (λ (m : Lecturer). m.ranking) l ls rise.0 in
@@ -80,13 +88,16 @@ RowsAre ls rs ps qs = (map (λ l. l.row) ls ≡ rs) × (rankings_with (λ l. l.r
 abbrev lecturer_made : LecturerRow → List (Key × List Key) → List (Key × List Key) → Lecturer
 lecturer_made r ps qs = record { row = r; ranking = next_for r.key ps; earlier_ranking = next_for r.key qs }
 
-pub lecturers_rows : (rs : List LecturerRow) (ps qs : List (Key × List Key)) (ls : List Lecturer) → lecturers_fitting rs ps qs ≡ Some ls → RowsAre ls rs ps qs
+pub lecturers_rows : (rs : List LecturerRow) (ps qs : List (Key × List Key)) (ls : List Lecturer)
+    → lecturers_fitting rs ps qs ≡ Some ls → RowsAre ls rs ps qs
 lecturers_rows [] ps qs ls e =
     let left = four_left {W = LecturerRow} {X = LecturerRow} [] [] ps qs [] ls e in
     (ap (map (λ (l : Lecturer). l.row)) (sym left.4), ap (rankings_with (λ (l : Lecturer). l.ranking)) (sym left.4) ∙ sym left.2, ap (rankings_with (λ (l : Lecturer). l.earlier_ranking)) (sym left.4) ∙ sym left.3)
 lecturers_rows (r ∷ rs) ps qs ls e = at (lecturers_fitting rs (rest_for r.key ps) (rest_for r.key qs)) (λ ms f. lecturers_rows rs (rest_for r.key ps) (rest_for r.key qs) ms f) e
   where
-    at : (o : Option (List Lecturer)) → ((ms : List Lecturer) → o ≡ Some ms → RowsAre ms rs (rest_for r.key ps) (rest_for r.key qs)) → option_map (λ ms. lecturer_made r ps qs ∷ ms) o ≡ Some ls → RowsAre ls (r ∷ rs) ps qs
+    at : (o : Option (List Lecturer))
+        → ((ms : List Lecturer) → o ≡ Some ms → RowsAre ms rs (rest_for r.key ps) (rest_for r.key qs))
+        → option_map (λ ms. lecturer_made r ps qs ∷ ms) o ≡ Some ls → RowsAre ls (r ∷ rs) ps qs
     at None again f = cc
     at (Some ms) again f =
         let rest : RowsAre ms rs (rest_for r.key ps) (rest_for r.key qs) = again ms refl in
@@ -111,7 +122,8 @@ lecturers_step es more row items others ps ps' qs qs' ranking earlier all so_far
 -- students
 
 -- each student has a list
-pub students_back : (round : Round) (ss : List Student) → Rise (map (λ s. s.row.key) ss) → (is_second round ≡ false → AllByRecursion HasNothingEarlier ss)
+pub students_back : (round : Round) (ss : List Student) → Rise (map (λ s. s.row.key) ss)
+    → (is_second round ≡ false → AllByRecursion HasNothingEarlier ss)
     → students_fitting round (map (λ s. s.row) ss) (choices_in ss) (pairs_with (λ s. s.placed) ss) (earlier_choices_in round ss) (pairs_with (λ s. s.earlier_placement) ss) ≡ Some ss
 students_back First [] rise none = refl
 students_back Second [] rise none = refl
@@ -133,13 +145,16 @@ no_earlier First = refl
 no_earlier Second = refl
 
 -- one more student with the list that was taken
-earlier_back : (round : Round) (s : Student) (ts : List Student) (es : List (Key × List Key)) → earlier_for round s.row.key es ≡ Some s.earlier_choice → earlier_choices_in round ts ≡ earlier_rest round s.row.key es
+earlier_back : (round : Round) (s : Student) (ts : List Student) (es : List (Key × List Key))
+    → earlier_for round s.row.key es ≡ Some s.earlier_choice
+    → earlier_choices_in round ts ≡ earlier_rest round s.row.key es
     → earlier_choices_in round (s ∷ ts) ≡ es
 earlier_back First s ts es taken left = left
 earlier_back Second s ts es taken left = search (rules, put_back)
 
 -- what the rows of students are
-abbrev ListsAre : Round → List Student → List StudentRow → List (Key × List Key) → List (Key × Key) → List (Key × List Key) → List (Key × Key) → Type 0
+abbrev ListsAre : Round → List Student → List StudentRow → List (Key × List Key) → List (Key × Key)
+    → List (Key × List Key) → List (Key × Key) → Type 0
 ListsAre round ss rs cs ps es qs =
     (map (λ s. s.row) ss ≡ rs) × (choices_in ss ≡ cs) × (pairs_with (λ s. s.placed) ss ≡ ps) × (earlier_choices_in round ss ≡ es) × (pairs_with (λ s. s.earlier_placement) ss ≡ qs)
 
@@ -150,7 +165,9 @@ students_rows round (r ∷ rs) cs ps es qs ss e =
     at (next_for r.key cs) (earlier_for round r.key es) (students_fitting round rs (rest_for r.key cs) (rest_for r.key ps) (earlier_rest round r.key es) (rest_for r.key qs)) refl refl
     (λ ts f. students_rows round rs (rest_for r.key cs) (rest_for r.key ps) (earlier_rest round r.key es) (rest_for r.key qs) ts f) e
   where
-    at : (list earlier : Option (List Key)) (o : Option (List Student)) → next_for r.key cs ≡ list → earlier_for round r.key es ≡ earlier → ((ts : List Student) → o ≡ Some ts → ListsAre round ts rs (rest_for r.key cs) (rest_for r.key ps) (earlier_rest round r.key es) (rest_for r.key qs))
+    at : (list earlier : Option (List Key)) (o : Option (List Student)) → next_for r.key cs ≡ list
+        → earlier_for round r.key es ≡ earlier
+        → ((ts : List Student) → o ≡ Some ts → ListsAre round ts rs (rest_for r.key cs) (rest_for r.key ps) (earlier_rest round r.key es) (rest_for r.key qs))
         → with_lists r list (next_for r.key ps) earlier (next_for r.key qs) o ≡ Some ss → ListsAre round ss (r ∷ rs) cs ps es qs
     at None earlier o l m again f = cc
     at (Some list) None o l m again f = cc
@@ -171,7 +188,9 @@ module _ (round : Round) (es more : List Student) (row : StudentRow) (items othe
   abbrev made_student : Student
   made_student = record { row = row; choice = choice; placed = placed; earlier_choice = earlier; earlier_placement = earlier_placement }
 
-  pub students_step : option_map (λ ss. es ++ ss) (students_fitting round items cs ps ds qs) ≡ all → items ≡ row ∷ others → cs' ≡ rest_for row.key cs → ps' ≡ rest_for row.key ps → ds' ≡ earlier_rest round row.key ds → qs' ≡ rest_for row.key qs
+  pub students_step : option_map (λ ss. es ++ ss) (students_fitting round items cs ps ds qs) ≡ all
+      → items ≡ row ∷ others → cs' ≡ rest_for row.key cs → ps' ≡ rest_for row.key ps
+      → ds' ≡ earlier_rest round row.key ds → qs' ≡ rest_for row.key qs
       → Some choice ≡ next_for row.key cs → placed ≡ next_for row.key ps → Some earlier ≡ earlier_for round row.key ds → earlier_placement ≡ next_for row.key qs → more ≡ es ++ made_student ∷ []
       → option_map (λ ss. more ++ ss) (students_fitting round others cs' ps' ds' qs') ≡ all
   students_step so_far is_row is_cs is_ps is_ds is_qs is_choice is_placed is_earlier is_earlier_placement is_more =

@@ -16,7 +16,8 @@ module _ (w : World) where
       ∙ by_case (is_none l.ranking) (is_empty (map student_key (applicants_of w l.row.key)))
       ∙ ap (λ b. cond (not b && is_none l.ranking) (record l { ranking = Some (map student_key (applicants_of w l.row.key)) }) l) (empty_map student_key (applicants_of w l.row.key))
     where
-      by_case : (none empty : Bool) → with_missing l (cond none (cond empty None (Some (map student_key (applicants_of w l.row.key)))) None)
+      by_case : (none empty : Bool)
+          → with_missing l (cond none (cond empty None (Some (map student_key (applicants_of w l.row.key)))) None)
           ≡ cond (not empty && none) (record l { ranking = Some (map student_key (applicants_of w l.row.key)) }) l
       by_case none empty = grind arith
 
@@ -24,13 +25,18 @@ module _ (w : World) where
   all_filled = λ i. map (λ l. filled_is l i) w.lecturers
 
 module _ (before : AllEntries) (w : World) (there : entries_in w ≡ before) (change : Change) where
-  pub list_followed : (k : Key) (list : List Key) (ss : List Student) → change ≡ Choices k list → ss ≡ map (with_choice k list) before.students → HasEntries (record before { students = ss }) (changed w change)
+  pub list_followed : (k : Key) (list : List Key) (ss : List Student) → change ≡ Choices k list
+      → ss ≡ map (with_choice k list) before.students → HasEntries (record before { students = ss }) (changed w change)
   list_followed k list ss is same = search rules
 
-  pub ranking_followed : (k : Key) (list : List Key) (ls : List Lecturer) → change ≡ Ranks k list → ls ≡ map (with_ranking k list) before.lecturers → HasEntries (record before { lecturers = ls }) (changed w change)
+  pub ranking_followed : (k : Key) (list : List Key) (ls : List Lecturer) → change ≡ Ranks k list
+      → ls ≡ map (with_ranking k list) before.lecturers
+      → HasEntries (record before { lecturers = ls }) (changed w change)
   ranking_followed k list ls is same = search rules
 
-  pub fill_followed : (ls : List Lecturer) → change ≡ Fill → ls ≡ map (filled before.projects before.students) before.lecturers → HasEntries (record before { lecturers = ls }) (changed w change)
+  pub fill_followed : (ls : List Lecturer) → change ≡ Fill
+      → ls ≡ map (filled before.projects before.students) before.lecturers
+      → HasEntries (record before { lecturers = ls }) (changed w change)
   fill_followed ls is same = search (rules, all_filled)
 
 -- what is followed leaves the catalogue
@@ -41,5 +47,6 @@ shown_followed w (To phase) is = refl
 shown_followed w Fill is = catalogue_filled w
 shown_followed w _ is = cc
 
-pub catalogue_after : (w : World) (change : Change) → is_followed change ≡ true → (after : AllEntries) → HasEntries after (changed w change) → catalogue_in after ≡ catalogue_in (entries_in w)
+pub catalogue_after : (w : World) (change : Change) → is_followed change ≡ true → (after : AllEntries)
+    → HasEntries after (changed w change) → catalogue_in after ≡ catalogue_in (entries_in w)
 catalogue_after w change is after has = ap catalogue_in (sym has.there) ∙ shown_followed w change is

@@ -6,7 +6,8 @@ use Rattle.portal_list.proofs.Base.{listing_with, listings, find_map}
 abbrev pub row_of : Lecturer → LecturerRow
 row_of l = l.row
 
-name_row : (o : Option Lecturer) → option_map (λ (r : LecturerRow). r.name) (option_map row_of o) ≡ option_map (λ (l : Lecturer). l.row.name) o
+name_row : (o : Option Lecturer)
+    → option_map (λ (r : LecturerRow). r.name) (option_map row_of o) ≡ option_map (λ (l : Lecturer). l.row.name) o
 name_row None = refl
 name_row (Some l) = refl
 

@@ -24,15 +24,18 @@ student_keys_are w = map_map (λ r. r.key) (λ s. s.row) w.students
 codes_are : (w : World) → codes_in w.office (world_rows w).lecturers (world_rows w).students ≡ codes_of w
 codes_are w = λ i. w.office ∷ map_map (λ r. r.code) (λ l. l.row) w.lecturers i ++ map_map (λ r. r.code) (λ s. s.row) w.students i
 
-pub applicants_are : (w : World) (l : Key) → applicant_keys w.projects w.students l ≡ map student_key (applicants_of w l)
+pub applicants_are : (w : World) (l : Key)
+    → applicant_keys w.projects w.students l ≡ map student_key (applicants_of w l)
 applicants_are w l = λ i. map student_key (filter (λ s. laws.any_map (λ p. has s.choice p) project_key (projects_of w l) i) w.students)
 
-still : (xs : List Student) (o : Option (List Key)) → (not (is_empty xs) && is_none o) ≡ false → o ≡ None → map student_key xs ≡ []
+still : (xs : List Student) (o : Option (List Key)) → (not (is_empty xs) && is_none o) ≡ false → o ≡ None
+    → map student_key xs ≡ []
 still [] o e n = refl
 still (x ∷ xs) None e n = cc
 still (x ∷ xs) (Some r) e n = cc
 
-not_still : (xs : List Student) (o : Option (List Key)) → (o ≡ None → map student_key xs ≡ []) → (not (is_empty xs) && is_none o) ≡ false
+not_still : (xs : List Student) (o : Option (List Key)) → (o ≡ None → map student_key xs ≡ [])
+    → (not (is_empty xs) && is_none o) ≡ false
 not_still [] o f = refl
 not_still (x ∷ xs) None f = let e : map student_key (x ∷ xs) ≡ [] = f refl in cc
 not_still (x ∷ xs) (Some r) f = refl
@@ -41,13 +44,17 @@ all_under : {X A : Type 0} (P : X → Type 0) (xs : List X) → (A → AllByRecu
 all_under P [] f = tt
 all_under P (x ∷ xs) f = (λ a. (f a).0, all_under P xs (λ a. (f a).1))
 
-students_fit : (phase : Phase) (round : Round) (ss : List Student) → (is_setup phase ≡ true → AllByRecursion (λ s. s.choice ≡ []) ss) → (is_published phase ≡ false → AllByRecursion (λ s. s.placed ≡ None) ss)
+students_fit : (phase : Phase) (round : Round) (ss : List Student)
+    → (is_setup phase ≡ true → AllByRecursion (λ s. s.choice ≡ []) ss)
+    → (is_published phase ≡ false → AllByRecursion (λ s. s.placed ≡ None) ss)
     → (is_second round ≡ false → AllByRecursion HasNothingEarlier ss) → AllByRecursion IsOutIfPlaced ss → AllByRecursion (StudentFits phase round) ss
 students_fit phase round [] a b c d = tt
 students_fit phase round (s ∷ ss) a b c d =
     (record { no_choice_yet = λ e. (a e).0; no_result_yet = λ e. (b e).0; nothing_earlier = λ e. (c e).0; out_if_placed = d.0 }, students_fit phase round ss (λ e. (a e).1) (λ e. (b e).1) (λ e. (c e).1) d.1)
 
-lecturers_fit : (phase : Phase) (round : Round) (ls : List Lecturer) → (is_from_ranking phase ≡ false → AllByRecursion (λ l. l.ranking ≡ None) ls) → (is_second round ≡ false → AllByRecursion (λ l. l.earlier_ranking ≡ None) ls)
+lecturers_fit : (phase : Phase) (round : Round) (ls : List Lecturer)
+    → (is_from_ranking phase ≡ false → AllByRecursion (λ l. l.ranking ≡ None) ls)
+    → (is_second round ≡ false → AllByRecursion (λ l. l.earlier_ranking ≡ None) ls)
     → AllByRecursion (LecturerFits phase round) ls
 lecturers_fit phase round [] a b = tt
 lecturers_fit phase round (l ∷ ls) a b = (record { no_ranking_yet = λ e. (a e).0; no_earlier_ranking = λ e. (b e).0 }, lecturers_fit phase round ls (λ e. (a e).1) (λ e. (b e).1))
@@ -58,7 +65,8 @@ module _ (w : World) where
       let codes : AreDistinct (codes_in w.office (world_rows w).lecturers (world_rows w).students) = subst AreDistinct (sym (codes_are w)) sound.codes in
       search (rules, lecturer_keys_are, student_keys_are, length-map, laws.all_map)
 
-  ranked : Sound w → AllByRecursion (λ l. HasRanking (is_published w.phase) (applicant_keys w.projects w.students l.row.key) l.ranking) w.lecturers
+  ranked : Sound w
+      → AllByRecursion (λ l. HasRanking (is_published w.phase) (applicant_keys w.projects w.students l.row.key) l.ranking) w.lecturers
   ranked sound =
       laws.all_weaker _ (λ l. HasRanking (is_published w.phase) (applicant_keys w.projects w.students l.row.key) l.ranking) (λ l h. subst (λ keys. HasRanking (is_published w.phase) keys l.ranking) (sym (applicants_are w l.row.key)) (record {
         whole = h.0;
@@ -77,7 +85,8 @@ module _ (w : World) where
     rankings = ranked sound;
   }
 
-  meant : (l : Lecturer) → HasRanking (is_published w.phase) (applicant_keys w.projects w.students l.row.key) l.ranking → HasRanking (is_published w.phase) (map student_key (applicants_of w l.row.key)) l.ranking
+  meant : (l : Lecturer) → HasRanking (is_published w.phase) (applicant_keys w.projects w.students l.row.key) l.ranking
+      → HasRanking (is_published w.phase) (map student_key (applicants_of w l.row.key)) l.ranking
   meant l h = subst (λ keys. HasRanking (is_published w.phase) keys l.ranking) (applicants_are w l.row.key) h
 
   pub sound_of : RollsOf w → ListsOf w → Sound w
@@ -136,7 +145,8 @@ module _ (rows : RowsOfWorld) where
     fitted_rows = search (rules, lecturers_rows, students_rows, same_lecturers, same_students)
 
   -- no sound world has rows whose rolls, or whose lists, don't fit
-  pub rolls_tell : (RollsFit rows.office rows.lecturers rows.projects rows.students → ⊥) → (w : World) → rows ≡ world_rows w → Sound w → ⊥
+  pub rolls_tell : (RollsFit rows.office rows.lecturers rows.projects rows.students → ⊥) → (w : World)
+      → rows ≡ world_rows w → Sound w → ⊥
   rolls_tell unfit w e sound = unfit (subst (λ r. RollsFit r.office r.lecturers r.projects r.students) (sym e) (rolls_of w sound))
 
   module _ (v : World) (fitted : IsFitted rows v) where

@@ -29,7 +29,8 @@ own : (front ks : List Key) → AllByRecursion (λ k. has ks k ≡ true) ks
 own front [] = tt
 own front (k ∷ ks) = (rw (is_own k) refl, all_weaker (λ x. has ks x ≡ true) (λ x. has (k ∷ ks) x ≡ true) (λ x h. rw h (or-true (equals x k))) ks (own front ks))
 
-pub all_on : (ks all : List Key) → AreDistinct ks → AllByRecursion (λ k. has all k ≡ true) ks → length all ≤ length ks → AllByRecursion (λ a. has ks a ≡ true) all
+pub all_on : (ks all : List Key) → AreDistinct ks → AllByRecursion (λ k. has all k ≡ true) ks → length all ≤ length ks
+    → AllByRecursion (λ a. has ks a ≡ true) all
 all_on ks all once known long = all_weaker (λ a. has all a ≡ true) (λ a. has ks a ≡ true) (λ a h. at a (has ks a) refl h) all (own [] all)
   where
     at : (a : Key) (b : Bool) → has ks a ≡ b → has all a ≡ true → b ≡ true
@@ -39,5 +40,6 @@ all_on ks all once known long = all_weaker (λ a. has all a ≡ true) (λ a. has
 pub ranking_long : (all r : List Key) → Rise all → IsRanking all r → length r ≡ length all
 ranking_long all r rise is_r = omega (arith, fits r all is_r.once is_r.only, fits all r (rise_distinct all rise) is_r.all)
 
-pub ranking_so : (all r : List Key) → length r ≡ length all → AllByRecursion (λ k. has all k ≡ true) r → AreDistinct r → IsRanking all r
+pub ranking_so : (all r : List Key) → length r ≡ length all → AllByRecursion (λ k. has all k ≡ true) r → AreDistinct r
+    → IsRanking all r
 ranking_so all r long only once = record { all = all_on r all once only (omega arith); only = only; once = once }

@@ -10,7 +10,8 @@ use Rattle.portal_rules.proofs.InPlay.{filter_kept}
 use Rattle.portal_rules.proofs.Rooms.{project_left_is, lecturer_left_is, each_left}
 use Rattle.portal_list.proofs.Rising.{map_map}
 
-mapped_case : {X Y : Type 0} (f : X → Y) (x : X) (b : Bool) → option_map f (cond b (Some x) None) ≡ cond b (Some (f x)) None
+mapped_case : {X Y : Type 0} (f : X → Y) (x : X) (b : Bool)
+    → option_map f (cond b (Some x) None) ≡ cond b (Some (f x)) None
 mapped_case f x b = grind arith
 
 both_case : {X : Type 0} (x : X) (a b : Bool) → cond {A = Option X} b (cond a (Some x) None) None ≡ cond (a && b) (Some x) None
@@ -23,7 +24,8 @@ module _ (ls : List Lecturer) (ps : List ProjectRow) (ss : List Student) where
   abbrev has_room : Lecturer → Bool
   has_room l = nat_lt 0 l.row.capacity
 
-  lecturer_is : (l : Lecturer) → lecturer_played ps pairs l ≡ cond (has_room (lowered_lecturer ps ss l)) (Some (alone_lecturer (lowered_lecturer ps ss l))) None
+  lecturer_is : (l : Lecturer)
+      → lecturer_played ps pairs l ≡ cond (has_room (lowered_lecturer ps ss l)) (Some (alone_lecturer (lowered_lecturer ps ss l))) None
   lecturer_is l = search (rules, lecturer_left_is, mapped_case)
 
   pub lecturers_are : filter_map (lecturer_played ps pairs) ls ≡ map alone_lecturer (lecturers_left ls ps ss)
@@ -36,7 +38,8 @@ module _ (ls : List Lecturer) (ps : List ProjectRow) (ss : List Student) where
       ≡ cond (nat_lt 0 (lowered_project ss p).capacity && has (map lecturer_key left) p.lecturer) (Some (lowered_project ss p)) None
   project_is left p = search (rules, any_map, project_left_is, both_case)
 
-  pub projects_are : (left : List Lecturer) → left ≡ map alone_lecturer (lecturers_left ls ps ss) → filter_map (project_played left pairs) ps ≡ projects_left ls ps ss
+  pub projects_are : (left : List Lecturer) → left ≡ map alone_lecturer (lecturers_left ls ps ss)
+      → filter_map (project_played left pairs) ps ≡ projects_left ls ps ss
   projects_are left same = search (rules, map_same, each_left, project_is)
 
   pub left_rise : Rise (map project_key ps) → Rise (map project_key (projects_left ls ps ss))
@@ -55,5 +58,6 @@ filter_both : {X : Type 0} (a b : X → Bool) (xs : List X) → filter (λ x. a 
 filter_both a b [] = refl
 filter_both a b (x ∷ xs) = grind (arith, filter_both a b xs)
 
-pub part_and : (b : Student → Bool) (r : Round) (ss : List Student) → filter (λ s. takes_part r s && b s) ss ≡ filter b (students_in r ss)
+pub part_and : (b : Student → Bool) (r : Round) (ss : List Student)
+    → filter (λ s. takes_part r s && b s) ss ≡ filter b (students_in r ss)
 part_and b r ss = filter_both (takes_part r) b ss ∙ ap (filter b) (part_is r ss)

@@ -18,14 +18,16 @@ module _ {X : Type 0} (key : X → Key) (k : Key) (f : X → X) (other : (x : X)
       let parts : (equals (key x) k ≡ false) × (list_any (λ y. equals (key y) k) xs ≡ false) = or_parts (equals (key x) k) (list_any (λ y. equals (key y) k) xs) none in
       λ i. other x parts.0 i ∷ unchanged xs parts.1 i
 
-  none_later : (x : X) (xs : List X) → equals (key x) k ≡ true → AllByRecursion (λ y. is_before (key x) (key y) ≡ true) xs → list_any (λ y. equals (key y) k) xs ≡ false
+  none_later : (x : X) (xs : List X) → equals (key x) k ≡ true
+      → AllByRecursion (λ y. is_before (key x) (key y) ≡ true) xs → list_any (λ y. equals (key y) k) xs ≡ false
   none_later x [] here low = refl
   none_later x (y ∷ ys) here low =
       ap (λ b. b || list_any (λ z. equals (key z) k) ys) (false_from_ne_true (equals (key y) k) (λ there. not_both (key x) (key y) k low.0 here there))
       ∙ none_later x ys here low.1
 
   -- the row with the key is written, and the others stay
-  pub replaced : (xs : List X) (i : ℕ) (e d : X) → Rise (map key xs) → i < length xs → equals (key (get_or xs i d)) k ≡ true → e ≡ f (get_or xs i d) → slice_set xs i e ≡ map f xs
+  pub replaced : (xs : List X) (i : ℕ) (e d : X) → Rise (map key xs) → i < length xs
+      → equals (key (get_or xs i d)) k ≡ true → e ≡ f (get_or xs i d) → slice_set xs i e ≡ map f xs
   replaced [] i e d rise low here new = absurd (omega arith)
   replaced (x ∷ xs) zero e d rise low here new =
       λ j. new j ∷ sym (unchanged xs (none_later x xs here (all_unmap (λ l. is_before (key x) l ≡ true) key xs rise.0))) j

@@ -24,14 +24,17 @@ spa_of_rows rows =
     }
 
 -- keys that rise, as many as the lines, among which each line's key stands, are those of the lines
-keys_are : {X : Type 0} (key : X → Text) (lines : List X) (keys : List Text) → Rise keys → Rise (map key lines) → length keys ≡ length lines → ((k : ℕ) (x : X) → k < length lines → get_or lines k x ≡ x → Contains keys (key x)) → keys ≡ map key lines
+keys_are : {X : Type 0} (key : X → Text) (lines : List X) (keys : List Text) → Rise keys → Rise (map key lines)
+    → length keys ≡ length lines → ((k : ℕ) (x : X) → k < length lines → get_or lines k x ≡ x → Contains keys (key x))
+    → keys ≡ map key lines
 keys_are key lines keys up rise long there = keys_one keys (map key lines) up rise (long ∙ sym (length-map lines key)) (λ text (k, h, at).
     let low : k < length lines = omega (arith, length-map lines key) in
     let x = at_place lines k low in
     subst (Contains keys) (sym (map_at key lines k x.0 text low x.1) ∙ at) (there k x.0 low x.1))
 
 -- a column that has at each place what f makes of the line there
-column_is : {X Y : Type 0} (f : X → Y) (d : Y) (lines : List X) (ys : List Y) → length ys ≡ length lines → ((k : ℕ) (x : X) → k < length lines → get_or lines k x ≡ x → get_or ys k d ≡ f x) → ys ≡ map f lines
+column_is : {X Y : Type 0} (f : X → Y) (d : Y) (lines : List X) (ys : List Y) → length ys ≡ length lines
+    → ((k : ℕ) (x : X) → k < length lines → get_or lines k x ≡ x → get_or ys k d ≡ f x) → ys ≡ map f lines
 column_is f d lines ys long at = ext_get_or d ys (map f lines) (long ∙ sym (length-map lines f)) (λ k h.
     let low : k < length lines = omega (arith, long) in
     let x = at_place lines k low in
@@ -49,10 +52,12 @@ module _ (rows : Rows) (i : Spa) (lawful : IsLawful i) (for : StandsFor rows i)
   same_lecturers = keys_are (λ x. x.key) rows.lecturers i.lecturer_keys lawful.lecturer_keys_rise lecturers_rise for.lecturer_count (lecturer_there rows i lawful for)
 
   -- a line stands at its place
-  project_at : (k : ℕ) (x : Project) → k < length rows.projects → get_or rows.projects k x ≡ x → (capacity_of i k ≡ x.capacity) × (get_or i.lecturer_keys (lecturer_of i k) [] ≡ x.lecturer)
+  project_at : (k : ℕ) (x : Project) → k < length rows.projects → get_or rows.projects k x ≡ x
+      → (capacity_of i k ≡ x.capacity) × (get_or i.lecturer_keys (lecturer_of i k) [] ≡ x.lecturer)
   project_at k x low at = project_says rows i lawful for k x k low at (rw same_projects (key_number (λ y. y.key) rows.projects k x low at))
 
-  lecturer_at : (k : ℕ) (x : Lecturer) → k < length rows.lecturers → get_or rows.lecturers k x ≡ x → (limit_of i k ≡ x.capacity) × (keys_at i.student_keys (ranking_of i k) ≡ x.list)
+  lecturer_at : (k : ℕ) (x : Lecturer) → k < length rows.lecturers → get_or rows.lecturers k x ≡ x
+      → (limit_of i k ≡ x.capacity) × (keys_at i.student_keys (ranking_of i k) ≡ x.list)
   lecturer_at k x low at = lecturer_says rows i lawful for k x k low at (rw same_lecturers (key_number (λ y. y.key) rows.lecturers k x low at))
 
   same_choices : i.choices ≡ map (λ (x : Student). map (number_in i.project_keys) x.list) rows.students

@@ -33,7 +33,8 @@ count-all (b ∷ text) all =
     let parts = and_parts (nat_lt b 128) (list_all (λ c. nat_lt c 128) text) all in
     ap (λ t. (if t then 1 else 0) + char_count text) (start b parts.0) ∙ (ap (λ n. 1 + n) (count-all text parts.1) ∙ omega arith)
 
-take-all : (n : ℕ) (text : List ℕ) → list_all (λ b. nat_lt b 128) text ≡ true → length text ≤ n → take_chars n text ≡ text
+take-all : (n : ℕ) (text : List ℕ) → list_all (λ b. nat_lt b 128) text ≡ true → length text ≤ n
+    → take_chars n text ≡ text
 unfolding take_chars
 take-all n [] all le = refl
 take-all n (b ∷ text) all le =
@@ -45,7 +46,8 @@ take-all n (b ∷ text) all le =
 short : (text : List ℕ) → IsTrue (is_short text) → (length text ≤ 16) × (list_all (λ b. nat_lt b 128) text ≡ true)
 short text is = let parts = and_parts (nat_le (length text) 16) (list_all (λ b. nat_lt b 128) text) is in (leb-true (length text) 16 parts.0, parts.1)
 
-pub left-is : (text : List ℕ) → IsTrue (is_short text) → styled_text (format_spec 32 1 0 16 18446744073709551615) text ≡ padded_left 16 text
+pub left-is : (text : List ℕ) → IsTrue (is_short text)
+    → styled_text (format_spec 32 1 0 16 18446744073709551615) text ≡ padded_left 16 text
 unfolding padded
 left-is text is =
     let known = short text is in
@@ -57,7 +59,8 @@ left-is text is =
     count m n e = omega (arith, e)
 
 -- the same, where the text is known by an equation
-pub left-at : (text given shown : List ℕ) → shown ≡ styled_text (format_spec 32 1 0 16 18446744073709551615) given → given ≡ text → IsTrue (is_short text)
+pub left-at : (text given shown : List ℕ) → shown ≡ styled_text (format_spec 32 1 0 16 18446744073709551615) given
+    → given ≡ text → IsTrue (is_short text)
     → shown ≡ padded_left 16 text
 left-at text given shown s e is = s ∙ (ap (styled_text (format_spec 32 1 0 16 18446744073709551615)) e ∙ left-is text is)
 
@@ -76,7 +79,8 @@ after-blanks space room ds same =
 not-bare : (t : Bool) (bare padded : List ℕ) → t ≡ false → (if t && true && true then bare else padded) ≡ padded
 not-bare t bare padded e = rw e refl
 
-pub right-is : (width n : ℕ) → (width == 0) ≡ false → styled_decimal (format_spec 32 3 0 width 18446744073709551615) n ≡ padded_right width (decimal n)
+pub right-is : (width n : ℕ) → (width == 0) ≡ false
+    → styled_decimal (format_spec 32 3 0 width 18446744073709551615) n ≡ padded_right width (decimal n)
 unfolding padded_integral char_count
 right-is width n wide =
     not-bare (width == 0) (decimal n) _ wide ∙ after-blanks (width - length (decimal n) - 0 - 0) (width - length (decimal n)) (decimal n) (omega arith)

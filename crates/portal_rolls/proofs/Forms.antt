@@ -14,11 +14,13 @@ passed true e r x h = h
 passed false e r x h = absurd (cc h)
 
 module _ {X : Type 0} (format : Format X) (P : X → Type 0) (each : (row : ℕ) (r : Record) (x : X) → format.says row r ≡ Ok x → P x) where
-  all_from : (row : ℕ) (rows : List Record) → AllByRecursion P (filter_map result_ok (map (reading format) (enumerate_from row rows)))
+  all_from : (row : ℕ) (rows : List Record)
+      → AllByRecursion P (filter_map result_ok (map (reading format) (enumerate_from row rows)))
   all_from row [] = tt
   all_from row (r ∷ rows) = go (reading format (row, r)) refl (all_from (row + 1) rows)
     where
-      go : (read : Result X RollFault) → reading format (row, r) ≡ read → AllByRecursion P (filter_map result_ok (map (reading format) (enumerate_from (row + 1) rows)))
+      go : (read : Result X RollFault) → reading format (row, r) ≡ read
+          → AllByRecursion P (filter_map result_ok (map (reading format) (enumerate_from (row + 1) rows)))
           → AllByRecursion P (cons_option (result_ok read) (filter_map result_ok (map (reading format) (enumerate_from (row + 1) rows))))
       go (Ok x) e later =
           let line = passed (nat_le row format.limit) fault.TooMany (line_of format row r) x e in
@@ -39,7 +41,8 @@ AreTrue [] = Unit {0}
 AreTrue (b ∷ bs) = (b ≡ true) × AreTrue bs
 
 -- a row that is read has the form of each column
-columns_form : {X : Type 0} (row column : ℕ) (forms : List Bool) (line x : X) → unless_bad row (position_from not column forms) line ≡ Ok x → AreTrue forms × (line ≡ x)
+columns_form : {X : Type 0} (row column : ℕ) (forms : List Bool) (line x : X)
+    → unless_bad row (position_from not column forms) line ≡ Ok x → AreTrue forms × (line ≡ x)
 columns_form row column [] line x e = (tt, cc e)
 columns_form row column (true ∷ forms) line x e = let rest = columns_form row (column + 1) forms line x e in ((refl, rest.0), rest.1)
 columns_form row column (false ∷ forms) line x e = absurd (cc e)
@@ -66,7 +69,8 @@ project_form row (key ∷ lecturer ∷ title ∷ capacity ∷ []) x e =
 project_form row _ x e = absurd (cc e)
 
 -- what a call gave, where it gave rows
-pub given : {X Y : Type 0} (view : X → List Y) (format : Format Y) (P : Y → Type 0) → ((row : ℕ) (r : Record) (y : Y) → format.says row r ≡ Ok y → P y)
+pub given : {X Y : Type 0} (view : X → List Y) (format : Format Y) (P : Y → Type 0)
+    → ((row : ℕ) (r : Record) (y : Y) → format.says row r ≡ Ok y → P y)
     → (rows : List Record) (result : Result X RollFault) → Gives view result (lines_of format rows) → IfOk result (λ x. AllByRecursion P (view x))
 given view format P each rows (Ok x) h = all_read format P each rows (view x) h
 given view format P each rows (Err e) h = tt

@@ -30,7 +30,8 @@ escaped-same (b ∷ field) = doubled-same b (b == 34) (escaped default_writer fi
 field-same : (field : List ℕ) → field_text default_writer field ≡ csv_field field
 field-same field = λ i. if any-same field i then 34 ∷ (escaped-same field i ++ (34 ∷ [])) else field
 
-fields-same : (fields : List (List ℕ)) → fields_text default_writer fields ≡ flat_map (λ field. codes "," ++ csv_field field) fields
+fields-same : (fields : List (List ℕ))
+    → fields_text default_writer fields ≡ flat_map (λ field. codes "," ++ csv_field field) fields
 unfolding fields_text
 fields-same [] = refl
 fields-same (field ∷ fields) = λ i. 44 ∷ (field-same field i ++ fields-same fields i)
@@ -43,7 +44,8 @@ record-same first second rest = λ i. (field-same first i ++ fields-same (second
 pub plain : (setup : WriterBuilder) → setup ≡ default_writer → setup.style ≢ style.NonNumeric
 plain setup e = subst (λ w. w.style ≢ style.NonNumeric) (sym e) (λ f. cc f)
 
-pub appended : (old new : Option (List ℕ)) (text row : List ℕ) → Appends old new row → old ≡ Some text → new ≡ Some (text ++ row)
+pub appended : (old new : Option (List ℕ)) (text row : List ℕ) → Appends old new row → old ≡ Some text
+    → new ≡ Some (text ++ row)
 appended None new text row appends e = absurd (cc)
 appended (Some xs) None text row appends e = absurd appends
 appended (Some xs) (Some ys) text row appends e = ap Some (appends ∙ ap (λ zs. zs ++ row) (same xs text e))

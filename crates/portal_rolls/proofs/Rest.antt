@@ -20,7 +20,8 @@ ends : (b : Bool) (p q : Read) → cond b (some p) None ≡ Some q → p ≡ q
 ends true p q e = cc
 ends false p q e = absurd cc
 
-read_shrinks : (cfg : Config) (s : State) (fields : List (List ℕ)) (field xs : List ℕ) (q : Read) → next_record cfg s fields field xs ≡ Some q → Shrinks xs q
+read_shrinks : (cfg : Config) (s : State) (fields : List (List ℕ)) (field xs : List ℕ) (q : Read)
+    → next_record cfg s fields field xs ≡ Some q → Shrinks xs q
 unfolding next_record
 read_shrinks cfg s fields field [] q e =
     let p : (fields ++ (field ∷ []), st.StartRecord, []) ≡ q = ends (ends_at_end s) _ q e in
@@ -31,7 +32,8 @@ read_shrinks cfg s fields field (c ∷ rest) q e =
     next : Option Read
     next = next_record cfg (step cfg s c).0 (fields_after (step cfg s c).1 fields field) (field_after (step cfg s c).1 c field) rest
 
-    go : (b : Bool) → (next ≡ Some q → Shrinks rest q) → cond b (some (fields_after (step cfg s c).1 fields field, (step cfg s c).0, rest)) next ≡ Some q
+    go : (b : Bool) → (next ≡ Some q → Shrinks rest q)
+        → cond b (some (fields_after (step cfg s c).1 fields field, (step cfg s c).0, rest)) next ≡ Some q
         → Shrinks (c ∷ rest) q
     go true more h =
         let p : (fields_after (step cfg s c).1 fields field, (step cfg s c).0, rest) ≡ q = cc h in
@@ -47,14 +49,17 @@ nothing_left cfg zero = refl
 nothing_left cfg (suc n) = refl
 
 -- any two counts that suffice give the same records
-same_records : (cfg : Config) (n m : ℕ) (s : State) (xs : List ℕ) → length xs < n → length xs < m → records_from cfg n s xs ≡ records_from cfg m s xs
+same_records : (cfg : Config) (n m : ℕ) (s : State) (xs : List ℕ) → length xs < n → length xs < m
+    → records_from cfg n s xs ≡ records_from cfg m s xs
 unfolding records_from
 same_records cfg zero m s xs a b = absurd (omega arith)
 same_records cfg (suc n) zero s xs a b = absurd (omega arith)
 same_records cfg (suc n) (suc m) s xs a b =
     go (next_record cfg s [] [] xs) (λ q lt. same_records cfg n m q.1 q.2 (omega arith) (omega arith)) refl
   where
-    go : (o : Option Read) → ((q : Read) → length q.2 < length xs → records_from cfg n q.1 q.2 ≡ records_from cfg m q.1 q.2) → next_record cfg s [] [] xs ≡ o
+    go : (o : Option Read)
+        → ((q : Read) → length q.2 < length xs → records_from cfg n q.1 q.2 ≡ records_from cfg m q.1 q.2)
+        → next_record cfg s [] [] xs ≡ o
         → records_next (records_from cfg n) o ≡ records_next (records_from cfg m) o
     go None more e = refl
     go (Some q) more e =
@@ -64,11 +69,13 @@ same_records cfg (suc n) (suc m) s xs a b =
         ]
 
 -- the records that are left are the next one and those that are left then
-pub rest_is_next : (s : State) (xs : List ℕ) → rest_of s xs ≡ records_next rest_of (next_record default_config s [] [] xs)
+pub rest_is_next : (s : State) (xs : List ℕ)
+    → rest_of s xs ≡ records_next rest_of (next_record default_config s [] [] xs)
 unfolding records_from
 rest_is_next s xs = rw (add-one (length xs)) (go (next_record default_config s [] [] xs) refl)
   where
-    go : (o : Option Read) → next_record default_config s [] [] xs ≡ o → records_next (records_from default_config (length xs)) o ≡ records_next rest_of o
+    go : (o : Option Read) → next_record default_config s [] [] xs ≡ o
+        → records_next (records_from default_config (length xs)) o ≡ records_next rest_of o
     go None e = refl
     go (Some q) e =
         elim (read_shrinks default_config s [] [] xs q e) [
@@ -91,6 +98,7 @@ took_known s xs rows found fields rdr None e source r = absurd r
 took_known s xs rows found fields rdr (Some z) e source r = took (next_record default_config s [] [] xs) rows found fields rdr z e source r
 
 -- what one read does
-pub takes_next : (old new : Reader (Bor (List ℕ))) (rows : List Record) (found : Bool) (fields : Record) → Has old rows → old.config ≡ default_config
+pub takes_next : (old new : Reader (Bor (List ℕ))) (rows : List Record) (found : Bool) (fields : Record) → Has old rows
+    → old.config ≡ default_config
     → ReadRecord known old new found fields → TakesRecord rows found fields new
 takes_next old new rows found fields h cfg r = search (rules, took_known, rest_is_next)

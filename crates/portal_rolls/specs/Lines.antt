@@ -135,7 +135,8 @@ project row (key ∷ lecturer ∷ title ∷ capacity ∷ []) =
 project row _ = Err (fault.FieldCount row)
 
 abbrev pub student : ℕ → Record → Result StudentRow RollFault
-student row (key ∷ name ∷ code ∷ []) = by_columns row (is_key key ∷ is_name name ∷ is_code code ∷ []) (record { key = key; name = name; code = code })
+student row (key ∷ name ∷ code ∷ []) =
+    by_columns row (is_key key ∷ is_name name ∷ is_code code ∷ []) (record { key = key; name = name; code = code })
 student row _ = Err (fault.FieldCount row)
 
 abbrev pub lecturer_format : Format LecturerRow

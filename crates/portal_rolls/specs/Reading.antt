@@ -57,4 +57,5 @@ all_or_first read = first_or (filter_map result_err read) (filter_map result_ok 
 -- what a file says; its first record has to be the header
 abbrev pub lines_of : {X : Type 0} → Format X → List Record → Result (List X) RollFault
 lines_of format [] = Err fault.NoHeader
-lines_of format (header ∷ rows) = unless (same_record format.header header) fault.BadHeader (all_or_first (readings format rows))
+lines_of format (header ∷ rows) =
+    unless (same_record format.header header) fault.BadHeader (all_or_first (readings format rows))

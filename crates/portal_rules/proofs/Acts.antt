@@ -24,13 +24,15 @@ abbrev pub re_chosen : Key → List Key → Caller → Caller
 re_chosen k list (StudentCaller s) = StudentCaller (with_choice k list s)
 re_chosen k list x = x
 
-pub caller_chosen : (w : World) (k : Key) (list : List Key) (c : Key) → caller (changed w (Choices k list)) c ≡ re_chosen k list (caller w c)
+pub caller_chosen : (w : World) (k : Key) (list : List Key) (c : Key)
+    → caller (changed w (Choices k list)) c ≡ re_chosen k list (caller w c)
 caller_chosen w k list c =
     let found : find (λ (s : rows.Student). equals s.row.code c) (map (with_choice k list) w.students) ≡ option_map (with_choice k list) (student_with w c)
     = find_map (with_choice k list) (λ s. equals s.row.code c) (λ s. equals s.row.code c) (λ s. ap (λ r. equals r.code c) (choice_row k list s)) w.students in
     grind (arith, found)
 
-pub caller_ranked : (w : World) (k : Key) (list : List Key) (c : Key) → caller (changed w (Ranks k list)) c ≡ re_called (with_ranking k list) (caller w c)
+pub caller_ranked : (w : World) (k : Key) (list : List Key) (c : Key)
+    → caller (changed w (Ranks k list)) c ≡ re_called (with_ranking k list) (caller w c)
 caller_ranked w k list c = caller_kept (with_ranking k list) (ranking_row k list) w c
 
 -- a ranking changes no name
@@ -73,7 +75,8 @@ module _ (w w' : World) (c : Key) where
   stays : (x : Caller) → caller w c ≡ x → w' ≡ w → view w' c ≡ sight_of w x
   stays x e same = ap (λ u. view u c) same ∙ ap (sight_of w) e
 
-  pub own_kept : (x : Caller) → caller w c ≡ x → (ask : AbstractCall) → Shows (sight_of w x) ask (decision (sight_of w x) ask)
+  pub own_kept : (x : Caller) → caller w c ≡ x → (ask : AbstractCall)
+      → Shows (sight_of w x) ask (decision (sight_of w x) ask)
   own_kept NoCaller e ask = λ calm. stays NoCaller e
   own_kept (StudentCaller s) e ask =
       let own : (list : List Key) → w' ≡ changed w (Choices s.row.key list) → view w' c ≡ Student (record (student_sees w s) { choices = list }) = λ list done. ap (λ u. view u c) done ∙ view_chosen w c s list e in

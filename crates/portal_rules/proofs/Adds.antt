@@ -16,7 +16,8 @@ pub record Alike {X : Type 0} (as' bs : List X) : Type 0 where
   pub tests : (p : X → Bool) → list_any p as' ≡ list_any p bs
   pub long : length as' ≡ length bs
 
-pub has_alike : {X : Type 0} (code : X → Key) (front : List Key) (as' bs : List X) (k : Key) → Alike as' bs → has (front ++ map code as') k ≡ has (front ++ map code bs) k
+pub has_alike : {X : Type 0} (code : X → Key) (front : List Key) (as' bs : List X) (k : Key) → Alike as' bs
+    → has (front ++ map code as') k ≡ has (front ++ map code bs) k
 has_alike code front as' bs k al =
     any_append (equals k) front (map code as')
     ∙ ap (λ b. has front k || b) (any_map (equals k) code as' ∙ al.tests (λ x. equals k (code x)) ∙ sym (any_map (equals k) code bs))
@@ -28,7 +29,8 @@ module _ {X Y : Type 0} (roll : RollRules X) (row : Y → X) (make : X → Y) (o
   abbrev key : Y → Key
   key y = roll.key (row y)
 
-  alike_put : (there : List X) (ys : List Y) (r : X) → Alike there (map row ys) → Alike (r ∷ there) (map row (put key (make r) ys))
+  alike_put : (there : List X) (ys : List Y) (r : X) → Alike there (map row ys)
+      → Alike (r ∷ there) (map row (put key (make r) ys))
   alike_put there ys r al =
       record {
         tests = λ p.
@@ -38,7 +40,8 @@ module _ {X Y : Type 0} (roll : RollRules X) (row : Y → X) (make : X → Y) (o
         long = ap suc (al.long ∙ length-map ys row) ∙ sym (length-map (put key (make r) ys) row ∙ length_put key (make r) ys);
       }
 
-  new_key : (there : List X) (ys : List Y) (r : X) → Alike there (map row ys) → find (λ x. equals (roll.key x) (roll.key r)) there ≡ None → has (map key ys) (roll.key r) ≡ false
+  new_key : (there : List X) (ys : List Y) (r : X) → Alike there (map row ys)
+      → find (λ x. equals (roll.key x) (roll.key r)) there ≡ None → has (map key ys) (roll.key r) ≡ false
   new_key there ys r al e =
       any_map (equals (roll.key r)) key ys
       ∙ any_alike (λ y. equals (roll.key r) (key y)) (λ y. equals (key y) (roll.key r)) (λ y. is_sym (roll.key r) (key y)) ys
@@ -46,14 +49,18 @@ module _ {X Y : Type 0} (roll : RollRules X) (row : Y → X) (make : X → Y) (o
       ∙ sym (al.tests (λ x. equals (roll.key x) (roll.key r)))
       ∙ not_found _ there e
 
-  room : (there : List X) (ys : List Y) → Alike there (map row ys) → nat_le roll.limit (length there) ≡ false → length ys + 1 ≤ roll.limit
+  room : (there : List X) (ys : List Y) → Alike there (map row ys) → nat_le roll.limit (length there) ≡ false
+      → length ys + 1 ≤ roll.limit
   room there ys al e = let long : length there ≡ length ys = al.long ∙ length-map ys row in grind (arith, nat_tests)
 
-  pub taken : (rs : List X) (at : ℕ) (there : List X) (ys : List Y) (new : List X) (same : ℕ) → Kept ys → Alike there (map row ys) → AllByRecursion Form rs → take_rows roll at there rs ≡ Took new same → Kept (put_all key (map make new) ys)
+  pub taken : (rs : List X) (at : ℕ) (there : List X) (ys : List Y) (new : List X) (same : ℕ) → Kept ys
+      → Alike there (map row ys) → AllByRecursion Form rs → take_rows roll at there rs ≡ Took new same
+      → Kept (put_all key (map make new) ys)
   taken [] at there ys new same kept al forms e = let none : [] ≡ new = cc in subst (λ l. Kept (put_all key (map make l) ys)) none kept
   taken (r ∷ rs) at there ys new same kept al forms e = go (λ t zs n m k a f. taken rs (at + 1) t zs n m k a forms.1 f) (verdict roll at there r) refl
     where
-      go : ((t : List X) (zs : List Y) (n : List X) (m : ℕ) → Kept zs → Alike t (map row zs) → take_rows roll (at + 1) t rs ≡ Took n m → Kept (put_all key (map make n) zs)) → (v : Verdict) → verdict roll at there r ≡ v → Kept (put_all key (map make new) ys)
+      go : ((t : List X) (zs : List Y) (n : List X) (m : ℕ) → Kept zs → Alike t (map row zs) → take_rows roll (at + 1) t rs ≡ Took n m → Kept (put_all key (map make n) zs))
+          → (v : Verdict) → verdict roll at there r ≡ v → Kept (put_all key (map make new) ys)
       go again (Rejected f) is = let clash : ◌≡◌ {A = Taken X} (Faulty f) (Took new same) = sym (next_row roll at there r rs (Rejected f) is) ∙ e in cc
       go again Present is =
           let (m, rest) = took_present r (take_rows roll (at + 1) there rs) new same (sym (next_row roll at there r rs Present is) ∙ e) in

@@ -21,7 +21,8 @@ less : (o : Ordering) → true ≡ is_lt o → o ≡ Less
 less o e = grind arith
 
 -- of keys that rise each comes before those behind it
-comes_before : (ks : List Key) → Rise ks → (i j : ℕ) → i < j → j < length ks → is_before (get_or ks i []) (get_or ks j []) ≡ true
+comes_before : (ks : List Key) → Rise ks → (i j : ℕ) → i < j → j < length ks
+    → is_before (get_or ks i []) (get_or ks j []) ≡ true
 comes_before [] up i j below low = absurd (omega (arith, low))
 comes_before (k ∷ ks) up i zero below low = absurd (omega (arith, below))
 comes_before (k ∷ ks) up zero (suc j) below low = all_at (λ l. is_before k l ≡ true) ks j [] up.0 (omega (arith, low))
@@ -49,7 +50,8 @@ adjacent_rise {X} key rows false (k, low, apart) = (
 )
 
 -- rows whose keys rise are sorted
-pub rows_sorted : {X : Type 0} (key : X → Key) (rows : List X) → Rise (map key rows) → IsSortedBy (λ a b. is_lt (slice_cmp nat_cmp (key a) (key b))) rows
+pub rows_sorted : {X : Type 0} (key : X → Key) (rows : List X) → Rise (map key rows)
+    → IsSortedBy (λ a b. is_lt (slice_cmp nat_cmp (key a) (key b))) rows
 rows_sorted key rows up k d low high =
     let size = length-map rows key in
     let above = less (slice_cmp nat_cmp (get_or (map key rows) k []) (get_or (map key rows) (k + 1) [])) (sym (comes_before (map key rows) up k (k + 1) (omega arith) (omega (arith, size, high)))) in

@@ -22,27 +22,32 @@ use Rattle.portal_rules.proofs.Capacities.{left_of, second_plays, first_plays, e
 
 -- filters
 
-pub passes : {X : Type 0} (P R : X → Type 0) (q : X → Bool) → ((x : X) → P x → q x ≡ true → R x) → (xs : List X) → AllByRecursion P xs → AllByRecursion R (filter q xs)
+pub passes : {X : Type 0} (P R : X → Type 0) (q : X → Bool) → ((x : X) → P x → q x ≡ true → R x) → (xs : List X)
+    → AllByRecursion P xs → AllByRecursion R (filter q xs)
 passes P R q k [] all = tt
 passes P R q k (x ∷ xs) all = grind (arith, k x all.0, passes P R q k xs all.1)
 
 fewer : {X : Type 0} (q : X → Bool) (xs : List X) → length (filter q xs) ≤ length xs
 fewer q xs = omega (arith, length-filter q xs, count_by-le-length q xs)
 
-none_kept : {X : Type 0} (code : X → Key) (q : X → Bool) (xs : List X) (rest : List Key) (k : Key) → has (map code xs ++ rest) k ≡ false → has (map code (filter q xs) ++ rest) k ≡ false
+none_kept : {X : Type 0} (code : X → Key) (q : X → Bool) (xs : List X) (rest : List Key) (k : Key)
+    → has (map code xs ++ rest) k ≡ false → has (map code (filter q xs) ++ rest) k ≡ false
 none_kept code q [] rest k h = h
 none_kept code q (x ∷ xs) rest k h = grind (arith, none_kept code q xs rest k)
 
-apart_front : {X : Type 0} (code : X → Key) (q : X → Bool) (xs : List X) (rest : List Key) → AreDistinct (map code xs ++ rest) → AreDistinct (map code (filter q xs) ++ rest)
+apart_front : {X : Type 0} (code : X → Key) (q : X → Bool) (xs : List X) (rest : List Key)
+    → AreDistinct (map code xs ++ rest) → AreDistinct (map code (filter q xs) ++ rest)
 apart_front code q [] rest d = d
 apart_front code q (x ∷ xs) rest d = grind (arith, none_kept code q xs rest (code x) d.0, apart_front code q xs rest d.1)
 
-none_back : {X : Type 0} (code : X → Key) (q : X → Bool) (ks : List Key) (xs : List X) (k : Key) → has (ks ++ map code xs) k ≡ false → has (ks ++ map code (filter q xs)) k ≡ false
+none_back : {X : Type 0} (code : X → Key) (q : X → Bool) (ks : List Key) (xs : List X) (k : Key)
+    → has (ks ++ map code xs) k ≡ false → has (ks ++ map code (filter q xs)) k ≡ false
 none_back code q [] [] k h = h
 none_back code q [] (x ∷ xs) k h = grind (arith, none_back code q [] xs k)
 none_back code q (l ∷ ks) xs k h = grind (arith, none_back code q ks xs k)
 
-apart_back : {X : Type 0} (code : X → Key) (q : X → Bool) (ks : List Key) (xs : List X) → AreDistinct (ks ++ map code xs) → AreDistinct (ks ++ map code (filter q xs))
+apart_back : {X : Type 0} (code : X → Key) (q : X → Bool) (ks : List Key) (xs : List X)
+    → AreDistinct (ks ++ map code xs) → AreDistinct (ks ++ map code (filter q xs))
 apart_back code q [] [] d = d
 apart_back code q [] (x ∷ xs) d = grind (arith, none_back code q [] xs (code x) d.0, apart_back code q [] xs d.1)
 apart_back code q (k ∷ ks) xs d = (none_back code q ks xs k d.0, apart_back code q ks xs d.1)
@@ -53,7 +58,8 @@ some_room n h = grind (arith, nat_tests)
 -- who applies to a lecturer is the same
 
 -- a project that is left out stands under no key of those that are left
-out_not_in : (t : ProjectRow → Bool) (zs : List ProjectRow) → Rise (map project_key zs) → AllByRecursion (λ z. t z ≡ false → has (map project_key (filter t zs)) z.key ≡ false) zs
+out_not_in : (t : ProjectRow → Bool) (zs : List ProjectRow) → Rise (map project_key zs)
+    → AllByRecursion (λ z. t z ≡ false → has (map project_key (filter t zs)) z.key ≡ false) zs
 out_not_in t [] rise = tt
 out_not_in t (z ∷ zs) rise =
     let later : AllByRecursion (λ y. is_before (project_key z) (project_key y) ≡ true) zs = all_unmap (λ k. is_before (project_key z) k ≡ true) project_key zs rise.0 in
@@ -67,15 +73,19 @@ out_not_in t (z ∷ zs) rise =
       ]),
     )
 
-listed_in : (choice known : List Key) (k : Key) → AllByRecursion (λ c. has known c ≡ true) choice → has known k ≡ false → has choice k ≡ false
+listed_in : (choice known : List Key) (k : Key) → AllByRecursion (λ c. has known c ≡ true) choice → has known k ≡ false
+    → has choice k ≡ false
 listed_in [] known k all h = refl
 listed_in (c ∷ cs) known k all h = grind (arith, is_same k c, listed_in cs known k all.1 h)
 
-any_of_left : (f own t : ProjectRow → Bool) (zs : List ProjectRow) → AllByRecursion (λ z. t z ≡ false → f z ≡ false) zs → list_any f (filter own (filter t zs)) ≡ list_any f (filter own zs)
+any_of_left : (f own t : ProjectRow → Bool) (zs : List ProjectRow) → AllByRecursion (λ z. t z ≡ false → f z ≡ false) zs
+    → list_any f (filter own (filter t zs)) ≡ list_any f (filter own zs)
 any_of_left f own t [] all = refl
 any_of_left f own t (z ∷ zs) all = grind (arith, all.0, any_of_left f own t zs all.1)
 
-filter_of_left : {X : Type 0} (a b q : X → Bool) (xs : List X) → AllByRecursion (λ x. (q x ≡ true → a x ≡ b x) × (q x ≡ false → b x ≡ false)) xs → filter a (filter q xs) ≡ filter b xs
+filter_of_left : {X : Type 0} (a b q : X → Bool) (xs : List X)
+    → AllByRecursion (λ x. (q x ≡ true → a x ≡ b x) × (q x ≡ false → b x ≡ false)) xs
+    → filter a (filter q xs) ≡ filter b xs
 filter_of_left a b q [] all = refl
 filter_of_left a b q (x ∷ xs) all = grind (arith, all.0, filter_of_left a b q xs all.1)
 
@@ -93,7 +103,8 @@ module _ (w : World) (g : Sound w) (two : w.round ≡ Second) where
   wants u l s = list_any (λ p. has s.choice p.key) (projects_of u l)
 
   -- of a student whose list is over what is left
-  wants_same : (l : Key) (s : rows.Student) → IsChoice (project_keys (left_of w)) s.choice → wants (left_of w) l s ≡ wants w l s
+  wants_same : (l : Key) (s : rows.Student) → IsChoice (project_keys (left_of w)) s.choice
+      → wants (left_of w) l s ≡ wants w l s
   wants_same l s c =
       any_of_left (λ p. has s.choice p.key) (λ p. equals p.lecturer l) taken lowered (all_weaker _ _ (λ z out e. listed_in s.choice (project_keys (left_of w)) z.key c.known (out e)) lowered (out_not_in taken lowered rise))
       ∙ ap (list_any (λ p. has s.choice p.key)) (filter_kept (lowered_project w.students) (λ p. equals p.lecturer l) (λ p. refl) w.projects)
@@ -103,7 +114,8 @@ module _ (w : World) (g : Sound w) (two : w.round ≡ Second) where
   choices_are : AllByRecursion (λ s. IsChoice (project_keys (left_of w)) s.choice) w.students
   choices_are = subst (λ u. AllByRecursion (λ s. IsChoice (project_keys u) s.choice) w.students) (second_plays w two) g.choices
 
-  pub applicants_alone : (l : Key) → map student_key (applicants_of (alone (left_of w)) l) ≡ map student_key (applicants_of w l)
+  pub applicants_alone : (l : Key)
+      → map student_key (applicants_of (alone (left_of w)) l) ≡ map student_key (applicants_of w l)
   applicants_alone l =
       kept_filtered student_key alone_student (wants (left_of w) l) (λ s. refl) (λ s. refl) (students_left w.students)
       ∙ ap (map student_key) (filter_of_left (wants (left_of w) l) (wants w l) is_left w.students
@@ -117,13 +129,15 @@ module _ (w : World) (g : Sound w) (two : w.round ≡ Second) where
       (sym (empty_map student_key (applicants_of (alone (left_of w)) l.row.key)) ∙ ap is_empty (applicants_alone l.row.key) ∙ empty_map student_key (applicants_of w l.row.key))
 
   -- what holds of each lecturer by key and ranking, holds of those that are left
-  staff : (P : Key → Option (List Key) → Type 0) → AllByRecursion (λ l. P l.row.key l.ranking) w.lecturers → AllByRecursion (λ l. P l.row.key l.ranking) (alone (left_of w)).lecturers
+  staff : (P : Key → Option (List Key) → Type 0) → AllByRecursion (λ l. P l.row.key l.ranking) w.lecturers
+      → AllByRecursion (λ l. P l.row.key l.ranking) (alone (left_of w)).lecturers
   staff P all =
       all_map (λ l. P l.row.key l.ranking) alone_lecturer (lecturers_left w.lecturers w.projects w.students)
       (all_filter (λ l. P l.row.key l.ranking) (λ l. nat_lt 0 l.row.capacity) (map (lowered_lecturer w.projects w.students) w.lecturers)
       (all_map (λ l. P l.row.key l.ranking) (lowered_lecturer w.projects w.students) w.lecturers all))
 
-  group : (P : rows.Student → Type 0) → ((s : rows.Student) → P s → P (alone_student s)) → AllByRecursion P w.students → AllByRecursion P (alone (left_of w)).students
+  group : (P : rows.Student → Type 0) → ((s : rows.Student) → P s → P (alone_student s)) → AllByRecursion P w.students
+      → AllByRecursion P (alone (left_of w)).students
   group P k all = all_map P alone_student (students_left w.students) (all_weaker _ _ k (students_left w.students) (all_filter P is_left w.students all))
 
   staff_keys : lecturer_keys (alone (left_of w)) ≡ map lecturer_key (lecturers_left w.lecturers w.projects w.students)

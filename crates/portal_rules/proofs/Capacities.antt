@@ -21,12 +21,14 @@ use Rattle.portal_rules.proofs.InRound.{all_filter, choices_in}
 -- counts
 
 -- what passes a test passes a weaker one
-sizes : {X : Type 0} (a b : X → Bool) (xs : List X) → AllByRecursion (λ x. a x ≡ true → b x ≡ true) xs → length (filter a xs) ≤ length (filter b xs)
+sizes : {X : Type 0} (a b : X → Bool) (xs : List X) → AllByRecursion (λ x. a x ≡ true → b x ≡ true) xs
+    → length (filter a xs) ≤ length (filter b xs)
 sizes a b [] all = omega arith
 sizes a b (x ∷ xs) all = grind (arith, all.0, sizes a b xs all.1)
 
 -- a count is the length of a filter
-pub count_mono : {X : Type 0} (a b : X → Bool) (xs : List X) → AllByRecursion (λ x. a x ≡ true → b x ≡ true) xs → count_by a xs ≤ count_by b xs
+pub count_mono : {X : Type 0} (a b : X → Bool) (xs : List X) → AllByRecursion (λ x. a x ≡ true → b x ≡ true) xs
+    → count_by a xs ≤ count_by b xs
 count_mono a b xs all = omega (arith, sizes a b xs all, length-filter a xs, length-filter b xs)
 
 filter_none : {X : Type 0} (a : X → Bool) (xs : List X) → AllByRecursion (λ x. a x ≡ false) xs → filter a xs ≡ []
@@ -37,11 +39,13 @@ pub count_none : {X : Type 0} (a : X → Bool) (xs : List X) → AllByRecursion 
 count_none a xs all = sym (length-filter a xs) ∙ ap length (filter_none a xs all)
 
 -- a filter that drops none of those that count
-filter_twice : {X : Type 0} (a q : X → Bool) (xs : List X) → AllByRecursion (λ x. q x ≡ false → a x ≡ false) xs → filter a (filter q xs) ≡ filter a xs
+filter_twice : {X : Type 0} (a q : X → Bool) (xs : List X) → AllByRecursion (λ x. q x ≡ false → a x ≡ false) xs
+    → filter a (filter q xs) ≡ filter a xs
 filter_twice a q [] all = refl
 filter_twice a q (x ∷ xs) all = grind (arith, all.0, filter_twice a q xs all.1)
 
-count_filter : {X : Type 0} (a q : X → Bool) (xs : List X) → AllByRecursion (λ x. q x ≡ false → a x ≡ false) xs → count_by a (filter q xs) ≡ count_by a xs
+count_filter : {X : Type 0} (a q : X → Bool) (xs : List X) → AllByRecursion (λ x. q x ≡ false → a x ≡ false) xs
+    → count_by a (filter q xs) ≡ count_by a xs
 count_filter a q xs all = sym (length-filter a (filter q xs)) ∙ ap length (filter_twice a q xs all) ∙ length-filter a xs
 
 -- what stands at a key
@@ -59,10 +63,12 @@ module _ {X : Type 0} (key : X → Key) (f : X → ℕ) where
   look_none [] k all = refl
   look_none (x ∷ xs) k all = rw all.0 (look_none xs k all.1)
 
-  later_differ : (x : X) (xs : List X) → AllByRecursion (λ y. is_before (key x) (key y) ≡ true) xs → AllByRecursion (λ y. equals (key y) (key x) ≡ false) xs
+  later_differ : (x : X) (xs : List X) → AllByRecursion (λ y. is_before (key x) (key y) ≡ true) xs
+      → AllByRecursion (λ y. equals (key y) (key x) ≡ false) xs
   later_differ x xs all = all_weaker _ _ (λ y h. is_sym (key y) (key x) ∙ before_other (key x) (key y) h) xs all
 
-  look_filter : (q : X → Bool) (xs : List X) → Rise (map key xs) → AllByRecursion (λ x. look (filter q xs) (key x) ≤ f x) xs
+  look_filter : (q : X → Bool) (xs : List X) → Rise (map key xs)
+      → AllByRecursion (λ x. look (filter q xs) (key x) ≤ f x) xs
   look_filter q [] rise = tt
   look_filter q (x ∷ xs) rise =
       let later : AllByRecursion (λ y. is_before (key x) (key y) ≡ true) xs = all_unmap (λ l. is_before (key x) l ≡ true) key xs rise.0 in
@@ -88,7 +94,8 @@ module _ {X : Type 0} (key : X → Key) (f : X → ℕ) where
 
 -- one matching and the rows that it is of
 
-placed_at_most : (u : World) (k : Key) → IsMatching (instance_of u) (places_of u) → placed_to u.students k ≤ look project_key (λ p. p.capacity) u.projects k
+placed_at_most : (u : World) (k : Key) → IsMatching (instance_of u) (places_of u)
+    → placed_to u.students k ≤ look project_key (λ p. p.capacity) u.projects k
 placed_at_most u k m =
     let n : ℕ = number_in (project_keys u) k in
     let few : count_by (λ (s : rows.Student). is_at k s.placed) u.students ≤ count_by (λ s. is_project n (option_map (number_in (project_keys u)) s.placed)) u.students
@@ -99,13 +106,15 @@ placed_at_most u k m =
     let value = look_is project_key (λ p. p.capacity) u.projects k in
     omega (arith, few, counted, room, value)
   where
-    one : (o : Option Key) → is_at k o ≡ true → is_project (number_in (project_keys u) k) (option_map (number_in (project_keys u)) o) ≡ true
+    one : (o : Option Key) → is_at k o ≡ true
+        → is_project (number_in (project_keys u) k) (option_map (number_in (project_keys u)) o) ≡ true
     one None h = cc
     one (Some q) h = subst (λ x. (number_in (project_keys u) q == number_in (project_keys u) x) ≡ true) (is_same q k h) (eq-eqb (number_in (project_keys u) q) (number_in (project_keys u) q) refl)
 
 -- who is placed has a project that takes part
 
-placed_known : (keys : List Key) (ss : List rows.Student) → ((s n : ℕ) → get_or (map (λ (s : rows.Student). option_map (number_in keys) s.placed) ss) s None ≡ Some n → n < length keys)
+placed_known : (keys : List Key) (ss : List rows.Student)
+    → ((s n : ℕ) → get_or (map (λ (s : rows.Student). option_map (number_in keys) s.placed) ss) s None ≡ Some n → n < length keys)
     → AllByRecursion (λ s. (q : Key) → s.placed ≡ Some q → number_in keys q < length keys) ss
 placed_known keys [] low = tt
 placed_known keys (s ∷ ss) low = (λ q e. low 0 (number_in keys q) (ap (option_map (number_in keys)) e), placed_known keys ss (λ t n e. low (suc t) n e))
@@ -114,18 +123,21 @@ pub number_has : (keys : List Key) (q : Key) → number_in keys q < length keys 
 number_has [] q low = absurd (omega (arith, low))
 number_has (k ∷ ks) q low = grind (arith, is_sym k q, number_has ks q)
 
-none_later : (k : Key) (ps : List ProjectRow) → AllByRecursion (λ p. equals p.key k ≡ false) ps → (l : Key) → list_any (λ p. equals p.lecturer l && equals k p.key) ps ≡ false
+none_later : (k : Key) (ps : List ProjectRow) → AllByRecursion (λ p. equals p.key k ≡ false) ps → (l : Key)
+    → list_any (λ p. equals p.lecturer l && equals k p.key) ps ≡ false
 none_later k [] all l = refl
 none_later k (p ∷ ps) all l = grind (arith, is_sym k p.key, none_later k ps all.1 l)
 
-pub none_has : (k : Key) (t : ProjectRow → Bool) (ps : List ProjectRow) → AllByRecursion (λ p. equals p.key k ≡ false) ps → has (map project_key (filter t ps)) k ≡ false
+pub none_has : (k : Key) (t : ProjectRow → Bool) (ps : List ProjectRow)
+    → AllByRecursion (λ p. equals p.key k ≡ false) ps → has (map project_key (filter t ps)) k ≡ false
 none_has k t ps all = none_is k (map project_key (filter t ps)) (all_map (λ l. equals l k ≡ false) project_key (filter t ps) (all_filter (λ p. equals p.key k ≡ false) t ps all))
 
 first_holds : (a b c : Bool) → ((a && b) || c) ≡ true → b ≡ true → c ≡ false → a ≡ true
 first_holds a b c any e none = grind arith
 
 -- the lecturer at a project that takes part
-offered : (g : Key → ℕ) (t : ProjectRow → Bool) (ps : List ProjectRow) (l q : Key) → Rise (map project_key ps) → list_any (λ p. equals p.lecturer l && equals q p.key) ps ≡ true → has (map project_key (filter t ps)) q ≡ true
+offered : (g : Key → ℕ) (t : ProjectRow → Bool) (ps : List ProjectRow) (l q : Key) → Rise (map project_key ps)
+    → list_any (λ p. equals p.lecturer l && equals q p.key) ps ≡ true → has (map project_key (filter t ps)) q ≡ true
     → look project_key (λ (p : ProjectRow). g p.lecturer) (filter t ps) q ≡ g l
 offered g t [] l q rise any there = cc
 offered g t (p ∷ ps) l q rise any there =
@@ -142,7 +154,8 @@ offered g t (p ∷ ps) l q rise any there =
 -- a lecturer's students, of one matching; `t` filters the rolls and `low` lowers them
 module _ (u : World) (m : IsMatching (instance_of u) (places_of u)) (known : AllByRecursion (λ s. (q : Key) → s.placed ≡ Some q → number_in (project_keys u) q < length (project_keys u)) u.students)
     (ps : List ProjectRow) (t : ProjectRow → Bool) (rise : Rise (map project_key ps)) (these : filter t ps ≡ u.projects) where
-  with_at_most : (l : Key) → placed_with ps u.students l ≤ look lecturer_key (λ (x : rows.Lecturer). x.row.capacity) u.lecturers l
+  with_at_most : (l : Key)
+      → placed_with ps u.students l ≤ look lecturer_key (λ (x : rows.Lecturer). x.row.capacity) u.lecturers l
   with_at_most l =
       let n : ℕ = number_in (lecturer_keys u) l in
       let few : placed_with ps u.students l ≤ count_by (λ s. is_lecturer (instance_of u) n (option_map (number_in (project_keys u)) s.placed)) u.students = count_mono _ _ u.students (all_weaker _ _ (λ s low. one s.placed low) u.students known) in
@@ -152,7 +165,8 @@ module _ (u : World) (m : IsMatching (instance_of u) (places_of u)) (known : All
       let value = look_is lecturer_key (λ (x : rows.Lecturer). x.row.capacity) u.lecturers l in
       omega (arith, few, counted, room, value)
     where
-      one : (o : Option Key) → ((q : Key) → o ≡ Some q → number_in (project_keys u) q < length (project_keys u)) → list_any (λ p. equals p.lecturer l && is_at p.key o) ps ≡ true
+      one : (o : Option Key) → ((q : Key) → o ≡ Some q → number_in (project_keys u) q < length (project_keys u))
+          → list_any (λ p. equals p.lecturer l && is_at p.key o) ps ≡ true
           → is_lecturer (instance_of u) (number_in (lecturer_keys u) l) (option_map (number_in (project_keys u)) o) ≡ true
       one None low h = let none : list_any (λ p. equals p.lecturer l && false) ps ≡ false = given_none ps l in cc
       one (Some q) low h =
@@ -181,7 +195,8 @@ FitsLeft w = Fits (λ s. s.placed) (λ p. p.capacity - given_to w.students p.key
 pub first_plays : (w : World) → w.round ≡ First → in_play w ≡ w
 first_plays w one = λ i. record w { lecturers = rows.lecturers_in (one i) w.lecturers w.projects w.students; projects = rows.projects_in (one i) w.lecturers w.projects w.students; students = rows.students_in (one i) w.students }
 
-first_fits : (w : World) → Sound w → w.round ≡ First → IsMatching (instance w) (matching_of w) → FitsRolls (λ s. s.placed) w
+first_fits : (w : World) → Sound w → w.round ≡ First → IsMatching (instance w) (matching_of w)
+    → FitsRolls (λ s. s.placed) w
 first_fits w g one m =
     let m' : IsMatching (instance_of w) (places_of w) = subst (λ u. IsMatching (instance_of u) (places_of u)) (first_plays w one) m in
     let known : AllByRecursion (λ s. (q : Key) → s.placed ≡ Some q → number_in (project_keys w) q < length (project_keys w)) w.students
@@ -196,16 +211,20 @@ first_fits w g one m =
 
 -- no place, no count
 
-not_with : (l : Key) (ps : List ProjectRow) (o : Option Key) → o ≡ None → list_any (λ p. equals p.lecturer l && is_at p.key o) ps ≡ false
+not_with : (l : Key) (ps : List ProjectRow) (o : Option Key) → o ≡ None
+    → list_any (λ p. equals p.lecturer l && is_at p.key o) ps ≡ false
 not_with l ps o e = ap (λ x. list_any (λ p. equals p.lecturer l && is_at p.key x) ps) e ∙ given_none ps l
 
-none_counted : (place : rows.Student → Option Key) (ps : List ProjectRow) (ss : List rows.Student) → AllByRecursion (λ s. place s ≡ None) ss → ((k : Key) → rows.count_at place ss k ≡ 0) × ((l : Key) → rows.count_with place ps ss l ≡ 0)
+none_counted : (place : rows.Student → Option Key) (ps : List ProjectRow) (ss : List rows.Student)
+    → AllByRecursion (λ s. place s ≡ None) ss
+    → ((k : Key) → rows.count_at place ss k ≡ 0) × ((l : Key) → rows.count_with place ps ss l ≡ 0)
 none_counted place ps ss all = (
   λ k. count_none (λ s. is_at k (place s)) ss (all_weaker (λ s. place s ≡ None) _ (λ s e. ap (is_at k) e) ss all),
   λ l. count_none (λ s. list_any (λ p. equals p.lecturer l && is_at p.key (place s)) ps) ss (all_weaker (λ s. place s ≡ None) _ (λ s e. not_with l ps (place s) e) ss all),
 )
 
-none_fits : (place : rows.Student → Option Key) (room : ProjectRow → ℕ) (staff : rows.Lecturer → ℕ) (w : World) → AllByRecursion (λ s. place s ≡ None) w.students → Fits place room staff w
+none_fits : (place : rows.Student → Option Key) (room : ProjectRow → ℕ) (staff : rows.Lecturer → ℕ) (w : World)
+    → AllByRecursion (λ s. place s ≡ None) w.students → Fits place room staff w
 none_fits place room staff w all =
     let none : ((k : Key) → rows.count_at place w.students k ≡ 0) × ((l : Key) → rows.count_with place w.projects w.students l ≡ 0) = none_counted place w.projects w.students all in
     record {
@@ -272,7 +291,9 @@ together w f l =
 pub keeps : (w : World) → Good w → KeepsCapacities w
 keeps w g = by_round w.round refl
   where
-    left : (room : ProjectRow → ℕ) (staff : rows.Lecturer → ℕ) (out : Bool) → is_published w.phase ≡ out → (IsMatching (instance w) (matching_of w) → Fits (λ s. s.placed) room staff w) → Fits (λ s. s.placed) room staff w
+    left : (room : ProjectRow → ℕ) (staff : rows.Lecturer → ℕ) (out : Bool) → is_published w.phase ≡ out
+        → (IsMatching (instance w) (matching_of w) → Fits (λ s. s.placed) room staff w)
+        → Fits (λ s. s.placed) room staff w
     left room staff true e fits = fits (g.stable e).matching
     left room staff false e fits = none_fits (λ s. s.placed) room staff w (g.sound.no_result_yet e)
 

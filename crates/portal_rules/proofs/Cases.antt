@@ -20,19 +20,27 @@ RanksAll P v = (list : List Key) → is_ranking v.phase ≡ true → ranking_fau
 
 -- what the office may bring about
 pub record Runs (P : AbstractCall → Decision → Type 0) (v : OfficeSees) : Type 0 where
-  pub lecturers : (rs new : List LecturerRow) (n : ℕ) → is_open_to_rolls v.round v.phase ≡ true → take_rows (lecturer_roll v) 1 v.lecturers rs ≡ Took new n
+  pub lecturers : (rs new : List LecturerRow) (n : ℕ) → is_open_to_rolls v.round v.phase ≡ true
+      → take_rows (lecturer_roll v) 1 v.lecturers rs ≡ Took new n
       → P (AbstractCall.AddLecturers rs) (applies (roll_body (length new) n) (Lecturers new))
-  pub projects : (rs new : List ProjectRow) (n : ℕ) → is_open_to_rolls v.round v.phase ≡ true → take_rows (project_roll v) 1 v.projects rs ≡ Took new n
+  pub projects : (rs new : List ProjectRow) (n : ℕ) → is_open_to_rolls v.round v.phase ≡ true
+      → take_rows (project_roll v) 1 v.projects rs ≡ Took new n
       → P (AbstractCall.AddProjects rs) (applies (roll_body (length new) n) (Projects new))
-  pub students : (rs new : List StudentRow) (n : ℕ) → is_open_to_rolls v.round v.phase ≡ true → take_rows (student_roll v) 1 v.students rs ≡ Took new n
+  pub students : (rs new : List StudentRow) (n : ℕ) → is_open_to_rolls v.round v.phase ≡ true
+      → take_rows (student_roll v) 1 v.students rs ≡ Took new n
       → P (AbstractCall.AddStudents rs) (applies (roll_body (length new) n) (Students new))
-  pub choosing : (named : Option Round) → v.phase ≡ Setup → P (AbstractCall.Move Choosing named) (applies (phase_body v.round Choosing) (To Choosing))
-  pub ranking : (named : Option Round) → v.phase ≡ Choosing → P (AbstractCall.Move Ranking named) (applies (phase_body v.round Ranking) (To Ranking))
+  pub choosing : (named : Option Round) → v.phase ≡ Setup
+      → P (AbstractCall.Move Choosing named) (applies (phase_body v.round Choosing) (To Choosing))
+  pub ranking : (named : Option Round) → v.phase ≡ Choosing
+      → P (AbstractCall.Move Ranking named) (applies (phase_body v.round Ranking) (To Ranking))
   pub published : (named : Option Round) → v.phase ≡ Ranking → is_empty v.still_to_rank ≡ true
       → P (AbstractCall.Move Published named) (record { reply = answered 200 (phase_body v.round Published); act = Publish })
-  pub opened : v.round ≡ First → v.phase ≡ Published → P (AbstractCall.Move Choosing (Some Second)) (applies (phase_body Second Choosing) SecondRound)
-  pub filled : is_ranking v.phase ≡ true → is_empty v.still_to_rank ≡ false → P AbstractCall.FillRankings (applies (filled_body v.still_to_rank) Fill)
-  pub sheets : (ask : AbstractCall) (text : Said) (sheet : Sheet) → is_move_or_add (Calls ask) ≡ false → P ask (renders text sheet)
+  pub opened : v.round ≡ First → v.phase ≡ Published
+      → P (AbstractCall.Move Choosing (Some Second)) (applies (phase_body Second Choosing) SecondRound)
+  pub filled : is_ranking v.phase ≡ true → is_empty v.still_to_rank ≡ false
+      → P AbstractCall.FillRankings (applies (filled_body v.still_to_rank) Fill)
+  pub sheets : (ask : AbstractCall) (text : Said) (sheet : Sheet) → is_move_or_add (Calls ask) ≡ false
+      → P ask (renders text sheet)
 
 module _ (P : AbstractCall → Decision → Type 0) (idle : (ask : AbstractCall) (reply : Answer) → P ask (refuses reply)) where
   pub by_student : (v : StudentSees) → Chooses P v → (ask : AbstractCall) → P ask (to_student v ask)

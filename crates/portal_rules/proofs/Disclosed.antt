@@ -27,7 +27,8 @@ data SameAct : Act → Act → Type 0 where
 abbrev Decides : Sight → Sight → AbstractCall → Type 0
 Decides x y ask = Unless (has_places (Calls ask)) (answer x ask ≡ answer y ask) × SameAct (decision x ask).act (decision y ask).act
 
-of_student : (v : StudentSees) (list : List Key) (ask : AbstractCall) → Decides (Student v) (Student (record v { choices = list })) ask
+of_student : (v : StudentSees) (list : List Key) (ask : AbstractCall)
+    → Decides (Student v) (Student (record v { choices = list })) ask
 of_student v list AbstractCall.ShowChoices = (tt, same_act Nothing)
 of_student v list (AbstractCall.SetChoices ks) = (tt, same_act _)
 of_student v list _ = (refl, same_act _)
@@ -38,7 +39,9 @@ same_ask x y s ask = subst (λ u. Decides x u ask) s (unless_any _ _ refl, same_
 
 -- lists in another order are both taken or both refused
 
-set_acts : (catalogue : List Listing) (me : Key) (ks ls : List Key) → Reordered ks ls → (b free : Bool) (e f : Option ListFault) → choice_fault catalogue ks ≡ e → choice_fault catalogue ls ≡ f → (c d : Data)
+set_acts : (catalogue : List Listing) (me : Key) (ks ls : List Key) → Reordered ks ls
+    → (b free : Bool) (e f : Option ListFault) → choice_fault catalogue ks ≡ e → choice_fault catalogue ls ≡ f
+    → (c d : Data)
     → SameAct (open_where b (cond free (unless_faulty e (applies c (Choices me ks))) already_placed)).act (open_where b (cond free (unless_faulty f (applies d (Choices me ls))) already_placed)).act
 set_acts catalogue me ks ls r false free e f ee ef c d = same_act Nothing
 set_acts catalogue me ks ls r true false e f ee ef c d = same_act Nothing
@@ -47,7 +50,8 @@ set_acts catalogue me ks ls r true true (Some x) (Some y) ee ef c d = same_act N
 set_acts catalogue me ks ls r true true None (Some y) ee ef c d = let e : None ≡ Some y = sym (accepted_reordered catalogue ks ls r ee) ∙ ef in cc
 set_acts catalogue me ks ls r true true (Some x) None ee ef c d = let e : None ≡ Some x = sym (accepted_reordered catalogue ls ks (reordered_back ks ls r) ef) ∙ ee in cc
 
-same_sets : (x y : Sight) → SameSight x y → (ks ls : List Key) → Reordered ks ls → SameAct (decision x (AbstractCall.SetChoices ks)).act (decision y (AbstractCall.SetChoices ls)).act
+same_sets : (x y : Sight) → SameSight x y → (ks ls : List Key) → Reordered ks ls
+    → SameAct (decision x (AbstractCall.SetChoices ks)).act (decision y (AbstractCall.SetChoices ls)).act
 same_sets (Student v) (Student u) s ks ls r =
     subst (λ z. SameAct (to_student v (AbstractCall.SetChoices ks)).act (to_student z (AbstractCall.SetChoices ls)).act) s
     (set_acts v.catalogue v.me.key ks ls r (is_choosing v.phase) (is_none v.result) (choice_fault v.catalogue ks) (choice_fault v.catalogue ls) refl refl (projects_body ks) (projects_body ls))
@@ -68,7 +72,8 @@ publishes_opens x ask = grind arith
 
 -- one request
 
-after : (v w v' w' : World) (a b : Act) → SameButPlaces v w → SameAct a b → is_publish a ≡ false → StepLeaves v a v' → StepLeaves w b w' → SameButPlaces v' w'
+after : (v w v' w' : World) (a b : Act) → SameButPlaces v w → SameAct a b → is_publish a ≡ false → StepLeaves v a v'
+    → StepLeaves w b w' → SameButPlaces v' w'
 after v w v' w' _ _ s (same_act Nothing) e l m = subst (λ x. SameButPlaces x w') (sym l) (subst (λ x. SameButPlaces v x) (sym m) s)
 after v w v' w' _ _ s (same_act (Apply change)) e l m = subst (λ x. SameButPlaces x w') (sym l) (subst (λ x. SameButPlaces (changed v change) x) (sym m) (both_changed v w change s))
 after v w v' w' _ _ s (same_act (Render sheet)) e l m = subst (λ x. SameButPlaces x w') (sym l) (subst (λ x. SameButPlaces v x) (sym m) s)
@@ -78,15 +83,18 @@ after v w v' w' _ _ s (reorders k {ks} {ls} r) e l m = subst (λ x. SameButPlace
 abbrev Goes : Wish → Answer → Answer → World → World → Type 0
 Goes p a b v' w' = Unless (has_places p) (a ≡ b) × (SameButPlaces v' w' ⊎ (moves_to_published p a ≡ true))
 
-goes_on : (v w v' w' : World) (c : Key) (ask ask' : AbstractCall) (a b : Answer) → SameButPlaces v w → Step v c ask a v' → Step w c ask' b w' → SameAct (decision (view v c) ask).act (decision (view w c) ask').act
+goes_on : (v w v' w' : World) (c : Key) (ask ask' : AbstractCall) (a b : Answer) → SameButPlaces v w → Step v c ask a v'
+    → Step w c ask' b w' → SameAct (decision (view v c) ask).act (decision (view w c) ask').act
     → SameButPlaces v' w' ⊎ (moves_to_published (Calls ask) a ≡ true)
 goes_on v w v' w' c ask ask' a b s l m same = go (is_publish (decision (view v c) ask).act) refl
   where
-    go : (p : Bool) → is_publish (decision (view v c) ask).act ≡ p → SameButPlaces v' w' ⊎ (moves_to_published (Calls ask) a ≡ true)
+    go : (p : Bool) → is_publish (decision (view v c) ask).act ≡ p
+        → SameButPlaces v' w' ⊎ (moves_to_published (Calls ask) a ≡ true)
     go true e = inr (subst (λ x. moves_to_published (Calls ask) x ≡ true) (sym l.told) (publishes_opens (view v c) ask e))
     go false e = inl (after v w v' w' _ _ s same e l.left m.left)
 
-one_goes : (v w v' w' : World) (q r : Request) → SameButPlaces v w → q.code ≡ r.code → (p p' : Wish) → SameWish p p' → (a b : Answer) → Answers v q p a v' → Answers w r p' b w' → Goes p a b v' w'
+one_goes : (v w v' w' : World) (q r : Request) → SameButPlaces v w → q.code ≡ r.code → (p p' : Wish) → SameWish p p'
+    → (a b : Answer) → Answers v q p a v' → Answers w r p' b w' → Goes p a b v' w'
 one_goes v w v' w' q r s code _ _ (equal (Calls ask)) a b l m =
     let n : Step w q.code ask b w' = subst (λ c. Step w c ask b w') (sym code) m in
     let d : Decides (view v q.code) (view w q.code) ask = same_ask _ _ (same_view v w s q.code) ask in
@@ -105,7 +113,9 @@ places_unseen v w (q ∷ qs) (r ∷ rs) (a ∷ told) (b ∷ said) (v' ∷ after)
     let one : Goes q.wish a b v' w' = one_goes v w v' w' q r s z.0.code q.wish r.wish z.0.wish a b (really v v' q a run.0 all.0) (really w w' r b run'.0 all'.0) in
     (one.0, rest one.1 (λ t. places_unseen v' w' qs rs told said after later t z.1 run.1 all.1 run'.1 all'.1))
   where
-    rest : SameButPlaces v' w' ⊎ (moves_to_published q.wish a ≡ true) → (SameButPlaces v' w' → AlikeUntilPublished qs told said) → Unless (moves_to_published q.wish a) (AlikeUntilPublished qs told said)
+    rest : SameButPlaces v' w' ⊎ (moves_to_published q.wish a ≡ true)
+        → (SameButPlaces v' w' → AlikeUntilPublished qs told said)
+        → Unless (moves_to_published q.wish a) (AlikeUntilPublished qs told said)
     rest (inl t) k = unless_any _ _ (k t)
     rest (inr e) k = subst (λ b. Unless b (AlikeUntilPublished qs told said)) (sym e) tt
 places_unseen v w asked others told said after later s z run all run' all' = grind arith

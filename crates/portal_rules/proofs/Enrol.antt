@@ -23,7 +23,8 @@ open_phase phase e = grind arith
 has_swap : (xs ys : List Key) (k : Key) → has (xs ++ ys) k ≡ has (ys ++ xs) k
 has_swap xs ys k = any_append (equals k) xs ys ∙ or_comm (has xs k) (has ys k) ∙ sym (any_append (equals k) ys xs)
 
-distinct_between : (ys zs : List Key) (x : Key) → AreDistinct (ys ++ zs) → has (ys ++ zs) x ≡ false → AreDistinct (ys ++ x ∷ zs)
+distinct_between : (ys zs : List Key) (x : Key) → AreDistinct (ys ++ zs) → has (ys ++ zs) x ≡ false
+    → AreDistinct (ys ++ x ∷ zs)
 distinct_between [] zs x d new = (new, d)
 distinct_between (y ∷ ys) zs x d new =
     let parts : (equals x y ≡ false) × (has (ys ++ zs) x ≡ false) = or_parts (equals x y) (has (ys ++ zs) x) new in
@@ -38,15 +39,18 @@ distinct_swap [] ys d = rw append-nil d
 distinct_swap (x ∷ xs) ys d = distinct_between ys xs x (distinct_swap xs ys d.1) (sym (has_swap xs ys x) ∙ d.0)
 
 -- what a list of keys has, it has with one more
-still_has : {X : Type 0} (key : X → Key) (x : X) (ys : List X) (k : Key) → has (map key ys) k ≡ true → has (map key (put key x ys)) k ≡ true
+still_has : {X : Type 0} (key : X → Key) (x : X) (ys : List X) (k : Key) → has (map key ys) k ≡ true
+    → has (map key (put key x ys)) k ≡ true
 still_has key x ys k h = grind (arith, has_put key x key ys k)
 
 module _ (w : World) (early : is_from_ranking w.phase ≡ false) (one : w.round ≡ First) where
   -- in the first round each project takes part
-  all_take_part : (ls : List rows.Lecturer) (ps : List ProjectRow) (ss : List rows.Student) → project_keys (in_play (record w { lecturers = ls; projects = ps; students = ss })) ≡ map project_key ps
+  all_take_part : (ls : List rows.Lecturer) (ps : List ProjectRow) (ss : List rows.Student)
+      → project_keys (in_play (record w { lecturers = ls; projects = ps; students = ss })) ≡ map project_key ps
   all_take_part ls ps ss = λ i. map project_key (projects_in (one i) ls ps ss)
 
-  put_student : (ss : List rows.Student) (r : StudentRow) → Sound (record w { students = ss }) → IsStudent r → has (map student_key ss) r.key ≡ false
+  put_student : (ss : List rows.Student) (r : StudentRow) → Sound (record w { students = ss }) → IsStudent r
+      → has (map student_key ss) r.key ≡ false
       → (student_roll (office_sees w)).is_bad (map (λ (s : rows.Student). s.row) ss) r ≡ false → length ss + 1 ≤ 2000 → Sound (record w { students = put student_key (new_student r) ss })
   put_student ss r g form key free room =
       let code : has (codes_of (record w { students = ss })) r.code ≡ false
@@ -69,7 +73,8 @@ module _ (w : World) (early : is_from_ranking w.phase ≡ false) (one : w.round 
       let only_left = all_put student_key (new_student r) (λ s. is_left s ≡ false → (s.choice ≡ []) × (s.placed ≡ None)) ss (λ h. (refl, refl)) g.only_left in
       assumption
 
-  put_lecturer : (ls : List rows.Lecturer) (r : LecturerRow) → Sound (record w { lecturers = ls }) → IsLecturer r → has (map lecturer_key ls) r.key ≡ false
+  put_lecturer : (ls : List rows.Lecturer) (r : LecturerRow) → Sound (record w { lecturers = ls }) → IsLecturer r
+      → has (map lecturer_key ls) r.key ≡ false
       → (lecturer_roll (office_sees w)).is_bad (map (λ (l : rows.Lecturer). l.row) ls) r ≡ false → length ls + 1 ≤ 300 → Sound (record w { lecturers = put lecturer_key (new_lecturer r) ls })
   put_lecturer ls r g form key free room =
       let ss : List Key = map (λ (s : rows.Student). s.row.code) w.students in
@@ -95,7 +100,8 @@ module _ (w : World) (early : is_from_ranking w.phase ≡ false) (one : w.round 
       let no_earlier_rankings : is_second w.round ≡ false → AllByRecursion (λ (l : rows.Lecturer). l.earlier_ranking ≡ None) (put lecturer_key (new_lecturer r) ls) = λ h. all_put lecturer_key (new_lecturer r) _ ls refl (g.no_earlier_rankings h) in
       assumption
 
-  put_project : (ps : List ProjectRow) (r : ProjectRow) → Sound (record w { projects = ps }) → IsProject r → has (map project_key ps) r.key ≡ false
+  put_project : (ps : List ProjectRow) (r : ProjectRow) → Sound (record w { projects = ps }) → IsProject r
+      → has (map project_key ps) r.key ≡ false
       → (project_roll (office_sees w)).is_bad (map (λ (p : ProjectRow). p) ps) r ≡ false → length ps + 1 ≤ 1000 → Sound (record w { projects = put project_key r ps })
   put_project ps r g form key free room =
       let known : has (lecturer_keys w) r.lecturer ≡ true
@@ -115,19 +121,25 @@ module _ (w : World) (early : is_from_ranking w.phase ≡ false) (one : w.round 
   itself : {X : Type 0} (xs : List X) → Alike xs xs
   itself xs = record { tests = λ p. refl; long = refl }
 
-  pub students_added : (rs new : List StudentRow) (same : ℕ) → Sound w → AllByRecursion IsStudent rs → take_rows (student_roll (office_sees w)) 1 (office_sees w).students rs ≡ Took new same → Sound (with_students w new)
+  pub students_added : (rs new : List StudentRow) (same : ℕ) → Sound w → AllByRecursion IsStudent rs
+      → take_rows (student_roll (office_sees w)) 1 (office_sees w).students rs ≡ Took new same
+      → Sound (with_students w new)
   students_added rs new same g forms e =
       taken (student_roll (office_sees w)) (λ s. s.row) new_student (λ r. refl) IsStudent (λ ss. Sound (record w { students = ss }))
       (λ xs ys r al. has_alike (λ (s : StudentRow). s.code) (w.office ∷ map (λ (l : LecturerRow). l.code) (office_sees w).lecturers) xs ys r.code al)
       put_student rs 1 (office_sees w).students w.students new same g (itself _) forms e
 
-  pub lecturers_added : (rs new : List LecturerRow) (same : ℕ) → Sound w → AllByRecursion IsLecturer rs → take_rows (lecturer_roll (office_sees w)) 1 (office_sees w).lecturers rs ≡ Took new same → Sound (with_lecturers w new)
+  pub lecturers_added : (rs new : List LecturerRow) (same : ℕ) → Sound w → AllByRecursion IsLecturer rs
+      → take_rows (lecturer_roll (office_sees w)) 1 (office_sees w).lecturers rs ≡ Took new same
+      → Sound (with_lecturers w new)
   lecturers_added rs new same g forms e =
       taken (lecturer_roll (office_sees w)) (λ l. l.row) new_lecturer (λ r. refl) IsLecturer (λ ls. Sound (record w { lecturers = ls }))
       (λ xs ys r al. has_alike (λ (l : LecturerRow). l.code) (w.office ∷ map (λ (s : StudentRow). s.code) (office_sees w).students) xs ys r.code al)
       put_lecturer rs 1 (office_sees w).lecturers w.lecturers new same g (itself _) forms e
 
-  pub projects_added : (rs new : List ProjectRow) (same : ℕ) → Sound w → AllByRecursion IsProject rs → take_rows (project_roll (office_sees w)) 1 (office_sees w).projects rs ≡ Took new same → Sound (with_projects w new)
+  pub projects_added : (rs new : List ProjectRow) (same : ℕ) → Sound w → AllByRecursion IsProject rs
+      → take_rows (project_roll (office_sees w)) 1 (office_sees w).projects rs ≡ Took new same
+      → Sound (with_projects w new)
   projects_added rs new same g forms e =
       subst (λ ps. Sound (with_projects w ps)) (map-id new)
       (taken (project_roll (office_sees w)) (λ p. p) (λ p. p) (λ r. refl) IsProject (λ ps. Sound (record w { projects = ps }))

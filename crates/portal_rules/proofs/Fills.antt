@@ -36,7 +36,8 @@ module _ (w : World) where
     still_to_rank = left (is_from_ranking w.phase) i;
   }
     where
-      left : (b : Bool) → cond b (map (λ (l : rows.Lecturer). l.row.key) (filter (is_still_to_rank (changed w Fill)) (map (with_fill w) w.lecturers))) [] ≡ []
+      left : (b : Bool)
+          → cond b (map (λ (l : rows.Lecturer). l.row.key) (filter (is_still_to_rank (changed w Fill)) (map (with_fill w) w.lecturers))) [] ≡ []
       left b = grind (arith, none_left w.lecturers)
 
   pub view_filled : (c : Key) → caller w c ≡ OfficeCaller → view (changed w Fill) c ≡ Office (record (office_sees w) { still_to_rank = [] })
@@ -44,7 +45,8 @@ module _ (w : World) where
 
 -- the applicants by key are a ranking
 
-all_there : (ks ls : List Key) → ((k : Key) → has ks k ≡ true → has ls k ≡ true) → AllByRecursion (λ k. has ls k ≡ true) ks
+all_there : (ks ls : List Key) → ((k : Key) → has ks k ≡ true → has ls k ≡ true)
+    → AllByRecursion (λ k. has ls k ≡ true) ks
 all_there [] ls k = tt
 all_there (x ∷ ks) ls k = (k x (ap (λ b. b || has ks x) (is_own x)), all_there ks ls (λ l h. k l (ap (λ b. equals l x || b) h ∙ or-true (equals l x))))
 

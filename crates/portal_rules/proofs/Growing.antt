@@ -7,15 +7,18 @@ use Rattle.portal_rules.proofs.Base.{AllByRecursion, filter_map, cons_option, ta
 use Rattle.portal_rules.proofs.AllLaws.{all_append}
 
 -- one more element
-pub grown : {X : Type 0} (xs : List X) (i : ℕ) (x : X) → i < length xs → get_or xs i x ≡ x → take (i + 1) xs ≡ take i xs ++ x ∷ []
+pub grown : {X : Type 0} (xs : List X) (i : ℕ) (x : X) → i < length xs → get_or xs i x ≡ x
+    → take (i + 1) xs ≡ take i xs ++ x ∷ []
 grown xs i x low at = take_more xs i x low ∙ ap (λ y. take i xs ++ y ∷ []) at
 
-pub all_more : {X : Type 0} (P : X → Type 0) (xs : List X) (i : ℕ) (x : X) → i < length xs → get_or xs i x ≡ x → AllByRecursion P (take i xs) → P x → AllByRecursion P (take (i + 1) xs)
+pub all_more : {X : Type 0} (P : X → Type 0) (xs : List X) (i : ℕ) (x : X) → i < length xs → get_or xs i x ≡ x
+    → AllByRecursion P (take i xs) → P x → AllByRecursion P (take (i + 1) xs)
 all_more P xs i x low at all here = subst (AllByRecursion P) (sym (grown xs i x low at)) (all_append P (take i xs) (x ∷ []) all (here, tt))
 
 -- one more element, with what f makes of it if it passes
 module _ {X Y : Type 0} (p : X → Bool) (f : X → Y) (xs : List X) (i : ℕ) (x : X) (low : i < length xs) (at : get_or xs i x ≡ x) where
-  passed : (b : Bool) → p x ≡ b → map f (filter p (take (i + 1) xs)) ≡ map f (filter p (take i xs)) ++ map f (cond b (x ∷ []) [])
+  passed : (b : Bool) → p x ≡ b
+      → map f (filter p (take (i + 1) xs)) ≡ map f (filter p (take i xs)) ++ map f (cond b (x ∷ []) [])
   passed b e =
       ap (λ ys. map f (filter p ys)) (grown xs i x low at) ∙ ap (map f) (filter-append p (take i xs) (x ∷ [])) ∙ map-append f (filter p (take i xs)) (filter p (x ∷ []))
       ∙ ap (λ c. map f (filter p (take i xs)) ++ map f (cond c (x ∷ []) [])) e

@@ -37,30 +37,38 @@ shown v u seen a (inl (same, none)) = rw none (record { replies = λ rest. ap (�
 shown v u seen a (inr (other, one)) = rw one (record { replies = λ rest. refl; last = λ rest. refl })
 
 -- the caller's own request, and then a view that may be shown
-after_own : (v u : Sight) (head closes : Bool) (wish : Wish) (a : Answer) (seen : List HeardItem) → a ≡ says v wish → Hears (then_sees v wish) u false a seen → Hears v u true a (Asked head closes wish ∷ seen)
+after_own : (v u : Sight) (head closes : Bool) (wish : Wish) (a : Answer) (seen : List HeardItem) → a ≡ says v wish
+    → Hears (then_sees v wish) u false a seen → Hears v u true a (Asked head closes wish ∷ seen)
 after_own v u head closes wish a seen e h =
     record {
       replies = λ rest. ap (λ x. x ∷ told (then_sees v wish) (seen ++ rest)) (sym e) ∙ ap (λ as'. a ∷ as') (h.replies rest);
       last = λ rest. h.last rest;
     }
 
-answered_by : (w w' : World) (r : Request) (wish : Wish) (a : Answer) → Answers w r wish a w' → a ≡ says (view w r.code) wish
+answered_by : (w w' : World) (r : Request) (wish : Wish) (a : Answer) → Answers w r wish a w'
+    → a ≡ says (view w r.code) wish
 answered_by w w' r wish a s = grind arith
 
-kept : (w w' : World) (r : Request) (wish : Wish) (a : Answer) → Answers w r wish a w' → is_move_or_add wish ≡ false → view w' r.code ≡ then_sees (view w r.code) wish
+kept : (w w' : World) (r : Request) (wish : Wish) (a : Answer) → Answers w r wish a w' → is_move_or_add wish ≡ false
+    → view w' r.code ≡ then_sees (view w r.code) wish
 kept w w' r (Calls ask) a s calm = own_kept w w' r.code _ refl ask calm s.left
 kept w w' r (Refused refusal) a s calm = ap (λ u. view u r.code) s.1
 
 moved : (v : Sight) (wish : Wish) → is_move_or_add wish ≡ true → then_sees v wish ≡ v
 moved v wish e = grind (arith, own_move v)
 
-own_hears : (w w' : World) (r : Request) (a : Answer) (seen : List HeardItem) → Answers w r r.wish a w' → (b : Bool) → is_move_or_add r.wish ≡ b → SeenIf b (view w r.code) (view w' r.code) seen → Hears (view w r.code) (view w' r.code) true a (Asked r.head r.closes r.wish ∷ seen)
+own_hears : (w w' : World) (r : Request) (a : Answer) (seen : List HeardItem) → Answers w r r.wish a w' → (b : Bool)
+    → is_move_or_add r.wish ≡ b → SeenIf b (view w r.code) (view w' r.code) seen
+    → Hears (view w r.code) (view w' r.code) true a (Asked r.head r.closes r.wish ∷ seen)
 own_hears w w' r a seen s true e see = after_own _ _ _ _ r.wish a seen (answered_by w w' r r.wish a s) (rw (moved (view w r.code) r.wish e) (shown _ _ seen a see))
 own_hears w w' r a seen s false e see =
     after_own _ _ _ _ r.wish a seen (answered_by w w' r r.wish a s)
     (rw see (record { replies = λ rest. ap (λ x. told x rest) (sym (kept w w' r r.wish a s e)); last = λ rest. ap (λ x. last_seen x rest) (sym (kept w w' r r.wish a s e)) }))
 
-hears : (c : Key) (w w' : World) (r : Request) (a : Answer) (items seen : List HeardItem) (b : Bool) → equals r.code c ≡ b → Answers w r r.wish a w' → SeenIf (not b || is_move_or_add r.wish) (view w c) (view w' c) seen → Hears (view w c) (view w' c) b a (cond b (Asked r.head r.closes r.wish ∷ []) [] ++ seen)
+hears : (c : Key) (w w' : World) (r : Request) (a : Answer) (items seen : List HeardItem) (b : Bool)
+    → equals r.code c ≡ b → Answers w r r.wish a w'
+    → SeenIf (not b || is_move_or_add r.wish) (view w c) (view w' c) seen
+    → Hears (view w c) (view w' c) b a (cond b (Asked r.head r.closes r.wish ∷ []) [] ++ seen)
 hears c w w' r a items seen true e s see =
     let at : r.code ≡ c = is_same r.code c e in
     subst (λ k. Hears (view w k) (view w' k) true a (Asked r.head r.closes r.wish ∷ seen)) at
@@ -72,7 +80,8 @@ pub really : (w w' : World) (r : Request) (a : Answer) → Serves w r a w' → a
 really w w' r a (inl s) ok = s
 really w w' r a (inr s) ok = absurd (ok s.0)
 
-one : (c : Key) (w w' : World) (r : Request) (a : Answer) (items : List HeardItem) → Serves w r a w' → a ≢ unavailable → HeardOf c w r w' items → Hears (view w c) (view w' c) (equals r.code c) a items
+one : (c : Key) (w w' : World) (r : Request) (a : Answer) (items : List HeardItem) → Serves w r a w' → a ≢ unavailable
+    → HeardOf c w r w' items → Hears (view w c) (view w' c) (equals r.code c) a items
 one c w w' r a items s ok h = rw h.2 (hears c w w' r a items h.0 (equals r.code c) refl (really w w' r a s ok) h.1)
 
 -- the replies, and the last view, of a whole run

@@ -20,13 +20,15 @@ use Rattle.portal_rules.proofs.AllLaws.{kept_filtered, all_map, all_both, all_we
 use Rattle.portal_rules.proofs.AllLaws.{any_shown, any_alike, any_or, any_nowhere, filtered_any, none_passes}
 
 -- before the result is published nothing has to be stable
-pub not_published : (w : World) → Sound w → is_published w.phase ≡ false → (is_second w.round ≡ true → IsRound (first w)) → Good w
+pub not_published : (w : World) → Sound w → is_published w.phase ≡ false
+    → (is_second w.round ≡ true → IsRound (first w)) → Good w
 not_published w g shut before = record { sound = g; stable = λ h. cc; before = before }
 
 -- phases
 
 -- to a phase after setup in which, as before, nothing is published
-pub to_phase : (w : World) (phase : Phase) → Sound w → is_setup phase ≡ false → is_published phase ≡ false → is_published w.phase ≡ false → (is_from_ranking phase ≡ false → is_from_ranking w.phase ≡ false)
+pub to_phase : (w : World) (phase : Phase) → Sound w → is_setup phase ≡ false → is_published phase ≡ false
+    → is_published w.phase ≡ false → (is_from_ranking phase ≡ false → is_from_ranking w.phase ≡ false)
     → Sound (changed w (To phase))
 to_phase w phase g begun shut before early =
     let no_choices_yet : is_setup phase ≡ true → AllByRecursion (λ (s : rows.Student). s.choice ≡ []) w.students = λ h. cc in
@@ -55,7 +57,8 @@ abbrev StaysOut : rows.Student → Type 0
 StaysOut s = is_left s ≡ false → (s.choice ≡ []) × (s.placed ≡ None)
 
 module _ (w : World) (pairs : List (Key × Key)) where
-  applicants_placed : (l : Key) → map student_key (applicants_of (changed w (Placements pairs)) l) ≡ map student_key (applicants_of w l)
+  applicants_placed : (l : Key)
+      → map student_key (applicants_of (changed w (Placements pairs)) l) ≡ map student_key (applicants_of w l)
   applicants_placed l =
       kept_filtered student_key (with_place pairs) (λ s. list_any (λ p. has s.choice p.key) (projects_of w l)) (λ s. ap (λ r. r.key) (place_row pairs s))
       (λ s. ap (λ c. list_any (λ p. has c p.key) (projects_of w l)) (place_choice pairs s)) w.students
@@ -78,7 +81,8 @@ module _ (w : World) (pairs : List (Key × Key)) where
   pub first_kept : first (changed w (Placements pairs)) ≡ first w
   first_kept = λ i. record (first w) { students = map_same first_placed (with_place pairs) (place_first pairs) w.students i }
 
-  pub placed_sound : Sound w → is_setup w.phase ≡ false → AllByRecursion (λ l. is_still_to_rank w l ≡ false) w.lecturers → Sound (changed w (Placements pairs))
+  pub placed_sound : Sound w → is_setup w.phase ≡ false → AllByRecursion (λ l. is_still_to_rank w l ≡ false) w.lecturers
+      → Sound (changed w (Placements pairs))
   placed_sound g late ranked =
       let codes : map (λ (s : rows.Student). s.row.code) (map (with_place pairs) w.students) ≡ map (λ s. s.row.code) w.students = map_same _ (with_place pairs) (λ s. ap (λ r. r.code) (place_row pairs s)) w.students in
       let students_rise : Rise (student_keys (changed w (Placements pairs))) = subst Rise (sym keys_placed) g.students_rise in
@@ -102,7 +106,9 @@ module _ (w : World) (pairs : List (Key × Key)) where
 pub instance_placed : (w : World) (pairs : List (Key × Key)) → instance (changed w (Placements pairs)) ≡ instance w
 instance_placed w pairs = ap instance_of (play_placed w pairs) ∙ rows_placed (in_play w) pairs
 
-pub to_published : (w : World) (pairs : List (Key × Key)) → Good w → is_setup w.phase ≡ false → AllByRecursion (λ l. is_still_to_rank w l ≡ false) w.lecturers → IsBest (instance w) (matching_of (changed w (Placements pairs))) → Good (changed w (Placements pairs))
+pub to_published : (w : World) (pairs : List (Key × Key)) → Good w → is_setup w.phase ≡ false
+    → AllByRecursion (λ l. is_still_to_rank w l ≡ false) w.lecturers
+    → IsBest (instance w) (matching_of (changed w (Placements pairs))) → Good (changed w (Placements pairs))
 to_published w pairs g late ranked best =
     record {
       sound = placed_sound w pairs g.sound late ranked;
@@ -111,7 +117,8 @@ to_published w pairs g late ranked best =
     }
 
 -- nobody is still to rank
-pub all_ranked : (w : World) → is_from_ranking w.phase ≡ true → is_empty (office_sees w).still_to_rank ≡ true → AllByRecursion (λ l. is_still_to_rank w l ≡ false) w.lecturers
+pub all_ranked : (w : World) → is_from_ranking w.phase ≡ true → is_empty (office_sees w).still_to_rank ≡ true
+    → AllByRecursion (λ l. is_still_to_rank w l ≡ false) w.lecturers
 all_ranked w closed none =
     none_passes (λ (l : rows.Lecturer). l.row.key) (is_still_to_rank w) w.lecturers
     (subst (λ b. is_empty (cond b (map (λ (l : rows.Lecturer). l.row.key) (filter (is_still_to_rank w) w.lecturers)) []) ≡ true) closed none)
@@ -119,20 +126,24 @@ all_ranked w closed none =
 -- a student's list
 
 -- the catalogue has the projects' keys
-listed_is_there : (w : World) (k : Key) → in_catalogue (listings w.lecturers w.projects) k ≡ true → has (map project_key w.projects) k ≡ true
+listed_is_there : (w : World) (k : Key) → in_catalogue (listings w.lecturers w.projects) k ≡ true
+    → has (map project_key w.projects) k ≡ true
 listed_is_there w k h = any_map (equals k) project_key w.projects ∙ any_shown (λ (l : Listing). equals l.key k) (λ p. equals k p.key) _ (λ p l e t. grind (arith, is_sym k p.key)) w.projects h
 
-chosen_good : (w : World) (list : List Key) → choice_fault (catalogue w) list ≡ None → IsChoice (project_keys (in_play w)) list
+chosen_good : (w : World) (list : List Key) → choice_fault (catalogue w) list ≡ None
+    → IsChoice (project_keys (in_play w)) list
 chosen_good w list e =
     let (few, fit) = chosen (catalogue w) list e in
     record { few = few; known = all_weaker _ _ (λ k h. listed_is_there (in_play w) k h) list fit.only; once = fit.once }
 
 -- what holds of a row holds after its list is replaced
-choice_with : (P : List Key → Type 0) (k : Key) (list : List Key) → P list → (ss : List rows.Student) → AllByRecursion (λ s. P s.choice) ss → AllByRecursion (λ s. P s.choice) (map (with_choice k list) ss)
+choice_with : (P : List Key → Type 0) (k : Key) (list : List Key) → P list → (ss : List rows.Student)
+    → AllByRecursion (λ s. P s.choice) ss → AllByRecursion (λ s. P s.choice) (map (with_choice k list) ss)
 choice_with P k list new [] all = tt
 choice_with P k list new (s ∷ ss) all = grind (arith, new, choice_with P k list new ss all.1)
 
-pub none_ranked : (P : rows.Lecturer → List Key → Type 0) (ls : List rows.Lecturer) → AllByRecursion (λ l. l.ranking ≡ None) ls → AllByRecursion (λ l. IfSome l.ranking (P l)) ls
+pub none_ranked : (P : rows.Lecturer → List Key → Type 0) (ls : List rows.Lecturer)
+    → AllByRecursion (λ l. l.ranking ≡ None) ls → AllByRecursion (λ l. IfSome l.ranking (P l)) ls
 none_ranked P [] all = tt
 none_ranked P (l ∷ ls) all = (rw all.0 tt, none_ranked P ls all.1)
 
@@ -140,7 +151,9 @@ pub choice_first : (k : Key) (list : List Key) (s : rows.Student) → first_plac
 choice_first k list s = elim (equals s.row.key k) as (λ b. first_placed (cond b (record s { choice = list }) s) ≡ first_placed s) [ true ↦ refl | false ↦ refl ]
 
 -- who makes a list has no project of the earlier round
-pub choosing : (w : World) (k : Key) (list : List Key) → Sound w → is_choosing w.phase ≡ true → AllByRecursion (λ s. equals s.row.key k ≡ true → is_left s ≡ true) w.students → choice_fault (catalogue w) list ≡ None
+pub choosing : (w : World) (k : Key) (list : List Key) → Sound w → is_choosing w.phase ≡ true
+    → AllByRecursion (λ s. equals s.row.key k ≡ true → is_left s ≡ true) w.students
+    → choice_fault (catalogue w) list ≡ None
     → Sound (changed w (Choices k list))
 choosing w k list g e mine none =
     let keys : map student_key (map (with_choice k list) w.students) ≡ map student_key w.students = map_same student_key (with_choice k list) (λ s. ap (λ r. r.key) (choice_row k list s)) w.students in
@@ -169,7 +182,8 @@ any_and f b [] = refl
 any_and f b (x ∷ xs) = grind (arith, any_and f b xs)
 
 -- some student of some project's applicants, or of all projects' applicants together
-exchanged : {X Y : Type 0} (t : X → Y → Bool) (q : Y → Bool) (xs : List X) (ys : List Y) → list_any (λ x. list_any (λ y. t x y && q y) ys) xs ≡ list_any (λ y. list_any (λ x. t x y) xs && q y) ys
+exchanged : {X Y : Type 0} (t : X → Y → Bool) (q : Y → Bool) (xs : List X) (ys : List Y)
+    → list_any (λ x. list_any (λ y. t x y && q y) ys) xs ≡ list_any (λ y. list_any (λ x. t x y) xs && q y) ys
 exchanged t q xs [] = any_nowhere xs
 exchanged t q xs (y ∷ ys) =
     any_or (λ x. t x y && q y) (λ x. list_any (λ z. t x z && q z) ys) xs
@@ -184,7 +198,8 @@ union_any q ps ss =
     ∙ sym (filtered_any (λ s. q (student_key s)) (λ s. list_any (λ p. has s.choice p.key) ps) ss)
     ∙ sym (any_map q student_key (filter (λ s. list_any (λ p. has s.choice p.key) ps) ss))
 
-none_lacks : (list ks : List Key) → list_any (λ k. not (has list k)) ks ≡ false → AllByRecursion (λ k. has list k ≡ true) ks
+none_lacks : (list ks : List Key) → list_any (λ k. not (has list k)) ks ≡ false
+    → AllByRecursion (λ k. has list k ≡ true) ks
 none_lacks list [] e = tt
 none_lacks list (k ∷ ks) e = grind (arith, none_lacks list ks)
 
@@ -192,7 +207,8 @@ none_lacks list (k ∷ ks) e = grind (arith, none_lacks list ks)
 abbrev pub shown_sets : World → Key → Bool → List (Key × List Person)
 shown_sets w l closed = map (λ p. (p.key, if closed then persons (applicants_to w p.key) else [])) (projects_of w l)
 
-ranks_all : (w : World) (l : Key) (list : List Key) → ranking_fault (shown_sets w l true) list ≡ None → IsRanking (map student_key (applicants_of w l)) list
+ranks_all : (w : World) (l : Key) (list : List Key) → ranking_fault (shown_sets w l true) list ≡ None
+    → IsRanking (map student_key (applicants_of w l)) list
 ranks_all w l list e =
     let (fit, all) = ranked (shown_sets w l true) list e in
     record {
@@ -205,14 +221,18 @@ ranks_all w l list e =
     }
 
 -- the new ranking stands at its lecturer, and each other one stays
-ranking_with : (P : Key → List Key → Type 0) (k : Key) (list : List Key) → P k list → (ls : List rows.Lecturer) → AllByRecursion (λ l. IfSome l.ranking (P l.row.key)) ls → AllByRecursion (λ l. IfSome l.ranking (P l.row.key)) (map (with_ranking k list) ls)
+ranking_with : (P : Key → List Key → Type 0) (k : Key) (list : List Key) → P k list → (ls : List rows.Lecturer)
+    → AllByRecursion (λ l. IfSome l.ranking (P l.row.key)) ls
+    → AllByRecursion (λ l. IfSome l.ranking (P l.row.key)) (map (with_ranking k list) ls)
 ranking_with P k list new [] all = tt
 ranking_with P k list new (l ∷ ls) all = grind (arith, new, is_same l.row.key k, ranking_with P k list new ls all.1)
 
-pub ranking_first : (k : Key) (list : List Key) (l : rows.Lecturer) → first_published (with_ranking k list l) ≡ first_published l
+pub ranking_first : (k : Key) (list : List Key) (l : rows.Lecturer)
+    → first_published (with_ranking k list l) ≡ first_published l
 ranking_first k list l = elim (equals l.row.key k) as (λ b. first_published (cond b (record l { ranking = Some list }) l) ≡ first_published l) [ true ↦ refl | false ↦ refl ]
 
-pub ranking : (w : World) (k : Key) (list : List Key) → Sound w → is_ranking w.phase ≡ true → ranking_fault (shown_sets w k (is_from_ranking w.phase)) list ≡ None → Sound (changed w (Ranks k list))
+pub ranking : (w : World) (k : Key) (list : List Key) → Sound w → is_ranking w.phase ≡ true
+    → ranking_fault (shown_sets w k (is_from_ranking w.phase)) list ≡ None → Sound (changed w (Ranks k list))
 ranking w k list g e none =
     sound_kept (with_ranking k list) (ranking_row k list) w (λ l. ap (λ x. x.ranking) (ranking_first k list l)) (ap project_keys (play_ranked w k list)) g e
     (ranking_with (λ q. IsRanking (map student_key (applicants_of w q))) k list

@@ -10,7 +10,8 @@ pub is_own : (a : Key) → equals a a ≡ true
 is_own a = (bytes_decides a a).1 refl
 
 -- a search among rows whose test a change leaves alone
-pub find_map : {X Y : Type 0} (f : X → Y) (p : X → Bool) (q : Y → Bool) → ((x : X) → q (f x) ≡ p x) → (xs : List X) → find q (map f xs) ≡ option_map f (find p xs)
+pub find_map : {X Y : Type 0} (f : X → Y) (p : X → Bool) (q : Y → Bool) → ((x : X) → q (f x) ≡ p x) → (xs : List X)
+    → find q (map f xs) ≡ option_map f (find p xs)
 find_map f p q alike [] = refl
 find_map f p q alike (x ∷ xs) = grind (arith, alike x, find_map f p q alike xs)
 
@@ -23,16 +24,19 @@ pub found_passes : {X : Type 0} (p : X → Bool) (xs : List X) (x : X) → find 
 found_passes p [] x e = cc
 found_passes p (y ∷ ys) x e = grind (arith, found_passes p ys x)
 
-pub found_all : {X : Type 0} (P : X → Type 0) (p : X → Bool) (xs : List X) (x : X) → AllByRecursion P xs → find p xs ≡ Some x → P x
+pub found_all : {X : Type 0} (P : X → Type 0) (p : X → Bool) (xs : List X) (x : X) → AllByRecursion P xs
+    → find p xs ≡ Some x → P x
 found_all P p [] x all e = cc
 found_all P p (y ∷ ys) x all e = grind (arith, found_all P p ys x all.1)
 
-pub all_unmap : {X Y : Type 0} (P : Y → Type 0) (f : X → Y) (xs : List X) → AllByRecursion P (map f xs) → AllByRecursion (λ x. P (f x)) xs
+pub all_unmap : {X Y : Type 0} (P : Y → Type 0) (f : X → Y) (xs : List X) → AllByRecursion P (map f xs)
+    → AllByRecursion (λ x. P (f x)) xs
 all_unmap P f [] all = tt
 all_unmap P f (x ∷ xs) all = (all.0, all_unmap P f xs all.1)
 
 -- where the keys rise, one key is of one row
-pub one_row : {X : Type 0} (key : X → Key) (p q : X → Bool) (xs : List X) (a b : X) → Rise (map key xs) → find p xs ≡ Some a → find q xs ≡ Some b → key a ≡ key b → a ≡ b
+pub one_row : {X : Type 0} (key : X → Key) (p q : X → Bool) (xs : List X) (a b : X) → Rise (map key xs)
+    → find p xs ≡ Some a → find q xs ≡ Some b → key a ≡ key b → a ≡ b
 one_row key p q [] a b rise ea eb same = cc
 one_row {X} key p q (x ∷ xs) a b rise ea eb same =
     let later : AllByRecursion (λ y. is_before (key x) (key y) ≡ true) xs = all_unmap (λ l. is_before (key x) l ≡ true) key xs rise.0 in

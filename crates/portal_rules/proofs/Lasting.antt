@@ -48,7 +48,8 @@ module _ {X : Type 0} where
         | false ↦ (λ e. cc, filtered p xs)
       ]
 
-  all_filtered : (P : X → Type 0) (p : X → Bool) (xs : List X) → AllByRecursion (λ x. p x ≡ true → P x) xs → AllByRecursion P (filter p xs)
+  all_filtered : (P : X → Type 0) (p : X → Bool) (xs : List X) → AllByRecursion (λ x. p x ≡ true → P x) xs
+      → AllByRecursion P (filter p xs)
   all_filtered P p [] all = tt
   all_filtered P p (x ∷ xs) all = grind (arith, all.0, all_filtered P p xs all.1)
 
@@ -65,7 +66,8 @@ module _ {X Y : Type 0} (f : X → Option Y) where
         | Some a ↦ (λ y e. let same : a ≡ y = cc in subst (Contains (a ∷ filter_map f xs)) same (here a (filter_map f xs)), all_weaker _ _ (λ z h y e. later a (filter_map f xs) y (h y e)) xs (shown_of xs))
       ]
 
-  all_shown : (P : Y → Type 0) (xs : List X) → AllByRecursion (λ x. (y : Y) → f x ≡ Some y → P y) xs → AllByRecursion P (filter_map f xs)
+  all_shown : (P : Y → Type 0) (xs : List X) → AllByRecursion (λ x. (y : Y) → f x ≡ Some y → P y) xs
+      → AllByRecursion P (filter_map f xs)
   all_shown P [] all = tt
   all_shown P (x ∷ xs) all = grind (arith, all.0, all_shown P xs all.1)
 
@@ -94,22 +96,26 @@ module _ (w v : World) (g : Grows w v) (good : Good v) where
       (all_filtered (λ s. Contains (persons (placed_at v p)) (person_of s)) (λ s. is_at p (shown_placement w.phase s)) w.students
       (all_weaker _ _ (λ s mate h. each s mate.0 mate.1 mate.2 h) w.students g.students))
     where
-      place : (s t : rows.Student) → KeepsPlace w.phase v.phase s t → (o : Option Key) → shown_placement w.phase s ≡ o → is_at p o ≡ true → is_at p (shown_placement v.phase t) ≡ true
+      place : (s t : rows.Student) → KeepsPlace w.phase v.phase s t → (o : Option Key) → shown_placement w.phase s ≡ o
+          → is_at p o ≡ true → is_at p (shown_placement v.phase t) ≡ true
       place s t k o e h = grind (arith, k.1)
 
-      each : (s t : rows.Student) → Contains v.students t → KeepsPlace w.phase v.phase s t → is_at p (shown_placement w.phase s) ≡ true → Contains (persons (placed_at v p)) (person_of s)
+      each : (s t : rows.Student) → Contains v.students t → KeepsPlace w.phase v.phase s t
+          → is_at p (shown_placement w.phase s) ≡ true → Contains (persons (placed_at v p)) (person_of s)
       each s t there k h =
           subst (Contains (persons (placed_at v p))) (λ i. record { key = (k.0 i).key; name = (k.0 i).name })
           (mapped person_of (placed_at v p) t (one_of _ v.students t (filtered (λ s. is_at p (shown_placement v.phase s)) v.students) there (place s t k (shown_placement w.phase s) refl h)))
 
-  at_projects : (l m : rows.Lecturer) → m.row ≡ l.row → (p : Key) (s : Person) → IsShownAt (lecturer_sees w l).placed p s → IsShownAt (lecturer_sees v m).placed p s
+  at_projects : (l m : rows.Lecturer) → m.row ≡ l.row → (p : Key) (s : Person)
+      → IsShownAt (lecturer_sees w l).placed p s → IsShownAt (lecturer_sees v m).placed p s
   at_projects l m same p s (there, entry, one) =
       one_of (λ (x : Key × List Person). (s : Person) → Contains x.1 s → IsShownAt (lecturer_sees v m).placed x.0 s) (lecturer_sees w l).placed (p, there)
       (all_map _ (λ (q : ProjectRow). (q.key, persons (placed_at w q.key))) (projects_of w l.row.key)
       (all_filtered _ (λ q. equals q.lecturer l.row.key) w.projects (all_weaker _ _ each w.projects g.projects)))
       entry s one
     where
-      each : (q : ProjectRow) → Contains v.projects q → equals q.lecturer l.row.key ≡ true → (s : Person) → Contains (persons (placed_at w q.key)) s → IsShownAt (lecturer_sees v m).placed q.key s
+      each : (q : ProjectRow) → Contains v.projects q → equals q.lecturer l.row.key ≡ true → (s : Person)
+          → Contains (persons (placed_at w q.key)) s → IsShownAt (lecturer_sees v m).placed q.key s
       each q known own s one =
           let mine : Contains (projects_of v m.row.key) q = one_of _ v.projects q (filtered (λ q. equals q.lecturer m.row.key) v.projects) known (ap (λ r. equals q.lecturer r.key) same ∙ own) in (
             persons (placed_at v q.key),
@@ -120,11 +126,13 @@ module _ (w v : World) (g : Grows w v) (good : Good v) where
   pairs_stay : AllByRecursion (Contains (pairs_of v)) (pairs_of w)
   pairs_stay = all_shown _ (Contains (pairs_of v)) w.students (all_weaker _ _ (λ s mate. each s mate.0 mate.1 mate.2) w.students g.students)
     where
-      each : (s t : rows.Student) → Contains v.students t → KeepsPlace w.phase v.phase s t → (y : Key × Key) → option_map (λ p. (s.row.key, p)) (shown_placement w.phase s) ≡ Some y → Contains (pairs_of v) y
+      each : (s t : rows.Student) → Contains v.students t → KeepsPlace w.phase v.phase s t → (y : Key × Key)
+          → option_map (λ p. (s.row.key, p)) (shown_placement w.phase s) ≡ Some y → Contains (pairs_of v) y
       each s t there k y e =
           one_of _ v.students t (shown_of (λ t. option_map (λ p. (t.row.key, p)) (shown_placement v.phase t)) v.students) there y (at (shown_placement w.phase s) refl e)
         where
-          at : (o : Option Key) → shown_placement w.phase s ≡ o → option_map (λ p. (s.row.key, p)) o ≡ Some y → option_map (λ p. (t.row.key, p)) (shown_placement v.phase t) ≡ Some y
+          at : (o : Option Key) → shown_placement w.phase s ≡ o → option_map (λ p. (s.row.key, p)) o ≡ Some y
+              → option_map (λ p. (t.row.key, p)) (shown_placement v.phase t) ≡ Some y
           at o f h = grind (arith, k.1, k.0)
 
   still : (c : Key) (x : Caller) → caller w c ≡ x → ShowsStill (sight_of w x) (view v c)
@@ -152,7 +160,8 @@ module _ (w v : World) (g : Grows w v) (good : Good v) where
 kept : {X : Type 0} (R : X → X → Type 0) → ((x : X) → R x x) → (xs : List X) → AllByRecursion (Mate R xs) xs
 kept R same xs = all_weaker _ _ (λ x there. (x, there, same x)) xs (contained xs)
 
-renewed : {X : Type 0} (R : X → X → Type 0) (f : X → X) → ((x : X) → R x (f x)) → (xs : List X) → AllByRecursion (Mate R (map f xs)) xs
+renewed : {X : Type 0} (R : X → X → Type 0) (f : X → X) → ((x : X) → R x (f x)) → (xs : List X)
+    → AllByRecursion (Mate R (map f xs)) xs
 renewed R f same xs = all_weaker _ _ (λ x there. (f x, mapped f xs x there, same x)) xs (contained xs)
 
 module _ {X : Type 0} (key : X → Key) where
@@ -169,7 +178,9 @@ module _ {X : Type 0} (key : X → Key) where
   all_beside (x ∷ xs) ys = all_weaker _ _ (λ y there. one_of _ (put key x ys) y (all_beside xs (put key x ys)) there) ys (beside x ys)
 
 -- where nothing was published a student is shown the project of the earlier round, if any
-lasts : (before after : Phase) → is_published before ≡ false → (s t : rows.Student) → t.earlier_placement ≡ s.earlier_placement → (p : Key) → shown_placement before s ≡ Some p → shown_placement after t ≡ Some p
+lasts : (before after : Phase) → is_published before ≡ false → (s t : rows.Student)
+    → t.earlier_placement ≡ s.earlier_placement → (p : Key) → shown_placement before s ≡ Some p
+    → shown_placement after t ≡ Some p
 lasts before after shut s t same p h = grind arith
 
 -- each act leaves such a world
@@ -178,10 +189,13 @@ module _ (w : World) where
   whole : Grows w w
   whole = record { office = refl; lecturers = kept SameLecturer (λ l. refl) w.lecturers; projects = contained w.projects; students = kept _ (λ s. (refl, λ p e. e)) w.students }
 
-  other_students : (after : Phase) (ss : List rows.Student) → AllByRecursion (Mate (KeepsPlace w.phase after) ss) w.students → Grows w (record w { phase = after; students = ss })
+  other_students : (after : Phase) (ss : List rows.Student)
+      → AllByRecursion (Mate (KeepsPlace w.phase after) ss) w.students
+      → Grows w (record w { phase = after; students = ss })
   other_students after ss all = record { office = refl; lecturers = whole.lecturers; projects = whole.projects; students = all }
 
-  other_lecturers : (ls : List rows.Lecturer) → AllByRecursion (Mate SameLecturer ls) w.lecturers → Grows w (record w { lecturers = ls })
+  other_lecturers : (ls : List rows.Lecturer) → AllByRecursion (Mate SameLecturer ls) w.lecturers
+      → Grows w (record w { lecturers = ls })
   other_lecturers ls all = record { office = refl; lecturers = all; projects = whole.projects; students = whole.students }
 
   to_phase : (before after : Phase) → w.phase ≡ before → is_published before ≡ false → Grows w (changed w (To after))
@@ -215,7 +229,8 @@ module _ (w : World) where
             (all_both _ _ w.students (contained w.students) (good.sound.no_earlier_lists (ap is_second one)));
       })
     where
-      shown : (s : rows.Student) → s.earlier_placement ≡ None → (p : Key) → shown_placement w.phase s ≡ Some p → shown_placement Choosing (placed_before s) ≡ Some p
+      shown : (s : rows.Student) → s.earlier_placement ≡ None → (p : Key) → shown_placement w.phase s ≡ Some p
+          → shown_placement Choosing (placed_before s) ≡ Some p
       shown s none p e =
           let at : s.placed ≡ Some p = sym (λ i. cond (is_none (none i)) (cond (is_published (out i)) s.placed None) (none i)) ∙ e in
           ap (λ o. cond (is_none o) None o) at
@@ -247,7 +262,8 @@ module _ (w v : World) (good : Good w) where
         sheets = λ ask text sheet calm. becomes w (whole w);
       }) ask
 
-pub step_still : (w v : World) (c code : Key) (ask : AbstractCall) (reply : Answer) → Good w → Step w code ask reply v → ShowsStill (view w c) (view v c)
+pub step_still : (w v : World) (c code : Key) (ask : AbstractCall) (reply : Answer) → Good w → Step w code ask reply v
+    → ShowsStill (view w c) (view v c)
 step_still w v c code ask reply g s = still w v (grows w v g (caller w code) ask s.left) (step_good w v code ask reply g s) c (caller w c) refl
 
 -- a run
@@ -262,10 +278,12 @@ still_then a b c h k = grind arith
 abbrev StillGood : World → Key → World → Type 0
 StillGood w c v = Good v × ShowsStill (view w c) (view v c)
 
-pub run_still : (c : Key) (w : World) (asked : List Request) (told : List Answer) (after : List World) → Good w → Run w asked told after → AllByRecursion (λ v. ShowsStill (view w c) (view v c)) after
+pub run_still : (c : Key) (w : World) (asked : List Request) (told : List Answer) (after : List World) → Good w
+    → Run w asked told after → AllByRecursion (λ v. ShowsStill (view w c) (view v c)) after
 run_still c w asked told after g run = all_weaker _ _ (λ v h. h.1) after (run_keeps (StillGood w c) step w asked told after (g, still w w (whole w) g c (caller w c) refl) run)
   where
-    step : (u v : World) (code : Key) (ask : AbstractCall) (reply : Answer) → StillGood w c u → Step u code ask reply v → StillGood w c v
+    step : (u v : World) (code : Key) (ask : AbstractCall) (reply : Answer) → StillGood w c u → Step u code ask reply v
+        → StillGood w c v
     step u v code ask reply (good, so_far) s = (step_good u v code ask reply good s, still_then (view w c) (view u c) (view v c) so_far (step_still u v c code ask reply good s))
 
 -- the world in which the first round was published, and any of the second

@@ -8,11 +8,13 @@ use Rattle.portal_rules.proofs.Base.{wrong_rank, NoneWrong, IsFirstWrong}
 use Rattle.portal_rules.proofs.AllLaws.{all_weaker, all_both, none_after, none_is, not_first, split_append}
 
 -- the next key is wrong, or a later one is
-told : (at : ℕ) (o : Option (List ℕ)) (later : Option ListFault) (f : ListFault) → or_later at o later ≡ Some f → ((word : List ℕ) × (o ≡ Some word) × (f ≡ fault_at at word)) ⊎ ((o ≡ None) × (later ≡ Some f))
+told : (at : ℕ) (o : Option (List ℕ)) (later : Option ListFault) (f : ListFault) → or_later at o later ≡ Some f
+    → ((word : List ℕ) × (o ≡ Some word) × (f ≡ fault_at at word)) ⊎ ((o ≡ None) × (later ≡ Some f))
 told at (Some word) later f e = inl (word, refl, cc)
 told at None later f e = inr (refl, e)
 
-untold : (at : ℕ) (o : Option (List ℕ)) (later : Option ListFault) → or_later at o later ≡ None → (o ≡ None) × (later ≡ None)
+untold : (at : ℕ) (o : Option (List ℕ)) (later : Option ListFault) → or_later at o later ≡ None
+    → (o ≡ None) × (later ≡ None)
 untold at o later e = grind arith
 
 module _ (wrong : List Key → Key → Option (List ℕ)) where
@@ -27,7 +29,8 @@ module _ (wrong : List Key → Key → Option (List ℕ)) where
   none_in earlier [] k after e = cc
   none_in earlier (x ∷ before) k after e = cc
 
-  none_more : (earlier : List Key) (k : Key) (ks : List Key) → wrong earlier k ≡ None → NoneFrom (earlier ++ k ∷ []) ks → NoneFrom earlier (k ∷ ks)
+  none_more : (earlier : List Key) (k : Key) (ks : List Key) → wrong earlier k ≡ None → NoneFrom (earlier ++ k ∷ []) ks
+      → NoneFrom earlier (k ∷ ks)
   none_more earlier k ks good more [] y after e =
       let one : k ≡ y = cc in
       subst (λ xs. wrong xs y ≡ None) (sym (append-nil earlier)) (subst (λ z. wrong earlier z ≡ None) one good)
@@ -36,7 +39,8 @@ module _ (wrong : List Key → Key → Option (List ℕ)) where
       let rest : ks ≡ before ++ y ∷ after = cc in
       subst (λ z. wrong (earlier ++ z ∷ before) y ≡ None) one (subst (λ xs. wrong xs y ≡ None) (append_assoc earlier (k ∷ []) before) (more before y after rest))
 
-  later : (earlier : List Key) (k : Key) (ks : List Key) (f : ListFault) → wrong earlier k ≡ None → Found (earlier ++ k ∷ []) ks f → Found earlier (k ∷ ks) f
+  later : (earlier : List Key) (k : Key) (ks : List Key) (f : ListFault) → wrong earlier k ≡ None
+      → Found (earlier ++ k ∷ []) ks f → Found earlier (k ∷ ks) f
   later earlier k ks f good (front, x, rest, parts, position, word, none) = (
     k ∷ front,
     x,
@@ -47,7 +51,8 @@ module _ (wrong : List Key → Key → Option (List ℕ)) where
     none_more earlier k front good none,
   )
 
-  here : (earlier : List Key) (k : Key) (ks : List Key) (f : ListFault) (word : List ℕ) → wrong earlier k ≡ Some word → f ≡ fault_at (length earlier + 1) word → Found earlier (k ∷ ks) f
+  here : (earlier : List Key) (k : Key) (ks : List Key) (f : ListFault) (word : List ℕ) → wrong earlier k ≡ Some word
+      → f ≡ fault_at (length earlier + 1) word → Found earlier (k ∷ ks) f
   here earlier k ks f word is same = (
     [],
     k,
@@ -77,11 +82,13 @@ module _ (wrong : List Key → Key → Option (List ℕ)) where
       record { front = front; key = k; rest = rest; parts = parts; position = omega (arith, position); word = word; none_before = none }
 
 -- a missing applicant is told only if no key is wrong
-pub rank_first : (applicants : List (Key × List Person)) (list : List Key) (f : ListFault) → ranking_fault applicants list ≡ Some f
+pub rank_first : (applicants : List (Key × List Person)) (list : List Key) (f : ListFault)
+    → ranking_fault applicants list ≡ Some f
     → IsFirstWrong (wrong_rank applicants) list f ⊎ ((f ≡ fault_at 0 (codes "missing")) × NoneWrong (wrong_rank applicants) list × (lacks_one applicants list ≡ true))
 rank_first applicants list f e = go (first_wrong (wrong_rank applicants) [] list) refl (lacks_one applicants list) refl e
   where
-    go : (o : Option ListFault) → first_wrong (wrong_rank applicants) [] list ≡ o → (lacks : Bool) → lacks_one applicants list ≡ lacks → or_missing lacks o ≡ Some f
+    go : (o : Option ListFault) → first_wrong (wrong_rank applicants) [] list ≡ o → (lacks : Bool)
+        → lacks_one applicants list ≡ lacks → or_missing lacks o ≡ Some f
         → IsFirstWrong (wrong_rank applicants) list f ⊎ ((f ≡ fault_at 0 (codes "missing")) × NoneWrong (wrong_rank applicants) list × (lacks_one applicants list ≡ true))
     go (Some g) so lacks l told = inl (is_first (wrong_rank applicants) list f (so ∙ told))
     go None so true l told = inr (cc, none_wrong (wrong_rank applicants) [] list so, l)
@@ -94,7 +101,8 @@ pub record Fits (passes : Key → Bool) (earlier list : List Key) : Type 0 where
   pub new : AllByRecursion (λ k. has earlier k ≡ false) list
 
 module _ (wrong : List Key → Key → Option (List ℕ)) (passes : Key → Bool) where
-  fits : ((earlier : List Key) (k : Key) → wrong earlier k ≡ None → (passes k ≡ true) × (has earlier k ≡ false)) → (earlier list : List Key) → first_wrong wrong earlier list ≡ None → Fits passes earlier list
+  fits : ((earlier : List Key) (k : Key) → wrong earlier k ≡ None → (passes k ≡ true) × (has earlier k ≡ false))
+      → (earlier list : List Key) → first_wrong wrong earlier list ≡ None → Fits passes earlier list
   fits right earlier [] e = record { only = tt; once = tt; new = tt }
   fits right earlier (k ∷ ks) e =
       let parts = untold (length earlier + 1) (wrong earlier k) (first_wrong wrong (earlier ++ k ∷ []) ks) e in
@@ -108,7 +116,8 @@ module _ (wrong : List Key → Key → Option (List ℕ)) (passes : Key → Bool
       }
 
   -- where no key that fits is wrong, up to a number of keys
-  faultless : (most : ℕ) → ((earlier : List Key) (k : Key) → length earlier < most → passes k ≡ true → has earlier k ≡ false → wrong earlier k ≡ None)
+  faultless : (most : ℕ)
+      → ((earlier : List Key) (k : Key) → length earlier < most → passes k ≡ true → has earlier k ≡ false → wrong earlier k ≡ None)
       → (earlier list : List Key) → length earlier + length list ≤ most → Fits passes earlier list → first_wrong wrong earlier list ≡ None
   faultless most right earlier [] few f = refl
   faultless most right earlier (k ∷ ks) few f =
@@ -123,7 +132,8 @@ module _ (wrong : List Key → Key → Option (List ℕ)) (passes : Key → Bool
 -- a student's list
 
 module _ (catalogue : List Listing) where
-  few : (earlier list : List Key) → length earlier ≤ 20 → first_wrong (wrong_choice catalogue) earlier list ≡ None → length earlier + length list ≤ 20
+  few : (earlier list : List Key) → length earlier ≤ 20 → first_wrong (wrong_choice catalogue) earlier list ≡ None
+      → length earlier + length list ≤ 20
   few earlier [] low e = omega arith
   few earlier (k ∷ ks) low e =
       let parts = untold (length earlier + 1) (wrong_choice catalogue earlier k) (first_wrong (wrong_choice catalogue) (earlier ++ k ∷ []) ks) e in
@@ -133,19 +143,23 @@ module _ (catalogue : List Listing) where
       let all = few (earlier ++ k ∷ []) ks (omega arith) parts.1 in
       omega arith
 
-  pub chosen : (list : List Key) → choice_fault catalogue list ≡ None → (length list ≤ 20) × Fits (in_catalogue catalogue) [] list
+  pub chosen : (list : List Key) → choice_fault catalogue list ≡ None
+      → (length list ≤ 20) × Fits (in_catalogue catalogue) [] list
   chosen list e = ((let all = few [] list (omega arith) e in omega arith), fits (wrong_choice catalogue) (in_catalogue catalogue) (λ earlier k good. grind arith) [] list e)
 
-  pub choice_taken : (list : List Key) → length list ≤ 20 → Fits (in_catalogue catalogue) [] list → choice_fault catalogue list ≡ None
+  pub choice_taken : (list : List Key) → length list ≤ 20 → Fits (in_catalogue catalogue) [] list
+      → choice_fault catalogue list ≡ None
   choice_taken list low f = faultless (wrong_choice catalogue) (in_catalogue catalogue) 20 (λ earlier k room known new. grind (arith, nat_tests)) [] list (omega arith) f
 
 -- a lecturer's ranking
 
 module _ (applicants : List (Key × List Person)) where
-  pub ranked : (list : List Key) → ranking_fault applicants list ≡ None → Fits (is_applicant applicants) [] list × (lacks_one applicants list ≡ false)
+  pub ranked : (list : List Key) → ranking_fault applicants list ≡ None
+      → Fits (is_applicant applicants) [] list × (lacks_one applicants list ≡ false)
   ranked list e =
       let parts : (first_wrong (wrong_rank applicants) [] list ≡ None) × (lacks_one applicants list ≡ false) = grind arith in
       (fits (wrong_rank applicants) (is_applicant applicants) (λ earlier k good. grind arith) [] list parts.0, parts.1)
 
-  pub ranking_taken : (list : List Key) → Fits (is_applicant applicants) [] list → lacks_one applicants list ≡ false → ranking_fault applicants list ≡ None
+  pub ranking_taken : (list : List Key) → Fits (is_applicant applicants) [] list → lacks_one applicants list ≡ false
+      → ranking_fault applicants list ≡ None
   ranking_taken list f all = rw (faultless (wrong_rank applicants) (is_applicant applicants) (length list) (λ earlier k low known new. rw (known, new) refl) [] list (omega arith) f, all) refl

@@ -7,7 +7,8 @@ use Rattle.portal_rules.specs.World as rows
 use Rattle.portal_rules.proofs.Keys.{is_own, all_unmap}
 use Rattle.portal_rules.proofs.AllLaws.{all_both, all_weaker, any_append, is_sym, none_of, none_yet}
 
-distinct_parts : (xs ys : List Key) → AreDistinct (xs ++ ys) → AreDistinct xs × AreDistinct ys × AllByRecursion (λ y. has xs y ≡ false) ys
+distinct_parts : (xs ys : List Key) → AreDistinct (xs ++ ys)
+    → AreDistinct xs × AreDistinct ys × AllByRecursion (λ y. has xs y ≡ false) ys
 distinct_parts [] ys d = (tt, d, none_yet ys)
 distinct_parts (x ∷ xs) ys d =
     let rest : AreDistinct xs × AreDistinct ys × AllByRecursion (λ y. has xs y ≡ false) ys = distinct_parts xs ys d.1 in
@@ -22,7 +23,8 @@ module _ {X : Type 0} (code : X → Key) where
   finds_none [] k h = refl
   finds_none (x ∷ xs) k h = grind (arith, is_sym (code x) k, finds_none xs k)
 
-  finds_each : (xs : List X) → AreDistinct (map code xs) → AllByRecursion (λ x. find (λ y. equals (code y) (code x)) xs ≡ Some x) xs
+  finds_each : (xs : List X) → AreDistinct (map code xs)
+      → AllByRecursion (λ x. find (λ y. equals (code y) (code x)) xs ≡ Some x) xs
   finds_each [] d = tt
   finds_each (x ∷ xs) d = (
     ap (λ b. cond b (Some x) (find (λ y. equals (code y) (code x)) xs)) (is_own (code x)),
@@ -46,7 +48,8 @@ module _ (w : World) (g : Sound w) where
   pub office_named : view w w.office ≡ Office (office_sees w)
   office_named = ap (λ b. sight_of w (cond b OfficeCaller (caller_among (lecturer_with w w.office) (student_with w w.office)))) (is_own w.office)
 
-  named : (c : Key) (l : Option rows.Lecturer) (s : Option rows.Student) → equals w.office c ≡ false → lecturer_with w c ≡ l → student_with w c ≡ s → view w c ≡ sight_of w (caller_among l s)
+  named : (c : Key) (l : Option rows.Lecturer) (s : Option rows.Student) → equals w.office c ≡ false
+      → lecturer_with w c ≡ l → student_with w c ≡ s → view w c ≡ sight_of w (caller_among l s)
   named c l s office el es = λ i. sight_of w (cond (office i) OfficeCaller (caller_among (el i) (es i)))
 
   pub lecturers_named : AllByRecursion (λ l. view w l.row.code ≡ Lecturer (lecturer_sees w l)) w.lecturers

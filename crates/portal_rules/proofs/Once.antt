@@ -34,7 +34,8 @@ seen_there true old new = go (sight_decided new old)
     go (inl e) = ([], inl (e, refl))
     go (inr n) = (Sees new ∷ [], inr (n, refl))
 
-pub heard_there : (c : Key) (w : World) (asked : List Request) (worlds : List World) → (items : List HeardItem) × Heard c w asked worlds items
+pub heard_there : (c : Key) (w : World) (asked : List Request) (worlds : List World)
+    → (items : List HeardItem) × Heard c w asked worlds items
 heard_there c w [] worlds = ([], refl)
 heard_there c w (r ∷ rs) [] = ([], refl)
 heard_there c w (r ∷ rs) (v ∷ worlds) =
@@ -47,7 +48,8 @@ heard_there c w (r ∷ rs) (v ∷ worlds) =
 seen_once : (s : Bool) (old new : Sight) (a b : List HeardItem) → SeenIf s old new a → SeenIf s old new b → a ≡ b
 seen_once s old new a b x y = grind arith
 
-pub heard_once : (c : Key) (w : World) (asked : List Request) (worlds : List World) (a b : List HeardItem) → Heard c w asked worlds a → Heard c w asked worlds b → a ≡ b
+pub heard_once : (c : Key) (w : World) (asked : List Request) (worlds : List World) (a b : List HeardItem)
+    → Heard c w asked worlds a → Heard c w asked worlds b → a ≡ b
 heard_once c w [] worlds a b x y = x ∙ sym y
 heard_once c w (r ∷ rs) [] a b x y = x ∙ sym y
 heard_once c w (r ∷ rs) (v ∷ worlds) a b x y =

@@ -22,11 +22,13 @@ has_contains ks c h =
 
 module _ (keys : List Key) where
   -- what a list of known keys holds is a number of the roll
-  on_list : (choice : List Key) → AllByRecursion (λ p. has keys p ≡ true) choice → (n : ℕ) → IsOn (map (number_in keys) choice) n → n < length keys
+  on_list : (choice : List Key) → AllByRecursion (λ p. has keys p ≡ true) choice → (n : ℕ)
+      → IsOn (map (number_in keys) choice) n → n < length keys
   on_list [] known n on = absurd (omega (arith, on))
   on_list (c ∷ cs) known n on = grind (arith, nat_tests, number_known keys c (has_contains keys c known.0), on_list cs known.1 n)
 
-  pub on_roll : (ss : List rows.Student) → AllByRecursion (λ s. IsChoice keys s.choice) ss → (s n : ℕ) → IsOn (get_or (map (λ (s : rows.Student). map (number_in keys) s.choice) ss) s []) n → n < length keys
+  pub on_roll : (ss : List rows.Student) → AllByRecursion (λ s. IsChoice keys s.choice) ss → (s n : ℕ)
+      → IsOn (get_or (map (λ (s : rows.Student). map (number_in keys) s.choice) ss) s []) n → n < length keys
   on_roll [] all s n on = absurd (omega (arith, on))
   on_roll (x ∷ ss) all zero n on = on_list x.choice all.0.known n on
   on_roll (x ∷ ss) all (suc s) n on = on_roll ss all.1 s n on
@@ -34,14 +36,16 @@ module _ (keys : List Key) where
   abbrev number_of : rows.Student → Option ℕ
   number_of s = option_map (number_in keys) s.placed
 
-  same_key : (a b : Option Key) → option_map (number_in keys) a ≡ option_map (number_in keys) b → ((n : ℕ) → option_map (number_in keys) a ≡ Some n → n < length keys) → a ≡ b
+  same_key : (a b : Option Key) → option_map (number_in keys) a ≡ option_map (number_in keys) b
+      → ((n : ℕ) → option_map (number_in keys) a ≡ Some n → n < length keys) → a ≡ b
   same_key (Some a) (Some b) e low =
       let number : number_in keys a ≡ number_in keys b = cc in
       let here : number_in keys a < length keys = low (number_in keys a) refl in
       ap Some (sym (number_is keys a here) ∙ ap (λ n. get_or keys n []) number ∙ number_is keys b (subst (λ n. n < length keys) number here))
   same_key a b e low = grind arith
 
-  same_places : (p q : List (Key × Key)) (ss : List rows.Student) → map number_of (map (with_place p) ss) ≡ map number_of (map (with_place q) ss)
+  same_places : (p q : List (Key × Key)) (ss : List rows.Student)
+      → map number_of (map (with_place p) ss) ≡ map number_of (map (with_place q) ss)
       → ((s n : ℕ) → get_or (map number_of (map (with_place p) ss)) s None ≡ Some n → n < length keys) → map (with_place p) ss ≡ map (with_place q) ss
   same_places p q [] e low = refl
   same_places p q (x ∷ ss) e low =
@@ -57,7 +61,9 @@ module _ (keys : List Key) where
       λ i. one i ∷ same_places p q ss rest (λ s n f. low (suc s) n f) i
 
 -- those who stay out of the round keep their place
-in_whole : (r : Round) (p q : List (Key × Key)) (ss : List rows.Student) → map (with_place p) (students_in r ss) ≡ map (with_place q) (students_in r ss) → map (with_place p) ss ≡ map (with_place q) ss
+in_whole : (r : Round) (p q : List (Key × Key)) (ss : List rows.Student)
+    → map (with_place p) (students_in r ss) ≡ map (with_place q) (students_in r ss)
+    → map (with_place p) ss ≡ map (with_place q) ss
 in_whole First p q ss e = e
 in_whole Second p q [] e = refl
 in_whole Second p q (x ∷ ss) e = grind (arith, in_whole Second p q ss)
@@ -76,12 +82,14 @@ with_room [] n h = absurd (omega (arith, h))
 with_room (x ∷ ns) zero h = omega arith
 with_room (x ∷ ns) (suc n) h = let rest : n < length ns = with_room ns n h in omega arith
 
-placed_known : (w : World) (m : List (Option ℕ)) → IsMatching (instance w) m → (s n : ℕ) → project_of m s ≡ Some n → n < length (project_keys (in_play w))
+placed_known : (w : World) (m : List (Option ℕ)) → IsMatching (instance w) m → (s n : ℕ) → project_of m s ≡ Some n
+    → n < length (project_keys (in_play w))
 placed_known w m matching s n e =
     let low : n < length (map (λ (p : ProjectRow). p.capacity) (in_play w).projects) = with_room _ n (omega (arith, counted m s n e, matching.projects n)) in
     omega (arith, low, length-map (in_play w).projects (λ (p : ProjectRow). p.capacity), length-map (in_play w).projects project_key)
 
-published_once : (w : World) (p q : List (Key × Key)) → IsBest (instance w) (matching_of (changed w (Placements p))) → IsBest (instance w) (matching_of (changed w (Placements q))) → changed w (Placements p) ≡ changed w (Placements q)
+published_once : (w : World) (p q : List (Key × Key)) → IsBest (instance w) (matching_of (changed w (Placements p)))
+    → IsBest (instance w) (matching_of (changed w (Placements q))) → changed w (Placements p) ≡ changed w (Placements q)
 published_once w p q a b =
     let one : IsBest (instance w) (places_of (changed (in_play w) (Placements p))) = subst (λ u. IsBest (instance w) (places_of u)) (play_placed w p) a in
     let other : IsBest (instance w) (places_of (changed (in_play w) (Placements q))) = subst (λ u. IsBest (instance w) (places_of u)) (play_placed w q) b in
@@ -98,12 +106,14 @@ one_end w v u Publish l m =
     ∙ published_once w l.0 m.0 (subst (λ x. IsBest (instance w) (matching_of x)) l.1 l.2) (subst (λ x. IsBest (instance w) (matching_of x)) m.1 m.2)
     ∙ sym m.1
 
-pub step_once : (w v u : World) (code : Key) (ask : AbstractCall) (a b : Answer) → Step w code ask a v → Step w code ask b u → (a ≡ b) × (v ≡ u)
+pub step_once : (w v u : World) (code : Key) (ask : AbstractCall) (a b : Answer) → Step w code ask a v
+    → Step w code ask b u → (a ≡ b) × (v ≡ u)
 step_once w v u code ask a b s t = (s.told ∙ sym t.told, one_end w v u (decision (view w code) ask).act s.left t.left)
 
 -- one request, and a run
 
-answered_once : (w v u : World) (r : Request) (wish : Wish) (a b : Answer) → Answers w r wish a v → Answers w r wish b u → (a ≡ b) × (v ≡ u)
+answered_once : (w v u : World) (r : Request) (wish : Wish) (a b : Answer) → Answers w r wish a v → Answers w r wish b u
+    → (a ≡ b) × (v ≡ u)
 answered_once w v u r (Calls ask) a b s t = step_once w v u r.code ask a b s t
 answered_once w v u r (Refused refusal) a b s t = (s.0 ∙ sym t.0, s.1 ∙ sym t.1)
 

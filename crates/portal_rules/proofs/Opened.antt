@@ -82,7 +82,8 @@ opens_to w one out = λ i. opened (one i) (out i) w
 
 -- where keys rise, a key is of the one row that was found
 
-rows_with : {X : Type 0} (key : X → Key) (p : X → Bool) (xs : List X) (a : X) → Rise (map key xs) → find p xs ≡ Some a → AllByRecursion (λ x. key x ≡ key a → x ≡ a) xs
+rows_with : {X : Type 0} (key : X → Key) (p : X → Bool) (xs : List X) (a : X) → Rise (map key xs) → find p xs ≡ Some a
+    → AllByRecursion (λ x. key x ≡ key a → x ≡ a) xs
 rows_with key p [] a rise e = cc
 rows_with {X} key p (x ∷ xs) a rise e =
     let later : AllByRecursion (λ y. is_before (key x) (key y) ≡ true) xs = all_unmap (λ l. is_before (key x) l ≡ true) key xs rise.0 in
@@ -94,7 +95,9 @@ rows_with {X} key p (x ∷ xs) a rise e =
     ]) e
 
 -- a student who is shown no project has none of the first round, and no other student has this key
-pub alone_left : (w : World) (p : rows.Student → Bool) (s : rows.Student) → Sound w → find p w.students ≡ Some s → is_none (shown_placement w.phase s) ≡ true → AllByRecursion (λ t. equals t.row.key s.row.key ≡ true → is_left t ≡ true) w.students
+pub alone_left : (w : World) (p : rows.Student → Bool) (s : rows.Student) → Sound w → find p w.students ≡ Some s
+    → is_none (shown_placement w.phase s) ≡ true
+    → AllByRecursion (λ t. equals t.row.key s.row.key ≡ true → is_left t ≡ true) w.students
 alone_left w p s g found free =
     let left : is_left s ≡ true = grind arith in
     all_weaker _ _ (λ t one same. ap is_left (one (is_same t.row.key s.row.key same)) ∙ left) w.students (rows_with student_key p w.students s g.students_rise found)
@@ -112,5 +115,6 @@ module _ (w v : World) (second : w.round ≡ Second) where
 pub the_second : (r : Round) → is_second r ≡ true → r ≡ Second
 the_second r e = grind arith
 
-pub first_stays : (w v : World) (code : Key) (ask : AbstractCall) (reply : Answer) → is_second w.round ≡ true → Step w code ask reply v → (v.round ≡ w.round) × (first v ≡ first w)
+pub first_stays : (w v : World) (code : Key) (ask : AbstractCall) (reply : Answer) → is_second w.round ≡ true
+    → Step w code ask reply v → (v.round ≡ w.round) × (first v ≡ first w)
 first_stays w v code ask reply e s = stays w v (the_second w.round e) (caller w code) ask s.left

@@ -20,25 +20,31 @@ module _ (w v : World) (code : Key) (reply : Answer) where
       let office : x ≡ OfficeCaller → code ≡ w.office = λ e. sym (is_office w code (equals ∙ e)) in
       grind (arith, office)
 
-pub step_turns : (w v : World) (code : Key) (ask : AbstractCall) (reply : Answer) → Step w code ask reply v → (v.round ≡ w.round) ⊎ OpensSecond w code (Calls ask) reply v
+pub step_turns : (w v : World) (code : Key) (ask : AbstractCall) (reply : Answer) → Step w code ask reply v
+    → (v.round ≡ w.round) ⊎ OpensSecond w code (Calls ask) reply v
 step_turns w v code ask reply s = turns w v code reply (caller w code) refl ask s.told s.left
 
 -- a run
 
-served_turns : (w v : World) (r : Request) (a : Answer) → Serves w r a v → (v.round ≡ w.round) ⊎ OpensSecond w r.code r.wish a v
+served_turns : (w v : World) (r : Request) (a : Answer) → Serves w r a v
+    → (v.round ≡ w.round) ⊎ OpensSecond w r.code r.wish a v
 served_turns w v r a s = grind (arith, step_turns w v r.code)
 
 -- the second round lasts
-lasts : (w : World) (asked : List Request) (told : List Answer) (after : List World) → w.round ≡ Second → Run w asked told after → AllByRecursion (λ u. u.round ≡ Second) after
+lasts : (w : World) (asked : List Request) (told : List Answer) (after : List World) → w.round ≡ Second
+    → Run w asked told after → AllByRecursion (λ u. u.round ≡ Second) after
 lasts = run_keeps (λ u. u.round ≡ Second) step
   where
-    step : (w v : World) (code : Key) (ask : AbstractCall) (reply : Answer) → w.round ≡ Second → Step w code ask reply v → v.round ≡ Second
+    step : (w v : World) (code : Key) (ask : AbstractCall) (reply : Answer) → w.round ≡ Second → Step w code ask reply v
+        → v.round ≡ Second
     step w v code ask reply two s = elim (step_turns w v code ask reply s) [ inl same ↦ same ∙ two | inr o ↦ let none : First ≡ Second = sym o.first ∙ two in cc ]
 
-pub run_turns : (w : World) (asked : List Request) (told : List Answer) (after : List World) → Run w asked told after → OpensOnce w asked told after
+pub run_turns : (w : World) (asked : List Request) (told : List Answer) (after : List World) → Run w asked told after
+    → OpensOnce w asked told after
 run_turns w (r ∷ rs) (a ∷ told) (v ∷ after) run = go (served_turns w v r a run.0) (run_turns v rs told after run.1)
   where
-    go : (v.round ≡ w.round) ⊎ OpensSecond w r.code r.wish a v → OpensOnce v rs told after → OpensOnce w (r ∷ rs) (a ∷ told) (v ∷ after)
+    go : (v.round ≡ w.round) ⊎ OpensSecond w r.code r.wish a v → OpensOnce v rs told after
+        → OpensOnce w (r ∷ rs) (a ∷ told) (v ∷ after)
     go (inl same) rest = inl (same, rest)
     go (inr o) rest =
         let two : v.round ≡ Second = ap (λ x. x.round) (o.after ∙ opens_to w o.first o.published) in
@@ -47,13 +53,16 @@ run_turns w asked told after run = grind arith
 
 -- the request that opens it is answered so
 
-opening : (w : World) → w.round ≡ First → w.phase ≡ Published → decision (view w w.office) (AbstractCall.Move Choosing (Some Second)) ≡ applies (phase_body Second Choosing) SecondRound
+opening : (w : World) → w.round ≡ First → w.phase ≡ Published
+    → decision (view w w.office) (AbstractCall.Move Choosing (Some Second)) ≡ applies (phase_body Second Choosing) SecondRound
 opening w one out =
     ap (λ b. decision (sight_of w (cond b OfficeCaller (caller_among (lecturer_with w w.office) (student_with w w.office)))) (AbstractCall.Move Choosing (Some Second))) (is_own w.office)
     ∙ (λ i. moves_in (office_sees w) (one i) Second Choosing)
     ∙ λ i. opens (out i) Choosing
 
-pub opens_so : (w v : World) (reply : Answer) → w.round ≡ First → w.phase ≡ Published → Step w w.office (AbstractCall.Move Choosing (Some Second)) reply v → OpensSecond w w.office (Calls (AbstractCall.Move Choosing (Some Second))) reply v
+pub opens_so : (w v : World) (reply : Answer) → w.round ≡ First → w.phase ≡ Published
+    → Step w w.office (AbstractCall.Move Choosing (Some Second)) reply v
+    → OpensSecond w w.office (Calls (AbstractCall.Move Choosing (Some Second))) reply v
 opens_so w v reply one out s =
     record {
       first = one;

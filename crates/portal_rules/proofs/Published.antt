@@ -24,21 +24,24 @@ module _ (projects : List Key) (rise : Rise projects) where
   number_of pairs s = option_map (number_in projects) (placement_in pairs s.row.key)
 
   -- a pair of another student changes nothing
-  later : (k p : Key) (pairs : List (Key × Key)) (ss : List rows.Student) → AllByRecursion (λ s. is_before k (student_key s) ≡ true) ss
+  later : (k p : Key) (pairs : List (Key × Key)) (ss : List rows.Student)
+      → AllByRecursion (λ s. is_before k (student_key s) ≡ true) ss
       → map (number_of ((k, p) ∷ pairs)) ss ≡ map (number_of pairs) ss
   later k p pairs [] all = refl
   later k p pairs (s ∷ ss) all =
       let here : number_of ((k, p) ∷ pairs) s ≡ number_of pairs s = rw (before_other k (student_key s) all.0) refl in
       λ i. here i ∷ later k p pairs ss all.1 i
 
-  absent : (ss : List rows.Student) (places : List (Option ℕ)) (k : Key) → AllByRecursion (λ s. is_before k (student_key s) ≡ true) ss
+  absent : (ss : List rows.Student) (places : List (Option ℕ)) (k : Key)
+      → AllByRecursion (λ s. is_before k (student_key s) ≡ true) ss
       → placement_in (pairs_by (map student_key ss) projects places) k ≡ None
   absent [] places k all = refl
   absent (s ∷ ss) [] k all = refl
   absent (s ∷ ss) (Some p ∷ places) k all = rw (is_sym s.row.key k ∙ before_other k s.row.key all.0) (absent ss places k all.1)
   absent (s ∷ ss) (None ∷ places) k all = absent ss places k all.1
 
-  pub placed_back : (ss : List rows.Student) (places : List (Option ℕ)) → Rise (map student_key ss) → length places ≡ length ss
+  pub placed_back : (ss : List rows.Student) (places : List (Option ℕ)) → Rise (map student_key ss)
+      → length places ≡ length ss
       → ((s p : ℕ) → get_or places s None ≡ Some p → p < length projects)
       → map (number_of (pairs_by (map student_key ss) projects places)) ss ≡ places
   placed_back [] [] up same low = refl
@@ -56,7 +59,8 @@ module _ (projects : List Key) (rise : Rise projects) where
       let rest = placed_back ss places up.1 (omega arith) (λ n q e. low (suc n) q e) in
       λ i. here i ∷ rest i
 
-placed_map : (pairs : List (Key × Key)) (projects : List Key) (ss : List rows.Student) → AllByRecursion (λ s. is_left s ≡ true) ss
+placed_map : (pairs : List (Key × Key)) (projects : List Key) (ss : List rows.Student)
+    → AllByRecursion (λ s. is_left s ≡ true) ss
     → map (λ (s : rows.Student). option_map (number_in projects) s.placed) (map (with_place pairs) ss) ≡ map (λ (s : rows.Student). option_map (number_in projects) (placement_in pairs s.row.key)) ss
 placed_map pairs projects [] left = refl
 placed_map pairs projects (s ∷ ss) left =

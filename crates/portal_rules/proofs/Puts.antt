@@ -44,14 +44,17 @@ module _ {X : Type 0} (key : X → Key) (x : X) where
         )
       ]) refl
 
-  pub has_put : (part : X → Key) (ys : List X) (k : Key) → has (map part (put key x ys)) k ≡ (equals k (part x) || has (map part ys) k)
+  pub has_put : (part : X → Key) (ys : List X) (k : Key)
+      → has (map part (put key x ys)) k ≡ (equals k (part x) || has (map part ys) k)
   has_put part ys k = any_map (equals k) part (put key x ys) ∙ any_put (λ z. equals k (part z)) ys ∙ ap (λ b. equals k (part x) || b) (sym (any_map (equals k) part ys))
 
-  distinct_here : (part : X → Key) (ys : List X) → AreDistinct (map part ys) → has (map part ys) (part x) ≡ false → AreDistinct (map part (put key x ys))
+  distinct_here : (part : X → Key) (ys : List X) → AreDistinct (map part ys) → has (map part ys) (part x) ≡ false
+      → AreDistinct (map part (put key x ys))
   distinct_here part [] d new = (refl, tt)
   distinct_here part (y ∷ ys) d new = grind (arith, has_put part ys (part y), is_sym (part y) (part x), distinct_here part ys d.1)
 
-  pub distinct_put : (part : X → Key) (front : List Key) (ys : List X) → AreDistinct (front ++ map part ys) → has (front ++ map part ys) (part x) ≡ false → AreDistinct (front ++ map part (put key x ys))
+  pub distinct_put : (part : X → Key) (front : List Key) (ys : List X) → AreDistinct (front ++ map part ys)
+      → has (front ++ map part ys) (part x) ≡ false → AreDistinct (front ++ map part (put key x ys))
   distinct_put part [] ys d new = distinct_here part ys d new
   distinct_put part (k ∷ front) ys d new =
       let parts : (equals (part x) k ≡ false) × (has (front ++ map part ys) (part x) ≡ false) = or_parts (equals (part x) k) (has (front ++ map part ys) (part x)) new in

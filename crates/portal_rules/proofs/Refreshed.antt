@@ -33,10 +33,12 @@ module _ {X : Type 0} (key : X → Key) (chosen : X → Bool) (change : X → X)
   chosen_after [] = refl
   chosen_after (x ∷ xs) = grind (arith, one x, same x, chosen_after xs)
 
-ranked : (wanted : Bool) (k : Key) (list : List Key) (l : rows.Lecturer) → (wanted && is_none (with_ranking k list l).ranking) ≡ ((wanted && is_none l.ranking) && not (equals l.row.key k))
+ranked : (wanted : Bool) (k : Key) (list : List Key) (l : rows.Lecturer)
+    → (wanted && is_none (with_ranking k list l).ranking) ≡ ((wanted && is_none l.ranking) && not (equals l.row.key k))
 ranked wanted k list l = grind arith
 
-still : (w : World) (k : Key) (list : List Key) (l : rows.Lecturer) → is_still_to_rank w (with_ranking k list l) ≡ (is_still_to_rank w l && not (equals l.row.key k))
+still : (w : World) (k : Key) (list : List Key) (l : rows.Lecturer)
+    → is_still_to_rank w (with_ranking k list l) ≡ (is_still_to_rank w l && not (equals l.row.key k))
 still w k list l = ap (λ (r : LecturerRow). not (is_empty (applicants_of w r.key)) && is_none (with_ranking k list l).ranking) (ranking_row k list l)
     ∙ ranked (not (is_empty (applicants_of w l.row.key))) k list l
 

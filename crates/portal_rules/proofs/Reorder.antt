@@ -48,7 +48,8 @@ distinct_reordered _ _ (turn k l ks) d =
 distinct_reordered _ _ (chain r s) d = distinct_reordered _ _ s (distinct_reordered _ _ r d)
 
 -- whether a list is taken does not depend on its order
-pub accepted_reordered : (cat : List Listing) (ks ls : List Key) → Reordered ks ls → choice_fault cat ks ≡ None → choice_fault cat ls ≡ None
+pub accepted_reordered : (cat : List Listing) (ks ls : List Key) → Reordered ks ls → choice_fault cat ks ≡ None
+    → choice_fault cat ls ≡ None
 accepted_reordered cat ks ls r e =
     let (few, fit) = chosen cat ks e in
     let long = length_reordered ks ls r in

@@ -14,13 +14,15 @@ re_called f (LecturerCaller l) = LecturerCaller (f l)
 re_called f x = x
 
 module _ (f : rows.Lecturer → rows.Lecturer) (keeps : (l : rows.Lecturer) → (f l).row ≡ l.row) where
-  pub caller_kept : (w : World) (c : Key) → caller (record w { lecturers = map f w.lecturers }) c ≡ re_called f (caller w c)
+  pub caller_kept : (w : World) (c : Key)
+      → caller (record w { lecturers = map f w.lecturers }) c ≡ re_called f (caller w c)
   caller_kept w c =
       let found : find (λ (l : rows.Lecturer). equals l.row.code c) (map f w.lecturers) ≡ option_map f (lecturer_with w c)
       = find_map f (λ l. equals l.row.code c) (λ l. equals l.row.code c) (λ l. ap (λ r. equals r.code c) (keeps l)) w.lecturers in
       grind (arith, found)
 
-  name_kept : (o : Option rows.Lecturer) → option_map (λ (l : rows.Lecturer). l.row.name) (option_map f o) ≡ option_map (λ (l : rows.Lecturer). l.row.name) o
+  name_kept : (o : Option rows.Lecturer)
+      → option_map (λ (l : rows.Lecturer). l.row.name) (option_map f o) ≡ option_map (λ (l : rows.Lecturer). l.row.name) o
   name_kept o = grind (arith, keeps)
 
   pub names_kept : (ls : List rows.Lecturer) (q : Key) → name_in (map f ls) q ≡ name_in ls q
@@ -29,7 +31,8 @@ module _ (f : rows.Lecturer → rows.Lecturer) (keeps : (l : rows.Lecturer) → 
       ∙ name_kept (find (λ l. equals l.row.key q) ls)
 
   -- while rankings are made
-  pub sound_kept : (w : World) → ((l : rows.Lecturer) → (f l).earlier_ranking ≡ l.earlier_ranking) → project_keys (in_play (record w { lecturers = map f w.lecturers })) ≡ project_keys (in_play w)
+  pub sound_kept : (w : World) → ((l : rows.Lecturer) → (f l).earlier_ranking ≡ l.earlier_ranking)
+      → project_keys (in_play (record w { lecturers = map f w.lecturers })) ≡ project_keys (in_play w)
       → Sound w → is_ranking w.phase ≡ true → AllByRecursion (λ l. IfSome l.ranking (IsRanking (map student_key (applicants_of w l.row.key)))) (map f w.lecturers)
       → Sound (record w { lecturers = map f w.lecturers })
   sound_kept w earlier play g e ranked =
@@ -48,5 +51,6 @@ module _ (f : rows.Lecturer → rows.Lecturer) (keeps : (l : rows.Lecturer) → 
       = λ h. all_map _ f w.lecturers (all_weaker _ _ (λ l e. earlier l ∙ e) w.lecturers (g.no_earlier_rankings h)) in
       assumption
     where
-      only_ranking : (phase : Phase) → is_ranking phase ≡ true → (is_from_ranking phase ≡ true) × (is_published phase ≡ false)
+      only_ranking : (phase : Phase) → is_ranking phase ≡ true
+          → (is_from_ranking phase ≡ true) × (is_published phase ≡ false)
       only_ranking phase e = grind arith

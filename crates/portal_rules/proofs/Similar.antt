@@ -18,22 +18,26 @@ use Rattle.portal_rules.proofs.Reorder.{any_reordered, empty_reordered, reordere
 
 -- lists of students that are the same but for the order within their lists
 
-pub zip_filter : {Y : Type 0} (f : rows.Student → Y) (p : rows.Student → Bool) → ((s t : rows.Student) → SameStudent s t → f s ≡ f t) → ((s t : rows.Student) → SameStudent s t → p s ≡ p t)
+pub zip_filter : {Y : Type 0} (f : rows.Student → Y) (p : rows.Student → Bool)
+    → ((s t : rows.Student) → SameStudent s t → f s ≡ f t) → ((s t : rows.Student) → SameStudent s t → p s ≡ p t)
     → (ss ts : List rows.Student) → AllZip SameStudent ss ts → map f (filter p ss) ≡ map f (filter p ts)
 zip_filter f p same alike = zip_by SameStudent (λ ss ts. map f (filter p ss) ≡ map f (filter p ts)) refl (λ s t ss ts z e. grind (arith, same s t z, alike s t z, e))
 
-zip_some : {Y : Type 0} (f : rows.Student → Option Y) → ((s t : rows.Student) → SameStudent s t → f s ≡ f t) → (ss ts : List rows.Student) → AllZip SameStudent ss ts → filter_map f ss ≡ filter_map f ts
+zip_some : {Y : Type 0} (f : rows.Student → Option Y) → ((s t : rows.Student) → SameStudent s t → f s ≡ f t)
+    → (ss ts : List rows.Student) → AllZip SameStudent ss ts → filter_map f ss ≡ filter_map f ts
 zip_some f same = zip_by SameStudent (λ ss ts. filter_map f ss ≡ filter_map f ts) refl (λ s t ss ts z e i. cons_option (same s t z i) (e i))
 
 same_itself : (x : rows.Student) → SameStudent x x
 same_itself x = record { row = refl; choice = reordered_itself x.choice; placed = refl; earlier_choice = reordered_itself x.earlier_choice; earlier_placement = refl }
 
-zip_put : (x : rows.Student) (ss ts : List rows.Student) → AllZip SameStudent ss ts → AllZip SameStudent (put student_key x ss) (put student_key x ts)
+zip_put : (x : rows.Student) (ss ts : List rows.Student) → AllZip SameStudent ss ts
+    → AllZip SameStudent (put student_key x ss) (put student_key x ts)
 zip_put x [] [] z = (same_itself x, tt)
 zip_put x (s ∷ ss) (t ∷ ts) z = grind (arith, z.0.row, same_itself x, zip_put x ss ts z.1)
 zip_put x ss ts z = grind arith
 
-zip_put_all : (xs ss ts : List rows.Student) → AllZip SameStudent ss ts → AllZip SameStudent (put_all student_key xs ss) (put_all student_key xs ts)
+zip_put_all : (xs ss ts : List rows.Student) → AllZip SameStudent ss ts
+    → AllZip SameStudent (put_all student_key xs ss) (put_all student_key xs ts)
 zip_put_all [] ss ts z = z
 zip_put_all (x ∷ xs) ss ts z = zip_put_all xs (put student_key x ss) (put student_key x ts) (zip_put x ss ts z)
 
@@ -47,7 +51,8 @@ SameFound None None = Unit {0}
 SameFound (Some s) (Some t) = SameStudent s t
 SameFound _ _ = ⊥
 
-same_found : (c : Key) (ss ts : List rows.Student) → AllZip SameStudent ss ts → SameFound (find (λ s. equals s.row.code c) ss) (find (λ s. equals s.row.code c) ts)
+same_found : (c : Key) (ss ts : List rows.Student) → AllZip SameStudent ss ts
+    → SameFound (find (λ s. equals s.row.code c) ss) (find (λ s. equals s.row.code c) ts)
 same_found c = zip_by SameStudent (λ ss ts. SameFound (find (λ s. equals s.row.code c) ss) (find (λ s. equals s.row.code c) ts)) tt (λ s t ss ts z e. grind (arith, z.row, e))
 
 -- what is seen, but for the own list
@@ -109,7 +114,8 @@ module _ (w : World) (ss ts : List rows.Student) (z : AllZip SameStudent ss ts) 
     result = same_shown w.phase s t same i;
   }
 
-  seen_same : (b : Bool) (l : Option rows.Lecturer) (o p : Option rows.Student) → SameFound o p → SameSight (sight_of one (cond b OfficeCaller (caller_among l o))) (sight_of other (cond b OfficeCaller (caller_among l p)))
+  seen_same : (b : Bool) (l : Option rows.Lecturer) (o p : Option rows.Student) → SameFound o p
+      → SameSight (sight_of one (cond b OfficeCaller (caller_among l o))) (sight_of other (cond b OfficeCaller (caller_among l p)))
   seen_same true l o p f = ap Office office_same
   seen_same false (Some l) o p f = ap Lecturer (lecturer_same l)
   seen_same false None (Some s) (Some t) f = student_same s t f
@@ -128,14 +134,16 @@ same_view v w s c = subst (λ u. SameSight (view u c) (view w c)) (sym (but_stud
 
 -- a change of both
 
-pub both_choose : (v w : World) (k : Key) (ks ls : List Key) → Reordered ks ls → SameButPlaces v w → SameButPlaces (changed v (Choices k ks)) (changed w (Choices k ls))
+pub both_choose : (v w : World) (k : Key) (ks ls : List Key) → Reordered ks ls → SameButPlaces v w
+    → SameButPlaces (changed v (Choices k ks)) (changed w (Choices k ls))
 both_choose v w k ks ls r s = record { round = s.round; phase = s.phase; office = s.office; lecturers = s.lecturers; projects = s.projects; students = zip_mapped SameStudent (with_choice k ks) (with_choice k ls) each v.students w.students s.students }
   where
     each : (s t : rows.Student) → SameStudent s t → SameStudent (with_choice k ks s) (with_choice k ls t)
     each s t same = grind (arith, same.row, same.choice, same.placed, same.earlier_choice, same.earlier_placement, r)
 
 -- new rows of both, in the first round
-both_first : (v w p q : World) → SameButPlaces v w → SameButPlaces p q → SameButPlaces (in_first v.round p v) (in_first w.round q w)
+both_first : (v w p q : World) → SameButPlaces v w → SameButPlaces p q
+    → SameButPlaces (in_first v.round p v) (in_first w.round q w)
 both_first v w p q s t = subst (λ r. SameButPlaces (in_first v.round p v) (in_first r q w)) s.round (elim v.round as (λ r. SameButPlaces (in_first r p v) (in_first r q w)) [ First ↦ t | Second ↦ s ])
 
 -- the second round of both
@@ -152,7 +160,8 @@ both_opened v w s =
     go First _ = s
     go Second _ = s
 
-pub both_changed : (v w : World) (change : Change) → SameButPlaces v w → SameButPlaces (changed v change) (changed w change)
+pub both_changed : (v w : World) (change : Change) → SameButPlaces v w
+    → SameButPlaces (changed v change) (changed w change)
 both_changed v w (Choices k list) s = both_choose v w k list list (reordered_itself list) s
 both_changed v w (Ranks k list) s = record { round = s.round; phase = s.phase; office = s.office; lecturers = ap (map (with_ranking k list)) s.lecturers; projects = s.projects; students = s.students }
 both_changed v w (Lecturers rows) s = both_first v w (with_lecturers v rows) (with_lecturers w rows) s (record { round = s.round; phase = s.phase; office = s.office; lecturers = ap (put_all lecturer_key (map new_lecturer rows)) s.lecturers; projects = s.projects; students = s.students })

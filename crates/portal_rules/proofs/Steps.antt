@@ -32,7 +32,9 @@ module _ (w v : World) (code : Key) (g : Good w) where
   idle ask reply form left = becomes w g left
 
   -- new rows, which the first round alone takes
-  enrolled : (u : World) → is_open_to_rolls w.round w.phase ≡ true → (is_from_ranking w.phase ≡ false → w.round ≡ First → Sound u) → u.round ≡ w.round → u.phase ≡ w.phase → v ≡ in_first w.round u w → Good v
+  enrolled : (u : World) → is_open_to_rolls w.round w.phase ≡ true
+      → (is_from_ranking w.phase ≡ false → w.round ≡ First → Sound u) → u.round ≡ w.round → u.phase ≡ w.phase
+      → v ≡ in_first w.round u w → Good v
   enrolled u now sound round phase e =
       let early : is_from_ranking w.phase ≡ false = rolls_early w.round w.phase now in
       let one : w.round ≡ First = grind arith in
@@ -70,7 +72,8 @@ module _ (w v : World) (code : Key) (g : Good w) where
         sheets = λ ask text sheet calm form left. becomes w g left;
       }) ask
 
-pub step_good : (w v : World) (code : Key) (ask : AbstractCall) (reply : Answer) → Good w → Step w code ask reply v → Good v
+pub step_good : (w v : World) (code : Key) (ask : AbstractCall) (reply : Answer) → Good w → Step w code ask reply v
+    → Good v
 step_good w v code ask reply g s = step_case w v code g (caller w code) refl ask s.form s.left
 
 -- what each step keeps holds of each world that a run reaches, as that it is good
@@ -78,10 +81,12 @@ module _ (P : World → Type 0) (step : (w v : World) (code : Key) (ask : Abstra
   served_keeps : (w v : World) (r : Request) (a : Answer) → P w → Serves w r a v → P v
   served_keeps w v r a p s = grind (arith, step w v r.code)
 
-  pub run_keeps : (w : World) (asked : List Request) (told : List Answer) (after : List World) → P w → Run w asked told after → AllByRecursion P after
+  pub run_keeps : (w : World) (asked : List Request) (told : List Answer) (after : List World) → P w
+      → Run w asked told after → AllByRecursion P after
   run_keeps w asked told [] p run = tt
   run_keeps w (r ∷ rs) (a ∷ told) (v ∷ after) p run = let next : P v = served_keeps w v r a p run.0 in (next, run_keeps v rs told after next run.1)
   run_keeps w asked told after p run = grind arith
 
-pub run_good : (w : World) (asked : List Request) (told : List Answer) (after : List World) → Good w → Run w asked told after → AllByRecursion Good after
+pub run_good : (w : World) (asked : List Request) (told : List Answer) (after : List World) → Good w
+    → Run w asked told after → AllByRecursion Good after
 run_good = run_keeps Good step_good

@@ -11,7 +11,8 @@ use Rattle.portal_rules.proofs.ListFaults.{choice_taken, ranking_taken}
 
 -- a student's list
 
-pub choice_legal : (catalogue : List Listing) (list : List Key) → IsChoice (map (λ (l : Listing). l.key) catalogue) list → choice_fault catalogue list ≡ None
+pub choice_legal : (catalogue : List Listing) (list : List Key) → IsChoice (map (λ (l : Listing). l.key) catalogue) list
+    → choice_fault catalogue list ≡ None
 choice_legal catalogue list c =
     choice_taken catalogue list c.few
     (record {
@@ -22,11 +23,14 @@ choice_legal catalogue list c =
 
 -- a lecturer's ranking
 
-lacks_none : (list ks : List Key) → AllByRecursion (λ k. has list k ≡ true) ks → list_any (λ k. not (has list k)) ks ≡ false
+lacks_none : (list ks : List Key) → AllByRecursion (λ k. has list k ≡ true) ks
+    → list_any (λ k. not (has list k)) ks ≡ false
 lacks_none list [] all = refl
 lacks_none list (k ∷ ks) all = ap (λ b. not b || list_any (λ k. not (has list k)) ks) all.0 ∙ lacks_none list ks all.1
 
-pub ranking_legal : (w : World) (l : rows.Lecturer) (list : List Key) → is_from_ranking w.phase ≡ true → IsRanking (map student_key (applicants_of w l.row.key)) list → ranking_fault (lecturer_sees w l).applicants list ≡ None
+pub ranking_legal : (w : World) (l : rows.Lecturer) (list : List Key) → is_from_ranking w.phase ≡ true
+    → IsRanking (map student_key (applicants_of w l.row.key)) list
+    → ranking_fault (lecturer_sees w l).applicants list ≡ None
 ranking_legal w l list closed r =
     subst (λ b. ranking_fault (shown_sets w l.row.key b) list ≡ None) (sym closed)
     (ranking_taken (shown_sets w l.row.key true) list
@@ -50,7 +54,8 @@ none_found p (x ∷ xs) e = grind (arith, none_found p xs)
 has_room : (limit n : ℕ) → n < limit → nat_le limit n ≡ false
 has_room limit n h = grind (arith, nat_tests)
 
-pub rows_taken : {X : Type 0} (roll : RollRules X) (at : ℕ) (there rows : List X) → AreFresh roll there rows → take_rows roll at there rows ≡ Took rows 0
+pub rows_taken : {X : Type 0} (roll : RollRules X) (at : ℕ) (there rows : List X) → AreFresh roll there rows
+    → take_rows roll at there rows ≡ Took rows 0
 rows_taken roll at there [] f = refl
 rows_taken roll at there (r ∷ rs) f =
     rw (none_found (λ x. equals (roll.key x) (roll.key r)) there f.0, f.1, has_room roll.limit (length there) f.2, rows_taken roll (at + 1) (r ∷ there) rs f.3) refl

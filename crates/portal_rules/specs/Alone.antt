@@ -12,4 +12,5 @@ alone_student s = record s { earlier_choice = []; earlier_placement = None }
 -- These rows as a world of a single round, with nothing before it. What a round is played in is a
 -- good world so.
 abbrev pub alone : World → World
-alone w = record w { round = First; lecturers = map alone_lecturer w.lecturers; students = map alone_student w.students }
+alone w =
+    record w { round = First; lecturers = map alone_lecturer w.lecturers; students = map alone_student w.students }

@@ -118,7 +118,8 @@ is_open_to_rolls Second phase = false
 
 abbrev pub row_fault : ℕ → List ℕ → Option ℕ → Answer
 row_fault status word None = by_word status word
-row_fault status word (Some row) = answered status (dictionary ((codes "error", string word) ∷ (codes "row", count row) ∷ []))
+row_fault status word (Some row) =
+    answered status (dictionary ((codes "error", string word) ∷ (codes "row", count row) ∷ []))
 
 -- if no row is new, there is nothing to do
 abbrev pub added : {X : Type 0} → (List X → Change) → Taken X → Decision
@@ -130,7 +131,8 @@ added change (Took new same) =
     }
 
 abbrev pub still_to_rank : List Key → Answer
-still_to_rank keys = answered 409 (dictionary ((codes "error", string (codes "still_to_rank")) ∷ (codes "lecturers", texts keys) ∷ []))
+still_to_rank keys =
+    answered 409 (dictionary ((codes "error", string (codes "still_to_rank")) ∷ (codes "lecturers", texts keys) ∷ []))
 
 -- the reply does not depend on the result that is published
 abbrev pub publishes : OfficeSees → Decision
@@ -177,9 +179,12 @@ fills v =
 abbrev pub to_office : OfficeSees → AbstractCall → Decision
 to_office v AbstractCall.Me = shows (office_me v)
 to_office v AbstractCall.Catalogue = shows (catalogue_body v.catalogue)
-to_office v (AbstractCall.AddLecturers rows) = open_where (is_open_to_rolls v.round v.phase) (added Lecturers (take_rows (lecturer_roll v) 1 v.lecturers rows))
-to_office v (AbstractCall.AddProjects rows) = open_where (is_open_to_rolls v.round v.phase) (added Projects (take_rows (project_roll v) 1 v.projects rows))
-to_office v (AbstractCall.AddStudents rows) = open_where (is_open_to_rolls v.round v.phase) (added Students (take_rows (student_roll v) 1 v.students rows))
+to_office v (AbstractCall.AddLecturers rows) =
+    open_where (is_open_to_rolls v.round v.phase) (added Lecturers (take_rows (lecturer_roll v) 1 v.lecturers rows))
+to_office v (AbstractCall.AddProjects rows) =
+    open_where (is_open_to_rolls v.round v.phase) (added Projects (take_rows (project_roll v) 1 v.projects rows))
+to_office v (AbstractCall.AddStudents rows) =
+    open_where (is_open_to_rolls v.round v.phase) (added Students (take_rows (student_roll v) 1 v.students rows))
 to_office v (AbstractCall.Move phase round) = moves v phase round
 to_office v AbstractCall.Status = shows (status_body v)
 to_office v AbstractCall.Allocation = open_where (has_result v.round v.phase) (shows (allocation_body v.pairs))

@@ -181,7 +181,8 @@ project_line v p =
     padded_left 16 p.key ++ padded_right 4 (decimal (students_at v.pairs p.key)) ++ codes " of " ++ padded_right 4 (decimal p.capacity) ++ line_feed
 
 abbrev pub assigned_line : OfficeSees → List ℕ
-assigned_line v = codes "assigned " ++ decimal (length v.pairs) ++ codes " of " ++ decimal (length v.students) ++ line_feed
+assigned_line v =
+    codes "assigned " ++ decimal (length v.pairs) ++ codes " of " ++ decimal (length v.students) ++ line_feed
 
 -- the lines of students, the lines of projects and the totals, with an empty line between them
 abbrev pub report_text : OfficeSees → List ℕ

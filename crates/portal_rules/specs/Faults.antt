@@ -142,7 +142,8 @@ or_later at None later = later
 -- the fault of the first key that is wrong, given the keys before it
 abbrev pub first_wrong : (List Key → Key → Option (List ℕ)) → List Key → List Key → Option ListFault
 first_wrong wrong earlier [] = None
-first_wrong wrong earlier (k ∷ ks) = or_later (length earlier + 1) (wrong earlier k) (first_wrong wrong (earlier ++ k ∷ []) ks)
+first_wrong wrong earlier (k ∷ ks) =
+    or_later (length earlier + 1) (wrong earlier k) (first_wrong wrong (earlier ++ k ∷ []) ks)
 
 -- the first fault of a student's list
 abbrev pub choice_fault : List Listing → List Key → Option ListFault
@@ -165,7 +166,8 @@ AreFresh roll there (r ∷ rs) =
 
 -- no key of the list is wrong, given the keys before it
 abbrev pub NoneWrong : (List Key → Key → Option (List ℕ)) → List Key → Type 0
-NoneWrong wrong list = (before : List Key) (k : Key) (after : List Key) → list ≡ before ++ k ∷ after → wrong before k ≡ None
+NoneWrong wrong list =
+    (before : List Key) (k : Key) (after : List Key) → list ≡ before ++ k ∷ after → wrong before k ≡ None
 
 -- the fault is that of the first wrong key, with its position, counted from 1
 pub record IsFirstWrong (wrong : List Key → Key → Option (List ℕ)) (list : List Key) (fault : ListFault) : Type 0 where

@@ -101,7 +101,8 @@ pub record Sound (w : World) : Type 0 where
   pub no_result_yet : is_published w.phase ≡ false → AllByRecursion (λ s. s.placed ≡ None) w.students
   pub all_ranked : is_published w.phase ≡ true → AllByRecursion (λ l. is_still_to_rank w l ≡ false) w.lecturers
   -- the first round has no earlier lists, rankings or placements
-  pub no_earlier_lists : is_second w.round ≡ false → AllByRecursion (λ s. (s.earlier_choice ≡ []) × (s.earlier_placement ≡ None)) w.students
+  pub no_earlier_lists : is_second w.round ≡ false
+      → AllByRecursion (λ s. (s.earlier_choice ≡ []) × (s.earlier_placement ≡ None)) w.students
   pub no_earlier_rankings : is_second w.round ≡ false → AllByRecursion (λ l. l.earlier_ranking ≡ None) w.lecturers
   -- the second round starts in choosing and is for students without a project of the first
   pub no_second_setup : is_second w.round ≡ true → is_setup w.phase ≡ false

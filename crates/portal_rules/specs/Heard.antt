@@ -41,11 +41,14 @@ SeenIf false old new seen = seen ≡ []
 
 -- what c hears of one request
 abbrev pub HeardOf : Key → World → Request → World → List HeardItem → Type 0
-HeardOf c old r new items = (seen : List HeardItem) × SeenIf (may_show c r) (view old c) (view new c) seen × (items ≡ own_item c r ++ seen)
+HeardOf c old r new items =
+    (seen : List HeardItem) × SeenIf (may_show c r) (view old c) (view new c) seen × (items ≡ own_item c r ++ seen)
 
 -- what c hears of a run from w, in order
 abbrev pub Heard : Key → World → List Request → List World → List HeardItem → Type 0
-Heard c w (r ∷ rs) (v ∷ worlds) items = (first : List HeardItem) × (rest : List HeardItem) × HeardOf c w r v first × Heard c v rs worlds rest × (items ≡ first ++ rest)
+Heard c w (r ∷ rs) (v ∷ worlds) items =
+    (first : List HeardItem) × (rest : List HeardItem) × HeardOf c w r v first × Heard c v rs worlds rest
+    × (items ≡ first ++ rest)
 Heard c w _ _ items = items ≡ []
 
 -- the replies to c, in order
@@ -96,7 +99,8 @@ pub record SameButPlaces (v w : World) : Type 0 where
 
 pub data SameWish : Wish → Wish → Type 0 where
   equal : (wish : Wish) → SameWish wish wish
-  sets : {ks ls : List Key} → Reordered ks ls → SameWish (Calls (AbstractCall.SetChoices ks)) (Calls (AbstractCall.SetChoices ls))
+  sets : {ks ls : List Key} → Reordered ks ls
+      → SameWish (Calls (AbstractCall.SetChoices ks)) (Calls (AbstractCall.SetChoices ls))
 
 pub record SameRequest (q r : Request) : Type 0 where
   pub code : q.code ≡ r.code
@@ -121,5 +125,6 @@ Unless false P = P
 
 -- replies without a student's list are equal, up to and including the first move to published
 abbrev pub AlikeUntilPublished : List Request → List Answer → List Answer → Type 0
-AlikeUntilPublished (r ∷ rs) (a ∷ told) (b ∷ said) = Unless (has_places r.wish) (a ≡ b) × Unless (moves_to_published r.wish a) (AlikeUntilPublished rs told said)
+AlikeUntilPublished (r ∷ rs) (a ∷ told) (b ∷ said) =
+    Unless (has_places r.wish) (a ≡ b) × Unless (moves_to_published r.wish a) (AlikeUntilPublished rs told said)
 AlikeUntilPublished _ _ _ = Unit {0}

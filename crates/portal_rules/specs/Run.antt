@@ -21,7 +21,8 @@ HasForm _ = Unit {0}
 abbrev pub StepLeaves : World → Act → World → Type 0
 StepLeaves old Nothing new = new ≡ old
 StepLeaves old (Apply change) new = new ≡ changed old change
-StepLeaves old Publish new = (pairs : List (Key × Key)) × (new ≡ changed old (Placements pairs)) × IsBest (instance old) (matching_of new)
+StepLeaves old Publish new =
+    (pairs : List (Key × Key)) × (new ≡ changed old (Placements pairs)) × IsBest (instance old) (matching_of new)
 StepLeaves old (Render sheet) new = new ≡ old
 
 -- one call; its reply and its act depend only on what its caller sees

@@ -17,7 +17,8 @@ abbrev pub name_in : List rows.Lecturer → Key → Option Key
 name_in ls k = option_map (λ (l : rows.Lecturer). l.row.name) (find (λ l. equals l.row.key k) ls)
 
 abbrev pub listing_with : ProjectRow → Key → Listing
-listing_with p name = record { key = p.key; title = p.title; lecturer = p.lecturer; lecturer_name = name; capacity = p.capacity }
+listing_with p name =
+    record { key = p.key; title = p.title; lecturer = p.lecturer; lecturer_name = name; capacity = p.capacity }
 
 -- each project with its lecturer's name; a good world has no unknown lecturer, so none is left out
 abbrev pub listings : List rows.Lecturer → List ProjectRow → List Listing
@@ -61,7 +62,8 @@ office_sees w =
       students = map (λ s. s.row) w.students;
       catalogue = catalogue w;
       without_list = map (λ s. s.row.key) (filter (λ s. is_empty s.choice) (in_play w).students);
-      still_to_rank = if is_from_ranking w.phase then map (λ l. l.row.key) (filter (is_still_to_rank w) w.lecturers) else [];
+      still_to_rank =
+          if is_from_ranking w.phase then map (λ l. l.row.key) (filter (is_still_to_rank w) w.lecturers) else [];
       pairs = pairs_of w;
     }
 
@@ -103,6 +105,7 @@ IsShownAt placed p s = (there : List Person) × Contains placed (p, there) × Co
 abbrev pub ShowsStill : Sight → Sight → Type 0
 ShowsStill Nobody after = Unit {0}
 ShowsStill (Student v) (Student u) = (u.me ≡ v.me) × ((p : Key) → v.result ≡ Some p → u.result ≡ Some p)
-ShowsStill (Lecturer v) (Lecturer u) = (u.me ≡ v.me) × ((p : Key) (s : Person) → IsShownAt v.placed p s → IsShownAt u.placed p s)
+ShowsStill (Lecturer v) (Lecturer u) =
+    (u.me ≡ v.me) × ((p : Key) (s : Person) → IsShownAt v.placed p s → IsShownAt u.placed p s)
 ShowsStill (Office v) (Office u) = (x : Key × Key) → Contains v.pairs x → Contains u.pairs x
 ShowsStill _ _ = ⊥

@@ -100,7 +100,8 @@ has_result Second phase = true
 
 -- the project that a student is shown: the first round's, else this round's once it is published
 abbrev pub shown_placement : Phase → Student → Option Key
-shown_placement phase s = if is_none s.earlier_placement then (if is_published phase then s.placed else None) else s.earlier_placement
+shown_placement phase s =
+    if is_none s.earlier_placement then (if is_published phase then s.placed else None) else s.earlier_placement
 
 -- the students whose shown placement is the project
 abbrev pub placed_at : World → Key → List Student
@@ -218,7 +219,8 @@ with_place pairs s = if is_left s then record s { placed = placement_in pairs s.
 
 -- a lecturer with a missing ranking ranks the applicants in the order of their keys
 abbrev pub with_fill : World → Lecturer → Lecturer
-with_fill w l = if is_still_to_rank w l then record l { ranking = Some (map student_key (applicants_of w l.row.key)) } else l
+with_fill w l =
+    if is_still_to_rank w l then record l { ranking = Some (map student_key (applicants_of w l.row.key)) } else l
 
 -- the world with new rows on a roll
 abbrev pub with_lecturers : World → List LecturerRow → World
@@ -235,7 +237,8 @@ abbrev pub ranked_before : Lecturer → Lecturer
 ranked_before l = record { row = l.row; ranking = None; earlier_ranking = l.ranking }
 
 abbrev pub placed_before : Student → Student
-placed_before s = record { row = s.row; choice = []; placed = None; earlier_choice = s.choice; earlier_placement = s.placed }
+placed_before s =
+    record { row = s.row; choice = []; placed = None; earlier_choice = s.choice; earlier_placement = s.placed }
 
 -- the second round opens only after a published first; any other world stays as it is
 abbrev pub opened : Round → Phase → World → World

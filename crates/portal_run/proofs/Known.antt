@@ -5,7 +5,8 @@ use Rattle.portal_run.proofs.Base.{IfLonger, IsAnswer, WritesAnswer, AnswersSome
 use Rattle.portal_answer.specs.declared.answer.Task.{Task}
 
 -- of a longer file nothing is read
-longer : (task : Task) (a b : Bool) (xs ys : Text) (t : Told) → a ≡ true → b ≡ true → IfLonger task a xs t → IfLonger task b ys t
+longer : (task : Task) (a b : Bool) (xs ys : Text) (t : Told) → a ≡ true → b ≡ true → IfLonger task a xs t
+    → IfLonger task b ys t
 longer task a b xs ys t e f h = rw f (rw e at h)
 
 -- a byte more than a file may have tells as much as all of them
@@ -29,12 +30,14 @@ abbrev pub IsSaid : ℕ → Option Text → Option Text → Told → Type 0
 IsSaid status old new t = ((status ≡ t.status) ⊎ (status ≡ 3)) × (status ≢ 3 → Appends old new t.text)
 
 -- what was said is what is answered to the whole input
-pub said : (task : Task) (k : Option Text) (bytes : Text) (old new : Option Text) (status : ℕ) (t : Told) → IfSome k (λ b. bytes ≡ take 4194305 b) → IsAnswer task bytes t
+pub said : (task : Task) (k : Option Text) (bytes : Text) (old new : Option Text) (status : ℕ) (t : Told)
+    → IfSome k (λ b. bytes ≡ take 4194305 b) → IsAnswer task bytes t
     → IsSaid status old new t → status < 3 → WritesAnswer task k status old new
 said task None bytes old new status t cut is done small = tt
 said task (Some b) bytes old new status t cut is done small =
     (t, cut_answer task b t (subst (λ (xs : Text). IsAnswer task xs t) cut is), said_status status t.status done.0 small, done.1 (omega arith))
 
 -- what was said is an answer to these bytes
-pub said_some : (task : Task) (bytes : Text) (old new : Option Text) (status : ℕ) (t : Told) → IsAnswer task bytes t → IsSaid status old new t → status < 3 → AnswersSome task status old new
+pub said_some : (task : Task) (bytes : Text) (old new : Option Text) (status : ℕ) (t : Told) → IsAnswer task bytes t
+    → IsSaid status old new t → status < 3 → AnswersSome task status old new
 said_some task bytes old new status t is done small = (bytes, t, is, said_status status t.status done.0 small, done.1 (omega arith))

@@ -6,12 +6,14 @@ use Rattle.std.proofs.KnownBytes.{Consumes-trans}
 use Rattle.portal_desk.specs.Kept.{TakesAtMost as TakesFew}
 
 -- what was taken first, and then
-pub more_taken : (n most : ℕ) (a b c : Option Text) (before : Text) → Consumes a b before → length before ≤ n → most + length before ≤ n → ConsumesAtMost most b c → ConsumesAtMost n a c
+pub more_taken : (n most : ℕ) (a b c : Option Text) (before : Text) → Consumes a b before → length before ≤ n
+    → most + length before ≤ n → ConsumesAtMost most b c → ConsumesAtMost n a c
 more_taken n most a b c before first low fits then =
     (before ++ then.0, omega (arith, length-append before then.0), Consumes-trans a b c before then.0 first then.2)
 
 -- all was taken, or as much as there is to take
-pub all_taken : (n : ℕ) (a c : Option Text) (bytes : Text) → Consumes a c bytes → length bytes ≤ n → (length bytes < n → IsAtEnd c) → IfSome a (λ b. bytes ≡ take n b)
+pub all_taken : (n : ℕ) (a c : Option Text) (bytes : Text) → Consumes a c bytes → length bytes ≤ n
+    → (length bytes < n → IsAtEnd c) → IfSome a (λ b. bytes ≡ take n b)
 all_taken n None c bytes taken low end = tt
 all_taken n (Some b) None bytes taken low end = absurd taken
 all_taken n (Some b) (Some rest) bytes taken low end = elim (cases_lt (length bytes) n) [
@@ -23,7 +25,8 @@ all_taken n (Some b) (Some rest) bytes taken low end = elim (cases_lt (length by
 ]
 
 -- the last read, which gave nothing
-pub last_taken : (n most k : ℕ) (a b c : Option Text) (before after : Text) → Consumes a b before → length before ≤ n → (length before < n → 0 < most) → TakesMore most k b c before after → k ≡ 0
+pub last_taken : (n most k : ℕ) (a b c : Option Text) (before after : Text) → Consumes a b before → length before ≤ n
+    → (length before < n → 0 < most) → TakesMore most k b c before after → k ≡ 0
     → IfSome a (λ xs. after ≡ take n xs)
 last_taken n most k a b c before after first low room adds none =
     let same : length after ≡ length before = omega (arith, ap length adds.added, length-append before adds.taken, adds.count) in

@@ -20,7 +20,8 @@ WritesAnswer task input status old new = IfSome input (λ bytes. (told : Told) �
 
 -- the same for some bytes, since those of a named file are not known here
 abbrev pub AnswersSome : Task → ℕ → Option Text → Option Text → Type 0
-AnswersSome task status old new = (bytes : Text) × (told : Told) × IsAnswer task bytes told × (status ≡ told.status) × Appends old new told.text
+AnswersSome task status old new =
+    (bytes : Text) × (told : Told) × IsAnswer task bytes told × (status ≡ told.status) × Appends old new told.text
 
 -- the task of a command that reads an instance file, from a name or the standard input
 abbrev pub task_of : Command → Option Task
@@ -65,4 +66,5 @@ upgrade_status (Some fault) = refusal_status fault
 
 -- line and status report the success of an upgrade, or a refusal; a missing file is `NotPortal`
 abbrev pub SaysUpgrade : ℕ → Option Text → Option Text → Type 0
-SaysUpgrade status old new = (answer : Option UpgradeFault) × (status ≡ upgrade_status answer) × Appends old new (upgrade_line answer)
+SaysUpgrade status old new =
+    (answer : Option UpgradeFault) × (status ≡ upgrade_status answer) × Appends old new (upgrade_line answer)

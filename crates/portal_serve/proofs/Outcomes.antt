@@ -34,7 +34,8 @@ pub passed_few : (a b : Option (List Outcome)) (accepted faults : ℕ) → Passe
 passed_few a b accepted faults p = omega (arith, p.long, p.counted, count_by-le-length is_faulty p.es)
 
 -- the counts after one more connection
-pub counted_more : (es : List Outcome) (o : Outcome) (accepted faults : ℕ) → accepted ≡ length es → faults ≡ count_by is_faulty es
+pub counted_more : (es : List Outcome) (o : Outcome) (accepted faults : ℕ) → accepted ≡ length es
+    → faults ≡ count_by is_faulty es
     → (accepted + 1 ≡ length (es ++ o ∷ [])) × (faults + (if is_own_fault o.ended then 1 else 0) ≡ count_by is_faulty (es ++ o ∷ []))
 counted_more es o accepted faults long counted =
     (omega (arith, long, length-append es (o ∷ [])), ap (λ n. n + (if is_own_fault o.ended then 1 else 0)) counted ∙ sym (sum_by_push (λ x. if is_faulty x then 1 else 0) es o))
@@ -54,7 +55,8 @@ stands_after o old new settles is calm =
     go (Err fault) h = by_cause fault.cause h
 
 -- one more connection, after which the desk stands
-pub passed_more : (a b c : Option (List Outcome)) (o : Outcome) (old new : Bool) (accepted faults : ℕ) → Passed a b accepted faults → Adds b c (o ∷ [])
+pub passed_more : (a b c : Option (List Outcome)) (o : Outcome) (old new : Bool) (accepted faults : ℕ)
+    → Passed a b accepted faults → Adds b c (o ∷ [])
     → Settles o.ended old new → o.failed ≡ new → o.failed ≡ false → Passed a c (accepted + 1) (faults + (if is_own_fault o.ended then 1 else 0))
 passed_more a b c o old new accepted faults p more settles is calm =
     let n = counted_more p.es o accepted faults p.long p.counted in
@@ -67,7 +69,8 @@ passed_more a b c o old new accepted faults p more settles is calm =
     }
 
 -- one more connection, after which the desk has failed
-pub told_failed : (a b c : Option (List Outcome)) (o : Outcome) (accepted faults : ℕ) → Passed a b accepted faults → Adds b c (o ∷ []) → o.failed ≡ true
+pub told_failed : (a b c : Option (List Outcome)) (o : Outcome) (accepted faults : ℕ) → Passed a b accepted faults
+    → Adds b c (o ∷ []) → o.failed ≡ true
     → (hall : Hall) → hall.accepted ≡ accepted + 1 → hall.faults ≡ faults + (if is_own_fault o.ended then 1 else 0) → hall.ended ≡ StoreFault
     → (es : List Outcome) × Adds a c es × Tells hall es
 told_failed a b c o accepted faults p more failed hall e f g =

@@ -7,10 +7,13 @@ use Rattle.portal_rules.specs.Words.{Key, equals}
 use Rattle.portal_rules.specs.View.{view, sight_of, caller_among, OfficeCaller, lecturer_with, student_with}
 use Rattle.portal_rules.specs.View.{office_sees}
 
-pub told_is : (w : World) (code : Key) (text : List ℕ) → IsOfficeReport (view w code) text → text ≡ told_of (office_sees w)
+pub told_is : (w : World) (code : Key) (text : List ℕ) → IsOfficeReport (view w code) text
+    → text ≡ told_of (office_sees w)
 told_is w code text h = go (equals w.office code) (lecturer_with w code) (student_with w code) h
   where
-    go : (b : Bool) (l : Option rows.Lecturer) (s : Option rows.Student) → IsOfficeReport (sight_of w (if b then OfficeCaller else caller_among l s)) text → text ≡ told_of (office_sees w)
+    go : (b : Bool) (l : Option rows.Lecturer) (s : Option rows.Student)
+        → IsOfficeReport (sight_of w (if b then OfficeCaller else caller_among l s)) text
+        → text ≡ told_of (office_sees w)
     go true l s h = h
     go false (Some l) s h = absurd h
     go false None (Some s) h = absurd h

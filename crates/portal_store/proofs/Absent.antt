@@ -10,7 +10,8 @@ use Rattle.portal_store.proofs.RankTurns.{key_test, same_key}
 use Rattle.portal_store.proofs.Rounds.{key_in}
 
 -- a query shows as many rows as pass
-pub as_many : (keys : List ℕ) (p : Row → Bool) (show : Row → Row) (table shown : List Row) → ListsBy keys p show table shown
+pub as_many : (keys : List ℕ) (p : Row → Bool) (show : Row → Row) (table shown : List Row)
+    → ListsBy keys p show table shown
     → length shown ≡ length (filter p table)
 as_many keys p show table shown h =
     let keyed : Row → Row × Row = λ r. (columns keys r, show r) in
@@ -24,7 +25,8 @@ there_if k (r ∷ table) some = go (has_text 1 k r) refl some (there_if k table)
     passing : List Row
     passing = filter (has_text 1 k) table
 
-    go : (b : Bool) → has_text 1 k r ≡ b → length (cond b (r ∷ passing) passing) ≢ 0 → (length passing ≢ 0 → has (map row_key table) k ≡ true)
+    go : (b : Bool) → has_text 1 k r ≡ b → length (cond b (r ∷ passing) passing) ≢ 0
+        → (length passing ≢ 0 → has (map row_key table) k ≡ true)
         → has (map row_key (r ∷ table)) k ≡ true
     go true so some later = ap (λ b. b || has (map row_key table) k) (ap (λ v. equals k (bytes v)) (text_there 1 k r so) ∙ is_own k)
     go false other some later = ap (λ b. equals k (row_key r) || b) (later some) ∙ or-true (equals k (row_key r))
@@ -36,7 +38,8 @@ nobody k table all none =
     all_two IsLecturerRow (λ r. has_text 1 k r ≡ false) (λ r. equals (row_key r) k ≡ false) (λ r f e. sym (key_test k r f) ∙ e) table all
     (none_passes (λ r. r) (has_text 1 k) table (ap (λ (l : List Row). is_empty (map (λ r. r) l)) (nil_from_length (filter (has_text 1 k) table) none)))
 
-ranks_nobody : (round : Round) (k : Key) (list : List Key) (db : Database) → length (filter (has_text 1 k) (db.trees lecturer_tree)) ≡ 0 → IsTransitionIn round (Ranks k list) db db
+ranks_nobody : (round : Round) (k : Key) (list : List Key) (db : Database)
+    → length (filter (has_text 1 k) (db.trees lecturer_tree)) ≡ 0 → IsTransitionIn round (Ranks k list) db db
 unfolding world_in
 ranks_nobody round k list db none holds good then =
     let show : Row → Lecturer = lecturer_stored round db.trees in
@@ -51,19 +54,22 @@ ranks_nobody round k list db none holds good then =
     record { holds = holds; world = λ i. record { round = round; phase = w.phase; office = w.office; lecturers = roll i; projects = w.projects; students = w.students } }
 
 -- where the lecturer is on the roll of a good world
-turns_there : (round : Round) (k : Key) (list : List Key) (first now : Database) → length (filter (has_text 1 k) (first.trees lecturer_tree)) ≢ 0
+turns_there : (round : Round) (k : Key) (list : List Key) (first now : Database)
+    → length (filter (has_text 1 k) (first.trees lecturer_tree)) ≢ 0
     → TurnsThere round k list first now → IsTransitionIn round (Ranks k list) first now
 turns_there round k list first now some turns holds good then = turns (there_if k (first.trees lecturer_tree) some) holds good.sound.lecturers_rise
 
 -- the same, where a query for the lecturer showed a row
-pub turns_shown : (round : Round) (k asked : Key) (list : List Key) (show : Row → Row) (rows : List Row) (first now : Database) → asked ≡ k → length rows ≢ 0
+pub turns_shown : (round : Round) (k asked : Key) (list : List Key) (show : Row → Row) (rows : List Row) (first now : Database)
+    → asked ≡ k → length rows ≢ 0
     → ListsBy (1 ∷ []) (has_text 1 asked) show (first.trees lecturer_tree) rows → TurnsThere round k list first now → IsTransitionIn round (Ranks k list) first now
 turns_shown round k asked list show rows first now same some shown =
     turns_there round k list first now
     (λ none. some (as_many (1 ∷ []) (has_text 1 asked) show (first.trees lecturer_tree) rows shown ∙ ap (λ t. length (filter (has_text 1 t) (first.trees lecturer_tree))) same ∙ none))
 
 -- where it showed none
-pub turns_none : (round : Round) (k asked : Key) (list : List Key) (show : Row → Row) (rows : List Row) (db : Database) → asked ≡ k → length rows ≡ 0
+pub turns_none : (round : Round) (k asked : Key) (list : List Key) (show : Row → Row) (rows : List Row) (db : Database)
+    → asked ≡ k → length rows ≡ 0
     → ListsBy (1 ∷ []) (has_text 1 asked) show (db.trees lecturer_tree) rows → IsTransitionIn round (Ranks k list) db db
 turns_none round k asked list show rows db same none shown =
     ranks_nobody round k list db

@@ -31,7 +31,8 @@ pub record Added (tree : ℕ) (cells : List Row) (old new : Database) : Type 0 w
   pub others : Keeps tree old new
   pub sound : IsDatabase old → IsDatabase new
 
-rows_permute : (table cells : List Row) → AreNew table cells → IsPermutation (map unnumbered cells ++ map bare table) (map bare (with_rows table cells))
+rows_permute : (table cells : List Row) → AreNew table cells
+    → IsPermutation (map unnumbered cells ++ map bare table) (map bare (with_rows table cells))
 rows_permute table [] new = IsPermutation-refl (map bare table)
 rows_permute table (c ∷ cells) new =
     let row : Row = Int (next_rowid table) ∷ c in
@@ -45,7 +46,8 @@ rows_permute table (c ∷ cells) new =
     IsPermutation-append_right front _ _ (IsPermutation-map bare (row ∷ table) (put_row row table) one) in
     IsPermutation-trans _ _ _ moved (IsPermutation-trans _ _ _ put (rows_permute (put_row row table) cells new.1))
 
-pub added_of : (tree : ℕ) (cells : List Row) (old new : Database) → InsertsRows tree cells old new → Added tree cells old new
+pub added_of : (tree : ℕ) (cells : List Row) (old new : Database) → InsertsRows tree cells old new
+    → Added tree cells old new
 added_of tree cells old new put = record {
   schema_is = put.schema_is;
   rows = subst (λ t. IsPermutation (map unnumbered cells ++ map bare (old.trees tree)) (map bare t)) (sym put.rows) (rows_permute (old.trees tree) cells put.free);
@@ -76,7 +78,8 @@ student_bare choices [] = refl
 student_bare choices (v ∷ r) = refl
 
 -- what the rows stand for, by a reading that does not look at their numbers
-decoded : {X : Type 0} (f : Row → X) (tree : ℕ) (cells : List Row) (old new : Database) → ((r : Row) → f (bare r) ≡ f r) → Added tree cells old new
+decoded : {X : Type 0} (f : Row → X) (tree : ℕ) (cells : List Row) (old new : Database) → ((r : Row) → f (bare r) ≡ f r)
+    → Added tree cells old new
     → IsPermutation (map (λ c. f (unnumbered c)) cells ++ map f (old.trees tree)) (map f (new.trees tree))
 decoded f tree cells old new blind a =
     let read = λ (rows : List Row). sym (map_twice f bare rows) ∙ map_alike (λ r. f (bare r)) f rows blind in
@@ -84,7 +87,8 @@ decoded f tree cells old new blind a =
     (IsPermutation-map f (map unnumbered cells ++ map bare (old.trees tree)) (map bare (new.trees tree)) a.rows)
 
 -- what holds of the rows that were there and of the new ones holds of all
-all_added : (P : Row → Type 0) (tree : ℕ) (cells : List Row) (old new : Database) → ((r : Row) → P r → P (bare r)) → ((r : Row) → P (bare r) → P r) → Added tree cells old new
+all_added : (P : Row → Type 0) (tree : ℕ) (cells : List Row) (old new : Database) → ((r : Row) → P r → P (bare r))
+    → ((r : Row) → P (bare r) → P r) → Added tree cells old new
     → AllByRecursion (λ c. P (unnumbered c)) cells → AllByRecursion P (old.trees tree) → AllByRecursion P (new.trees tree)
 all_added P tree cells old new to back a fresh was =
     let first : AllByRecursion P (map unnumbered cells ++ map bare (old.trees tree)) =
@@ -93,41 +97,48 @@ all_added P tree cells old new to back a fresh was =
 
 -- keys that rise together are new
 module _ {X : Type 0} (key : X → Key) where
-  behind : (k : Key) (us ys : List X) → AllByRecursion (λ l. equals k l ≡ false) (map key (us ++ ys)) → has (map key ys) k ≡ false
+  behind : (k : Key) (us ys : List X) → AllByRecursion (λ l. equals k l ≡ false) (map key (us ++ ys))
+      → has (map key ys) k ≡ false
   behind k [] [] h = refl
   behind k [] (y ∷ ys) h = ap (λ b. b || has (map key ys) k) h.0 ∙ behind k [] ys h.1
   behind k (u ∷ us) ys h = behind k us ys h.1
 
-  fresh_from : (xs ys : List X) → IsDistinct equals (map key (xs ++ ys)) → AllByRecursion (λ x. has (map key ys) (key x) ≡ false) xs
+  fresh_from : (xs ys : List X) → IsDistinct equals (map key (xs ++ ys))
+      → AllByRecursion (λ x. has (map key ys) (key x) ≡ false) xs
   unfolding IsDistinct
   fresh_from [] ys d = tt
   fresh_from (x ∷ xs) ys d = (behind (key x) xs ys d.0, fresh_from xs ys d.1)
 
-  pub are_fresh : (news olds : List X) → Rise (map key (put_all key news (put_all key olds []))) → AllByRecursion (λ x. has (map key olds) (key x) ≡ false) news
+  pub are_fresh : (news olds : List X) → Rise (map key (put_all key news (put_all key olds [])))
+      → AllByRecursion (λ x. has (map key olds) (key x) ≡ false) news
   are_fresh news olds up =
       fresh_from news olds (distinct_permuted key (put_all key news (put_all key olds [])) (news ++ olds)
       (IsPermutation-sym _ _ (IsPermutation-trans _ _ _ (IsPermutation-append_right news _ _ (permutes key olds)) (permutes_more key news (put_all key olds [])))) (rise_distinct _ up))
 
 -- what holds of the keys of the rows that were there and of the new ones holds of all
-keyed_added : (P : Key → Type 0) (tree : ℕ) (cells : List Row) (old new : Database) → Added tree cells old new → AllByRecursion (λ c. P (row_key (unnumbered c))) cells → AllByRecursion (λ r. P (row_key r)) (old.trees tree)
+keyed_added : (P : Key → Type 0) (tree : ℕ) (cells : List Row) (old new : Database) → Added tree cells old new
+    → AllByRecursion (λ c. P (row_key (unnumbered c))) cells → AllByRecursion (λ r. P (row_key r)) (old.trees tree)
     → AllByRecursion (λ r. P (row_key r)) (new.trees tree)
 keyed_added P tree cells old new = all_added (λ r. P (row_key r)) tree cells old new (λ r h. subst P (sym (key_bare r)) h) (λ r h. subst P (key_bare r) h)
 
 -- the roll has the new rows, by a reading that does not look at their numbers
-roll_added : {X Y : Type 0} (key : Y → Key) (cells : X → Row) (show : Row → Y) (rows : List X) (news : List Y) (tree : ℕ) (old new : Database) → ((r : Row) → show (bare r) ≡ show r) → map (λ x. show (unnumbered (cells x))) rows ≡ news
+roll_added : {X Y : Type 0} (key : Y → Key) (cells : X → Row) (show : Row → Y) (rows : List X) (news : List Y) (tree : ℕ) (old new : Database)
+    → ((r : Row) → show (bare r) ≡ show r) → map (λ x. show (unnumbered (cells x))) rows ≡ news
     → Added tree (map cells rows) old new → Rise (map key (put_all key news (put_all key (map show (old.trees tree)) []))) → put_all key (map show (new.trees tree)) [] ≡ put_all key news (put_all key (map show (old.trees tree)) [])
 roll_added key cells show rows news tree old new blind are a =
     more_put key news (map show (old.trees tree)) (map show (new.trees tree))
     (subst (λ l. IsPermutation (l ++ map show (old.trees tree)) (map show (new.trees tree))) (sym (map_twice (λ c. show (unnumbered c)) cells rows) ∙ are) (decoded show tree (map cells rows) old new blind a))
 
 -- no row of a list is that of an owner who is new
-none_yet : {X Y : Type 0} (Q : Row → Type 0) (key : Y → Key) (of : X → Y) (show : Row → Y) (rows : List X) (roll lists : List Row) → map key (map show roll) ≡ map row_key roll → AllByRecursion (λ r. OnRoll roll (row_key r) × Q r) lists
+none_yet : {X Y : Type 0} (Q : Row → Type 0) (key : Y → Key) (of : X → Y) (show : Row → Y) (rows : List X) (roll lists : List Row)
+    → map key (map show roll) ≡ map row_key roll → AllByRecursion (λ r. OnRoll roll (row_key r) × Q r) lists
     → Rise (map key (put_all key (map of rows) (put_all key (map show roll) []))) → AllByRecursion (λ x. of_key (key (of x)) lists ≡ []) rows
 none_yet Q key of show rows roll lists keys owned up =
     all_weaker (λ x. has (map row_key roll) (key (of x)) ≡ false) (λ x. of_key (key (of x)) lists ≡ []) (λ x off. none_of Q roll (key (of x)) lists owned off) rows
     (all_unmap (λ y. has (map row_key roll) (key y) ≡ false) of rows (subst (λ ks. AllByRecursion (λ y. has ks (key y) ≡ false) (map of rows)) keys (are_fresh key (map of rows) (map show roll) up)))
 
-whole_none : {X : Type 0} (key : X → Key) (lists : List Row) (xs : List X) → AllByRecursion (λ x. of_key (key x) lists ≡ []) xs → AllByRecursion (λ x. IsWhole (of_key (key x) lists)) xs
+whole_none : {X : Type 0} (key : X → Key) (lists : List Row) (xs : List X)
+    → AllByRecursion (λ x. of_key (key x) lists ≡ []) xs → AllByRecursion (λ x. IsWhole (of_key (key x) lists)) xs
 whole_none key lists xs = all_weaker (λ x. of_key (key x) lists ≡ []) (λ x. IsWhole (of_key (key x) lists)) (λ x none. subst IsWhole (sym none) tt) xs
 
 module _ (rows : List LecturerRow) (old new : Database) (was : IsConsistentIn First old) (better : Good (changed (world_in First old.trees) (Lecturers rows))) (a : Added lecturer_tree (map lecturer_new rows) old new) where
@@ -154,10 +165,12 @@ module _ (rows : List LecturerRow) (old new : Database) (was : IsConsistentIn Fi
         ∙ ap (λ l. record (world_in First old.trees) { lecturers = l }) (roll_added lecturer_key lecturer_new (lecturer_of lists) rows (map new_lecturer rows) lecturer_tree old new (lecturer_bare lists) refl a better.sound.lecturers_rise);
   }
 
-pub lecturers_turn : (rows : List LecturerRow) (old new : Database) → Adds lecturer_tree (map lecturer_new rows) old new → IsTransitionIn First (Lecturers rows) old new
+pub lecturers_turn : (rows : List LecturerRow) (old new : Database) → Adds lecturer_tree (map lecturer_new rows) old new
+    → IsTransitionIn First (Lecturers rows) old new
 lecturers_turn rows old new adds was good better = lecturers_turned rows old new was better (added_of _ _ old new (adds was.current))
 
-pub projects_turn : (rows : List ProjectRow) (old new : Database) → Adds project_tree (map project_new rows) old new → IsTransitionIn First (Projects rows) old new
+pub projects_turn : (rows : List ProjectRow) (old new : Database) → Adds project_tree (map project_new rows) old new
+    → IsTransitionIn First (Projects rows) old new
 unfolding world_in
 projects_turn rows old new adds was good better =
     let a = added_of _ _ old new (adds was.current) in
@@ -193,7 +206,8 @@ module _ (rows : List StudentRow) (old new : Database) (was : IsConsistentIn Fir
             ∙ ap (λ l. record (world_in First old.trees) { students = l }) (roll_added student_key student_new (student_of chosen) rows (map new_student rows) student_tree old new (student_bare chosen) news a better.sound.students_rise);
       }
 
-pub students_turn : (rows : List StudentRow) (old new : Database) → Adds student_tree (map student_new rows) old new → IsTransitionIn First (Students rows) old new
+pub students_turn : (rows : List StudentRow) (old new : Database) → Adds student_tree (map student_new rows) old new
+    → IsTransitionIn First (Students rows) old new
 students_turn rows old new adds was good better = students_turned rows old new was better (added_of _ _ old new (adds was.current))
 
 -- in the second round none come

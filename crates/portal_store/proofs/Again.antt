@@ -10,19 +10,22 @@ use Rattle.portal_store.proofs.First.{first_holds, first_is, first_is_good}
 use Rattle.portal_store.proofs.Upgraded.{second, upgraded_stands, upgraded_world}
 use Rattle.portal_store.proofs.Rounds.{world_told}
 
-only_store : (db : Trees) → HasGoodWorld db → (fault : OpenFault) → Refutes fault db → (fault ≡ opening.Store) ⊎ (fault ≡ opening.Memory)
+only_store : (db : Trees) → HasGoodWorld db → (fault : OpenFault) → Refutes fault db
+    → (fault ≡ opening.Store) ⊎ (fault ≡ opening.Memory)
 only_store db stands opening.NotPortal none = absurd (let e = sym stands.1.office.is ∙ none in cc)
 only_store db stands opening.OtherVersion not_so = absurd (not_so.other _ stands.1.office.is refl)
 only_store db stands opening.Damaged not_so = absurd (not_so.1 stands)
 only_store db stands opening.Store told = inl refl
 only_store db stands opening.Memory told = inr refl
 
-reopens : (left found : Database) → IsCurrentSchema left.schema → IsDatabase left → HasGoodWorld left.trees → found.trees ≡ left.trees → IsDatabase found → Reopens found
+reopens : (left found : Database) → IsCurrentSchema left.schema → IsDatabase left → HasGoodWorld left.trees
+    → found.trees ≡ left.trees → IsDatabase found → Reopens found
 reopens left found current sound stands_there same is =
     let stands : HasGoodWorld found.trees = subst HasGoodWorld (sym same) stands_there in
     record { current = own_again IsCurrentSchema left found sound is same current; stands = stands; faults = only_store found.trees stands }
 
-pub holds_again : (left found : Database) → IsConsistent left → Good (world_of left.trees) → found.trees ≡ left.trees → IsDatabase found → Reopens found
+pub holds_again : (left found : Database) → IsConsistent left → Good (world_of left.trees) → found.trees ≡ left.trees
+    → IsDatabase found → Reopens found
 holds_again left found holds good =
     let h = holds.1 in
     reopens left found h.current h.sound
@@ -37,7 +40,8 @@ opens_again change old found holds good leaves (inr turned) is =
 pub opens_fresh : OpensFresh
 opens_fresh office made found form fresh same is = (holds_again made found (first_holds office made fresh) (first_is_good office made fresh form) same is, ap world_of same ∙ first_is office made fresh)
 
-pub none_but_store : (db : Trees) → HasGoodFirst first_version db → (fault : UpgradeFault) → Bars fault db → (fault ≡ upgrading.Store) ⊎ (fault ≡ upgrading.Memory)
+pub none_but_store : (db : Trees) → HasGoodFirst first_version db → (fault : UpgradeFault) → Bars fault db
+    → (fault ≡ upgrading.Store) ⊎ (fault ≡ upgrading.Memory)
 none_but_store db stands fault (opening.NotPortal, is, none) = absurd (let e = sym stands.office.is ∙ none in cc)
 none_but_store db stands fault (opening.OtherVersion, is, not_so) = absurd (not_so.other _ stands.office.is refl)
 none_but_store db stands fault (opening.Damaged, is, not_so) = absurd (not_so.1 stands)

@@ -22,7 +22,8 @@ use Rattle.portal_store.proofs.Fine.{first_left, good_before, placed_on_lists}
 
 -- the own projects
 
-own_told : (round : Round) (db : Trees) (k : Key) → own_keys_shown db k ≡ map project_key (projects_of (world_in round db) k)
+own_told : (round : Round) (db : Trees) (k : Key)
+    → own_keys_shown db k ≡ map project_key (projects_of (world_in round db) k)
 unfolding world_in
 own_told round db k =
     let rows = by_key (db project_tree) in
@@ -39,12 +40,14 @@ person_of s = record { key = s.row.key; name = s.row.name }
 abbrev line_of : Student → ApplicantLine
 line_of s = record { person = record { key = s.row.key; name = s.row.name }; placed = s.placed }
 
-line_is : (round : Round) (db : Trees) (r : Row) → shown_line round db (roll_columns r) ≡ line_of (student_stored round db r)
+line_is : (round : Round) (db : Trees) (r : Row)
+    → shown_line round db (roll_columns r) ≡ line_of (student_stored round db r)
 line_is First db r = refl
 line_is Second db r = refl
 
 -- the lines that the tables tell of a project are those of its applicants
-lines_told : (round : Round) (db : Trees) (p : Key) → applicant_lines round db p ≡ map line_of (applicants_to (world_in round db) p)
+lines_told : (round : Round) (db : Trees) (p : Key)
+    → applicant_lines round db p ≡ map line_of (applicants_to (world_in round db) p)
 unfolding world_in
 lines_told round db p =
     let rows = by_key (db student_tree) in
@@ -54,27 +57,32 @@ lines_told round db p =
     ap (map (shown_line round db)) (filter-map (λ c. has (choice_shown round db c) p) roll_columns rows) ∙ map-map (shown_line round db) roll_columns mine ∙ map_alike _ _ mine (line_is round db)
     ∙ sym (ap (λ ss. map line_of (filter q ss)) (students_by_key round db) ∙ ap (map line_of) (filter-map q of rows) ∙ map-map line_of of mine)
 
-persons_of : (p : ApplicantLine → Bool) (ss : List Student) → map (λ (l : ApplicantLine). l.person) (filter p (map line_of ss)) ≡ persons (filter (λ s. p (line_of s)) ss)
+persons_of : (p : ApplicantLine → Bool) (ss : List Student)
+    → map (λ (l : ApplicantLine). l.person) (filter p (map line_of ss)) ≡ persons (filter (λ s. p (line_of s)) ss)
 persons_of p ss = ap (map (λ (l : ApplicantLine). l.person)) (filter-map p line_of ss) ∙ map-map (λ (l : ApplicantLine). l.person) line_of (filter (λ s. p (line_of s)) ss)
 
 -- who passes a test passes one before it, too
-filter_twice : (p q : Student → Bool) (ss : List Student) → AllByRecursion (λ s. p s ≡ true → q s ≡ true) ss → filter p (filter q ss) ≡ filter p ss
+filter_twice : (p q : Student → Bool) (ss : List Student) → AllByRecursion (λ s. p s ≡ true → q s ≡ true) ss
+    → filter p (filter q ss) ≡ filter p ss
 filter_twice p q [] all = refl
 filter_twice p q (s ∷ ss) all = grind (arith, all.0, filter_twice p q ss all.1)
 
 -- who is at a project has it on the list
-at_listed : (k : Key) (choice : List Key) (o : Option Key) → IfSome o (λ p. has choice p ≡ true) → is_at k o ≡ true → has choice k ≡ true
+at_listed : (k : Key) (choice : List Key) (o : Option Key) → IfSome o (λ p. has choice p ≡ true) → is_at k o ≡ true
+    → has choice k ≡ true
 at_listed k choice None on e = absurd (cc)
 at_listed k choice (Some p) on e = subst (λ x. has choice x ≡ true) (is_same p k e) on
 
-placed_by_lines : (w : World) → Good w → (k : Key) → persons_at k (map line_of (applicants_to w k)) ≡ persons (filter (λ s. is_at k s.placed) w.students)
+placed_by_lines : (w : World) → Good w → (k : Key)
+    → persons_at k (map line_of (applicants_to w k)) ≡ persons (filter (λ s. is_at k s.placed) w.students)
 placed_by_lines w good k =
     persons_of (λ (l : ApplicantLine). is_at k l.placed) (applicants_to w k)
     ∙ ap persons (filter_twice (λ s. is_at k s.placed) (λ s. has s.choice k) w.students (all_weaker _ _ (λ s on. at_listed k s.choice s.placed on) w.students (placed_on_lists w good)))
 
 -- told of one project, by the lines that the phase shows
 
-persons_shown : (w : World) (k : Key) → map (λ (l : ApplicantLine). l.person) (if is_from_ranking w.phase then map line_of (applicants_to w k) else []) ≡ (if is_from_ranking w.phase then persons (applicants_to w k) else [])
+persons_shown : (w : World) (k : Key)
+    → map (λ (l : ApplicantLine). l.person) (if is_from_ranking w.phase then map line_of (applicants_to w k) else []) ≡ (if is_from_ranking w.phase then persons (applicants_to w k) else [])
 persons_shown w k =
     elim (is_from_ranking w.phase) as (λ b. map (λ (l : ApplicantLine). l.person) (if b then map line_of (applicants_to w k) else []) ≡ (if b then persons (applicants_to w k) else [])) [
       | true ↦ map-map (λ (l : ApplicantLine). l.person) line_of (applicants_to w k)
@@ -85,7 +93,8 @@ persons_shown w k =
 abbrev is_placed : World → Key → Student → Bool
 is_placed w k s = is_published w.phase && is_at k s.placed
 
-now_told : (w : World) → Good w → (k : Key) → placed_among w.phase k (if is_from_ranking w.phase then map line_of (applicants_to w k) else []) ≡ persons (filter (is_placed w k) w.students)
+now_told : (w : World) → Good w → (k : Key)
+    → placed_among w.phase k (if is_from_ranking w.phase then map line_of (applicants_to w k) else []) ≡ persons (filter (is_placed w k) w.students)
 now_told w good k =
     let none : [] ≡ persons (filter (λ (s : Student). false) w.students) = ap persons (sym (filter_none (λ (s : Student). false) w.students (all_of _ (λ s. refl) w.students))) in
     elim w.phase as (λ (f : Phase). placed_among f k (if is_from_ranking f then map line_of (applicants_to w k) else []) ≡ persons (filter (λ (s : Student). is_published f && is_at k s.placed) w.students)) [
@@ -100,7 +109,8 @@ unfolding world_in
 world_round round db = refl
 
 -- whom the round before placed there
-before_told : (round : Round) (db : Trees) → HasSecond round db → Good (world_in round db) → (k : Key) → persons_before round db k ≡ persons (filter (λ s. is_at k s.earlier_placement) (world_in round db).students)
+before_told : (round : Round) (db : Trees) → HasSecond round db → Good (world_in round db) → (k : Key)
+    → persons_before round db k ≡ persons (filter (λ s. is_at k s.earlier_placement) (world_in round db).students)
 before_told First db second good k =
     ap persons (sym (filter_none (λ (s : Student). is_at k s.earlier_placement) (world_in First db).students (all_weaker _ _ (λ s none. ap (is_at k) none) (world_in First db).students (none_earlier db))))
 before_told Second db second good k =
@@ -136,7 +146,8 @@ module _ {X : Type 0} (key : X → Key) (f g h : X → Bool) where
       ]) all.0
 
   -- those who pass the one test put to those who pass the other are those who pass either
-  pub put_passing : (xs : List X) → Rise (map key xs) → AllByRecursion Parts xs → put_all key (filter f xs) (filter g xs) ≡ filter h xs
+  pub put_passing : (xs : List X) → Rise (map key xs) → AllByRecursion Parts xs
+      → put_all key (filter f xs) (filter g xs) ≡ filter h xs
   put_passing xs up all =
       let F = filter f xs in
       let G = filter g xs in
@@ -147,7 +158,8 @@ module _ {X : Type 0} (key : X → Key) (f g h : X → Bool) where
       one_rise key (put_all key F G) H (IsPermutation-trans _ _ _ (IsPermutation-sym _ _ (permutes_more key F G)) same) (rise_put_all key F G apart (rise_kept key g xs up)) risen
 
 -- a place that is shown is that of the round before, or of the round once it is published
-shown_parts : (w : World) (k : Key) (s : Student) (o : Option Key) → s.earlier_placement ≡ o → (is_none o ≡ false → s.placed ≡ None)
+shown_parts : (w : World) (k : Key) (s : Student) (o : Option Key) → s.earlier_placement ≡ o
+    → (is_none o ≡ false → s.placed ≡ None)
     → (is_at k (shown_placement w.phase s) ≡ (is_placed w k s || is_at k s.earlier_placement)) × ((is_placed w k s && is_at k s.earlier_placement) ≡ false)
 shown_parts w k s None e none =
     subst (λ o. (is_at k (if is_none o then (if is_published w.phase then s.placed else None) else o) ≡ (is_placed w k s || is_at k o)) × ((is_placed w k s && is_at k o) ≡ false)) (sym e)
@@ -160,7 +172,8 @@ shown_parts w k s (Some q) e none =
     (subst (λ p. (equals q k ≡ ((is_published w.phase && is_at k p) || equals q k)) × (((is_published w.phase && is_at k p) && equals q k) ≡ false)) (sym (none refl))
     (elim (is_published w.phase) as (λ b. (equals q k ≡ ((b && false) || equals q k)) × (((b && false) && equals q k) ≡ false)) [ true ↦ (refl, refl) | false ↦ (refl, refl) ]))
 
-placed_all : (w : World) → Good w → (k : Key) → put_all person_key (persons (filter (is_placed w k) w.students)) (persons (filter (λ s. is_at k s.earlier_placement) w.students)) ≡ persons (placed_at w k)
+placed_all : (w : World) → Good w → (k : Key)
+    → put_all person_key (persons (filter (is_placed w k) w.students)) (persons (filter (λ s. is_at k s.earlier_placement) w.students)) ≡ persons (placed_at w k)
 placed_all w good k =
     let ss = w.students in
     put_all_map student_key person_key person_of (λ s. refl) (filter (is_placed w k) ss) (filter (λ s. is_at k s.earlier_placement) ss)
@@ -168,7 +181,9 @@ placed_all w good k =
     (all_weaker (λ s. is_left s ≡ false → (s.choice ≡ []) × (s.placed ≡ None)) _ (λ s only. shown_parts w k s s.earlier_placement refl (λ e. (only e).1)) ss good.sound.only_left))
 
 -- what a lecturer sees, of what was read
-pub lecturer_told : (round : Round) (db : Trees) → HasSecond round db → Good (world_in round db) → (row : Row) (phase : Phase) (offers : List Listing) → phase ≡ (world_in round db).phase → offers ≡ catalogue (world_in round db)
+pub lecturer_told : (round : Round) (db : Trees) → HasSecond round db → Good (world_in round db)
+    → (row : Row) (phase : Phase) (offers : List Listing) → phase ≡ (world_in round db).phase
+    → offers ≡ catalogue (world_in round db)
     → lecturer_shown round db phase row offers ≡ lecturer_sees (world_in round db) (lecturer_from round db row)
 unfolding world_in
 lecturer_told round db second good row phase offers at_phase all =

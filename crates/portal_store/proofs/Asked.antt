@@ -39,18 +39,21 @@ pub denies_any : (fault : OpenFault) (A : Type 0) → SaysNothing fault → Deni
 denies_any fault A = denies_more fault (Unit {0}) A (λ _. tt)
 
 -- as a fault of the tables' rows
-pub denied_of : (fault : OpenFault) (why : TableFault) (A : Type 0) → (why ≡ told.Damaged → fault ≡ Damaged) → ((why ≡ told.Damaged → ⊥) → SaysNothing fault) → (why ≡ told.Damaged → A → ⊥) → Denies fault A
+pub denied_of : (fault : OpenFault) (why : TableFault) (A : Type 0) → (why ≡ told.Damaged → fault ≡ Damaged)
+    → ((why ≡ told.Damaged → ⊥) → SaysNothing fault) → (why ≡ told.Damaged → A → ⊥) → Denies fault A
 denied_of fault told.Damaged A damaged nothing h = subst (λ f. Denies f A) (sym (damaged refl)) (h refl)
 denied_of fault told.Store A damaged nothing h = denies_any fault A (nothing (λ e. absurd (cc)))
 denied_of fault told.Memory A damaged nothing h = denies_any fault A (nothing (λ e. absurd (cc)))
 
 -- an error that is handed on as a refusal
-pub reads_said : {round : Round} {On : State → Type 0} {Right : Database → Type 0} {U D V : Type 0} {T : Database → Result U D → Type 0} {Told : Database → Result V OpenFault → Type 0} {e : D} {r : Result V OpenFault} {Said : OpenFault → Type 0} {a b : State} → IsErrAnd r Said
+pub reads_said : {round : Round} {On : State → Type 0} {Right : Database → Type 0} {U D V : Type 0} {T : Database → Result U D → Type 0} {Told : Database → Result V OpenFault → Type 0} {e : D} {r : Result V OpenFault} {Said : OpenFault → Type 0} {a b : State}
+    → IsErrAnd r Said
     → Reading round On Right T (Err e) a b → (HasRound round a.now.schema → Right a.now → T a.now (Err e) → (f : OpenFault) → Said f → Told a.now (Err f)) → Reading round On Right Told r a b
 reads_said {r = Ok v} is h so = absurd is
 reads_said {r = Err f} is h so = reads_as h (λ no. no) (λ own right told. so own right told f is)
 
-pub blames_more : (fault : OpenFault) (of : ℕ) (A B : Type 0) (db : Trees) → (B → A) → RefusalSays fault of A db → RefusalSays fault of B db
+pub blames_more : (fault : OpenFault) (of : ℕ) (A B : Type 0) (db : Trees) → (B → A) → RefusalSays fault of A db
+    → RefusalSays fault of B db
 blames_more NotPortal of A B db back h = h
 blames_more OtherVersion of A B db back h = h
 blames_more Damaged of A B db back h = (h.0, λ b. h.1 (back b))
@@ -58,7 +61,8 @@ blames_more Store of A B db back h = tt
 blames_more Memory of A B db back h = tt
 
 -- of tables of this version
-pub blamed : (fault : OpenFault) (of : ℕ) (A : Type 0) (db : Trees) → HasVersion of db → Denies fault A → RefusalSays fault of A db
+pub blamed : (fault : OpenFault) (of : ℕ) (A : Type 0) (db : Trees) → HasVersion of db → Denies fault A
+    → RefusalSays fault of A db
 blamed NotPortal of A db of_version h = absurd h
 blamed OtherVersion of A db of_version h = absurd h
 blamed Damaged of A db of_version h = (of_version, h)
@@ -75,18 +79,22 @@ blames_none Memory of A db h = tt
 
 -- the row of the office
 
-listed_one : (keys : List ℕ) (show : Row → Row) (table shown : List Row) (r : Row) → ListsBy keys every show table shown → table ≡ r ∷ [] → shown ≡ show r ∷ []
+listed_one : (keys : List ℕ) (show : Row → Row) (table shown : List Row) (r : Row) → ListsBy keys every show table shown
+    → table ≡ r ∷ [] → shown ≡ show r ∷ []
 listed_one keys show table shown r h is =
     let f : Row → Row × Row = λ r. (columns keys r, show r) in
     h.is ∙ ap (map (λ (k : Row × Row). k.1)) (one_permutation (f r) h.keyed (subst (λ rows. IsPermutation (map f (filter every rows)) h.keyed) is h.same))
 
-listed_none : (keys : List ℕ) (show : Row → Row) (table shown : List Row) → ListsBy keys every show table shown → shown ≡ [] → table ≡ []
+listed_none : (keys : List ℕ) (show : Row → Row) (table shown : List Row) → ListsBy keys every show table shown
+    → shown ≡ [] → table ≡ []
 listed_none keys show table shown h none = nil_from_length table (ap length (sym (filter_all table)) ∙ sym (as_many keys every show table shown h) ∙ ap length none)
 
-listed_nil : (keys : List ℕ) (show : Row → Row) (table shown : List Row) → ListsBy keys every show table shown → table ≡ [] → shown ≡ []
+listed_nil : (keys : List ℕ) (show : Row → Row) (table shown : List Row) → ListsBy keys every show table shown
+    → table ≡ [] → shown ≡ []
 listed_nil keys show table shown h none = nil_from_length shown (as_many keys every show table shown h ∙ ap (λ t. length (filter every t)) none)
 
-pub office_version : (of : ℕ) (db : Trees) (shown : List Row) (row : Row) (rest : List Row) → ListsBy (0 ∷ []) every (columns (0 ∷ 2 ∷ 3 ∷ 4 ∷ [])) (db portal_tree) shown → shown ≡ row ∷ rest
+pub office_version : (of : ℕ) (db : Trees) (shown : List Row) (row : Row) (rest : List Row)
+    → ListsBy (0 ∷ []) every (columns (0 ∷ 2 ∷ 3 ∷ 4 ∷ [])) (db portal_tree) shown → shown ≡ row ∷ rest
     → column row 1 ≡ Int (pos of) → HasVersion of db
 office_version of db shown row rest h is v = record {
   there = λ none. let e : row ∷ rest ≡ [] = sym is ∙ listed_nil _ _ _ shown h none in absurd (cc);
@@ -95,7 +103,8 @@ office_version of db shown row rest h is v = record {
       ap (λ (l : List Row). column (slice_index_or l 0 []) 1) e ∙ v;
 }
 
-pub office_refuted : {V : Type 0} (of : ℕ) (A : Type 0) (db : Trees) (shown : List Row) (r : Result V OpenFault) → ListsBy (0 ∷ []) every (columns (0 ∷ 2 ∷ 3 ∷ 4 ∷ [])) (db portal_tree) shown → (r ≡ Err NotPortal → shown ≡ [])
+pub office_refuted : {V : Type 0} (of : ℕ) (A : Type 0) (db : Trees) (shown : List Row) (r : Result V OpenFault)
+    → ListsBy (0 ∷ []) every (columns (0 ∷ 2 ∷ 3 ∷ 4 ∷ [])) (db portal_tree) shown → (r ≡ Err NotPortal → shown ≡ [])
     → (r ≡ Err OtherVersion → shown ≢ []) → (r ≡ Err OtherVersion → (row : Row) → shown ≡ row ∷ [] → column row 1 ≡ Int (pos of) → ⊥) → IfErr r (λ fault. fault ≡ Damaged → ⊥) → IfErr r (λ fault. RefusalSays fault of A db)
 office_refuted of A db shown (Ok v) h none there other judged = tt
 office_refuted of A db shown (Err NotPortal) h none there other judged = listed_none _ _ _ shown h (none refl)
@@ -109,7 +118,8 @@ office_refuted of A db shown (Err Memory) h none there other judged = tt
 
 -- a table of which a query shows whether there is a row
 
-pub found_none : (q : Query) (db : Trees) (found : Bool) → (selection q).passes ≡ every → FindsAny (Shows q db) found → found ≡ false → db (selection q).tree ≡ []
+pub found_none : (q : Query) (db : Trees) (found : Bool) → (selection q).passes ≡ every → FindsAny (Shows q db) found
+    → found ≡ false → db (selection q).tree ≡ []
 found_none q db found all h none =
     let s = selection q in
     listed_none s.by (columns s.shown) (db s.tree) h.rows (subst (λ p. ListsBy s.by p (columns s.shown) (db s.tree) h.rows) all h.shown) (empty_if h.rows (sym h.told ∙ none))
@@ -118,7 +128,8 @@ found_none q db found all h none =
     empty_if [] e = refl
     empty_if (r ∷ rs) e = absurd (cc)
 
-pub found_some : (q : Query) (db : Trees) (found : Bool) → (selection q).passes ≡ every → FindsAny (Shows q db) found → found ≡ true → db (selection q).tree ≡ [] → ⊥
+pub found_some : (q : Query) (db : Trees) (found : Bool) → (selection q).passes ≡ every → FindsAny (Shows q db) found
+    → found ≡ true → db (selection q).tree ≡ [] → ⊥
 found_some q db found all h some none =
     let s = selection q in
     let rows : h.rows ≡ [] = listed_nil s.by (columns s.shown) (db s.tree) h.rows (subst (λ p. ListsBy s.by p (columns s.shown) (db s.tree) h.rows) all h.shown) none in
@@ -126,7 +137,8 @@ found_some q db found all h some none =
     absurd (cc)
 
 -- row numbers differ in the tables of one round, and of both
-pub first_apart : (of : ℕ) (db : Trees) → HasOffice of (db portal_tree) → AllNumbersDiffer early_trees db → AllNumbersDiffer first_trees db
+pub first_apart : (of : ℕ) (db : Trees) → HasOffice of (db portal_tree) → AllNumbersDiffer early_trees db
+    → AllNumbersDiffer first_trees db
 first_apart of db office many = (apart_one (db portal_tree) (portal_row (pos of) (pos (number_of_phase office.phase)) office.office) (pos 1) refl office.is, many)
 
 pub all_apart : (db : Trees) → AllNumbersDiffer early_trees db → AllNumbersDiffer later_trees db → NumbersDiffer db
@@ -145,7 +157,8 @@ second_apart : (round : Round) (db : Trees) → HasSecond round db → RowNumber
 second_apart First db h = apart_one (db second_tree) (second_row (pos 0)) (pos 1) refl h.is
 second_apart Second db h = apart_one (db second_tree) (second_row (pos (number_of_phase h.phase))) (pos 1) refl h.is
 
-pub apart_both : (db : Trees) (round : Round) → HasOffice version (db portal_tree) → HasSecond round db → NumbersDiffer db → AllNumbersDiffer own_trees db
+pub apart_both : (db : Trees) (round : Round) → HasOffice version (db portal_tree) → HasSecond round db
+    → NumbersDiffer db → AllNumbersDiffer own_trees db
 apart_both db round office second many =
     let parts = parts_of (λ t. RowNumbersDiffer (db t)) early_trees later_trees many in
     all_append (λ t. RowNumbersDiffer (db t)) first_trees second_trees (first_apart version db office parts.0) (second_apart round db second, parts.1)
@@ -176,7 +189,9 @@ module _
       } in
       record { settled = same.committed_is ∙ sym (settled same.was_open) ∙ sym same.now_is; holds = subst IsConsistent (sym same.now_is) (good.stands.0, before) }
 
-  pub opened_kept : new.in_transaction ≡ false → (IsTrue (state g new).is_open → HasCleanDisk (state g new)) → ((db : Trees) → IsTrue (state g new).is_open → (state g new).may_leave db → db ≡ (state g new).committed.trees) → IsKept g new own
+  pub opened_kept : new.in_transaction ≡ false → (IsTrue (state g new).is_open → HasCleanDisk (state g new))
+      → ((db : Trees) → IsTrue (state g new).is_open → (state g new).may_leave db → db ≡ (state g new).committed.trees)
+      → IsKept g new own
   opened_kept idle shut law = record {
     idle = idle;
     ready = λ mine on. admitted mine (shut on);
@@ -204,7 +219,8 @@ version_still of a b same h = record {
 }
 
 -- what a read tells of the tables that a look before it found
-pub told_before : {V E : Type 0} {Right : Database → Type 0} {Told : Database → Result V E → Type 0} (r : Result V E) (a b c : State) (P : Database → Type 0) → IsSettled a → OnlyLooks a b
+pub told_before : {V E : Type 0} {Right : Database → Type 0} {Told : Database → Result V E → Type 0} (r : Result V E) (a b c : State) (P : Database → Type 0)
+    → IsSettled a → OnlyLooks a b
     → Reading First Anyhow Right Told r b c → HasCleanDisk c → HasFirstSchema a.now.schema → (IsTrue a.is_open → Right a.now) → ((v : V) → Told a.now (Ok v) → P a.now) → OnOk r (P a.now)
 told_before {Right = Right} {Told = Told} (Ok v) a b c P settled looks reads clean first right told =
     let stays = looks.stays settled (clean_before b c _ reads.crash clean) (reads.same clean tt).0.was_open in

@@ -33,7 +33,8 @@ module _ {S : Type 0} (g : Ghosts S) (After : Trees → Type 0) where
     crash = survives_weaker (state g conn) (state g conn) _ After (λ clean db no. absurd no) (survives_same (state g conn));
   }
 
-  pub looked_at : (old new : Held S) → IsSettled (state g old) → old.in_transaction ≡ false → OnlyLooks (state g old) (state g new)
+  pub looked_at : (old new : Held S) → IsSettled (state g old) → old.in_transaction ≡ false
+      → OnlyLooks (state g old) (state g new)
       → HandsBack g After old new
   looked_at old new settled idle looks = record {
     idle = looks.mode idle;
@@ -69,7 +70,8 @@ module _
     fresh : IsCleanStore g made → IsFresh office (state g new).now
     fresh on = (did (shut on.1)).changed (none_before.0 on.0)
 
-    pub created : has_names All old.schema ≡ false → Survives (state g old) (state g new) (IsAfter (Creates office) (state g old))
+    pub created : has_names All old.schema ≡ false
+        → Survives (state g old) (state g new) (IsAfter (Creates office) (state g old))
         → CreatesStore g office old made
     created free crash = record {
       makes = makes_by _ _ none_before (first_kept g office own old new idle none_before.0 shut did only)
@@ -91,7 +93,8 @@ module _
       (reads : IsTrue own → Reads Second g (IsSoundIfOpen g old)
       (Answers (λ db e. Admits db.trees × HasEntries e (world_of db.trees)) (λ db (fault : OpenFault). Refutes fault db.trees))
       (Ok entries) old new) where
-    found : IsTrue own → HasCleanDisk (state g new) → IsUnchanged (state g old) (state g new) × Admits (state g old).now.trees
+    found : IsTrue own → HasCleanDisk (state g new)
+        → IsUnchanged (state g old) (state g new) × Admits (state g old).now.trees
     found mine clean = let r = reads mine in (r.same clean tt, (r.told (is_own.0 mine) (λ on. (live on).0) clean).0)
 
     pub open_kept : IsKept g new own
@@ -154,7 +157,8 @@ never_exists opening.Damaged e = absurd (cc)
 never_exists opening.Store e = absurd (cc)
 never_exists opening.Memory e = absurd (cc)
 
-pub not_upgraded : {S : Type 0} (g : Ghosts S) (fault : UpgradeFault) (found : OpenFault) (old new : Held S) → fault ≡ as_upgrading found
+pub not_upgraded : {S : Type 0} (g : Ghosts S) (fault : UpgradeFault) (found : OpenFault) (old new : Held S)
+    → fault ≡ as_upgrading found
     → HandsBack g (LeavesUpgraded (state g old)) old new
     → (IsFirstSchema old.schema → HasCleanDisk (state g new)
     → RefusalSays found first_version (HasGoodFirst first_version (state g old).now.trees) (state g old).now.trees)

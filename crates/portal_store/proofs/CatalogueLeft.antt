@@ -20,7 +20,8 @@ no_name (l ∷ ls) k none =
     ap (λ b. option_map (λ (x : Lecturer). x.row.name) (cond b (Some l) (find (λ (x : Lecturer). equals x.row.key k) ls))) (is_sym l.row.key k ∙ p.0) ∙ no_name ls k p.1
 
 -- what gives nothing may pass
-may_pass : {X Y : Type 0} (g : X → Option Y) (a b : X → Bool) → ((x : X) → b x ≡ false → g x ≡ None) → (xs : List X) → filter_map g (filter (λ x. a x && b x) xs) ≡ filter_map g (filter a xs)
+may_pass : {X Y : Type 0} (g : X → Option Y) (a b : X → Bool) → ((x : X) → b x ≡ false → g x ≡ None) → (xs : List X)
+    → filter_map g (filter (λ x. a x && b x) xs) ≡ filter_map g (filter a xs)
 may_pass g a b none [] = refl
 may_pass {X} g a b none (x ∷ xs) = at (a x) (b x) (none x) (may_pass g a b none xs)
   where
@@ -30,7 +31,8 @@ may_pass {X} g a b none (x ∷ xs) = at (a x) (b x) (none x) (may_pass g a b non
     one : List X
     one = filter a xs
 
-    at : (c d : Bool) → (d ≡ false → g x ≡ None) → filter_map g both ≡ filter_map g one → filter_map g (cond (c && d) (x ∷ both) both) ≡ filter_map g (cond c (x ∷ one) one)
+    at : (c d : Bool) → (d ≡ false → g x ≡ None) → filter_map g both ≡ filter_map g one
+        → filter_map g (cond (c && d) (x ∷ both) both) ≡ filter_map g (cond c (x ∷ one) one)
     at true true nothing rest = ap (cons_option (g x)) rest
     at true false nothing rest = rest ∙ sym (ap (λ o. cons_option o (filter_map g one)) (nothing refl))
     at false true nothing rest = rest

@@ -34,10 +34,12 @@ abbrev put_in : Round → Database → Database → Trees
 put_in round = but_one (tree_of (choice_table round))
 
 module _ (round : Round) (k : Key) (list : List Key) (first now : Database) (put : HasPut (tree_of (choice_table round)) k list first now) where
-  one : (r : Row) → student_stored round (put_in round first now) r ≡ with_choice k list (student_stored round first.trees r)
+  one : (r : Row)
+      → student_stored round (put_in round first now) r ≡ with_choice k list (student_stored round first.trees r)
   one r = go round put
     where
-      go : (x : Round) → HasPut (tree_of (choice_table x)) k list first now → student_stored x (put_in x first now) r ≡ with_choice k list (student_stored x first.trees r)
+      go : (x : Round) → HasPut (tree_of (choice_table x)) k list first now
+          → student_stored x (put_in x first now) r ≡ with_choice k list (student_stored x first.trees r)
       go First p = (λ i. record (student_stored First first.trees r) { choice = chosen_is choice_tree k list first now p (row_key r) i }) ∙ here k list (student_stored First first.trees r)
       go Second p = (λ i. record (student_stored Second first.trees r) { choice = chosen_is choice2_tree k list first now p (row_key r) i }) ∙ here k list (student_stored Second first.trees r)
 
@@ -58,23 +60,30 @@ module _ (round : Round) (k : Key) (list : List Key) (first now : Database) (put
   choice_whole : Whole round first.trees → Whole round (put_in round first now)
   choice_whole was = go round (all_weaker _ _ (λ r h. whole_at (tree_of (choice_table round)) k list first now put (row_key r) h) (first.trees 6) was.choices) was
     where
-      go : (x : Round) → AllByRecursion (λ r. IsWhole (of_key (row_key r) (now.trees (tree_of (choice_table x))))) (first.trees 6) → Whole x first.trees → Whole x (put_in x first now)
+      go : (x : Round)
+          → AllByRecursion (λ r. IsWhole (of_key (row_key r) (now.trees (tree_of (choice_table x))))) (first.trees 6)
+          → Whole x first.trees → Whole x (put_in x first now)
       go First choices w = record { choices = choices; rankings = w.rankings; ranked = w.ranked }
       go Second choices w = record { choices = choices; rankings = w.rankings; ranked = w.ranked }
 
-choice_holds : (round : Round) (k : Key) (list : List Key) (first now : Database) → HasPut (tree_of (choice_table round)) k list first now → IsConsistentIn round first → IsConsistentIn round now
+choice_holds : (round : Round) (k : Key) (list : List Key) (first now : Database)
+    → HasPut (tree_of (choice_table round)) k list first now → IsConsistentIn round first → IsConsistentIn round now
 choice_holds First k list first now put was = holds_after choice_tree first now refl was put.tables put.schema_is put.sound put.apart was.office (choice_whole First k list first now put was.whole)
 choice_holds Second k list first now put was =
     holds_there choice2_tree first now refl was put.tables put.schema_is put.sound put.apart (opened_kept first.trees (put_in Second first now) refl refl was.second) (choice_whole Second k list first now put was.whole.1)
 
-its_apart : (round : Round) (db : Database) → IsConsistentIn round db → RowNumbersDiffer (db.trees (tree_of (choice_table round)))
+its_apart : (round : Round) (db : Database) → IsConsistentIn round db
+    → RowNumbersDiffer (db.trees (tree_of (choice_table round)))
 its_apart First db was = was.apart.1.1.1.1.0
 its_apart Second db was = was.apart.1.1.1.1.1.1.1.0
 
-pub choice_turns : (round : Round) (k : Key) (list : List Key) (first now : Database) → PutsList (tree_of (choice_table round)) k list first now → IsTransitionIn round (Choices k list) first now
+pub choice_turns : (round : Round) (k : Key) (list : List Key) (first now : Database)
+    → PutsList (tree_of (choice_table round)) k list first now → IsTransitionIn round (Choices k list) first now
 choice_turns round k list first now puts holds good then =
     let put = puts holds.current (its_apart round first holds) in
     record { holds = choice_holds round k list first now put holds; world = choice_world round k list first now put }
 
-pub choice_made : (round : Round) (k : Key) (list : List Key) (old new : State) → GoesOn (PutsList (tree_of (choice_table round)) k list) old new → GoesOn (IsTransitionIn round (Choices k list)) old new
+pub choice_made : (round : Round) (k : Key) (list : List Key) (old new : State)
+    → GoesOn (PutsList (tree_of (choice_table round)) k list) old new
+    → GoesOn (IsTransitionIn round (Choices k list)) old new
 choice_made round k list old new h = goes_more _ _ old new h (choice_turns round k list old.now new.now)

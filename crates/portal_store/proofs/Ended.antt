@@ -7,7 +7,8 @@ use Rattle.portal_store.proofs.Base.{survives_then, survives_weaker, sym, Leaves
 use Rattle.portal_store.proofs.Base.{LeavesMade, IsToldAs, IfOk}
 
 -- the tables are read, and then the change is made, or not
-pub ends_then : {round : Round} {Right : Database → Type 0} {U F V E : Type 0} {Told : Database → Result U F → Type 0} {C D : Database → Database → Type 0} {u : U} {r : Result V E} {old mid new : State} → Reading round Anyhow Right Told (Ok u) old mid → CommitsChange C r mid new
+pub ends_then : {round : Round} {Right : Database → Type 0} {U F V E : Type 0} {Told : Database → Result U F → Type 0} {C D : Database → Database → Type 0} {u : U} {r : Result V E} {old mid new : State}
+    → Reading round Anyhow Right Told (Ok u) old mid → CommitsChange C r mid new
     → (IsCurrentSchema old.now.schema → HasCleanDisk mid → (after : Database) → C old.now after → D old.now after) → CommitsChange D r old new
 ends_then {C = C} {D = D} {r = r} {old} {mid} {new} reads then more =
     let before : HasCleanDisk new → HasCleanDisk mid = clean_before mid new _ then.crash in
@@ -27,7 +28,8 @@ ends_then {C = C} {D = D} {r = r} {old} {mid} {new} reads then more =
     }
 
 -- the tables are read first, so that a change is one of an open connection
-pub leaves_then : {round : Round} {Right : Database → Type 0} {U F V E : Type 0} {Told : Database → Result U F → Type 0} {C : Database → Database → Type 0} (D : Database → Database → Type 0) {u : U} {r : Result V E} {old mid new : State} → Reading round Anyhow Right Told (Ok u) old mid → CommitsChange C r mid new
+pub leaves_then : {round : Round} {Right : Database → Type 0} {U F V E : Type 0} {Told : Database → Result U F → Type 0} {C : Database → Database → Type 0} (D : Database → Database → Type 0) {u : U} {r : Result V E} {old mid new : State}
+    → Reading round Anyhow Right Told (Ok u) old mid → CommitsChange C r mid new
     → (IsCurrentSchema old.now.schema → HasCleanDisk mid → (after : Database) → C old.now after → D old.now after) → LeavesMade D old new
 leaves_then {C = C} D {old = old} {mid} {new} reads then more =
     survives_then old mid new _ _ (λ db. IsTrue old.is_open × (IsCurrentSchema old.now.schema → IsAfter D old db)) (λ clean db no. absurd no)
@@ -40,7 +42,8 @@ leaves_then {C = C} D {old = old} {mid} {new} reads then more =
     reads.crash then.crash
 
 -- the same of what the change makes more
-pub ends_more : {V E : Type 0} {C D : Database → Database → Type 0} {r : Result V E} {old new : State} → CommitsChange C r old new → ((after : Database) → C old.now after → D old.now after) → CommitsChange D r old new
+pub ends_more : {V E : Type 0} {C D : Database → Database → Type 0} {r : Result V E} {old new : State}
+    → CommitsChange C r old new → ((after : Database) → C old.now after → D old.now after) → CommitsChange D r old new
 ends_more {r = r} {old} {new} h more = record {
   ok = λ own clean. on_ok_weaker r (λ d. record { was_open = d.was_open; is_open = d.is_open; settled = d.settled; changed = more new.now d.changed }) (h.ok own clean);
   err = h.err;
@@ -50,7 +53,9 @@ ends_more {r = r} {old} {new} h more = record {
 }
 
 -- one transaction alone
-pub ends_by : {V E : Type 0} (D : Database → Database → Type 0) (r : Result V E) (old new : State) → new.in_transaction ≡ false → (HasCleanDisk new → OnOk r (Commits D old new)) → (HasCleanDisk new → IsTrue new.is_open → OnErr r (Stays old new))
+pub ends_by : {V E : Type 0} (D : Database → Database → Type 0) (r : Result V E) (old new : State)
+    → new.in_transaction ≡ false → (HasCleanDisk new → OnOk r (Commits D old new))
+    → (HasCleanDisk new → IsTrue new.is_open → OnErr r (Stays old new))
     → (HasCleanDisk new → OnOk r (LeavesOnly new)) → Survives old new (IsAfter D old) → CommitsChange D r old new
 ends_by D r old new idle ok err durable crash = record { ok = λ own. ok; err = λ own. err; mode = λ _. idle; durable = λ own. durable; crash = survives_weaker old new _ _ (λ clean db left own. left) crash }
 
@@ -66,12 +71,14 @@ module _
     (err : HasCleanDisk new → IsTrue new.is_open → OnErr r (Stays mid new))
     (durable : HasCleanDisk new → OnOk r (LeavesOnly new))
     (crash : Survives mid new (IsAfter C mid)) where
-  pub ends_asked : {round : Round} {Right : Database → Type 0} {U F : Type 0} {Told : Database → Result U F → Type 0} {u : U} → Reading round Anyhow Right Told (Ok u) old mid
+  pub ends_asked : {round : Round} {Right : Database → Type 0} {U F : Type 0} {Told : Database → Result U F → Type 0} {u : U}
+      → Reading round Anyhow Right Told (Ok u) old mid
       → (IsCurrentSchema old.now.schema → HasCleanDisk mid → (after : Database) → C old.now after → D old.now after) → CommitsChange D r old new
   ends_asked reads more = ends_then reads (ends_by C r mid new idle ok err durable crash) more
 
 -- the tables are read, and that or what comes of it is refused
-pub ends_refused : {round : Round} {Right : Database → Type 0} {U F V E : Type 0} {Told : Database → Result U F → Type 0} {D : Database → Database → Type 0} {x : Result U F} {r : Result V E} {old new : State} → IsErr r → IsSettled old → Reading round Anyhow Right Told x old new → CommitsChange D r old new
+pub ends_refused : {round : Round} {Right : Database → Type 0} {U F V E : Type 0} {Told : Database → Result U F → Type 0} {D : Database → Database → Type 0} {x : Result U F} {r : Result V E} {old new : State}
+    → IsErr r → IsSettled old → Reading round Anyhow Right Told x old new → CommitsChange D r old new
 ends_refused {r = Ok v} is settled reads = absurd (cc)
 ends_refused {U = U} {F} {x = x} {r = Err e} {old} {new} is settled reads = record {
   ok = λ own clean. tt;
@@ -81,12 +88,14 @@ ends_refused {U = U} {F} {x = x} {r = Err e} {old} {new} is settled reads = reco
   crash = survives_weaker old new _ _ (λ clean db no own. absurd no) reads.crash;
 }
   where
-    either : (x : Result U F) → OnOk x (IsUnchanged old new) → OnErr x (IsUnchangedOrUndone old new) → IsUnchangedOrUndone old new
+    either : (x : Result U F) → OnOk x (IsUnchanged old new) → OnErr x (IsUnchangedOrUndone old new)
+        → IsUnchangedOrUndone old new
     either (Ok u) same err = inl same
     either (Err d) same err = err
 
 -- the tables are read, and there is nothing to do: what is open leaves what is committed alone
-pub ends_none : {round : Round} {Right : Database → Type 0} {U F V E : Type 0} {Told : Database → Result U F → Type 0} {D : Database → Database → Type 0} {u : U} {v : V} {old new : State} → IsSettled old → ((db : Trees) → IsTrue new.is_open → new.may_leave db → db ≡ new.committed.trees)
+pub ends_none : {round : Round} {Right : Database → Type 0} {U F V E : Type 0} {Told : Database → Result U F → Type 0} {D : Database → Database → Type 0} {u : U} {v : V} {old new : State}
+    → IsSettled old → ((db : Trees) → IsTrue new.is_open → new.may_leave db → db ≡ new.committed.trees)
     → Reading round Anyhow Right Told (Ok u) old new → (IsCurrentSchema old.now.schema → HasCleanDisk new → D old.now old.now) → CommitsChange {V = V} {E = E} D (Ok v) old new
 ends_none {D = D} {old = old} {new} settled law reads done = record {
   ok = λ own clean. commits_none old new D settled (reads.same clean tt) (done own clean);
@@ -99,7 +108,8 @@ ends_none {D = D} {old = old} {new} settled law reads done = record {
 }
 
 -- the same, with another fault for a fault
-pub ends_told : {V E F : Type 0} {D : Database → Database → Type 0} {x : Result V E} {r : Result V F} {old new : State} → IsToldAs x r → CommitsChange D x old new → CommitsChange D r old new
+pub ends_told : {V E F : Type 0} {D : Database → Database → Type 0} {x : Result V E} {r : Result V F} {old new : State}
+    → IsToldAs x r → CommitsChange D x old new → CommitsChange D r old new
 ends_told {D = D} {x = Ok v} {old = old} {new} is h = subst (λ r. CommitsChange D r old new) (sym is) (record { ok = h.ok; err = h.err; mode = h.mode; durable = h.durable; crash = h.crash })
 ends_told {x = Err e} {r = Ok v} is h = absurd is
 ends_told {x = Err e} {r = Err f} is h = record { ok = λ own clean. tt; err = h.err; mode = h.mode; durable = λ own clean. tt; crash = h.crash }

@@ -9,7 +9,9 @@ use Rattle.portal_store.proofs.Rounds.{keys_in}
 use Rattle.portal_store.proofs.Filled.{ranked_more, keys_still, all_filled, fills_there}
 
 -- who is in the world has a row
-rows_have : (round : Round) (db : Database) (k : Key) → has (map lecturer_key (world_in round db.trees).lecturers) k ≡ true → has (map row_key (db.trees lecturer_tree)) k ≡ true
+rows_have : (round : Round) (db : Database) (k : Key)
+    → has (map lecturer_key (world_in round db.trees).lecturers) k ≡ true
+    → has (map row_key (db.trees lecturer_tree)) k ≡ true
 unfolding world_in
 rows_have round db k there =
     let shown = map (lecturer_stored round db.trees) (db.trees lecturer_tree) in
@@ -28,7 +30,8 @@ all_back P (x ∷ xs) ys all = all_back P xs ys all.1
 pub none_ranked : (round : Round) (db : Database) → TurnsAll round [] db db
 none_ranked round db holds up there = record { holds = holds; world = refl }
 
-pub all_go_on : (round : Round) (fs : List (Key × List Key)) (f : Key × List Key) (first mid now : Database) → TurnsAll round fs first mid → TurnsThere round f.0 f.1 mid now
+pub all_go_on : (round : Round) (fs : List (Key × List Key)) (f : Key × List Key) (first mid now : Database)
+    → TurnsAll round fs first mid → TurnsThere round f.0 f.1 mid now
     → TurnsAll round (fs ++ f ∷ []) first now
 all_go_on round fs f first mid now was turns holds up there =
     let w = world_in round first.trees in
@@ -41,7 +44,8 @@ all_go_on round fs f first mid now was turns holds up there =
     record { holds = after.holds; world = after.world ∙ ap (λ v. changed v (Ranks f.0 f.1)) before.world ∙ sym (ranked_more w fs f) }
 
 -- the loop's step
-pub rankings_go_on : {X : Type 0} (round : Round) (show : X → Key × List Key) (xs : List X) (i : ℕ) (x : X) (old mid new : State) → i < length xs → x ≡ get_or xs i x
+pub rankings_go_on : {X : Type 0} (round : Round) (show : X → Key × List Key) (xs : List X) (i : ℕ) (x : X) (old mid new : State)
+    → i < length xs → x ≡ get_or xs i x
     → GoesOn (TurnsAll round (map show (take i xs))) old mid
     → GoesOn (TurnsThere round (show x).0 (show x).1) mid new → GoesOn (TurnsAll round (map show (take (i + 1) xs))) old new
 rankings_go_on round show xs i x old mid new within at was step =
@@ -49,7 +53,8 @@ rankings_go_on round show xs i x old mid new within at was step =
     sym (ap (map show) (take_more xs i x within) ∙ map-append show (take i xs) (get_or xs i x ∷ []) ∙ ap (λ y. map show (take i xs) ++ show y ∷ []) (sym at)) in
     subst (λ l. GoesOn (TurnsAll round l) old new) more (goes_both _ _ _ old mid new was step (all_go_on round (map show (take i xs)) (show x) old.now mid.now new.now))
 
-pub fill_turns : (round : Round) (fs : List (Key × List Key)) (first now : Database) → (IsConsistentIn round first → Sound (world_in round first.trees) → fs ≡ fill_missing (world_in round first.trees))
+pub fill_turns : (round : Round) (fs : List (Key × List Key)) (first now : Database)
+    → (IsConsistentIn round first → Sound (world_in round first.trees) → fs ≡ fill_missing (world_in round first.trees))
     → TurnsAll round fs first now → IsTransitionIn round Fill first now
 fill_turns round fs first now are turns holds good then =
     let w = world_in round first.trees in

@@ -8,11 +8,13 @@ use Rattle.portal_store.proofs.Base.{rise_distinct, with_fill, all-filter, all_h
 use Rattle.portal_store.proofs.RankTurns.{same_key}
 
 -- one ranking more
-pub ranked_more : (w : World) (fs : List (Key × List Key)) (f : Key × List Key) → with_rankings w (fs ++ f ∷ []) ≡ changed (with_rankings w fs) (Ranks f.0 f.1)
+pub ranked_more : (w : World) (fs : List (Key × List Key)) (f : Key × List Key)
+    → with_rankings w (fs ++ f ∷ []) ≡ changed (with_rankings w fs) (Ranks f.0 f.1)
 ranked_more w [] f = refl
 ranked_more w (g ∷ fs) f = ranked_more (changed w (Ranks g.0 g.1)) fs f
 
-pub keys_still : (w : World) (fs : List (Key × List Key)) → map lecturer_key (with_rankings w fs).lecturers ≡ map lecturer_key w.lecturers
+pub keys_still : (w : World) (fs : List (Key × List Key))
+    → map lecturer_key (with_rankings w fs).lecturers ≡ map lecturer_key w.lecturers
 keys_still w [] = refl
 keys_still w (f ∷ fs) = keys_still (changed w (Ranks f.0 f.1)) fs ∙ map_same lecturer_key (with_ranking f.0 f.1) (same_key f.0 f.1) w.lecturers
 
@@ -43,18 +45,21 @@ module _ (w : World) where
   and_one b x ls = map fill_for (cond b (x ∷ filter (is_still_to_rank w) ls) (filter (is_still_to_rank w) ls))
 
   -- the ranking of another lecturer changes nothing
-  one_other : (b : Bool) (x : Lecturer) (ls : List Lecturer) (l m : Lecturer) → equals l.row.key x.row.key ≡ false → with_all (among ls) l ≡ m
+  one_other : (b : Bool) (x : Lecturer) (ls : List Lecturer) (l m : Lecturer) → equals l.row.key x.row.key ≡ false
+      → with_all (among ls) l ≡ m
       → with_all (and_one b x ls) l ≡ m
   unfolding with_all
   one_other true x ls l m other h = ap (with_all (among ls)) (ranking_elsewhere x.row.key (keys_for x) l other) ∙ h
   one_other false x ls l m other h = h
 
-  others_only : (ls : List Lecturer) (l : Lecturer) → AllByRecursion (λ k. equals l.row.key k ≡ false) (map lecturer_key ls) → with_all (among ls) l ≡ l
+  others_only : (ls : List Lecturer) (l : Lecturer)
+      → AllByRecursion (λ k. equals l.row.key k ≡ false) (map lecturer_key ls) → with_all (among ls) l ≡ l
   unfolding with_all
   others_only [] l apart = refl
   others_only (x ∷ ls) l apart = one_other (is_still_to_rank w x) x ls l l apart.0 (others_only ls l apart.1)
 
-  each_filled : (ls : List Lecturer) (l : Lecturer) → IsDistinct equals (map lecturer_key ls) → Has ls l → with_all (among ls) l ≡ with_fill w l
+  each_filled : (ls : List Lecturer) (l : Lecturer) → IsDistinct equals (map lecturer_key ls) → Has ls l
+      → with_all (among ls) l ≡ with_fill w l
   unfolding with_all IsDistinct
   each_filled [] l d h = absurd h
   each_filled (x ∷ ls) l d (inl same) = subst (λ y. with_all (among (x ∷ ls)) y ≡ with_fill w y) (sym same) (go (is_still_to_rank w x))

@@ -37,7 +37,8 @@ among (x ∷ xs) all k h = elim (cases_Bool (equals k x)) [
 ]
 
 -- who is placed at a project on a list of keys is placed at a key
-placed_key : (choice : List Key) → AllByRecursion IsKey choice → (o : Option Key) → IfSome o (λ p. has choice p ≡ true) → IfSome o IsKey
+placed_key : (choice : List Key) → AllByRecursion IsKey choice → (o : Option Key) → IfSome o (λ p. has choice p ≡ true)
+    → IfSome o IsKey
 placed_key choice all None on = tt
 placed_key choice all (Some p) on = among choice all p on
 
@@ -56,7 +57,8 @@ module _ (w : World) (one : w.round ≡ First) (good : Good w) where
   place_of s = option_map (number_in (project_keys w)) s.placed
 
   -- a number on a list of known keys is that of a key on it
-  listed : (choice : List Key) (k : Key) → number_in (project_keys w) k < length (project_keys w) → IsOn (map (number_in (project_keys w)) choice) (number_in (project_keys w) k) → has choice k ≡ true
+  listed : (choice : List Key) (k : Key) → number_in (project_keys w) k < length (project_keys w)
+      → IsOn (map (number_in (project_keys w)) choice) (number_in (project_keys w) k) → has choice k ≡ true
   listed [] k low on = absurd (omega (arith, on))
   listed (c ∷ cs) k low on =
       (elim (number_in (project_keys w) c == number_in (project_keys w) k) as (λ b. (number_in (project_keys w) c == number_in (project_keys w) k) ≡ b
@@ -68,7 +70,8 @@ module _ (w : World) (one : w.round ≡ First) (good : Good w) where
         | false ↦ λ e f. ap (λ b. equals k c || b) (listed cs k low (omega arith)) ∙ or-true (equals k c)
       ]) refl on
 
-  is_listed : IsStable (instance_of w) (places_of w) → (i : ℕ) (d : Student) → i < length w.students → (o : Option Key) → (get_or w.students i d).placed ≡ o → IfSome o (λ p. has (get_or w.students i d).choice p ≡ true)
+  is_listed : IsStable (instance_of w) (places_of w) → (i : ℕ) (d : Student) → i < length w.students → (o : Option Key)
+      → (get_or w.students i d).placed ≡ o → IfSome o (λ p. has (get_or w.students i d).choice p ≡ true)
   is_listed held i d low None e = tt
   is_listed held i d low (Some p) e =
       let here : get_or (places_of w) i None ≡ Some (number_in (project_keys w) p) = get_or-map place_of w.students i d None low ∙ ap (option_map (number_in (project_keys w))) e in
@@ -84,7 +87,8 @@ module _ (w : World) (one : w.round ≡ First) (good : Good w) where
   ]
 
 -- who is left has what is so of those who are, and who is not has nothing
-filtered : (P : Student → Type 0) (ss : List Student) → AllByRecursion (λ s. is_left s ≡ false → P s) ss → AllByRecursion P (filter is_left ss) → AllByRecursion P ss
+filtered : (P : Student → Type 0) (ss : List Student) → AllByRecursion (λ s. is_left s ≡ false → P s) ss
+    → AllByRecursion P (filter is_left ss) → AllByRecursion P ss
 filtered P [] others all = tt
 filtered P (s ∷ ss) others all =
     (elim (is_left s) as (λ b. is_left s ≡ b → AllByRecursion P (cond b (s ∷ filter is_left ss) (filter is_left ss)) → AllByRecursion P (s ∷ ss)) [
@@ -92,7 +96,8 @@ filtered P (s ∷ ss) others all =
       | false ↦ λ e h. (others.0 e, filtered P ss others.1 h)
     ]) refl all
 
-of_all : (round : Round) (P : Student → Type 0) (ss : List Student) → AllByRecursion (λ s. is_left s ≡ false → P s) ss → AllByRecursion P (students_in round ss) → AllByRecursion P ss
+of_all : (round : Round) (P : Student → Type 0) (ss : List Student) → AllByRecursion (λ s. is_left s ≡ false → P s) ss
+    → AllByRecursion P (students_in round ss) → AllByRecursion P ss
 of_all First P ss others all = all
 of_all Second P ss others all = filtered P ss others all
 
@@ -122,7 +127,8 @@ module _ (w : World) (good : Good w) where
   applicant_keys : (l : Key) → AllByRecursion IsKey (map student_key (applicants_of w l))
   applicant_keys l = all_map IsKey student_key (applicants_of w l) (all-filter (λ s. IsKey (student_key s)) _ w.students known_students)
 
-  ranked_keys : (l : Key) (o : Option (List Key)) → IfSome o (IsRanking (map student_key (applicants_of w l))) → IfSome o (AllByRecursion IsKey)
+  ranked_keys : (l : Key) (o : Option (List Key)) → IfSome o (IsRanking (map student_key (applicants_of w l)))
+      → IfSome o (AllByRecursion IsKey)
   ranked_keys l None h = tt
   ranked_keys l (Some list) h = all_weaker (λ s. has (map student_key (applicants_of w l)) s ≡ true) IsKey (λ s known. among (map student_key (applicants_of w l)) (applicant_keys l) s known) list h.only
 
@@ -134,21 +140,25 @@ abbrev pub PlacesOnce : Round → Trees → Type 0
 PlacesOnce First db = Unit {0}
 PlacesOnce Second db = (k : Key) → length (of_key k (db assigned2_tree)) ≤ 1
 
-has_place : (round : Round) (db : Trees) → PlacesOnce round db → (r : Row) → IfSome (placement_in_round round db r) IsKey → HasPlacement round db (roll_columns r)
+has_place : (round : Round) (db : Trees) → PlacesOnce round db → (r : Row)
+    → IfSome (placement_in_round round db r) IsKey → HasPlacement round db (roll_columns r)
 has_place First db once r key = key
 has_place Second db once r key = (key, once (row_key r))
 
 -- what is said of the world's rows, of the tables' rows in their order
 module _ (round : Round) (db : Trees) (whole : Whole round db) (good : Good (world_in round db)) where
-  of_lecturers : (P : Lecturer → Type 0) → AllByRecursion P (world_in round db).lecturers → AllByRecursion (λ r. P (lecturer_stored round db r)) (by_key (db lecturer_tree))
+  of_lecturers : (P : Lecturer → Type 0) → AllByRecursion P (world_in round db).lecturers
+      → AllByRecursion (λ r. P (lecturer_stored round db r)) (by_key (db lecturer_tree))
   unfolding world_in
   of_lecturers P all = all_unmap P (lecturer_stored round db) (by_key (db lecturer_tree)) (subst (AllByRecursion P) (lecturers_by_key round db) all)
 
-  of_students : (P : Student → Type 0) → AllByRecursion P (world_in round db).students → AllByRecursion (λ r. P (student_stored round db r)) (by_key (db student_tree))
+  of_students : (P : Student → Type 0) → AllByRecursion P (world_in round db).students
+      → AllByRecursion (λ r. P (student_stored round db r)) (by_key (db student_tree))
   unfolding world_in
   of_students P all = all_unmap P (student_stored round db) (by_key (db student_tree)) (subst (AllByRecursion P) (students_by_key round db) all)
 
-  of_projects : (P : ProjectRow → Type 0) → AllByRecursion P (world_in round db).projects → AllByRecursion (λ r. P (project_row r)) (by_key (db project_tree))
+  of_projects : (P : ProjectRow → Type 0) → AllByRecursion P (world_in round db).projects
+      → AllByRecursion (λ r. P (project_row r)) (by_key (db project_tree))
   unfolding world_in
   of_projects P all = all_unmap P project_row (by_key (db project_tree)) (subst (AllByRecursion P) (projects_by_key round db) all)
 
@@ -163,14 +173,17 @@ module _ (round : Round) (db : Trees) (whole : Whole round db) (good : Good (wor
   in_order : (P : Row → Type 0) (table : List Row) → AllByRecursion P table → AllByRecursion P (by_key table)
   in_order P table all = all_permuted P table (by_key table) (permutes row_key table) all
 
-  fine_choice : (r : Row) → IsStudent (student_row r) × AllByRecursion IsKey (choice_in round db r) → IsWhole (of_key (row_key r) (db (tree_of (choice_table round)))) → IsFine (choice_table round) db (roll_columns r)
+  fine_choice : (r : Row) → IsStudent (student_row r) × AllByRecursion IsKey (choice_in round db r)
+      → IsWhole (of_key (row_key r) (db (tree_of (choice_table round))))
+      → IsFine (choice_table round) db (roll_columns r)
   fine_choice r forms whole = record {
     key = forms.0.key;
     read = record { whole = whole; none = λ e. absurd (let both : true ≡ false = sym (has_choice round db r) ∙ e in cc) };
     names = forms.1;
   }
 
-  names_of : (b : Bool) (key : Key) → (b ≡ false → of_key key (db (tree_of (ranking_table round))) ≡ []) → IfSome (cond b (Some (chosen (db (tree_of (ranking_table round))) key)) None) (AllByRecursion IsKey)
+  names_of : (b : Bool) (key : Key) → (b ≡ false → of_key key (db (tree_of (ranking_table round))) ≡ [])
+      → IfSome (cond b (Some (chosen (db (tree_of (ranking_table round))) key)) None) (AllByRecursion IsKey)
       → AllByRecursion IsKey (chosen (db (tree_of (ranking_table round))) key)
   names_of true key none h = h
   names_of false key none h = subst (λ rows. AllByRecursion IsKey (list_in_order rows)) (sym (none refl)) tt
@@ -211,7 +224,8 @@ module _ (round : Round) (db : Trees) (whole : Whole round db) (good : Good (wor
             (all_both (λ r. IsWhole (of_key (row_key r) (db (tree_of R)))) (λ r. is_ranked round db r ≡ false → of_key (row_key r) (db (tree_of R)) ≡ []) L whole_rankings ranked));
       }
 
-pub office_code : (round : Round) (of : ℕ) (db : Trees) (office : HasOffice of (db portal_tree)) → Good (world_in round db) → is_code office.office ≡ true
+pub office_code : (round : Round) (of : ℕ) (db : Trees) (office : HasOffice of (db portal_tree))
+    → Good (world_in round db) → is_code office.office ≡ true
 unfolding world_in
 office_code round of db office good = subst (λ rows. is_code (bytes (column (slice_index_or rows 0 []) 4)) ≡ true) office.is good.sound.office_form
 

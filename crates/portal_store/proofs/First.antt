@@ -19,7 +19,8 @@ module _ (office : Key) (db : Database) (f : IsFresh office db) where
   parts : AllByRecursion (λ t. t ≢ portal_tree → t ≢ second_tree → db.trees t ≡ []) early_trees × AllByRecursion (λ t. t ≢ portal_tree → t ≢ second_tree → db.trees t ≡ []) (second_tree ∷ later_trees)
   parts = parts_of (λ t. t ≢ portal_tree → t ≢ second_tree → db.trees t ≡ []) early_trees (second_tree ∷ later_trees) f.others.1
 
-  empty : (trees : List ℕ) → list_all (λ t. not (eqb t portal_tree)) trees ≡ true → list_all (λ t. not (eqb t second_tree)) trees ≡ true
+  empty : (trees : List ℕ) → list_all (λ t. not (eqb t portal_tree)) trees ≡ true
+      → list_all (λ t. not (eqb t second_tree)) trees ≡ true
       → AllByRecursion (λ t. t ≢ portal_tree → t ≢ second_tree → db.trees t ≡ []) trees → AllByRecursion (λ t. db.trees t ≡ []) trees
   empty trees p s all = others_are (λ t. db.trees t ≡ []) second_tree trees s (others_are (λ t. t ≢ second_tree → db.trees t ≡ []) portal_tree trees p all)
 
@@ -58,7 +59,8 @@ module _ (office : Key) (db : Database) (f : IsFresh office db) where
   first_is_good form = subst Good (sym first_is) (fresh_good office form)
 
 -- a store over them
-pub first_kept : {S : Type 0} (g : Ghosts S) (office : Key) (own : Bool) (old new : Held S) → new.in_transaction ≡ false → (IsTrue own → old.schema ≡ no_schema) → (IsTrue (state g new).is_open → HasCleanDisk (state g new))
+pub first_kept : {S : Type 0} (g : Ghosts S) (office : Key) (own : Bool) (old new : Held S) → new.in_transaction ≡ false
+    → (IsTrue own → old.schema ≡ no_schema) → (IsTrue (state g new).is_open → HasCleanDisk (state g new))
     → (HasCleanDisk (state g new) → Commits (Creates office) (state g old) (state g new)) → (HasCleanDisk (state g new) → LeavesOnly (state g new)) → IsKept g new own
 first_kept g office own old new idle none_before shut did only = record {
   idle = idle;

@@ -11,7 +11,8 @@ pub has_tables : {round : Round} (db : Database) → IsConsistentIn round db →
 has_tables db holds = record { own = holds.own; current = holds.current; sound = holds.sound; apart = holds.apart }
 
 -- the phase alone has changed
-pub phase_turned : (phase : Phase) (old new : Database) → IsConsistentIn First old → MovesTo (number_of_phase phase) old new → HasChangedIn First (To phase) old new
+pub phase_turned : (phase : Phase) (old new : Database) → IsConsistentIn First old
+    → MovesTo (number_of_phase phase) old new → HasChangedIn First (To phase) old new
 unfolding world_in
 phase_turned phase old new was moves =
     let done = moves was.current (pos version) (pos (number_of_phase was.office.phase)) was.office.office was.office.is in
@@ -25,11 +26,13 @@ phase_turned phase old new was moves =
       world = world_after First portal_tree old new done.others ∙ (λ i. record (world_in First old.trees) { phase = there i; office = named i });
     }
 
-pub phase_turns : (phase : Phase) (old new : Database) → MovesTo (number_of_phase phase) old new → IsTransitionIn First (To phase) old new
+pub phase_turns : (phase : Phase) (old new : Database) → MovesTo (number_of_phase phase) old new
+    → IsTransitionIn First (To phase) old new
 phase_turns phase old new moves was good better = phase_turned phase old new was moves
 
 -- the phase of the second round alone has changed, and it is not setup
-pub second_turned : (phase : Phase) (old new : Database) → is_setup phase ≡ false → IsConsistentIn Second old → MovesSecond (number_of_phase phase) old new → HasChangedIn Second (To phase) old new
+pub second_turned : (phase : Phase) (old new : Database) → is_setup phase ≡ false → IsConsistentIn Second old
+    → MovesSecond (number_of_phase phase) old new → HasChangedIn Second (To phase) old new
 unfolding world_in
 second_turned phase old new begun was moves =
     let done = moves was.current (pos (number_of_phase was.second.phase)) was.second.is in
@@ -42,6 +45,7 @@ second_turned phase old new begun was moves =
     }
 
 -- the changed world is good, so its phase is not setup
-pub second_turns : (phase : Phase) (old new : Database) → MovesSecond (number_of_phase phase) old new → IsTransitionIn Second (To phase) old new
+pub second_turns : (phase : Phase) (old new : Database) → MovesSecond (number_of_phase phase) old new
+    → IsTransitionIn Second (To phase) old new
 unfolding world_in
 second_turns phase old new moves was good better = second_turned phase old new (better.sound.no_second_setup refl) was moves

@@ -29,13 +29,16 @@ pub not_both : (b : Bool) → IsTrue b → b ≡ false → ⊥
 not_both b up down = let e : true ≡ false = sym up ∙ down in absurd (cc)
 
 -- a stop of a clean store leaves its world
-pub rests_by : {S : Type 0} (g : Ghosts S) (h : Held S) (own : Bool) (few : ℕ) → ((db : Trees) → IsTrue (state g h).is_open → (state g h).may_leave db → db ≡ (state g h).committed.trees)
+pub rests_by : {S : Type 0} (g : Ghosts S) (h : Held S) (own : Bool) (few : ℕ)
+    → ((db : Trees) → IsTrue (state g h).is_open → (state g h).may_leave db → db ≡ (state g h).committed.trees)
     → IsKept g h own → IsCleanStore g (record { conn = h; own = own; faults = few }) → IsSettled (kept_state g (record { conn = h; own = own; faults = few }))
 rests_by g h own few settled kept on w l =
     l.world ∙ ap world_of (settled l.db on.1 l.left) ∙ ap (λ (d : Database). world_of d.trees) (kept.ready on.0 on.1).settled
 
 -- what an open connection leaves is consistent, as it shows what is committed
-pub leaves_shown : {S : Type 0} (g : Ghosts S) (h : Held S) → ((db : Trees) → IsTrue (state g h).is_open → (state g h).may_leave db → db ≡ (state g h).committed.trees) → (state g h).committed ≡ (state g h).now → IsConsistent (state g h).now → IsTrue (state g h).is_open
+pub leaves_shown : {S : Type 0} (g : Ghosts S) (h : Held S)
+    → ((db : Trees) → IsTrue (state g h).is_open → (state g h).may_leave db → db ≡ (state g h).committed.trees)
+    → (state g h).committed ≡ (state g h).now → IsConsistent (state g h).now → IsTrue (state g h).is_open
     → (db : Trees) → (state g h).may_leave db → AreConsistent db
 leaves_shown g h settled is holds on db may = ((state g h).now, settled db on may ∙ ap (λ (d : Database). d.trees) is, holds)
 
@@ -65,7 +68,8 @@ module _
   abbrev last : Seen S
   last = record { conn = new; own = own; faults = many }
 
-  failed : HasCleanDisk (state g new) → IsTrue (state g old).is_open → (state g new).is_open ≡ false → 1 ≤ (state g new).faults
+  failed : HasCleanDisk (state g new) → IsTrue (state g old).is_open → (state g new).is_open ≡ false
+      → 1 ≤ (state g new).faults
   failed clean on shut = elim (s.closes clean on) [ inl live ↦ absurd (not_both (state g new).is_open live shut) | inr more ↦ omega (arith, more) ]
 
   shut_still : IsBrokenStore g first → (state g new).is_open ≡ false
@@ -75,11 +79,13 @@ module _
   stays_or_breaks clean on = elim (cases_Bool (state g new).is_open) [ inl live ↦ inl (on.0, live) | inr shut ↦ inr (record { own = on.0; shut = shut; failed = failed clean on.1 shut }) ]
 
   module _ {V E : Type 0} where
-    lasts_by : (r : Result V E) → (HasCleanDisk (state g new) → IsTrue own → OnOk r (IsTrue (state g new).is_open)) → OnOk r (KeepsClean g first last)
+    lasts_by : (r : Result V E) → (HasCleanDisk (state g new) → IsTrue own → OnOk r (IsTrue (state g new).is_open))
+        → OnOk r (KeepsClean g first last)
     lasts_by (Ok v) up = λ clean. (omega (arith, clean, s.clean), λ on. (on.0, up clean on.0))
     lasts_by (Err e) up = tt
 
-    unbroken : (r : Result V E) → (HasCleanDisk (state g new) → IsTrue own → OnOk r (IsTrue (state g new).is_open)) → OnOk r (IsAlive (kept_state g last))
+    unbroken : (r : Result V E) → (HasCleanDisk (state g new) → IsTrue own → OnOk r (IsTrue (state g new).is_open))
+        → OnOk r (IsAlive (kept_state g last))
     unbroken (Ok v) up = λ clean bad. not_both (state g new).is_open (up clean bad.own) bad.shut
     unbroken (Err e) up = tt
 
@@ -134,10 +140,12 @@ module _
   fine : IsCleanStore g seen → Good (kept_world g seen)
   fine = subst (λ s. IsCleanStore g s → Good (kept_world g s)) (sym is) good
 
-  turns : IsCleanStore g seen → (after : Database) → IsTransition change (state g old).now after → HasChanged change (state g old).now after
+  turns : IsCleanStore g seen → (after : Database) → IsTransition change (state g old).now after
+      → HasChanged change (state g old).now after
   turns on after turn = turn (kept.ready on.0 on.1).holds (fine on) (subst (λ s. IsCleanStore g s → Good (changed (kept_world g s) change)) (sym is) leaves on)
 
-  turned : IsTrue own → Commits (IsTransition change) (state g old) (state g new) → HasChanged change (state g old).now (state g new).now
+  turned : IsTrue own → Commits (IsTransition change) (state g old) (state g new)
+      → HasChanged change (state g old).now (state g new).now
   turned mine done = turns (mine, done.was_open) (state g new).now done.changed
 
   -- what a crash leaves, by the tables seen before: an open store leaves only what is committed
@@ -153,7 +161,8 @@ module _
       subst (λ (s : Seen S). IsLeft change (state g s.conn).now db) is left
 
   -- what it leaves is consistent: what one before the change left, or what the change made
-  left_by : LeavesMade (IsTransition change) (state g old) (state g new) → IsTrue own → HasCleanDisk (state g new) → (db : Trees) → (state g new).may_leave db → AreConsistent db
+  left_by : LeavesMade (IsTransition change) (state g old) (state g new) → IsTrue own → HasCleanDisk (state g new)
+      → (db : Trees) → (state g new).may_leave db → AreConsistent db
   left_by made mine clean db may = elim (made.crash clean db may) [
     | inl earlier ↦ kept.left mine (omega (arith, made.clean, clean)) db earlier
     | inr left ↦ let after = left.1 (known mine) in (after.0, after.2, (turns (mine, left.0) after.0 after.1).holds)
@@ -167,7 +176,8 @@ module _
     was_open (Ok v) ends mine on = (ends.ok (known mine) (law on)).was_open
     was_open (Err e) ends mine on = (ends.err (known mine) (law on) on).0
 
-    pub change_keeps : (r : Result V E) → Ends r → LeavesMade (IsTransition change) (state g old) (state g new) → IsKept g new own
+    pub change_keeps : (r : Result V E) → Ends r → LeavesMade (IsTransition change) (state g old) (state g new)
+        → IsKept g new own
     change_keeps (Ok v) ends made = record {
       idle = ends.mode kept.idle;
       left = left_by made;
@@ -175,22 +185,27 @@ module _
     }
     change_keeps (Err e) ends made = still g old new own kept (ends.mode kept.idle) (left_by made) (λ mine on. ends.err (known mine) (law on) on)
 
-    made_by : (r : Result V E) → Ends r → OnOk r (IsCleanStore g now → world_of (state g new).now.trees ≡ changed (kept_world g seen) change)
+    made_by : (r : Result V E) → Ends r
+        → OnOk r (IsCleanStore g now → world_of (state g new).now.trees ≡ changed (kept_world g seen) change)
     made_by (Ok v) ends = λ on. (turned on.0 (ends.ok (known on.0) (law on.1))).world
     made_by (Err e) ends = tt
 
-    same_by : (r : Result V E) → Ends r → OnErr r (IsCleanStore g now → world_of (state g new).now.trees ≡ kept_world g seen)
+    same_by : (r : Result V E) → Ends r
+        → OnErr r (IsCleanStore g now → world_of (state g new).now.trees ≡ kept_world g seen)
     same_by (Ok v) ends = tt
     same_by (Err e) ends = λ on. ap (λ (d : Database). world_of d.trees) (ends.err (known on.0) (law on.1) on.1).1
 
-    pub change_made : (r : Result V E) → Ends r → OnOk r (IsCleanStore g now → world_of (state g new).now.trees ≡ changed (kept_world g before) change)
+    pub change_made : (r : Result V E) → Ends r
+        → OnOk r (IsCleanStore g now → world_of (state g new).now.trees ≡ changed (kept_world g before) change)
     change_made r ends = subst (λ s. OnOk r (IsCleanStore g now → world_of (state g new).now.trees ≡ changed (kept_world g s) change)) is (made_by r ends)
 
-    pub change_same : (r : Result V E) → Ends r → OnErr r (IsCleanStore g now → world_of (state g new).now.trees ≡ kept_world g before)
+    pub change_same : (r : Result V E) → Ends r
+        → OnErr r (IsCleanStore g now → world_of (state g new).now.trees ≡ kept_world g before)
     change_same r ends = subst (λ s. OnErr r (IsCleanStore g now → world_of (state g new).now.trees ≡ kept_world g s)) is (same_by r ends)
 
     -- what is remembered is right: what follows after a change that was made, and otherwise what it was
-    pub change_follows : {X : Type 0} (P : X → World → Type 0) (m n : X) → (IsCleanStore g seen → HasCleanDisk (state g new) → P m (kept_world g seen)) → (r : Result V E) → Ends r
+    pub change_follows : {X : Type 0} (P : X → World → Type 0) (m n : X)
+        → (IsCleanStore g seen → HasCleanDisk (state g new) → P m (kept_world g seen)) → (r : Result V E) → Ends r
         → OnOk r ((w : World) → Sound w → P m w → P n (changed w change)) → OnErr r (n ≡ m) → IsCleanStore g now → P n (world_of (state g new).now.trees)
     change_follows P m n was (Ok v) ends follows stayed on =
         let mine : IsCleanStore g seen = (on.0, was_open (Ok v) ends on.0 on.1) in
@@ -198,7 +213,9 @@ module _
     change_follows P m n was (Err e) ends follows stayed on =
         subst (λ k. P k (world_of (state g new).now.trees)) (sym stayed) (subst (P m) (sym (same_by (Err e) ends on)) (was (on.0, was_open (Err e) ends on.0 on.1) (law on.1)))
 
-    pub change_call : (many : ℕ) → ((db : Trees) → IsTrue (state g new).is_open → (state g new).may_leave db → db ≡ (state g new).committed.trees) → (r : Result V E) → Ends r → IsKept g new own
+    pub change_call : (many : ℕ)
+        → ((db : Trees) → IsTrue (state g new).is_open → (state g new).may_leave db → db ≡ (state g new).committed.trees)
+        → (r : Result V E) → Ends r → IsKept g new own
         → Call g r (λ s w. IsCleanStore g s → w ≡ changed (kept_world g s) change) (record { conn = new; own = own; faults = many }) before
     change_call many settled r ends keeps =
         called g old new own few many keeps settled _ ends.crash (was_open r ends) (λ s w. IsCleanStore g s → w ≡ changed (kept_world g s) change)
@@ -207,12 +224,19 @@ module _
 -- what is known after a call that read
 pub record ReadBy {S V E : Type 0} (g : Ghosts S) (old new : Held S) (own : Bool) (few : ℕ) (before : Seen S) (Right : Database → Type 0) (Told : Database → Result V E → Type 0) (x : Result V E) : Type 0 where
   pub kept : IsKept g new own
-  pub was : IsCleanStore g (record { conn = new; own = own; faults = few }) → IsCleanStore g (record { conn = old; own = own; faults = few })
-  pub world : IsCleanStore g (record { conn = new; own = own; faults = few }) → world_of (state g new).now.trees ≡ world_of (state g old).now.trees
-  pub same : IsCleanStore g (record { conn = new; own = own; faults = few }) → world_of (state g new).now.trees ≡ kept_world g before
+  pub was : IsCleanStore g (record { conn = new; own = own; faults = few })
+      → IsCleanStore g (record { conn = old; own = own; faults = few })
+  pub world : IsCleanStore g (record { conn = new; own = own; faults = few })
+      → world_of (state g new).now.trees ≡ world_of (state g old).now.trees
+  pub same : IsCleanStore g (record { conn = new; own = own; faults = few })
+      → world_of (state g new).now.trees ≡ kept_world g before
   -- what is told, where a call may rely on what is kept
-  pub told : (IsConsistent (state g old).now → IsCleanStore g (record { conn = old; own = own; faults = few }) → Right (state g old).now) → IsCleanStore g (record { conn = new; own = own; faults = few }) → Told (state g old).now x
-  pub call : (many : ℕ) → ((db : Trees) → IsTrue (state g new).is_open → (state g new).may_leave db → db ≡ (state g new).committed.trees) → (r : Result V KeepFault) → IsToldAs x r → Call g r (λ s w. ⊥) (record { conn = new; own = own; faults = many }) before
+  pub told : (IsConsistent (state g old).now → IsCleanStore g (record { conn = old; own = own; faults = few }) → Right (state g old).now)
+      → IsCleanStore g (record { conn = new; own = own; faults = few }) → Told (state g old).now x
+  pub call : (many : ℕ)
+      → ((db : Trees) → IsTrue (state g new).is_open → (state g new).may_leave db → db ≡ (state g new).committed.trees)
+      → (r : Result V KeepFault) → IsToldAs x r
+      → Call g r (λ s w. ⊥) (record { conn = new; own = own; faults = many }) before
 
 module _
     {S V E : Type 0}
@@ -256,7 +280,8 @@ module _
       }
 
 -- what follows of an answer, whatever it is, from what is said of it under a premise
-pub when_ok : {V E : Type 0} (C : Type 0) (A B : V → Type 0) (r : Result V E) → (C → IfOk r A) → ((v : V) → (C → A v) → B v) → IfOk r B
+pub when_ok : {V E : Type 0} (C : Type 0) (A B : V → Type 0) (r : Result V E) → (C → IfOk r A)
+    → ((v : V) → (C → A v) → B v) → IfOk r B
 when_ok C A B (Ok v) h more = more v h
 when_ok C A B (Err e) h more = tt
 

@@ -17,11 +17,13 @@ use Rattle.portal_store.proofs.Base.{after_first, joined, entry, IsRead, HasNoth
 use Rattle.portal_store.proofs.Rounds.{phase_back}
 use Rattle.portal_store.proofs.RowsOnce.{nothing_before}
 
-pub some_mapped : {X Y Z : Type 0} (f : Y → Option Z) (g : X → Y) (xs : List X) → filter_map f (map g xs) ≡ filter_map (λ x. f (g x)) xs
+pub some_mapped : {X Y Z : Type 0} (f : Y → Option Z) (g : X → Y) (xs : List X)
+    → filter_map f (map g xs) ≡ filter_map (λ x. f (g x)) xs
 some_mapped f g [] = refl
 some_mapped f g (x ∷ xs) = ap (cons_option (f (g x))) (some_mapped f g xs)
 
-pub some_alike : {X Z : Type 0} (f g : X → Option Z) (xs : List X) → ((x : X) → f x ≡ g x) → filter_map f xs ≡ filter_map g xs
+pub some_alike : {X Z : Type 0} (f g : X → Option Z) (xs : List X) → ((x : X) → f x ≡ g x)
+    → filter_map f xs ≡ filter_map g xs
 some_alike f g [] h = refl
 some_alike f g (x ∷ xs) h = λ i. cons_option (h x i) (some_alike f g xs h i)
 
@@ -39,10 +41,12 @@ ranked_pair false key list = refl
 
 -- what two ways to make entries of rows make of them
 
-each_alike : {X Y Z : Type 0} (f : Y → X) (g : Z → X) (one : Row → Y) (other : Row → Z) (rows : List Row) (all : List Y) (more : List Z) → all ≡ map one rows → more ≡ map other rows → ((r : Row) → f (one r) ≡ g (other r)) → map f all ≡ map g more
+each_alike : {X Y Z : Type 0} (f : Y → X) (g : Z → X) (one : Row → Y) (other : Row → Z) (rows : List Row) (all : List Y) (more : List Z)
+    → all ≡ map one rows → more ≡ map other rows → ((r : Row) → f (one r) ≡ g (other r)) → map f all ≡ map g more
 each_alike f g one other rows all more is also same = ap (map f) is ∙ map-map f one rows ∙ map_alike (λ r. f (one r)) (λ r. g (other r)) rows same ∙ sym (ap (map g) also ∙ map-map g other rows)
 
-pub found_alike : {X Y Z : Type 0} (f : Y → Option X) (g : Z → Option X) (one : Row → Y) (other : Row → Z) (rows : List Row) (all : List Y) (more : List Z) → all ≡ map one rows → more ≡ map other rows → ((r : Row) → f (one r) ≡ g (other r))
+pub found_alike : {X Y Z : Type 0} (f : Y → Option X) (g : Z → Option X) (one : Row → Y) (other : Row → Z) (rows : List Row) (all : List Y) (more : List Z)
+    → all ≡ map one rows → more ≡ map other rows → ((r : Row) → f (one r) ≡ g (other r))
     → filter_map f all ≡ filter_map g more
 found_alike f g one other rows all more is also same = ap (filter_map f) is ∙ some_mapped f one rows ∙ some_alike (λ r. f (one r)) (λ r. g (other r)) rows same ∙ sym (ap (filter_map g) also ∙ some_mapped g other rows)
 
@@ -72,20 +76,24 @@ pub has_choice : (round : Round) (db : Trees) (r : Row) → has_list (choice_tab
 has_choice First db r = refl
 has_choice Second db r = refl
 
-pub has_ranked : (round : Round) (db : Trees) (r : Row) → has_list (ranking_table round) db (lecturer_columns r) ≡ is_ranked round db r
+pub has_ranked : (round : Round) (db : Trees) (r : Row)
+    → has_list (ranking_table round) db (lecturer_columns r) ≡ is_ranked round db r
 has_ranked First db r = refl
 has_ranked Second db r = refl
 
-choice_shown : (round : Round) (db : Trees) (r : Row) → entry (choice_table round) db (roll_columns r) ≡ Some (chosen_pair (student_stored round db r))
+choice_shown : (round : Round) (db : Trees) (r : Row)
+    → entry (choice_table round) db (roll_columns r) ≡ Some (chosen_pair (student_stored round db r))
 choice_shown First db r = refl
 choice_shown Second db r = refl
 
-ranking_shown : (round : Round) (db : Trees) (r : Row) → entry (ranking_table round) db (lecturer_columns r) ≡ ranking_entry (lecturer_stored round db r)
+ranking_shown : (round : Round) (db : Trees) (r : Row)
+    → entry (ranking_table round) db (lecturer_columns r) ≡ ranking_entry (lecturer_stored round db r)
 ranking_shown round db r =
     let list = chosen (db (tree_of (ranking_table round))) (row_key r) in
     ap (λ b. cond {A = Option (Key × List Key)} b (Some (row_key r, list)) None) (has_ranked round db r) ∙ ranked_pair (is_ranked round db r) (row_key r) list
 
-place_told : (round : Round) (db : Trees) (r : Row) → pair_shown round None db (roll_columns r) ≡ placed_pair (student_stored round db r)
+place_told : (round : Round) (db : Trees) (r : Row)
+    → pair_shown round None db (roll_columns r) ≡ placed_pair (student_stored round db r)
 place_told First db r = refl
 place_told Second db r = refl
 
@@ -169,7 +177,8 @@ module _ (db : Trees) where
       subst (λ w. AllByRecursion (λ (s : Student). s.earlier_placement ≡ None) w.students) world_alone
       (all_map (λ (s : Student). s.earlier_placement ≡ None) alone_student (world_in First db).students (all_of _ (λ s. refl) (world_in First db).students))
 
-  pub rows_are : (of : ℕ) (phase : Phase) (code : Key) → db portal_tree ≡ portal_row (pos of) (pos (number_of_phase phase)) code ∷ []
+  pub rows_are : (of : ℕ) (phase : Phase) (code : Key)
+      → db portal_tree ≡ portal_row (pos of) (pos (number_of_phase phase)) code ∷ []
       → joined First phase code (rows_from First db (lecturers_shown db) (projects_shown db) (students_shown db)) [] [] [] ≡ world_rows (world_in First db)
   unfolding world_in
   rows_are of phase code office =
@@ -181,7 +190,9 @@ module _ (db : Trees) where
       ap (filter_map earlier_pair) (students_by_key First db) ∙ some_mapped earlier_pair (student_stored First db) by_student ∙ none_some (λ r. earlier_pair (student_stored First db r)) by_student (λ r. refl) in
       λ i. joined First (phase_is i) (code_is i) (round_rows First db i) [] (sym earlier_rankings i) (sym earlier_pairs i)
 
-  pub loads : (of : ℕ) (phase : Phase) (code : Key) → db portal_tree ≡ portal_row (pos of) (pos (number_of_phase phase)) code ∷ [] → (rows : AllRows) → HasRead First rows db → Loads of First db (joined First phase code rows [] [] [])
+  pub loads : (of : ℕ) (phase : Phase) (code : Key)
+      → db portal_tree ≡ portal_row (pos of) (pos (number_of_phase phase)) code ∷ [] → (rows : AllRows)
+      → HasRead First rows db → Loads of First db (joined First phase code rows [] [] [])
   loads of phase code office rows read = record {
     office = record { phase = phase; office = code; is = office };
     whole = whole_is First db read.1;
@@ -189,7 +200,8 @@ module _ (db : Trees) where
   }
 
   -- after the rows of the first round, those of the second
-  after_rows : (first : RowsOfWorld) (phase : Phase) → first ≡ world_rows (world_in First db) → db second_tree ≡ second_row (pos (number_of_phase phase)) ∷ []
+  after_rows : (first : RowsOfWorld) (phase : Phase) → first ≡ world_rows (world_in First db)
+      → db second_tree ≡ second_row (pos (number_of_phase phase)) ∷ []
       → after_first first phase (rows_from Second db (lecturers_shown db) (projects_shown db) (students_shown db)) ≡ world_rows (world_in Second db)
   unfolding world_in
   after_rows first phase is row =
@@ -199,7 +211,9 @@ module _ (db : Trees) where
       let pairs = ap (λ (r : RowsOfWorld). r.pairs) is ∙ found_alike placed_pair earlier_pair (student_stored First db) (student_stored Second db) by_student _ _ (students_by_key First db) (students_by_key Second db) (λ r. refl) in
       λ i. joined Second (phase_is i) (is i).office (round_rows Second db i) (choices i) (rankings i) (pairs i)
 
-  pub loads_after : (first : RowsOfWorld) (phase : Phase) → Loads version First db first → db second_tree ≡ second_row (pos (number_of_phase phase)) ∷ [] → (rows : AllRows) → HasRead Second rows db → LoadsIn Second db (after_first first phase rows)
+  pub loads_after : (first : RowsOfWorld) (phase : Phase) → Loads version First db first
+      → db second_tree ≡ second_row (pos (number_of_phase phase)) ∷ [] → (rows : AllRows) → HasRead Second rows db
+      → LoadsIn Second db (after_first first phase rows)
   loads_after first phase loads row rows read = record {
     office = loads.office;
     whole = (loads.whole, whole_is Second db read.1);
@@ -207,7 +221,8 @@ module _ (db : Trees) where
   }
 
 -- in the first round nothing was before
-pub nothing_earlier : (round : Round) (db : Trees) → is_second (world_in round db).round ≡ false → HasNothingBefore (world_in round db)
+pub nothing_earlier : (round : Round) (db : Trees) → is_second (world_in round db).round ≡ false
+    → HasNothingBefore (world_in round db)
 unfolding world_in
 nothing_earlier First db e = nothing_before (world_in First db) (world_alone db)
 nothing_earlier Second db e = absurd (cc)

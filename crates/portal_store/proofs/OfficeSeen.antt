@@ -27,7 +27,8 @@ has_whole_lists round db holds = record { tables = has_tables db holds; whole = 
 
 -- whose projects are chosen
 
-chosen_told : (round : Round) (db : Trees) (k : Key) → is_chosen_shown round db k ≡ list_any (λ (s : Student). has s.choice k) (world_in round db).students
+chosen_told : (round : Round) (db : Trees) (k : Key)
+    → is_chosen_shown round db k ≡ list_any (λ (s : Student). has s.choice k) (world_in round db).students
 unfolding world_in
 chosen_told round db k =
     let rows = by_key (db student_tree) in
@@ -35,24 +36,29 @@ chosen_told round db k =
     ∙ (λ i. list_any (λ r. has (student_is round db r i).choice k) rows)
     ∙ sym (ap (list_any (λ (s : Student). has s.choice k)) (students_by_key round db) ∙ any_map (λ (s : Student). has s.choice k) (student_stored round db) rows)
 
-wanted_told : (round : Round) (db : Trees) (ps : List ProjectRow) (l : Key) → is_wanted_shown round db ps l ≡ is_wanted (world_in round db).students ps l
+wanted_told : (round : Round) (db : Trees) (ps : List ProjectRow) (l : Key)
+    → is_wanted_shown round db ps l ≡ is_wanted (world_in round db).students ps l
 wanted_told round db ps l = λ i. list_any (λ (p : ProjectRow). equals p.lecturer l && chosen_told round db p.key i) ps
 
 -- the parts of what is seen
 
 -- those that pass, by their keys
-passing : {X Y Z : Type 0} (p : Y → Bool) (key : Y → Z) (of : X → Y) (f : X → Option Z) → ((x : X) → f x ≡ cond (p (of x)) (Some (key (of x))) None) → (xs : List X) → filter_map f xs ≡ map key (filter p (map of xs))
+passing : {X Y Z : Type 0} (p : Y → Bool) (key : Y → Z) (of : X → Y) (f : X → Option Z)
+    → ((x : X) → f x ≡ cond (p (of x)) (Some (key (of x))) None) → (xs : List X)
+    → filter_map f xs ≡ map key (filter p (map of xs))
 passing p key of f same [] = refl
 passing {X} {Y} {Z} p key of f same (x ∷ xs) =
     ap (λ o. cons_option o (filter_map f xs)) (same x)
     ∙ ap (cons_option (cond (p (of x)) (Some (key (of x))) None)) (passing p key of f same xs)
     ∙ elim (p (of x)) as (λ b. cons_option (cond {A = Option Z} b (Some (key (of x))) None) (map key (filter p (map of xs))) ≡ map key (cond b (of x ∷ filter p (map of xs)) (filter p (map of xs)))) [ true ↦ refl | false ↦ refl ]
 
-ranking_there : (b wanted : Bool) (k : Key) (list : List Key) → cond b None (cond wanted (Some k) None) ≡ cond (is_none (cond b (Some list) None) && wanted) (Some k) None
+ranking_there : (b wanted : Bool) (k : Key) (list : List Key)
+    → cond b None (cond wanted (Some k) None) ≡ cond (is_none (cond b (Some list) None) && wanted) (Some k) None
 ranking_there true wanted k list = refl
 ranking_there false wanted k list = refl
 
-waiting_told : (round : Round) (db : Trees) → waiting_keys round db (world_in round db).projects (lecturers_shown db) ≡ map (λ (l : Lecturer). l.row.key) (filter (is_still_to_rank (world_in round db)) (world_in round db).lecturers)
+waiting_told : (round : Round) (db : Trees)
+    → waiting_keys round db (world_in round db).projects (lecturers_shown db) ≡ map (λ (l : Lecturer). l.row.key) (filter (is_still_to_rank (world_in round db)) (world_in round db).lecturers)
 unfolding world_in
 waiting_told round db =
     let w = world_in round db in
@@ -69,11 +75,13 @@ waiting_told round db =
 abbrev is_idle : Student → Bool
 is_idle s = is_left s && is_empty s.choice
 
-idle_in : (round : Round) (db : Trees) → filter (λ (s : Student). is_empty s.choice) (students_in round (world_in round db).students) ≡ filter is_idle (world_in round db).students
+idle_in : (round : Round) (db : Trees)
+    → filter (λ (s : Student). is_empty s.choice) (students_in round (world_in round db).students) ≡ filter is_idle (world_in round db).students
 idle_in First db = filter_alike (λ (s : Student). is_empty s.choice) is_idle (world_in First db).students (all_weaker _ _ (λ s none. ap (λ (o : Option Key). is_none o && is_empty s.choice) (sym none)) (world_in First db).students (none_earlier db))
 idle_in Second db = filter-filter (λ (s : Student). is_empty s.choice) is_left (world_in Second db).students
 
-unlisted_told : (round : Round) (db : Trees) → unlisted round db (students_shown db) ≡ map (λ (s : Student). s.row.key) (filter (λ s. is_empty s.choice) (students_in round (world_in round db).students))
+unlisted_told : (round : Round) (db : Trees)
+    → unlisted round db (students_shown db) ≡ map (λ (s : Student). s.row.key) (filter (λ s. is_empty s.choice) (students_in round (world_in round db).students))
 unfolding world_in
 unlisted_told round db =
     let rows = by_key (db student_tree) in
@@ -85,13 +93,15 @@ unlisted_told round db =
     ∙ map-map (λ (s : Student). s.row.key) (student_stored round db) (filter (λ r. is_idle (student_stored round db r)) rows))
     ∙ ap (map (λ (s : Student). s.row.key)) (sym (idle_in round db))
 
-pairs_told : (round : Round) (db : Trees) (phase : Phase) → filter_map (pair_shown round (Some phase) db) (students_shown db) ≡ filter_map (λ (s : Student). option_map (λ p. (s.row.key, p)) (shown_placement phase s)) (world_in round db).students
+pairs_told : (round : Round) (db : Trees) (phase : Phase)
+    → filter_map (pair_shown round (Some phase) db) (students_shown db) ≡ filter_map (λ (s : Student). option_map (λ p. (s.row.key, p)) (shown_placement phase s)) (world_in round db).students
 unfolding world_in
 pairs_told round db phase =
     let pair : Student → Option (Key × Key) = λ s. option_map (λ p. (s.row.key, p)) (shown_placement phase s) in
     found_alike (pair_shown round (Some phase) db) pair roll_columns (student_stored round db) (by_key (db student_tree)) _ _ refl (students_by_key round db) (λ r. ap pair (student_is round db r))
 
-pub office_told : (round : Round) (db : Trees) (phase : Phase) (code : Key) (offers : List Listing) → phase ≡ (world_in round db).phase → code ≡ (world_in round db).office → offers ≡ catalogue (world_in round db)
+pub office_told : (round : Round) (db : Trees) (phase : Phase) (code : Key) (offers : List Listing)
+    → phase ≡ (world_in round db).phase → code ≡ (world_in round db).office → offers ≡ catalogue (world_in round db)
     → office_shown round db phase code offers ≡ office_sees (world_in round db)
 unfolding world_in
 office_told round db phase code offers at_phase known listed =

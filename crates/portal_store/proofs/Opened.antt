@@ -94,19 +94,23 @@ second_opens old new moves holds published = turned old new holds published move
 
 -- it opens from there alone
 
-is_first : (round : Round) (phase : Phase) → (not (is_second round) && is_published phase) ≡ true → (round ≡ First) × (phase ≡ Published)
+is_first : (round : Round) (phase : Phase) → (not (is_second round) && is_published phase) ≡ true
+    → (round ≡ First) × (phase ≡ Published)
 is_first First Setup e = absurd (cc)
 is_first First Choosing e = absurd (cc)
 is_first First Ranking e = absurd (cc)
 is_first First Published e = (refl, refl)
 is_first Second phase e = absurd (cc)
 
-pub opens_in : (round : Round) (phase : Phase) (old new : Database) → (not (is_second round) && is_published phase) ≡ true → phase_in First old.trees ≡ phase → OpensSecondRound old new → IsTransitionFrom round SecondRound old new
+pub opens_in : (round : Round) (phase : Phase) (old new : Database)
+    → (not (is_second round) && is_published phase) ≡ true → phase_in First old.trees ≡ phase → OpensSecondRound old new
+    → IsTransitionFrom round SecondRound old new
 opens_in round phase old new e is opens =
     let so = is_first round phase e in
     subst (λ r. IsTransitionFrom r SecondRound old new) (sym so.0) (λ holds good better. opens holds (is ∙ so.1))
 
-stays : (round : Round) (phase : Phase) (w : World) → (not (is_second round) && is_published phase) ≡ false → opened round phase w ≡ w
+stays : (round : Round) (phase : Phase) (w : World) → (not (is_second round) && is_published phase) ≡ false
+    → opened round phase w ≡ w
 stays First Setup w e = refl
 stays First Choosing w e = refl
 stays First Ranking w e = refl
@@ -114,7 +118,8 @@ stays First Published w e = absurd (cc)
 stays Second phase w e = refl
 
 -- elsewhere nothing changes
-pub opens_none : (round : Round) (phase : Phase) (db : Database) → (not (is_second round) && is_published phase) ≡ false → phase_in First db.trees ≡ phase → IsTransitionFrom round SecondRound db db
+pub opens_none : (round : Round) (phase : Phase) (db : Database) → (not (is_second round) && is_published phase) ≡ false
+    → phase_in First db.trees ≡ phase → IsTransitionFrom round SecondRound db db
 unfolding world_in
 opens_none First phase db e is holds good better = record {
   holds = (First, holds);
@@ -123,7 +128,9 @@ opens_none First phase db e is holds good better = record {
 opens_none Second phase db e is holds good better = record { holds = (Second, holds); world = world_told Second db.trees holds.second }
 
 -- every other change stays in its round
-pub ends_any : {V E : Type 0} (round : Round) (change : Change) (r : Result V E) (old new : State) → (is_opening change ≡ false → CommitsChange (IsTransitionIn round change) r old new) → (change ≡ SecondRound → CommitsChange (IsTransitionFrom round SecondRound) r old new)
+pub ends_any : {V E : Type 0} (round : Round) (change : Change) (r : Result V E) (old new : State)
+    → (is_opening change ≡ false → CommitsChange (IsTransitionIn round change) r old new)
+    → (change ≡ SecondRound → CommitsChange (IsTransitionFrom round SecondRound) r old new)
     → CommitsChange (IsTransitionFrom round change) r old new
 ends_any round SecondRound r old new stay begins = begins refl
 ends_any round (Choices k list) r old new stay begins = ends_more (stay refl) (λ after. from_in round (Choices k list) old.now after)

@@ -32,14 +32,16 @@ module _ (pairs : List (Key × Key)) (r : Row) (f : IsStudentRow r) where
       let key : row_key r ≡ first_cell x = is_same (row_key r) (first_cell x) (sym (student_test (first_cell x) r f) ∙ hit) in
       ap (λ b. text_or_none (cond b (text_cell (placement_in pairs (first_cell x))) v)) hit ∙ text_back (placement_in pairs (first_cell x)) ∙ sym (ap (placement_in pairs) key)
 
-  stays_put : (shown : List Row) (v : Value) → text_or_none v ≡ place → text_or_none (assigned_by (map (assigned_of pairs) shown) (column r 1) v) ≡ place
+  stays_put : (shown : List Row) (v : Value) → text_or_none v ≡ place
+      → text_or_none (assigned_by (map (assigned_of pairs) shown) (column r 1) v) ≡ place
   stays_put [] v equals = equals
   stays_put (x ∷ shown) v equals = stays_put shown (put x v) (elim (cases_Bool (has_text 1 (first_cell x) r)) [
     | inl hit ↦ own_put x v hit
     | inr other ↦ ap (λ b. text_or_none (cond b (text_cell (placement_in pairs (first_cell x))) v)) other ∙ equals
   ])
 
-  assigned_is : (shown : List Row) → has (map first_cell shown) (row_key r) ≡ true → (v : Value) → text_or_none (assigned_by (map (assigned_of pairs) shown) (column r 1) v) ≡ place
+  assigned_is : (shown : List Row) → has (map first_cell shown) (row_key r) ≡ true → (v : Value)
+      → text_or_none (assigned_by (map (assigned_of pairs) shown) (column r 1) v) ≡ place
   assigned_is [] h v = absurd (cc)
   assigned_is (x ∷ shown) h v = elim (cases_Bool (has_text 1 (first_cell x) r)) [
     | inl hit ↦ stays_put shown (put x v) (own_put x v hit)
@@ -47,7 +49,8 @@ module _ (pairs : List (Key × Key)) (r : Row) (f : IsStudentRow r) where
   ]
 
 -- what a query shows of the roll are its keys, each once
-shown_keys : (shown : List Row) (db : Database) → ShowsRoll shown db → IsPermutation (map row_key (db.trees student_tree)) (map first_cell shown)
+shown_keys : (shown : List Row) (db : Database) → ShowsRoll shown db
+    → IsPermutation (map row_key (db.trees student_tree)) (map first_cell shown)
 shown_keys shown db h =
     let show = columns (1 ∷ 2 ∷ 3 ∷ 4 ∷ []) in
     let key = λ (k : Row × Row). first_cell k.1 in
@@ -57,7 +60,8 @@ shown_keys shown db h =
     subst₂ IsPermutation there here (IsPermutation-map key _ h.keyed h.same)
 
 -- each student of the roll is among those that are shown
-pub shown_known : (shown : List Row) (db : Database) → ShowsRoll shown db → AllByRecursion (λ r. has (map first_cell shown) (row_key r) ≡ true) (db.trees student_tree)
+pub shown_known : (shown : List Row) (db : Database) → ShowsRoll shown db
+    → AllByRecursion (λ r. has (map first_cell shown) (row_key r) ≡ true) (db.trees student_tree)
 shown_known shown db h =
     let keys = map first_cell shown in
     let roll = db.trees student_tree in
@@ -69,7 +73,9 @@ record IsPlaced (pairs : List (Key × Key)) (old new : Database) : Type 0 where
   world : world_in First new.trees ≡ record (world_in First old.trees) { students = map (with_place pairs) (world_in First old.trees).students }
 
 -- where the rows are the roll, each student has the place
-placed_all : (pairs : List (Key × Key)) (shown : List Row) (old new : Database) → Assigns (map (assigned_of pairs) shown) old new → IsConsistentIn First old → Good (world_in First old.trees) → ShowsRoll shown old → IsPlaced pairs old new
+placed_all : (pairs : List (Key × Key)) (shown : List Row) (old new : Database)
+    → Assigns (map (assigned_of pairs) shown) old new → IsConsistentIn First old → Good (world_in First old.trees)
+    → ShowsRoll shown old → IsPlaced pairs old new
 unfolding world_in
 placed_all pairs shown old new assigns was good shows =
     let roll = old.trees student_tree in
@@ -110,11 +116,14 @@ pub now_published : {v w : World} → v ≡ w → ◌≡◌ {A = World} (record 
 now_published e = λ i. record (e i) { phase = Published }
 
 -- the places, and then the phase
-result_turned : (pairs : List (Key × Key)) (shown : List Row) (old mid new : Database) → Assigns (map (assigned_of pairs) shown) old mid → MovesTo 3 mid new → TurnsShown First pairs shown old new
+result_turned : (pairs : List (Key × Key)) (shown : List Row) (old mid new : Database)
+    → Assigns (map (assigned_of pairs) shown) old mid → MovesTo 3 mid new → TurnsShown First pairs shown old new
 result_turned pairs shown old mid new assigns moves shows was good better =
     let placed = placed_all pairs shown old mid assigns was good shows in
     let done = phase_turned Published mid new placed.holds moves in
     record { holds = done.holds; world = done.world ∙ now_published placed.world }
 
-pub result_made : (pairs : List (Key × Key)) (shown : List Row) (old mid new : State) → GoesOn (Assigns (map (assigned_of pairs) shown)) old mid → Made (MovesTo 3) mid new → GoesOn (TurnsShown First pairs shown) old new
+pub result_made : (pairs : List (Key × Key)) (shown : List Row) (old mid new : State)
+    → GoesOn (Assigns (map (assigned_of pairs) shown)) old mid → Made (MovesTo 3) mid new
+    → GoesOn (TurnsShown First pairs shown) old new
 result_made pairs shown old mid new assigns moves = goes_then _ _ _ old mid new assigns moves (result_turned pairs shown old.now mid.now new.now)

@@ -13,11 +13,13 @@ use Rattle.portal_tables.specs.inner.Reads.{Always}
 use Rattle.portal_store.proofs.Loaded.{lecturers_by_key, students_by_key}
 
 -- a row of a roll, and as it is shown, stand for one lecturer or student
-pub lecturer_is : (round : Round) (db : Trees) (r : Row) → lecturer_from round db (lecturer_columns r) ≡ lecturer_stored round db r
+pub lecturer_is : (round : Round) (db : Trees) (r : Row)
+    → lecturer_from round db (lecturer_columns r) ≡ lecturer_stored round db r
 lecturer_is First db r = refl
 lecturer_is Second db r = refl
 
-pub student_is : (round : Round) (db : Trees) (r : Row) → student_from round db (roll_columns r) ≡ student_stored round db r
+pub student_is : (round : Round) (db : Trees) (r : Row)
+    → student_from round db (roll_columns r) ≡ student_stored round db r
 student_is First db r = refl
 student_is Second db r = refl
 
@@ -29,7 +31,8 @@ student_agrees code r x = has_text_of 3 code r x.code (ap (λ s. column s 3) x.i
 
 -- the row that a query shows by a code, if there is one, stands for who has the code
 module _ {round : Round} {cache : ViewCache} {r : Result (Option Row) TableFault} {a b : State} (code : Key) {Shown : Database → Option Row → Type 0} where
-  pub lecturer_found : ((o : Option Row) → Shown a.now o → ListsBy (1 ∷ []) (has_text 3 code) lecturer_columns (a.now.trees lecturer_tree) (as_list o)) → Reading First Anyhow Always (Gives Shown) r a b
+  pub lecturer_found : ((o : Option Row) → Shown a.now o → ListsBy (1 ∷ []) (has_text 3 code) lecturer_columns (a.now.trees lecturer_tree) (as_list o))
+      → Reading First Anyhow Always (Gives Shown) r a b
       → Reading round Anyhow (RemembersIn round cache) (Gives (λ db o. option_map (lecturer_from round db.trees) o ≡ lecturer_with (world_in round db.trees) code)) r a b
   unfolding world_in
   lecturer_found lists h = reads_as (reads_first h) (λ no. no) (λ own right told. IfOk-weaker r _ _ (λ o shown.
@@ -37,7 +40,8 @@ module _ {round : Round} {cache : ViewCache} {r : Result (Option Row) TableFault
       (all_weaker IsLecturerRow (λ r. has_text 3 code r ≡ equals (bytes (column r 3)) code) (lecturer_agrees code) (a.now.trees lecturer_tree) (lecturer_rows_formed a.now right.0.own right.0.sound right.0.apart.1.0)) (lists o shown) o refl
       ∙ ap (find (λ (l : Lecturer). equals l.row.code code)) (sym (lecturers_by_key round a.now.trees))) told)
 
-  pub student_found : ((o : Option Row) → Shown a.now o → ListsBy (1 ∷ []) (has_text 3 code) roll_columns (a.now.trees student_tree) (as_list o)) → Reading First Anyhow Always (Gives Shown) r a b
+  pub student_found : ((o : Option Row) → Shown a.now o → ListsBy (1 ∷ []) (has_text 3 code) roll_columns (a.now.trees student_tree) (as_list o))
+      → Reading First Anyhow Always (Gives Shown) r a b
       → Reading round Anyhow (RemembersIn round cache) (Gives (λ db o. option_map (student_from round db.trees) o ≡ student_with (world_in round db.trees) code)) r a b
   unfolding world_in
   student_found lists h = reads_as (reads_first h) (λ no. no) (λ own right told. IfOk-weaker r _ _ (λ o shown.
@@ -46,7 +50,8 @@ module _ {round : Round} {cache : ViewCache} {r : Result (Option Row) TableFault
       ∙ ap (find (λ (s : Student). equals s.row.code code)) (sym (students_by_key round a.now.trees))) told)
 
 -- what a student sees, of what was read
-pub student_told : (round : Round) (db : Trees) (row : Row) (phase : Phase) (offers : List Listing) → phase ≡ (world_in round db).phase → offers ≡ catalogue (world_in round db)
+pub student_told : (round : Round) (db : Trees) (row : Row) (phase : Phase) (offers : List Listing)
+    → phase ≡ (world_in round db).phase → offers ≡ catalogue (world_in round db)
     → student_shown round db phase row offers ≡ student_sees (world_in round db) (student_from round db row)
 unfolding world_in
 student_told round db row phase offers at_phase all = λ i. student_shown round db (at_phase i) row (all i)

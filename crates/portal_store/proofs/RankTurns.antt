@@ -28,12 +28,14 @@ record OneRow (k : Key) (table : List Row) : Type 0 where
   pub formed : IsLecturerRow row
   pub key : row_key row ≡ k
 
-none_with : (k : Key) (table : List Row) → AllByRecursion IsLecturerRow table → AllByRecursion (λ l. equals k l ≡ false) (map row_key table)
+none_with : (k : Key) (table : List Row) → AllByRecursion IsLecturerRow table
+    → AllByRecursion (λ l. equals k l ≡ false) (map row_key table)
     → filter (has_text 1 k) table ≡ []
 none_with k table all d =
     filter_none (has_text 1 k) table (all_two IsLecturerRow (λ r. equals k (row_key r) ≡ false) (λ r. has_text 1 k r ≡ false) (λ r f e. key_test k r f ∙ is_sym (row_key r) k ∙ e) table all (all_unmap (λ l. equals k l ≡ false) row_key table d))
 
-one_row : (k : Key) (table : List Row) → AllByRecursion IsLecturerRow table → IsDistinct equals (map row_key table) → has (map row_key table) k ≡ true
+one_row : (k : Key) (table : List Row) → AllByRecursion IsLecturerRow table → IsDistinct equals (map row_key table)
+    → has (map row_key table) k ≡ true
     → OneRow k table
 unfolding IsDistinct
 one_row k [] all d h = absurd (cc)
@@ -93,7 +95,8 @@ module _ (k : Key) (list : List Key) (first mid now : Database) (put : HasPut ra
       let from : split.0 ++ split.1 ≡ rest = sym split.2 ∙ ap (filter (λ r. not (has_text 1 k r))) lecturers in
       subst (λ l. IsPermutation (after ∷ l) (now.trees 1)) from (subst (IsPermutation (after ∷ (split.0 ++ split.1))) (sym (set.rows ∙ split.3)) (IsPermutation-sym _ _ back))
 
-  other_row : (r : Row) → equals (row_key r) k ≡ false → lecturer_of (mid.trees 12) r ≡ with_ranking k list (lecturer_of (first.trees 12) r)
+  other_row : (r : Row) → equals (row_key r) k ≡ false
+      → lecturer_of (mid.trees 12) r ≡ with_ranking k list (lecturer_of (first.trees 12) r)
   other_row r other =
       let same : chosen (mid.trees 12) (row_key r) ≡ chosen (first.trees 12) (row_key r) =
       chosen_is ranking_tree k list first mid put (row_key r) ∙ rw other refl in
@@ -135,7 +138,8 @@ module _ (k : Key) (list : List Key) (first mid now : Database) (put : HasPut ra
   same : AllByRecursion (λ t. now.trees t ≡ there t) own_trees
   same = two_changed ranking_tree lecturer_tree first mid now put.tables set.others
 
-  rank_world : Rise (map lecturer_key (world_in First first.trees).lecturers) → world_in First now.trees ≡ changed (world_in First first.trees) (Ranks k list)
+  rank_world : Rise (map lecturer_key (world_in First first.trees).lecturers)
+      → world_in First now.trees ≡ changed (world_in First first.trees) (Ranks k list)
   unfolding world_in
   rank_world up = world_same First there now.trees same ∙ ap (λ l. record (world_in First first.trees) { lecturers = l }) (roll_is up)
 
@@ -165,13 +169,15 @@ module _ (k : Key) (list : List Key) (first mid now : Database) (put : HasPut ra
   }
 
 -- the keys of the rows are those of the world's lecturers, in some order
-pub keys_distinct : (db : Database) → Rise (map lecturer_key (world_in First db.trees).lecturers) → IsDistinct equals (map row_key (db.trees lecturer_tree))
+pub keys_distinct : (db : Database) → Rise (map lecturer_key (world_in First db.trees).lecturers)
+    → IsDistinct equals (map row_key (db.trees lecturer_tree))
 unfolding world_in
 keys_distinct db up =
     subst (IsDistinct equals) (sym (map_twice lecturer_key (lecturer_of (db.trees ranking_tree)) (db.trees lecturer_tree)))
     (distinct_if_rise lecturer_key (map (lecturer_of (db.trees ranking_tree)) (db.trees lecturer_tree)) up)
 
-pub rank_turns : (k : Key) (list : List Key) (first mid now : Database) → PutsList ranking_tree k list first mid → rows.Ranks k mid now
+pub rank_turns : (k : Key) (list : List Key) (first mid now : Database) → PutsList ranking_tree k list first mid
+    → rows.Ranks k mid now
     → TurnsThere First k list first now
 rank_turns k list first mid now puts ranks there holds up =
     let put = puts holds.current holds.apart.1.1.1.1.1.0 in
@@ -190,6 +196,7 @@ rank_turns k list first mid now puts ranks there holds up =
       world = rank_world k list first mid now put f.number f.name f.code f.capacity f.ranked was set formed up;
     }
 
-pub rank_made : (k : Key) (list : List Key) (old mid new : State) → GoesOn (PutsList ranking_tree k list) old mid → Made (rows.Ranks k) mid new
+pub rank_made : (k : Key) (list : List Key) (old mid new : State) → GoesOn (PutsList ranking_tree k list) old mid
+    → Made (rows.Ranks k) mid new
     → GoesOn (TurnsThere First k list) old new
 rank_made k list old mid new p q = goes_then _ _ _ old mid new p q (rank_turns k list old.now mid.now new.now)

@@ -9,7 +9,8 @@ use Rattle.portal_store.proofs.Base.{HasGoodWorldIn, HasChanged, IsTransitionFro
 use Rattle.portal_store.proofs.Base.{round_by, IsJudged, AreEmpty}
 
 -- a phase other than setup is that of a second round
-by_phase : (p : Phase) → is_setup p ≡ false → round_by (number_in (column (slice_index_or (second_row (pos (number_of_phase p)) ∷ []) 0 []) 2)) ≡ Second
+by_phase : (p : Phase) → is_setup p ≡ false
+    → round_by (number_in (column (slice_index_or (second_row (pos (number_of_phase p)) ∷ []) 0 []) 2)) ≡ Second
 by_phase Setup e = absurd (cc)
 by_phase Choosing e = refl
 by_phase Ranking e = refl
@@ -41,12 +42,14 @@ pub stands_in : (round : Round) (db : Trees) → HasGoodWorld db → round_in db
 stands_in round db s is = subst (λ r. HasGoodWorldIn r db) (sym (round_told s.0 db s.1.second) ∙ is) s.1
 
 -- `second` has a row that tells a phase
-pub tells_phase : (round : Round) (db : Trees) → HasSecond round db → (phase : Phase) × (db second_tree ≡ second_row (pos (number_of_phase phase)) ∷ [])
+pub tells_phase : (round : Round) (db : Trees) → HasSecond round db
+    → (phase : Phase) × (db second_tree ≡ second_row (pos (number_of_phase phase)) ∷ [])
 tells_phase First db h = (Setup, h.is)
 tells_phase Second db h = (h.phase, h.is)
 
 -- the phase of the row of the office is that of the first round
-pub first_phase : (db : Trees) (phase : Phase) (code : Key) → db portal_tree ≡ portal_row (pos version) (pos (number_of_phase phase)) code ∷ [] → phase_in First db ≡ phase
+pub first_phase : (db : Trees) (phase : Phase) (code : Key)
+    → db portal_tree ≡ portal_row (pos version) (pos (number_of_phase phase)) code ∷ [] → phase_in First db ≡ phase
 first_phase db phase code row = ap (λ rows. phase_numbered (number_in (column (slice_index_or rows 0 []) 3))) row ∙ phase_back phase
 
 -- tables that were judged stand for a good world
@@ -73,20 +76,24 @@ pub held_in : (round : Round) (db : Database) → IsConsistent db → round_in d
 held_in round db h is = subst (λ r. IsConsistentIn r db) (sym (round_told h.0 db.trees h.1.second) ∙ is) h.1
 
 -- tables that stay in their round have turned from it
-pub from_in : (round : Round) (change : Change) (old new : Database) → IsTransitionIn round change old new → IsTransitionFrom round change old new
+pub from_in : (round : Round) (change : Change) (old new : Database) → IsTransitionIn round change old new
+    → IsTransitionFrom round change old new
 from_in round change old new turns holds good better =
     let done = turns holds good better in
     record { holds = (round, done.holds); world = world_told round new.trees done.holds.second ∙ done.world }
 
 -- tables of a round have turned
-pub turned_in : (round : Round) (change : Change) (old new : Database) → IsTransitionFrom round change old new → IsConsistentIn round old → Good (world_of old.trees) → Good (changed (world_of old.trees) change) → HasChanged change old new
+pub turned_in : (round : Round) (change : Change) (old new : Database) → IsTransitionFrom round change old new
+    → IsConsistentIn round old → Good (world_of old.trees) → Good (changed (world_of old.trees) change)
+    → HasChanged change old new
 turned_in round change old new turns holds good better =
     let same = world_told round old.trees holds.second in
     let done = turns holds (subst Good same good) (subst (λ w. Good (changed w change)) same better) in
     record { holds = done.holds; world = done.world ∙ sym (ap (λ w. changed w change) same) }
 
 -- the code of the office is the one of its row, whatever the round
-pub office_told : (db : Trees) (phase : Phase) (code : Key) → db portal_tree ≡ portal_row (pos version) (pos (number_of_phase phase)) code ∷ [] → code ≡ (world_of db).office
+pub office_told : (db : Trees) (phase : Phase) (code : Key)
+    → db portal_tree ≡ portal_row (pos version) (pos (number_of_phase phase)) code ∷ [] → code ≡ (world_of db).office
 unfolding world_of world_in
 office_told db phase code row = sym (ap (λ rows. bytes (column (slice_index_or rows 0 []) 4)) row)
 
@@ -113,7 +120,9 @@ unfolding world_of world_in
 round_is db round is = is
 
 -- and so the tables are those of that round
-pub now_in : (db : Database) (round : Round) (office : Office) → IsConsistent db → IsNow (world_of db.trees) round office → IsConsistentIn round db × (world_of db.trees ≡ world_in round db.trees) × IsNow (world_in round db.trees) round office
+pub now_in : (db : Database) (round : Round) (office : Office) → IsConsistent db
+    → IsNow (world_of db.trees) round office
+    → IsConsistentIn round db × (world_of db.trees ≡ world_in round db.trees) × IsNow (world_in round db.trees) round office
 now_in db round office holds now =
     let held = held_in round db holds (round_is db.trees round now.round_is) in
     let same = world_told round db.trees held.second in
@@ -124,5 +133,6 @@ pub key_in : (round : Round) (db : Trees) (r : Row) → lecturer_key (lecturer_s
 key_in First db r = refl
 key_in Second db r = refl
 
-pub keys_in : (round : Round) (db : Trees) (rows : List Row) → map lecturer_key (map (lecturer_stored round db) rows) ≡ map row_key rows
+pub keys_in : (round : Round) (db : Trees) (rows : List Row)
+    → map lecturer_key (map (lecturer_stored round db) rows) ≡ map row_key rows
 keys_in round db rows = sym (map_twice lecturer_key (lecturer_stored round db) rows) ∙ map_alike (λ r. lecturer_key (lecturer_stored round db r)) row_key rows (key_in round db)

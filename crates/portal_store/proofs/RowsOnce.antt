@@ -14,7 +14,8 @@ nothing_before w same =
     (all_map (λ (s : Student). (s.earlier_choice ≡ []) × (s.earlier_placement ≡ None)) alone_student w.students
     (each_one (λ s. ((alone_student s).earlier_choice ≡ []) × ((alone_student s).earlier_placement ≡ None)) (λ s. (refl, refl)) w.students))
 
-pub rows_once : (w v : World) → Sound w → (is_second v.round ≡ false → HasNothingBefore v) → world_rows v ≡ world_rows w → v ≡ w
+pub rows_once : (w v : World) → Sound w → (is_second v.round ≡ false → HasNothingBefore v) → world_rows v ≡ world_rows w
+    → v ≡ w
 rows_once w v sound before same =
     λ i. record { round = (same i).round; phase = (same i).phase; office = (same i).office; lecturers = lecturers i; projects = (same i).projects; students = students i }
   where

@@ -27,7 +27,8 @@ told r = (row_key r, bytes (column r 2))
 abbrev Below : ℕ → Row → Type 0
 Below n r = (k : ℕ) × (rowid r ≡ Int (pos k)) × k < n
 
-put_last : (row : Row) (rows : List Row) → AllByRecursion (λ r. value_cmp (rowid r) (rowid row) ≡ Less) rows → put_row row rows ≡ rows ++ row ∷ []
+put_last : (row : Row) (rows : List Row) → AllByRecursion (λ r. value_cmp (rowid r) (rowid row) ≡ Less) rows
+    → put_row row rows ≡ rows ++ row ∷ []
 put_last row [] h = refl
 put_last row (r ∷ rows) h = rw h.0 (ap (λ l. r ∷ l) (put_last row rows h.1))
 
@@ -35,7 +36,8 @@ lower_id : (m n : ℕ) → m < n → value_cmp (Int (pos m)) (Int (pos n)) ≡ L
 lower_id m n h = value_cmp-Int (pos m) (pos n) ∙ grind (arith, ints, nat_tests)
 
 -- each has the number after the last, so that it stands behind all
-rows_told : (n : ℕ) (rows cells : List Row) → next_rowid rows ≡ pos n → AllByRecursion (Below n) rows → map told (with_rows rows cells) ≡ map told rows ++ map (λ c. told (Null ∷ c)) cells
+rows_told : (n : ℕ) (rows cells : List Row) → next_rowid rows ≡ pos n → AllByRecursion (Below n) rows
+    → map told (with_rows rows cells) ≡ map told rows ++ map (λ c. told (Null ∷ c)) cells
 rows_told n rows [] next below = sym (append-nil (map told rows))
 rows_told n rows (c ∷ cells) next below =
     let row : Row = Int (next_rowid rows) ∷ c in
@@ -48,14 +50,17 @@ rows_told n rows (c ∷ cells) next below =
     (all_append (Below (n + 1)) rows (row ∷ []) (all_weaker (Below n) (Below (n + 1)) (λ r b. (b.0, b.1, omega (arith, b.2))) rows below) ((n, ap Int next, omega arith), tt)) in
     rows_told (n + 1) (put_row row rows) cells above lower ∙ ap (λ l. map told l ++ rest) last ∙ ap (λ l. l ++ rest) (map-append told rows (row ∷ [])) ∙ append_assoc (map told rows) (told row ∷ []) rest
 
-all_told : (rows : List Row) (pairs : List (Key × Key)) → rows ≡ with_rows [] (map pair_new pairs) → map told rows ≡ pairs
+all_told : (rows : List Row) (pairs : List (Key × Key)) → rows ≡ with_rows [] (map pair_new pairs)
+    → map told rows ≡ pairs
 all_told rows pairs of = ap (map told) of ∙ rows_told 1 [] (map pair_new pairs) refl tt ∙ sym (map_twice (λ c. told (Null ∷ c)) pair_new pairs) ∙ map-id pairs
 
 -- the project that the rows give to a student is that of the pairs
-place_told : (rows : List Row) (pairs : List (Key × Key)) (k : Key) → rows ≡ with_rows [] (map pair_new pairs) → option_map (λ a. bytes (column a 2)) (find (λ a. equals (row_key a) k) rows) ≡ placement_in pairs k
+place_told : (rows : List Row) (pairs : List (Key × Key)) (k : Key) → rows ≡ with_rows [] (map pair_new pairs)
+    → option_map (λ a. bytes (column a 2)) (find (λ a. equals (row_key a) k) rows) ≡ placement_in pairs k
 place_told rows pairs k of = sym (ap (λ ps. placement_in ps k) (sym (all_told rows pairs of)) ∙ ap (option_map (λ (x : Key × Key). x.1)) (find_map told (λ a. equals (row_key a) k) (λ x. equals x.0 k) (λ a. refl) rows) ∙ both (find (λ a. equals (row_key a) k) rows))
   where
-    both : (o : Option Row) → option_map (λ (x : Key × Key). x.1) (option_map told o) ≡ option_map (λ a. bytes (column a 2)) o
+    both : (o : Option Row)
+        → option_map (λ (x : Key × Key). x.1) (option_map told o) ≡ option_map (λ a. bytes (column a 2)) o
     both None = refl
     both (Some a) = refl
 
@@ -65,7 +70,8 @@ place_left pairs earlier k = if is_none earlier then placement_in pairs k else N
 
 module _ (pairs : List (Key × Key)) (k : Key) (earlier : Option Key) where
   -- the student's own pair, if there is one, before others
-  found : (b : Bool) (t : Option Key) (rest : List (Key × Key)) → placement_in rest k ≡ cond b t None → placement_in (cons_option (option_map (λ p. (k, p)) t) rest) k ≡ t
+  found : (b : Bool) (t : Option Key) (rest : List (Key × Key)) → placement_in rest k ≡ cond b t None
+      → placement_in (cons_option (option_map (λ p. (k, p)) t) rest) k ≡ t
   found b None rest h = h ∙ elim b as (λ b. ◌≡◌ {A = Option Key} (cond b None None) None) [ true ↦ refl | false ↦ refl ]
   found b (Some p) rest h = rw (is_own k) refl
 
@@ -74,15 +80,18 @@ module _ (pairs : List (Key × Key)) (k : Key) (earlier : Option Key) where
   inside (Some p) = refl
 
   -- the pair of another
-  skipped : (x : Row) (rest : List (Key × Key)) → equals (first_cell x) k ≡ false → placement_in (cons_option (pair_left pairs x) rest) k ≡ placement_in rest k
+  skipped : (x : Row) (rest : List (Key × Key)) → equals (first_cell x) k ≡ false
+      → placement_in (cons_option (pair_left pairs x) rest) k ≡ placement_in rest k
   skipped x rest other = go (is_none (text_or_none (column x 3))) (placement_in pairs (first_cell x))
     where
-      go : (b : Bool) (t : Option Key) → placement_in (cons_option (cond b (option_map (λ p. (first_cell x, p)) t) None) rest) k ≡ placement_in rest k
+      go : (b : Bool) (t : Option Key)
+          → placement_in (cons_option (cond b (option_map (λ p. (first_cell x, p)) t) None) rest) k ≡ placement_in rest k
       go true None = refl
       go true (Some p) = rw other refl
       go false t = refl
 
-  place_at : (shown : List Row) → AllByRecursion (λ x. equals (first_cell x) k ≡ true → text_or_none (column x 3) ≡ earlier) shown
+  place_at : (shown : List Row)
+      → AllByRecursion (λ x. equals (first_cell x) k ≡ true → text_or_none (column x 3) ≡ earlier) shown
       → placement_in (filter_map (pair_left pairs) shown) k ≡ cond (has (map first_cell shown) k) (place_left pairs earlier k) None
   place_at [] h = refl
   place_at (x ∷ shown) h =
@@ -98,7 +107,8 @@ module _ (pairs : List (Key × Key)) (k : Key) (earlier : Option Key) where
       ]
 
 -- of rows whose keys differ one has the key
-one_with : (r : Row) (rows : List Row) → IsDistinct equals (map row_key rows) → Has rows r → AllByRecursion (λ y. equals (row_key y) (row_key r) ≡ true → y ≡ r) rows
+one_with : (r : Row) (rows : List Row) → IsDistinct equals (map row_key rows) → Has rows r
+    → AllByRecursion (λ y. equals (row_key y) (row_key r) ≡ true → y ≡ r) rows
 unfolding IsDistinct
 one_with r [] d h = absurd h
 one_with r (x ∷ rows) d (inl same) =
@@ -146,7 +156,8 @@ module _ (pairs left : List (Key × Key)) (shown : List Row) (old new : Database
       all_weaker _ _ (λ r h e. (h e).1) roll (all_unmap (λ s. is_left s ≡ false → (s.choice ≡ []) × (s.placed ≡ None)) before roll all)
 
   -- the rows that are shown tell of each student what the roll does
-  earlier_shown : (r : Row) → Has roll r → AllByRecursion (λ x. equals (first_cell x) (row_key r) ≡ true → text_or_none (column x 3) ≡ text_or_none (column r 4)) shown
+  earlier_shown : (r : Row) → Has roll r
+      → AllByRecursion (λ x. equals (first_cell x) (row_key r) ≡ true → text_or_none (column x 3) ≡ text_or_none (column r 4)) shown
   earlier_shown r there =
       let P = λ (x : Row). equals (first_cell x) (row_key r) ≡ true → text_or_none (column x 3) ≡ text_or_none (column r 4) in
       let show = columns (1 ∷ 2 ∷ 3 ∷ 4 ∷ []) in
@@ -176,11 +187,13 @@ module _ (pairs left : List (Key × Key)) (shown : List Row) (old new : Database
       }
 
 -- the places, and then the phase
-left_turned : (left : List (Key × Key)) (old mid new : Database) → PutsPlacements left old mid → MovesSecond 3 mid new → TurnsLeft left old new
+left_turned : (left : List (Key × Key)) (old mid new : Database) → PutsPlacements left old mid → MovesSecond 3 mid new
+    → TurnsLeft left old new
 left_turned left old mid new puts moves pairs shown of shows was good better =
     let placed = placed_all pairs left shown old mid of was good shows (puts was.current was.apart.1.1.1.1.1.1.1.1.1.1.0) in
     let done = second_turned Published mid new refl placed.holds moves in
     record { holds = done.holds; world = done.world ∙ now_published placed.world }
 
-pub left_made : (left : List (Key × Key)) (old mid new : State) → GoesOn (PutsPlacements left) old mid → Made (MovesSecond 3) mid new → GoesOn (TurnsLeft left) old new
+pub left_made : (left : List (Key × Key)) (old mid new : State) → GoesOn (PutsPlacements left) old mid
+    → Made (MovesSecond 3) mid new → GoesOn (TurnsLeft left) old new
 left_made left old mid new puts moves = goes_then _ _ _ old mid new puts moves (left_turned left old.now mid.now new.now)

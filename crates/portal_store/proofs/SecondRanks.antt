@@ -48,7 +48,8 @@ module _ (k : Key) (list : List Key) (first mid now : Database) (put : HasPut ra
     ranked = all_weaker _ _ none (first.trees 1) was.ranked;
   })
     where
-      none : (r : Row) → (is_ranked Second first.trees r ≡ false → of_key (row_key r) (first.trees 21) ≡ []) → is_ranked Second now.trees r ≡ false → of_key (row_key r) (mid.trees 21) ≡ []
+      none : (r : Row) → (is_ranked Second first.trees r ≡ false → of_key (row_key r) (first.trees 21) ≡ [])
+          → is_ranked Second now.trees r ≡ false → of_key (row_key r) (mid.trees 21) ≡ []
       none r h unranked = elim (cases_Bool (equals (row_key r) k)) [
         | inl hit ↦ let e : true ≡ false = sym (known (row_key r) ∙ ap (λ b. b || has (map row_key (first.trees 19)) (row_key r)) hit) ∙ unranked in absurd (cc)
         | inr other ↦ put.others (row_key r) other ∙ h (sym (known (row_key r) ∙ ap (λ b. b || has (map row_key (first.trees 19)) (row_key r)) other) ∙ unranked)
@@ -59,12 +60,14 @@ module _ (k : Key) (list : List Key) (first mid now : Database) (put : HasPut ra
       holds_second first now was (first_then first mid now (first_kept ranking2_tree first mid refl put.tables) (first_kept ranked2_tree mid now refl says.tables)) (says.schema_is ∙ put.schema_is) says.sound
       (apart_kept ranked2_tree mid now says.tables says.apart (apart_kept ranking2_tree first mid put.tables put.apart was.apart)) (opened_kept first.trees now.trees same.0 same.1.1.1.1.1.1.0 was.second) (rank_whole was.whole.1)
 
-pub second_turns : (k : Key) (list : List Key) (first mid now : Database) → PutsList ranking2_tree k list first mid → RanksSecond k mid now → TurnsThere Second k list first now
+pub second_turns : (k : Key) (list : List Key) (first mid now : Database) → PutsList ranking2_tree k list first mid
+    → RanksSecond k mid now → TurnsThere Second k list first now
 second_turns k list first mid now puts ranks there holds up =
     let put = puts holds.current holds.apart.1.1.1.1.1.1.1.1.1.0 in
     let apart : RowNumbersDiffer (mid.trees ranked2_tree) = subst RowNumbersDiffer (sym (kept_at ranking2_tree first mid put.tables ranked2_tree refl refl)) holds.apart.1.1.1.1.1.1.1.1.0 in
     let says = ranks (subst IsCurrentSchema (sym put.schema_is) holds.current) apart in
     record { holds = rank_holds k list first mid now put says holds; world = rank_world k list first mid now put says }
 
-pub second_made : (k : Key) (list : List Key) (old mid new : State) → GoesOn (PutsList ranking2_tree k list) old mid → Made (RanksSecond k) mid new → GoesOn (TurnsThere Second k list) old new
+pub second_made : (k : Key) (list : List Key) (old mid new : State) → GoesOn (PutsList ranking2_tree k list) old mid
+    → Made (RanksSecond k) mid new → GoesOn (TurnsThere Second k list) old new
 second_made k list old mid new p q = goes_then _ _ _ old mid new p q (second_turns k list old.now mid.now new.now)

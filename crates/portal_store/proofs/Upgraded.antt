@@ -65,12 +65,14 @@ module _ (old new : Database) (office : HasOffice first_version (old.trees porta
     whole = (admits was).stands.whole;
   }
 
-pub upgraded_stands : (old new : Database) (was : HasGoodFirst first_version old.trees) → Upgraded (pos (number_of_phase was.office.phase)) was.office.office old new → HasGoodWorld new.trees
+pub upgraded_stands : (old new : Database) (was : HasGoodFirst first_version old.trees)
+    → Upgraded (pos (number_of_phase was.office.phase)) was.office.office old new → HasGoodWorld new.trees
 upgraded_stands old new was up =
     let first = first_stands old new was.office up was in
     (First, record { office = first.office; second = second old new was.office up; whole = first.whole; good = first.good })
 
-upgraded_from : (old after : Database) (db : Trees) → IsFirstSchema old.schema → AdmitsAs first_version old.trees → Upgrades old after → db ≡ after.trees → IsUpgradedFrom old.trees db
+upgraded_from : (old after : Database) (db : Trees) → IsFirstSchema old.schema → AdmitsAs first_version old.trees
+    → Upgrades old after → db ≡ after.trees → IsUpgradedFrom old.trees db
 upgraded_from old after db first was upgrades is =
     let office = was.stands.office in
     let up = upgrades first _ _ office.is in
@@ -83,12 +85,15 @@ upgraded_from old after db first was upgrades is =
 
 -- what a crash leaves of tables that were looked at and then perhaps upgraded
 module _ (old mid new : State) (looks : Survives old mid (λ _. ⊥)) (upgrades : Survives mid new (IsAfter Upgrades mid)) where
-  pub leaves_upgraded : has_names OfSecond old.now.schema ≡ false → (IsFirstSchema old.now.schema → HasCleanDisk mid → mid.now ≡ old.now) → Survives old new (LeavesUpgraded old)
+  pub leaves_upgraded : has_names OfSecond old.now.schema ≡ false
+      → (IsFirstSchema old.now.schema → HasCleanDisk mid → mid.now ≡ old.now) → Survives old new (LeavesUpgraded old)
   leaves_upgraded free same =
       survives_then old mid new _ _ (LeavesUpgraded old) (λ clean db no. absurd no)
       (λ clean db left. (free, (left.0, λ first. subst (λ (d : Database). Upgrades d left.0) (same first (clean_before mid new _ upgrades clean)) left.1 first, left.2))) looks upgrades
 
-  pub leaves_world : IsFirstSchema old.now.schema → (HasCleanDisk mid → (mid.now ≡ old.now) × AdmitsAs first_version old.now.trees) → Survives old new (IsUpgradedFrom old.now.trees)
+  pub leaves_world : IsFirstSchema old.now.schema
+      → (HasCleanDisk mid → (mid.now ≡ old.now) × AdmitsAs first_version old.now.trees)
+      → Survives old new (IsUpgradedFrom old.now.trees)
   leaves_world first known =
       survives_then old mid new _ _ (IsUpgradedFrom old.now.trees) (λ clean db no. absurd no)
       (λ clean db left.
@@ -97,7 +102,8 @@ module _ (old mid new : State) (looks : Survives old mid (λ _. ⊥)) (upgrades 
 
 -- a schema has the names of the portal's tables that its pattern has: the six have none of the second round's
 
-named_alike : (names : Names) (ts us : List Table) → AllZip SameTable ts us → list_any (is_named_table names) ts ≡ list_any (is_named_table names) us
+named_alike : (names : Names) (ts us : List Table) → AllZip SameTable ts us
+    → list_any (is_named_table names) ts ≡ list_any (is_named_table names) us
 named_alike names [] [] h = refl
 named_alike names [] (u ∷ us) h = absurd h
 named_alike names (t ∷ ts) [] h = absurd h
@@ -149,7 +155,8 @@ module _
     left = λ mine clean db may. ((state g new).now, up.durable clean db may, holds mine clean);
   }
 
-  pub same_world : IsTrue own → HasCleanDisk (state g new) → world_of (state g new).now.trees ≡ world_in First (state g old).now.trees
+  pub same_world : IsTrue own → HasCleanDisk (state g new)
+      → world_of (state g new).now.trees ≡ world_in First (state g old).now.trees
   same_world mine clean =
       let office = (up.admitted (is_first mine) clean).stands.office in
       world_told First (state g new).now.trees (second (state g old).now (state g new).now office (made mine clean))

@@ -111,7 +111,8 @@ pub record RefusesToUpgrade {S : Type 0} (g : Ghosts S) (fault : UpgradeFault) (
   -- and that the first row of `portal` has version 1
   pub order : fault ≡ upgrading.Exists → HasCleanDisk (state g new) → ShowsVersion first_version (state g new)
   -- and that the first six tables, if they are the portal's, stand for a good world
-  pub judged : fault ≡ upgrading.Exists → HasFirstSchema old.schema → HasCleanDisk (state g new) → HasGoodFirst first_version (state g old).now.trees
+  pub judged : fault ≡ upgrading.Exists → HasFirstSchema old.schema → HasCleanDisk (state g new)
+      → HasGoodFirst first_version (state g old).now.trees
   -- of own tables, whatever a crash leaves has the same world
   pub left : IsFirstSchema old.schema → Survives (state g old) (state g new) (IsUpgradedFrom (state g old).now.trees)
 
@@ -125,10 +126,13 @@ pub record StaysStore {S : Type 0} (g : Ghosts S) (old new : Seen S) : Type 0 wh
 -- what a change does to own tables
 pub record ChangesTables {S V E : Type 0} (g : Ghosts S) (change : Change) (r : Result V E) (old new : Seen S) : Type 0 where
   -- if it succeeds, it is made in one commit
-  pub commits : IsTrue old.own → HasDisk g new → OnOk r (Commits (IsTransition change) (state g old.conn) (state g new.conn))
+  pub commits : IsTrue old.own → HasDisk g new
+      → OnOk r (Commits (IsTransition change) (state g old.conn) (state g new.conn))
   -- and a crash leaves only what was committed
   pub durable : IsTrue old.own → HasDisk g new → OnOk r (LeavesOnly (state g new.conn))
   -- a crash leaves what one before the call left, or the changed tables
-  pub crash : IsTrue old.own → Survives (state g old.conn) (state g new.conn) (IsAfter (IsTransition change) (state g old.conn))
+  pub crash : IsTrue old.own
+      → Survives (state g old.conn) (state g new.conn) (IsAfter (IsTransition change) (state g old.conn))
   -- of a clean store it leaves the tables before the change, or those of the changed world
-  pub left : IsCleanStore g old → HasDisk g new → (db : Trees) → (state g new.conn).may_leave db → IsLeft change (state g old.conn).now db
+  pub left : IsCleanStore g old → HasDisk g new → (db : Trees) → (state g new.conn).may_leave db
+      → IsLeft change (state g old.conn).now db

@@ -56,7 +56,9 @@ as_upgrading opening.Memory = upgrading.Memory
 
 -- the same of an upgrade, by the rules of version 1; the tables alone give no cause for `Exists`
 abbrev pub Bars : UpgradeFault → Trees → Type 0
-Bars fault db = (found : OpenFault) × (fault ≡ as_upgrading found) × RefusalSays found first_version (HasGoodFirst first_version db) db
+Bars fault db =
+    (found : OpenFault) × (fault ≡ as_upgrading found)
+    × RefusalSays found first_version (HasGoodFirst first_version db) db
 
 -- what a crash may leave: the tables before the change, or those of the changed world
 abbrev pub IsLeft : Change → Database → Trees → Type 0
@@ -88,15 +90,21 @@ pub record UpgradesYet (found : Database) : Type 0 where
 
 -- after a crash in a change, the store opens with the world before or after it
 abbrev pub OpensAgain : Type 0
-OpensAgain = (change : Change) (old found : Database) → IsConsistent old → Good (world_of old.trees) → Good (changed (world_of old.trees) change) → IsLeft change old found.trees → IsDatabase found
+OpensAgain =
+    (change : Change) (old found : Database) → IsConsistent old → Good (world_of old.trees)
+    → Good (changed (world_of old.trees) change) → IsLeft change old found.trees → IsDatabase found
     → Reopens found × ((world_of found.trees ≡ world_of old.trees) ⊎ (world_of found.trees ≡ changed (world_of old.trees) change))
 
 -- what `create` makes opens with the empty world in setup
 abbrev pub OpensFresh : Type 0
-OpensFresh = (office : Key) (made found : Database) → IsTrue (is_code office) → IsFresh office made → found.trees ≡ made.trees → IsDatabase found → Reopens found × (world_of found.trees ≡ first_world office)
+OpensFresh =
+    (office : Key) (made found : Database) → IsTrue (is_code office) → IsFresh office made → found.trees ≡ made.trees
+    → IsDatabase found → Reopens found × (world_of found.trees ≡ first_world office)
 
 -- after a crash in an upgrade, the old tables can be upgraded or the new ones opened: same world
 abbrev pub UpgradesAgain : Type 0
-UpgradesAgain = (old found : Database) → IsFirstSchema old.schema → IsDatabase old → HasGoodFirst first_version old.trees → IsDatabase found
+UpgradesAgain =
+    (old found : Database) → IsFirstSchema old.schema → IsDatabase old → HasGoodFirst first_version old.trees
+    → IsDatabase found
     → (found.trees ≡ old.trees → UpgradesYet found × (world_in First found.trees ≡ world_in First old.trees))
     × ((after : Database) → Upgrades old after → found.trees ≡ after.trees → Reopens found × (world_of found.trees ≡ world_in First old.trees))

@@ -90,7 +90,9 @@ pub record HasChanged (change : Change) (old new : Database) : Type 0 where
 
 -- the tables change as the world does, if the worlds before and after are good
 abbrev pub IsTransition : Change → Database → Database → Type 0
-IsTransition change old new = IsConsistent old → Good (world_of old.trees) → Good (changed (world_of old.trees) change) → HasChanged change old new
+IsTransition change old new =
+    IsConsistent old → Good (world_of old.trees) → Good (changed (world_of old.trees) change)
+    → HasChanged change old new
 
 -- the state of a store; `own` says that the tables are the portal's, `faults` counts store faults
 pub record Seen (S : Type 0) : Type 0 where
@@ -108,14 +110,17 @@ HasFailed old new = min (old.faults + 1) (2 ^ 64 - 1) ≤ new.faults
 
 -- a clean store stays clean, if the disk returns what was written and does not fail
 abbrev pub Lasts : {S : Type 0} → Ghosts S → Seen S → Seen S → Type 0
-Lasts g old new = HasCleanDisk (state g new.conn) → IsCleanStore g old → IsCleanStore g new ⊎ HasFailed (state g old.conn) (state g new.conn)
+Lasts g old new =
+    HasCleanDisk (state g new.conn) → IsCleanStore g old → IsCleanStore g new
+    ⊎ HasFailed (state g old.conn) (state g new.conn)
 
 abbrev pub kept_world : {S : Type 0} → Ghosts S → Seen S → World
 kept_world g s = world_of (state g s.conn).now.trees
 
 -- a clean store in memory stays clean, since there is no disk that could fail
 abbrev pub LastsInMemory : Type 0
-LastsInMemory = (old new : Seen MemStore) → Lasts over_memory old new → IsCleanStore over_memory old → IsCleanStore over_memory new
+LastsInMemory =
+    (old new : Seen MemStore) → Lasts over_memory old new → IsCleanStore over_memory old → IsCleanStore over_memory new
 
 -- the disk of a store has returned what was written so far
 abbrev pub HasDisk : {S : Type 0} → Ghosts S → Seen S → Type 0

@@ -32,7 +32,8 @@ is_ranked First db r = number_in (column r 5) == 1
 is_ranked Second db r = has (map row_key (db ranked2_tree)) (row_key r)
 
 abbrev pub ranking_in : Round → Trees → Row → Option (List Key)
-ranking_in round db r = if is_ranked round db r then Some (chosen (db (tree_of (ranking_table round))) (row_key r)) else None
+ranking_in round db r =
+    if is_ranked round db r then Some (chosen (db (tree_of (ranking_table round))) (row_key r)) else None
 
 abbrev pub choice_in : Round → Trees → Row → List Key
 choice_in round db r = chosen (db (tree_of (choice_table round))) (row_key r)
@@ -77,4 +78,5 @@ world_of db = world_in (round_in db) db
 
 -- the world that `create` makes: empty, in setup
 abbrev pub first_world : Key → World
-first_world office = record { round = First; phase = Setup; office = office; lecturers = []; projects = []; students = [] }
+first_world office =
+    record { round = First; phase = Setup; office = office; lecturers = []; projects = []; students = [] }

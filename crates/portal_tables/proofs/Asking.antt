@@ -12,7 +12,8 @@ module _ (old mid new : State) (C D : Database → Database → Type 0) (more : 
   }
 
 -- nothing is to be done
-pub commits_none : (old new : State) (D : Database → Database → Type 0) → IsSettled old → IsUnchanged old new → D old.now old.now → Commits D old new
+pub commits_none : (old new : State) (D : Database → Database → Type 0) → IsSettled old → IsUnchanged old new
+    → D old.now old.now → Commits D old new
 commits_none old new D settled same did = record {
   was_open = same.0.was_open;
   is_open = same.0.is_open;

@@ -51,7 +51,8 @@ module _ (key : List ℕ) (project : Option (List ℕ)) where
   abbrev but : Row → Value → Row
   but r v = column r 0 ∷ column r 1 ∷ column r 2 ∷ column r 3 ∷ v ∷ []
 
-  row_cast : (o : Option (List ℕ)) (n : ℤ) (k name code : List ℕ) → cast_row (student_schema 6) (Int n ∷ Text k ∷ Text name ∷ Text code ∷ text_cell o ∷ []) ≡ Int n ∷ Text k ∷ Text name ∷ Text code ∷ text_cell o ∷ []
+  row_cast : (o : Option (List ℕ)) (n : ℤ) (k name code : List ℕ)
+      → cast_row (student_schema 6) (Int n ∷ Text k ∷ Text name ∷ Text code ∷ text_cell o ∷ []) ≡ Int n ∷ Text k ∷ Text name ∷ Text code ∷ text_cell o ∷ []
   row_cast None n k name code = rw (cast_int n) refl
   row_cast (Some t) n k name code = rw (cast_int n) refl
 
@@ -105,11 +106,13 @@ module _ (key : List ℕ) (project : Option (List ℕ)) where
 
 -- ---- one UPDATE after another
 
-one_more : (all : List Assigned) (x : Assigned) (key value : Value) → assigned_by (x ∷ []) key (assigned_by all key value) ≡ assigned_by (all ++ x ∷ []) key value
+one_more : (all : List Assigned) (x : Assigned) (key value : Value)
+    → assigned_by (x ∷ []) key (assigned_by all key value) ≡ assigned_by (all ++ x ∷ []) key value
 one_more [] x key value = refl
 one_more (a ∷ all) x key value = one_more all x key _
 
-assigns_then : (all : List Assigned) (x : Assigned) (a b c : Database) → Assigns all a b → Assigns (x ∷ []) b c → Assigns (all ++ x ∷ []) a c
+assigns_then : (all : List Assigned) (x : Assigned) (a b c : Database) → Assigns all a b → Assigns (x ∷ []) b c
+    → Assigns (all ++ x ∷ []) a c
 assigns_then all x a b c first later own sound apart =
     let p = first own sound apart in
     let q = later (subst IsCurrentSchema (sym p.schema_is) own) p.sound p.apart in
@@ -128,5 +131,6 @@ assigns_then all x a b c first later own sound apart =
     }
 
 -- a loop's turn: the student at i
-pub assigns_next : (all : List Assigned) (i : ℕ) (x : Assigned) (a b c : Database) → i < length all → x ≡ get_or all i x → Assigns (take i all) a b → Assigns (x ∷ []) b c → Assigns (take (i + 1) all) a c
+pub assigns_next : (all : List Assigned) (i : ℕ) (x : Assigned) (a b c : Database) → i < length all → x ≡ get_or all i x
+    → Assigns (take i all) a b → Assigns (x ∷ []) b c → Assigns (take (i + 1) all) a c
 assigns_next all i x a b c within is was more = subst (λ l. Assigns l a c) (sym (next_item all i x is within)) (assigns_then (take i all) x a b c was more)

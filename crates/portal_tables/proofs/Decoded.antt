@@ -23,17 +23,21 @@ never_returns : (r : Result Compiled CompileError) → IsPlainIfAny r → Return
 never_returns (Ok c) plain some = absurd (let none = rw plain.0 at some in cc)
 never_returns (Err e) plain some = some
 
-begun_plain : {S : Type 0} (g : Ghosts S) (sql : List ℕ) (params : Row) (old new : Held S) → IsPlainIfAny (understood old.schema sql) → HasBegun g sql params old new
+begun_plain : {S : Type 0} (g : Ghosts S) (sql : List ℕ) (params : Row) (old new : Held S)
+    → IsPlainIfAny (understood old.schema sql) → HasBegun g sql params old new
     → HasGiven g sql params new [] × IsUnchanged (state g old) (state g new)
 begun_plain g sql params old new plain (inl h) = h
 begun_plain g sql params old new plain (inr h) = absurd (never_returns _ plain h.0)
 
-pub never_commits : (sql : List ℕ) (params : Row) (s : State) (db : Trees) → IsPlainIfAny (understood s.now.schema sql) → CommitsShowing sql params s db → ⊥
+pub never_commits : (sql : List ℕ) (params : Row) (s : State) (db : Trees) → IsPlainIfAny (understood s.now.schema sql)
+    → CommitsShowing sql params s db → ⊥
 unfolding CommitsShowing
 never_commits sql params s db plain h = never_returns (Ok h.0) (subst IsPlainIfAny h.1.is plain) h.2
 
 -- what a connection shows that is as it was before is what it showed then
-pub shown_before : (sql : List ℕ) (params : Row) (a b c : State) (rows : List Row) → IsPlainIfAny (understood a.now.schema sql) → IsUnchanged a b → Shown sql params b c rows → Shown sql params a c rows
+pub shown_before : (sql : List ℕ) (params : Row) (a b c : State) (rows : List Row)
+    → IsPlainIfAny (understood a.now.schema sql) → IsUnchanged a b → Shown sql params b c rows
+    → Shown sql params a c rows
 unfolding Shown
 shown_before sql params a b c rows plain m h =
     let there = subst (λ (d : Database). IsPlainIfAny (understood d.schema sql)) (sym m.0.now_is) plain in
@@ -50,7 +54,8 @@ module _ {S X : Type 0} (g : Ghosts S) (sql : List ℕ) (params : Row) (old new 
   it : IsRefused g sql params old r new
   it = IfErr-at_err (λ _. IsRefused g sql params old r new) is refused
 
-  refused_leaves : IsPlainIfAny (understood old.schema sql) → HasCleanDisk (state g new) → IsUnchangedOrUndone (state g old) (state g new)
+  refused_leaves : IsPlainIfAny (understood old.schema sql) → HasCleanDisk (state g new)
+      → IsUnchangedOrUndone (state g old) (state g new)
   refused_leaves plain clean = failed_leaves sql params (state g old) (state g new) e plain (IfErr-at_err (FailsToQuery sql params (state g old) (state g new)) is (it.err clean))
 
   refused_survives : Survives (state g old) (state g new) (λ _. IsPlainIfAny (understood old.schema sql) → ⊥)
@@ -68,11 +73,14 @@ module _ {S X : Type 0} (g : Ghosts S) (sql : List ℕ) (params : Row) (old new 
 pub record IsUnderWay {S : Type 0} (g : Ghosts S) (sql : List ℕ) (old mid : Held S) (Given : Type 0) : Type 0 where
   pub mode : old.in_transaction ≡ false → mid.in_transaction ≡ false
   pub survives : Survives (state g old) (state g mid) (λ _. IsPlainIfAny (understood old.schema sql) → ⊥)
-  pub same : IsPlainIfAny (understood old.schema sql) → HasCleanDisk (state g mid) → IsUnchanged (state g old) (state g mid)
+  pub same : IsPlainIfAny (understood old.schema sql) → HasCleanDisk (state g mid)
+      → IsUnchanged (state g old) (state g mid)
   pub given : IsPlainIfAny (understood old.schema sql) → HasCleanDisk (state g mid) → Given
 
 -- it begins
-pub begun : {S : Type 0} (g : Ghosts S) (sql : List ℕ) (params : Row) (old mid : Held S) {Given : Type 0} → (HasCleanDisk (state g mid) → HasBegun g sql params old mid) → (old.in_transaction ≡ false → mid.in_transaction ≡ false)
+pub begun : {S : Type 0} (g : Ghosts S) (sql : List ℕ) (params : Row) (old mid : Held S) {Given : Type 0}
+    → (HasCleanDisk (state g mid) → HasBegun g sql params old mid)
+    → (old.in_transaction ≡ false → mid.in_transaction ≡ false)
     → Survives (state g old) (state g mid) (CommitsShowing sql params (state g old)) → (HasGiven g sql params mid [] → Given) → IsUnderWay g sql old mid Given
 begun g sql params old mid has mode survives known = record {
   mode = mode;
@@ -109,7 +117,9 @@ module _ {S : Type 0} (g : Ghosts S) (sql : List ℕ) (old mid : Held S) {Given 
     }
 
     -- it stops with an error
-    pub leaves_stopped : {V E : Type 0} (r : Result V E) → IsErr r → (e : Error) → (HasCleanDisk (state g new) → Fails (state g mid) (state g new) ⊥ e ⊎ IsUnchanged (state g mid) (state g new)) → Leaves g sql r old new
+    pub leaves_stopped : {V E : Type 0} (r : Result V E) → IsErr r → (e : Error)
+        → (HasCleanDisk (state g new) → Fails (state g mid) (state g new) ⊥ e ⊎ IsUnchanged (state g mid) (state g new))
+        → Leaves g sql r old new
     leaves_stopped r failed e kept = record {
       same = λ plain clean. IfOk-from_err r _ failed;
       err = λ plain clean. on_err _ r (then_leaves _ _ _ way.survives.counts (way.same plain (before clean)) (undone (kept clean)));
@@ -117,7 +127,8 @@ module _ {S : Type 0} (g : Ghosts S) (sql : List ℕ) (old mid : Held S) {Given 
       survives = after;
     }
       where
-        undone : Fails (state g mid) (state g new) ⊥ e ⊎ IsUnchanged (state g mid) (state g new) → IsUnchangedOrUndone (state g mid) (state g new)
+        undone : Fails (state g mid) (state g new) ⊥ e ⊎ IsUnchanged (state g mid) (state g new)
+            → IsUnchangedOrUndone (state g mid) (state g new)
         undone (inl fails) = inr fails.3
         undone (inr same) = inl same
 
@@ -127,7 +138,9 @@ module _ {S T : Type 0} (g : Ghosts S) (decode : Row → T) (is_fine : Row → T
   same_fault e = cc
 
   -- an error that does not blame the rows
-  pub broken : (r : Result (Vec T Global) TableFault) (Told : TableFault → Type 0) → IsErrAnd r Told → ((fault : TableFault) → Told fault → fault ≡ Damaged → ⊥) → Leaves g sql r old new → ReadsEach g decode is_fine sql params r old new
+  pub broken : (r : Result (Vec T Global) TableFault) (Told : TableFault → Type 0) → IsErrAnd r Told
+      → ((fault : TableFault) → Told fault → fault ≡ Damaged → ⊥) → Leaves g sql r old new
+      → ReadsEach g decode is_fine sql params r old new
   broken (Ok v) Told failed other leaves = absurd failed
   broken (Err fault) Told failed other leaves = record {
     leaves = leaves;
@@ -137,7 +150,8 @@ module _ {S T : Type 0} (g : Ghosts S) (decode : Row → T) (is_fine : Row → T
   }
 
   -- a row that is not decoded
-  pub refused_row : (r : Result (Vec T Global) TableFault) (fault : TableFault) → IsErrAnd r (λ f. f ≡ fault) → (row : Row) → (fault ≡ Damaged → is_fine row → ⊥)
+  pub refused_row : (r : Result (Vec T Global) TableFault) (fault : TableFault) → IsErrAnd r (λ f. f ≡ fault)
+      → (row : Row) → (fault ≡ Damaged → is_fine row → ⊥)
       → IsUnderWay g sql old new ((before : List Row) × Begins sql params (state g new) (before ++ row ∷ [])) → ReadsEach g decode is_fine sql params r old new
   refused_row (Ok v) fault failed row blames way = absurd failed
   refused_row (Err f) fault failed row blames way = record {
@@ -150,21 +164,28 @@ module _ {S T : Type 0} (g : Ghosts S) (decode : Row → T) (is_fine : Row → T
   }
 
   -- all rows are decoded
-  pub all_read : (v : Vec T Global) → IsUnderWay g sql old new (ShowsAs decode (Shown sql params (state g old) (state g new)) v.items) → ReadsEach g decode is_fine sql params (Ok v) old new
+  pub all_read : (v : Vec T Global)
+      → IsUnderWay g sql old new (ShowsAs decode (Shown sql params (state g old) (state g new)) v.items)
+      → ReadsEach g decode is_fine sql params (Ok v) old new
   all_read v way = record { leaves = leaves_way g sql old new way (Ok v); rows = way.given; undamaged = λ is. absurd (cc); refused = λ plain clean is. absurd (cc) }
 
 -- whether a row is found, by a step to the first
 module _ {S : Type 0} (g : Ghosts S) (sql : List ℕ) (params : Row) (old mid new : Held S) where
-  none_found : (found : Option (Bor Row)) → IsPlainIfAny (understood old.schema sql) → IsUnchanged (state g old) (state g mid) → HasGiven g sql params mid [] → Advances g mid new (option_copied found)
+  none_found : (found : Option (Bor Row)) → IsPlainIfAny (understood old.schema sql)
+      → IsUnchanged (state g old) (state g mid) → HasGiven g sql params mid []
+      → Advances g mid new (option_copied found)
       → is_some found ≡ false → Shown sql params (state g old) (state g new) []
   none_found None plain same given on empty = shown_before sql params (state g old) (state g mid) (state g new) [] plain same (on sql params [] given)
   none_found (Some row) plain same given on empty = absurd (cc)
 
-  one_found : (found : Option (Bor Row)) → HasGiven g sql params mid [] → Advances g mid new (option_copied found) → is_some found ≡ true → (first : Row) × Begins sql params (state g new) (first ∷ [])
+  one_found : (found : Option (Bor Row)) → HasGiven g sql params mid [] → Advances g mid new (option_copied found)
+      → is_some found ≡ true → (first : Row) × Begins sql params (state g new) (first ∷ [])
   one_found None given on there = absurd (cc)
   one_found (Some row) given on there = (row.now, given_begin g sql params new _ (on sql params [] given))
 
-  pub row_found : (found : Option (Bor Row)) (b : Bool) → b ≡ is_some found → IsUnderWay g sql old mid (HasGiven g sql params mid []) → (mid.in_transaction ≡ false → new.in_transaction ≡ false) → Survives (state g mid) (state g new) (λ _. ⊥)
+  pub row_found : (found : Option (Bor Row)) (b : Bool) → b ≡ is_some found
+      → IsUnderWay g sql old mid (HasGiven g sql params mid [])
+      → (mid.in_transaction ≡ false → new.in_transaction ≡ false) → Survives (state g mid) (state g new) (λ _. ⊥)
       → (HasCleanDisk (state g new) → IsUnchanged (state g mid) (state g new)) → (HasCleanDisk (state g new) → Advances g mid new (option_copied found)) → FindsRow g sql params (Ok b) old new
   row_found found b told way mode survives same on =
       let before = clean_before (state g mid) (state g new) _ survives in
@@ -180,7 +201,8 @@ module _ {S : Type 0} (g : Ghosts S) (sql : List ℕ) (params : Row) (old mid ne
 
 module _ {S T : Type 0} (g : Ghosts S) (decode : Row → T) (sql : List ℕ) (params : Row) (old mid new : Held S) (all : List T) (so_far : ShowsAs decode (HasGiven g sql params mid) all) where
   -- no row is to come
-  pub ended : IsPlainIfAny (understood old.schema sql) → IsUnchanged (state g old) (state g mid) → Advances g mid new None → ShowsAs decode (Shown sql params (state g old) (state g new)) all
+  pub ended : IsPlainIfAny (understood old.schema sql) → IsUnchanged (state g old) (state g mid)
+      → Advances g mid new None → ShowsAs decode (Shown sql params (state g old) (state g new)) all
   ended plain same on = record {
     rows = so_far.rows;
     shown = shown_before sql params (state g old) (state g mid) (state g new) so_far.rows plain same (on sql params so_far.rows so_far.shown);
@@ -188,7 +210,8 @@ module _ {S T : Type 0} (g : Ghosts S) (decode : Row → T) (sql : List ℕ) (pa
   }
 
   -- one more is decoded
-  pub one_more : (row : Row) → Advances g mid new (Some row) → (more : List T) → more ≡ all ++ decode row ∷ [] → ShowsAs decode (HasGiven g sql params new) more
+  pub one_more : (row : Row) → Advances g mid new (Some row) → (more : List T) → more ≡ all ++ decode row ∷ []
+      → ShowsAs decode (HasGiven g sql params new) more
   one_more row on more is = record {
     rows = so_far.rows ++ row ∷ [];
     shown = on sql params so_far.rows so_far.shown;
@@ -196,7 +219,8 @@ module _ {S T : Type 0} (g : Ghosts S) (decode : Row → T) (sql : List ℕ) (pa
   }
 
 -- whether a row is shown, by the first that is read
-pub found_any : (IsShown : List Row → Type 0) (sql : List ℕ) (params : Row) (old new : State) → IsPlainIfAny (understood old.now.schema sql) → ((rows : List Row) → Shown sql params old new rows → IsShown rows)
+pub found_any : (IsShown : List Row → Type 0) (sql : List ℕ) (params : Row) (old new : State)
+    → IsPlainIfAny (understood old.now.schema sql) → ((rows : List Row) → Shown sql params old new rows → IsShown rows)
     → ((c : Compiled) → understood old.now.schema sql ≡ Ok c → (db : Database) (full : Row) → EndsIn c.command db full)
     → (r : Result Bool Error) → OnOk r (IsUnchanged old new) → IfOk r (λ found. found ≡ false → Shown sql params old new []) → IfOk r (λ found. found ≡ true → (first : Row) × Begins sql params new (first ∷ []))
     → IfOk r (FindsAny IsShown)
@@ -209,7 +233,8 @@ found_any IsShown sql params old new plain known ends (Ok true) same none some =
 found_any IsShown sql params old new plain known ends (Err e) same none some = tt
 
 -- a row that was refused is one of those that are shown
-pub none_refused : (is_fine : Row → Type 0) (IsShown : List Row → Type 0) (sql : List ℕ) (params : Row) (old new : State) → IsPlainIfAny (understood old.now.schema sql) → ((rows : List Row) → Shown sql params old new rows → IsShown rows)
+pub none_refused : (is_fine : Row → Type 0) (IsShown : List Row → Type 0) (sql : List ℕ) (params : Row) (old new : State)
+    → IsPlainIfAny (understood old.now.schema sql) → ((rows : List Row) → Shown sql params old new rows → IsShown rows)
     → ((c : Compiled) → understood old.now.schema sql ≡ Ok c → (db : Database) (full : Row) → EndsIn c.command db full)
     → Refuses is_fine sql params old new → ((rows : List Row) → IsShown rows → AllByRecursion is_fine rows) → ⊥
 none_refused is_fine IsShown sql params old new plain known ends h fine =

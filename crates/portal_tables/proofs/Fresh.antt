@@ -25,7 +25,8 @@ module _ {S A : Type 0} (g : Ghosts S) (r : Result A Error) (a b c d : Transacti
   now tx = (state g tx.conn.now).now
 
   -- all are made, and the two rows come
-  pub fresh_made : (office : List ℕ) → Does g (Made Makes) (Ok (tt {0})) a b → Does g (Made (Adds portal_tree (portal_cells (pos version) (pos 0) office ∷ []))) (Ok (tt {0})) b c
+  pub fresh_made : (office : List ℕ) → Does g (Made Makes) (Ok (tt {0})) a b
+      → Does g (Made (Adds portal_tree (portal_cells (pos version) (pos 0) office ∷ []))) (Ok (tt {0})) b c
       → Does g (Made (Adds second_tree (second_cells (pos 0) ∷ []))) r c d → Does g (GoesOn (Creates office)) r a d
   fresh_made office p q s = does_three g _ _ _ (Creates office) _ _ r a b c d p q s (λ make add say has.
       let there = make has in
@@ -44,7 +45,9 @@ module _ {S A : Type 0} (g : Ghosts S) (r : Result A Error) (a b c d : Transacti
       })
 
   -- beside the six the five are made, the row of `second` comes and the version is set
-  pub upgraded : Does g (Made MakesSecond) (Ok (tt {0})) a b → Does g (Made (Adds second_tree (second_cells (pos 0) ∷ []))) (Ok (tt {0})) b c → Does g (Made (IsOfVersion version)) r c d
+  pub upgraded : Does g (Made MakesSecond) (Ok (tt {0})) a b
+      → Does g (Made (Adds second_tree (second_cells (pos 0) ∷ []))) (Ok (tt {0})) b c
+      → Does g (Made (IsOfVersion version)) r c d
       → Does g (GoesOn Upgrades) r a d
   upgraded p q s = does_three g _ _ _ Upgrades _ _ r a b c d p q s (λ make say set own phase office row.
       let has = make own in
@@ -68,7 +71,8 @@ module _ {S A : Type 0} (g : Ghosts S) (r : Result A Error) (a b c d : Transacti
       })
 
 -- there each row has a number of its own
-pub fresh_apart : (office : List ℕ) (db : Database) → IsFresh office db → AllByRecursion (λ t. RowNumbersDiffer (db.trees t)) own_trees
+pub fresh_apart : (office : List ℕ) (db : Database) → IsFresh office db
+    → AllByRecursion (λ t. RowNumbersDiffer (db.trees t)) own_trees
 fresh_apart office db f =
     let parts = parts_of (λ t. t ≢ portal_tree → t ≢ second_tree → db.trees t ≡ []) middle (second_tree ∷ last) f.others.1 in
     let none : (trees : List ℕ) → AllByRecursion (λ t. db.trees t ≡ []) trees → AllByRecursion (λ t. RowNumbersDiffer (db.trees t)) trees = all_weaker (λ t. db.trees t ≡ []) (λ t. RowNumbersDiffer (db.trees t)) (λ t. apart_none (db.trees t)) in

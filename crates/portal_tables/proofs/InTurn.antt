@@ -10,7 +10,8 @@ use Rattle.portal_tables.proofs.Base.{MatchResult, IsErrAnd, Memory, Blames}
 use Rattle.portal_tables.proofs.Owned.{current_own}
 use Rattle.portal_tables.proofs.Queries.{on_ok, on_err}
 
-pub then_leaves : (a b c : State) → a.faults ≤ b.faults → IsUnchanged a b → IsUnchangedOrUndone b c → IsUnchangedOrUndone a c
+pub then_leaves : (a b c : State) → a.faults ≤ b.faults → IsUnchanged a b → IsUnchangedOrUndone b c
+    → IsUnchangedOrUndone a c
 then_leaves a b c counts p (inl q) = inl (unchanged_then a b c p q)
 then_leaves a b c counts p (inr q) = inr (rolled_back_since a b c p counts q)
 
@@ -19,7 +20,8 @@ clean_before b c P h clean = omega (arith, h.clean, clean)
 
 module _ {round : Round} {Right : Database → Type 0} {V E : Type 0} {Told : Database → Result V E → Type 0} where
   -- no query is made
-  pub reads_self : {r : Result V E} {s : State} → (HasRound round s.now.schema → Right s.now → Told s.now r) → Reading round IfOpen Right Told r s s
+  pub reads_self : {r : Result V E} {s : State} → (HasRound round s.now.schema → Right s.now → Told s.now r)
+      → Reading round IfOpen Right Told r s s
   reads_self {r} {s} told = record {
     same = λ clean on. on_ok _ r (unchanged s on);
     err = λ clean on. on_err (IsUnchangedOrUndone s s) r (inl (unchanged s on));
@@ -35,7 +37,9 @@ module _ {round : Round} {Right : Database → Type 0} {V E : Type 0} {Told : Da
     reads_open h = record { same = λ clean on. h.same clean tt; err = λ clean on. h.err clean tt; now = h.now; mode = h.mode; crash = h.crash; told = h.told }
 
     -- of the tables of more rounds, and of a database of which more is known
-    pub reads_of : {there : Round} {Known : Database → Type 0} {On : State → Type 0} → (HasRound there a.now.schema → HasRound round a.now.schema) → (HasRound there a.now.schema → Known a.now → Right a.now)
+    pub reads_of : {there : Round} {Known : Database → Type 0} {On : State → Type 0}
+        → (HasRound there a.now.schema → HasRound round a.now.schema)
+        → (HasRound there a.now.schema → Known a.now → Right a.now)
         → Reading round On Right Told r a b → Reading there On Known Told r a b
     reads_of wide right h = record {
       same = h.same;
@@ -47,15 +51,18 @@ module _ {round : Round} {Right : Database → Type 0} {V E : Type 0} {Told : Da
     }
 
     -- of more rounds alone
-    pub reads_wide : {there : Round} {On : State → Type 0} → (HasRound there a.now.schema → HasRound round a.now.schema) → Reading round On Right Told r a b → Reading there On Right Told r a b
+    pub reads_wide : {there : Round} {On : State → Type 0} → (HasRound there a.now.schema → HasRound round a.now.schema)
+        → Reading round On Right Told r a b → Reading there On Right Told r a b
     reads_wide wide h = reads_of wide (λ own right. right) h
 
-pub reads_both : {On : State → Type 0} {Right : Database → Type 0} {V E : Type 0} {Told : Database → Result V E → Type 0} {r : Result V E} {a b : State} → Reading First On Right Told r a b → Reading Second On Right Told r a b
+pub reads_both : {On : State → Type 0} {Right : Database → Type 0} {V E : Type 0} {Told : Database → Result V E → Type 0} {r : Result V E} {a b : State}
+    → Reading First On Right Told r a b → Reading Second On Right Told r a b
 reads_both {a = a} h = reads_wide (current_own a.now.schema) h
 
 module _ {round : Round} {On : State → Type 0} {Right : Database → Type 0} {U D : Type 0} {T : Database → Result U D → Type 0} where
   -- the same read, where something else is made of its result: an error of each error
-  pub reads_as : {V E : Type 0} {Told : Database → Result V E → Type 0} {x : Result U D} {r : Result V E} {a b : State} → Reading round On Right T x a b → (IsErr x → IsErr r)
+  pub reads_as : {V E : Type 0} {Told : Database → Result V E → Type 0} {x : Result U D} {r : Result V E} {a b : State}
+      → Reading round On Right T x a b → (IsErr x → IsErr r)
       → (HasRound round a.now.schema → Right a.now → T a.now x → Told a.now r) → Reading round On Right Told r a b
   reads_as {x = Ok u} {r = Ok v} h fails so = record { same = h.same; err = λ clean on. tt; now = h.now; mode = h.mode; crash = h.crash; told = λ own right clean. so own right (h.told own right clean) }
   reads_as {x = Ok u} {r = Err e} h fails so =
@@ -65,18 +72,21 @@ module _ {round : Round} {On : State → Type 0} {Right : Database → Type 0} {
       record { same = λ clean on. tt; err = h.err; now = λ clean. tt; mode = h.mode; crash = h.crash; told = λ own right clean. so own right (h.told own right clean) }
 
   -- what was answered is worked on
-  pub reads_more : {V E : Type 0} {Told : Database → Result V E → Type 0} {u : U} {r : Result V E} {a b : State} → Reading round On Right T (Ok u) a b
+  pub reads_more : {V E : Type 0} {Told : Database → Result V E → Type 0} {u : U} {r : Result V E} {a b : State}
+      → Reading round On Right T (Ok u) a b
       → (HasRound round a.now.schema → Right a.now → T a.now (Ok u) → Told a.now r) → Reading round On Right Told r a b
   reads_more h so = reads_as h (λ no. absurd (cc)) so
 
   -- an error is handed on
-  pub reads_handed : {V : Type 0} {Told : Database → Result V D → Type 0} {e : D} {r : Result V D} {a b : State} → IsErrAnd r (λ f. f ≡ e) → Reading round On Right T (Err e) a b
+  pub reads_handed : {V : Type 0} {Told : Database → Result V D → Type 0} {e : D} {r : Result V D} {a b : State}
+      → IsErrAnd r (λ f. f ≡ e) → Reading round On Right T (Err e) a b
       → (HasRound round a.now.schema → Right a.now → T a.now (Err e) → Told a.now (Err e)) → Reading round On Right Told r a b
   reads_handed {r = Ok v} is h so = absurd is
   reads_handed {Told = Told} {r = Err f} {a} {b} is h so = subst (λ f. Reading round On Right Told (Err f) a b) (sym is) (reads_as h (λ no. no) so)
 
   -- there is not enough memory for what was answered
-  pub reads_short : {V : Type 0} {Told : Database → Result V TableFault → Type 0} {u : U} {r : Result V TableFault} {a b : State} → IsErrAnd r (λ f. f ≡ Memory) → Reading round On Right T (Ok u) a b
+  pub reads_short : {V : Type 0} {Told : Database → Result V TableFault → Type 0} {u : U} {r : Result V TableFault} {a b : State}
+      → IsErrAnd r (λ f. f ≡ Memory) → Reading round On Right T (Ok u) a b
       → (HasRound round a.now.schema → Right a.now → T a.now (Ok u) → Told a.now (Err Memory)) → Reading round On Right Told r a b
   reads_short {r = Ok v} is h so = absurd is
   reads_short {Told = Told} {r = Err f} {a} {b} is h so = subst (λ f. Reading round On Right Told (Err f) a b) (sym is) (reads_more h so)
@@ -84,7 +94,9 @@ module _ {round : Round} {On : State → Type 0} {Right : Database → Type 0} {
   -- another read after one that answered, each of the same tables: of a database of which something
   -- is known by then, and of the same one
   module _ {V E : Type 0} {N : Database → Result V E → Type 0} {u : U} {r : Result V E} {a b c : State} where
-    pub reads_then_of : {Known : Database → Type 0} → (HasRound round a.now.schema → (On a → IfOpen a) → Right a.now → T a.now (Ok u) → Known a.now) → Reading round On Right T (Ok u) a b → Reading round IfOpen Known N r b c
+    pub reads_then_of : {Known : Database → Type 0}
+        → (HasRound round a.now.schema → (On a → IfOpen a) → Right a.now → T a.now (Ok u) → Known a.now)
+        → Reading round On Right T (Ok u) a b → Reading round IfOpen Known N r b c
         → Reading round On Right (λ db r. T db (Ok u) × N db r) r a c
     reads_then_of {Known} known p q =
         let before : HasCleanDisk c → HasCleanDisk b = clean_before b c _ q.crash in
@@ -101,7 +113,8 @@ module _ {round : Round} {On : State → Type 0} {Right : Database → Type 0} {
               (t, subst (λ (d : Database). HasRound round d.schema → Known d → N d r) (p.now early) (λ own known. q.told own known clean) own (known own (λ on. (p.same early on).0.was_open) right t));
         }
 
-    pub reads_then : Reading round On Right T (Ok u) a b → Reading round IfOpen Right N r b c → Reading round On Right (λ db r. T db (Ok u) × N db r) r a c
+    pub reads_then : Reading round On Right T (Ok u) a b → Reading round IfOpen Right N r b c
+        → Reading round On Right (λ db r. T db (Ok u) × N db r) r a c
     reads_then p q = reads_then_of (λ own on right told. right) p q
 
 -- what at most undoes a transaction that is not there changes nothing
@@ -113,14 +126,16 @@ stays_left old new settled (inr undone) on =
     (first, was.0 ∙ sym (settled first), was.1)
 
 -- a read only looks, whatever it answers
-pub looks_by : {round : Round} {Right : Database → Type 0} {V E : Type 0} {Told : Database → Result V E → Type 0} (r : Result V E) {a b : State} → Reading round Anyhow Right Told r a b → OnlyLooks a b
+pub looks_by : {round : Round} {Right : Database → Type 0} {V E : Type 0} {Told : Database → Result V E → Type 0} (r : Result V E) {a b : State}
+    → Reading round Anyhow Right Told r a b → OnlyLooks a b
 looks_by r {a} {b} h = record {
   stays = λ settled clean on. stays_left a b settled (either r (h.same clean tt) (h.err clean tt)) on;
   mode = h.mode;
   crash = h.crash;
 }
   where
-    either : {V E : Type 0} {a b : State} (r : Result V E) → OnOk r (IsUnchanged a b) → OnErr r (IsUnchangedOrUndone a b) → IsUnchangedOrUndone a b
+    either : {V E : Type 0} {a b : State} (r : Result V E) → OnOk r (IsUnchanged a b)
+        → OnErr r (IsUnchangedOrUndone a b) → IsUnchangedOrUndone a b
     either (Ok v) same err = inl same
     either (Err e) same err = err
 
@@ -158,34 +173,41 @@ not_blamed (Ok v) is told = absurd is
 not_blamed (Err f) is told = absurd (cc)
 
 -- an answer and an error, each by what is known of it
-pub answered : {V E : Type 0} (r : Result V E) (P : V → Type 0) (Q : E → Type 0) → IfOk r P → ((e : E) → r ≡ Err e → Q e) → MatchResult r P Q
+pub answered : {V E : Type 0} (r : Result V E) (P : V → Type 0) (Q : E → Type 0) → IfOk r P
+    → ((e : E) → r ≡ Err e → Q e) → MatchResult r P Q
 answered (Ok v) P Q ok err = ok
 answered (Err e) P Q ok err = err e refl
 
 -- two facts of one answer
-pub both : {V E : Type 0} (r : Result V E) (A B C : V → Type 0) → ((v : V) → A v → B v → C v) → IfOk r A → IfOk r B → IfOk r C
+pub both : {V E : Type 0} (r : Result V E) (A B C : V → Type 0) → ((v : V) → A v → B v → C v) → IfOk r A → IfOk r B
+    → IfOk r C
 both (Ok v) A B C more a b = more v a b
 both (Err e) A B C more a b = tt
 
 -- an answer alone, by what is known of an answer and an error
-pub if_answered : {V E : Type 0} (r : Result V E) (P R : V → Type 0) (Q : E → Type 0) → MatchResult r P Q → ((v : V) → P v → R v) → IfOk r R
+pub if_answered : {V E : Type 0} (r : Result V E) (P R : V → Type 0) (Q : E → Type 0) → MatchResult r P Q
+    → ((v : V) → P v → R v) → IfOk r R
 if_answered (Ok v) P R Q h more = more v h
 if_answered (Err e) P R Q h more = tt
 
 -- both of which more is known
-pub told_more : {V E : Type 0} (r : Result V E) (A P R : V → Type 0) (Q S : E → Type 0) → IfOk r A → MatchResult r P Q → ((v : V) → A v → P v → R v) → ((e : E) → Q e → S e) → MatchResult r R S
+pub told_more : {V E : Type 0} (r : Result V E) (A P R : V → Type 0) (Q S : E → Type 0) → IfOk r A → MatchResult r P Q
+    → ((v : V) → A v → P v → R v) → ((e : E) → Q e → S e) → MatchResult r R S
 told_more (Ok v) A P R Q S a h ok err = ok v a h
 told_more (Err e) A P R Q S a h ok err = err e h
 
 -- an answer, or a fault that blames what is not so
-pub judged : {V : Type 0} (r : Result V TableFault) (P : V → Type 0) (So : Type 0) → IfOk r P → (r ≡ Err Damaged → So → ⊥) → MatchResult r P (λ fault. Blames fault So)
+pub judged : {V : Type 0} (r : Result V TableFault) (P : V → Type 0) (So : Type 0) → IfOk r P
+    → (r ≡ Err Damaged → So → ⊥) → MatchResult r P (λ fault. Blames fault So)
 judged r P So ok damaged = answered r P (λ fault. Blames fault So) ok (λ e is blamed. damaged (is ∙ ap Err blamed))
 
 -- an item of a list: what is so of all items is so of it, and it comes after those before
-pub at_item : {X : Type 0} (P : X → Type 0) (xs : List X) (i : ℕ) (x : X) → x ≡ get_or xs i x → i < length xs → AllByRecursion P xs → P x
+pub at_item : {X : Type 0} (P : X → Type 0) (xs : List X) (i : ℕ) (x : X) → x ≡ get_or xs i x → i < length xs
+    → AllByRecursion P xs → P x
 at_item P xs i x is within all = subst P (sym is) (all-get_or P xs i x all within)
 
-pub next_item : {X : Type 0} (xs : List X) (i : ℕ) (x : X) → x ≡ get_or xs i x → i < length xs → take (i + 1) xs ≡ take i xs ++ x ∷ []
+pub next_item : {X : Type 0} (xs : List X) (i : ℕ) (x : X) → x ≡ get_or xs i x → i < length xs
+    → take (i + 1) xs ≡ take i xs ++ x ∷ []
 next_item xs i x is within = take_more xs i x within ∙ ap (λ y. take i xs ++ y ∷ []) (sym is)
 
 pub map_one : {X Y : Type 0} (f : X → Y) (o : Option X) → map f (cons_option o []) ≡ cons_option (option_map f o) []
@@ -193,6 +215,7 @@ map_one f None = refl
 map_one f (Some x) = refl
 
 -- what the items give that came so far, with what the next one gives
-pub next_given : {X Y : Type 0} (f : X → Option Y) (xs : List X) (i : ℕ) (x : X) (ys : List Y) (y : Option Y) → x ≡ get_or xs i x → i < length xs → ys ≡ filter_map f (take i xs) → y ≡ f x
+pub next_given : {X Y : Type 0} (f : X → Option Y) (xs : List X) (i : ℕ) (x : X) (ys : List Y) (y : Option Y)
+    → x ≡ get_or xs i x → i < length xs → ys ≡ filter_map f (take i xs) → y ≡ f x
     → ys ++ cons_option y [] ≡ filter_map f (take (i + 1) xs)
 next_given f xs i x ys y is within given here = ap₂ (λ l o. l ++ cons_option o []) given here ∙ sym (ap (filter_map f) (next_item xs i x is within) ∙ filter_map-append f (take i xs) (x ∷ []))

@@ -18,23 +18,27 @@ use Rattle.portal_tables.proofs.Sorted.{NeverFall, all_permuted, in_order, sorte
 use Rattle.portal_tables.proofs.Sorted.{map_alike_on, at}
 
 -- what a map gives, where its elements are known
-pub all_map_on : {X Y : Type 0} (P : X → Type 0) (f g : X → Y) (xs : List X) → AllByRecursion P xs → ((x : X) → P x → f x ≡ g x) → map f xs ≡ map g xs
+pub all_map_on : {X Y : Type 0} (P : X → Type 0) (f g : X → Y) (xs : List X) → AllByRecursion P xs
+    → ((x : X) → P x → f x ≡ g x) → map f xs ≡ map g xs
 all_map_on P f g xs all h = map_alike_on f g xs (λ x has. h x (at P xs x all has))
 
 -- the rows are those that pass, as they are shown
-pub permuted : (keys : List ℕ) (p : Row → Bool) (show : Row → Row) (table shown : List Row) → ListsBy keys p show table shown → IsPermutation (map show (filter p table)) shown
+pub permuted : (keys : List ℕ) (p : Row → Bool) (show : Row → Row) (table shown : List Row)
+    → ListsBy keys p show table shown → IsPermutation (map show (filter p table)) shown
 permuted keys p show table shown h =
     let second = λ (k : Row × Row). k.1 in
     subst₂ IsPermutation (map-map second (λ r. (columns keys r, show r)) (filter p table)) (sym h.is) (IsPermutation-map second _ h.keyed h.same)
 
-pub whole_table : (keys cs : List ℕ) (table shown : List Row) → ListsBy keys every (columns cs) table shown → IsPermutation (map (columns cs) table) shown
+pub whole_table : (keys cs : List ℕ) (table shown : List Row) → ListsBy keys every (columns cs) table shown
+    → IsPermutation (map (columns cs) table) shown
 whole_table keys cs table shown h = subst (λ rows. IsPermutation (map (columns cs) rows) shown) (filter_all table) (permuted _ _ _ table shown h)
 
 -- a value does not come after one that stands behind it
 abbrev pub AtMost : Value → Value → Type 0
 AtMost a b = is_gt (value_cmp a b) ≡ false
 
-ascends : (at : ℕ) (rest : List ℕ) (p : Row → Bool) (table shown : List Row) → ListsBy (at ∷ []) p (columns (at ∷ rest)) table shown → IsAscending AtMost (map (λ c. column c 0) shown)
+ascends : (at : ℕ) (rest : List ℕ) (p : Row → Bool) (table shown : List Row)
+    → ListsBy (at ∷ []) p (columns (at ∷ rest)) table shown → IsAscending AtMost (map (λ c. column c 0) shown)
 ascends at rest p table shown h =
     let pair : Row → Row × Row = λ r. (columns (at ∷ []) r, columns (at ∷ rest) r) in
     let alike : AllByRecursion (λ (k : Row × Row). column k.0 0 ≡ column k.1 0) h.keyed =
@@ -46,7 +50,8 @@ ascends at rest p table shown h =
 
 -- so keys that go as they do never fall
 module _ {X : Type 0} (R : X → X → Type 0) (f : X → Key) (G : X → Type 0) (agrees : (a b : X) → G a → G b → R a b → is_before (f b) (f a) ≡ false) where
-  over : (v : X) (ws : List X) → G v → AllByRecursion (R v) ws → AllByRecursion G ws → AllByRecursion (λ l. is_before l (f v) ≡ false) (map f ws)
+  over : (v : X) (ws : List X) → G v → AllByRecursion (R v) ws → AllByRecursion G ws
+      → AllByRecursion (λ l. is_before l (f v) ≡ false) (map f ws)
   over v [] g up all = tt
   over v (w ∷ ws) g up all = (agrees v w g all.0 up.0, over v ws g up.1 all.1)
 
@@ -79,7 +84,8 @@ at_most m n h = elim (cases_lt n m) [
   | inr most ↦ elim (cases_lt m n) [ inl less ↦ ap is_lt (sym (nat_cmp_is n m Greater less)) | inr least ↦ ap is_lt (sym (nat_cmp_is n m Equal (omega (arith, most, least)))) ]
 ]
 
-pub counts_agree : (a b : Value) → IsCount a → IsCount b → AtMost a b → is_before (number_in b ∷ []) (number_in a ∷ []) ≡ false
+pub counts_agree : (a b : Value) → IsCount a → IsCount b → AtMost a b
+    → is_before (number_in b ∷ []) (number_in a ∷ []) ≡ false
 counts_agree a b s t h =
     let here : is_gt (int_cmp (pos s.0) (pos t.0)) ≡ false = ap is_gt (sym (value_cmp-Int (pos s.0) (pos t.0))) ∙ sym (λ i. is_gt (value_cmp (s.1 i) (t.1 i))) ∙ h in
     (λ i. is_before (number_in (t.1 i) ∷ []) (number_in (s.1 i) ∷ [])) ∙ ap is_lt (then-Equal (nat_cmp t.0 s.0)) ∙ at_most s.0 t.0 here
@@ -98,7 +104,8 @@ module _ (rest : List ℕ) (table shown : List Row) (h : ListsBy (1 ∷ []) ever
   roll_shown up = in_order first_cell (map (columns (1 ∷ rest)) table) shown whole_roll up ∙ in_place
 
   -- and they do where those of the world's order rise
-  pub roll_rises : AllByRecursion (λ r. IsText (column r 1)) table → Rise (map row_key (by_key table)) → Rise (map first_cell shown)
+  pub roll_rises : AllByRecursion (λ r. IsText (column r 1)) table → Rise (map row_key (by_key table))
+      → Rise (map first_cell shown)
   roll_rises texts up =
       let good : AllByRecursion IsText (map (λ c. column c 0) shown) = all_map IsText (λ c. column c 0) shown (all_permuted (λ c. IsText (column c 0)) (map (columns (1 ∷ rest)) table) shown whole_roll (all_map (λ c. IsText (column c 0)) (columns (1 ∷ rest)) table texts)) in
       let never : NeverFall (map first_cell shown) = subst NeverFall (map-map bytes (λ c. column c 0) shown) (falls AtMost bytes IsText texts_agree _ (ascends 1 rest every table shown h) good) in

@@ -31,7 +31,8 @@ pub record Defines (schema : Schema) (sql : List ℕ) (table : Table) (kept : Li
 abbrev GrowsBy : {I : Type 0} → (I → Schema) → (I → Schema) → List ℕ → List ℕ → Database → Database → Type 0
 GrowsBy {I} before after kept more old new = (i : I) → Grows (before i) (after i) kept more old new
 
-grows : (schema : Schema) (sql : List ℕ) (table : Table) (kept : List ℕ) (next : ℕ) → Defines schema sql table kept next → (old new : State) → Ran sql [] old new
+grows : (schema : Schema) (sql : List ℕ) (table : Table) (kept : List ℕ) (next : ℕ) → Defines schema sql table kept next
+    → (old new : State) → Ran sql [] old new
     → Grows schema (created schema table) kept (next ∷ []) old.now new.now
 grows schema sql table kept next defines old new ran has =
     let w = subst (λ t. Writes old new None CreateTable t [] ran.count) defines.statement (runs_as sql [] old new schema has CreateTable defines.command defines.plain ran.count ran.runs) in
@@ -53,16 +54,19 @@ grows schema sql table kept next defines old new ran has =
     }
 
 -- a text makes a table
-pub grown : {S A I : Type 0} (g : Ghosts S) (schema : I → Schema) (sql : List ℕ) (table : Table) (kept : List ℕ) (next : ℕ) → ((i : I) → Defines (schema i) sql table kept next)
+pub grown : {S A I : Type 0} (g : Ghosts S) (schema : I → Schema) (sql : List ℕ) (table : Table) (kept : List ℕ) (next : ℕ)
+    → ((i : I) → Defines (schema i) sql table kept next)
     → (r : Result A Error) (old new : Transaction S) → Does g (Ran sql []) r old new → Does g (Made (GrowsBy schema (λ i. created (schema i) table) kept (next ∷ []))) r old new
 grown g schema sql table kept next defines r old new does =
     does_more g _ _ r old new does (λ ran. record { shown = ran.shown; changed = λ i. grows (schema i) sql table kept next (defines i) _ _ ran })
 
-pub parts_of : (P : ℕ → Type 0) (xs ys : List ℕ) → AllByRecursion P (xs ++ ys) → AllByRecursion P xs × AllByRecursion P ys
+pub parts_of : (P : ℕ → Type 0) (xs ys : List ℕ) → AllByRecursion P (xs ++ ys)
+    → AllByRecursion P xs × AllByRecursion P ys
 parts_of P [] ys h = (tt, h)
 parts_of P (x ∷ xs) ys h = let rest = parts_of P xs ys h.1 in ((h.0, rest.0), rest.1)
 
-grows_then : (a b c : Schema) (kept x y : List ℕ) (old mid new : Database) → Grows a b kept x old mid → Grows b c (kept ++ x) y mid new → Grows a c kept (x ++ y) old new
+grows_then : (a b c : Schema) (kept x y : List ℕ) (old mid new : Database) → Grows a b kept x old mid
+    → Grows b c (kept ++ x) y mid new → Grows a c kept (x ++ y) old new
 grows_then a b c kept x y old mid new p q has =
     let first = p has in
     let later = q first.schema_is in
@@ -75,7 +79,8 @@ grows_then a b c kept x y old mid new p q has =
     }
 
 -- and then more are made
-pub grown_then : {S A B I : Type 0} (g : Ghosts S) (a b c : I → Schema) (kept x y : List ℕ) (u : A) (r : Result B Error) (old mid new : Transaction S) → Does g (Made (GrowsBy a b kept x)) (Ok u) old mid
+pub grown_then : {S A B I : Type 0} (g : Ghosts S) (a b c : I → Schema) (kept x y : List ℕ) (u : A) (r : Result B Error) (old mid new : Transaction S)
+    → Does g (Made (GrowsBy a b kept x)) (Ok u) old mid
     → Does g (Made (GrowsBy b c (kept ++ x) y)) r mid new → Does g (Made (GrowsBy a c kept (x ++ y))) r old new
 grown_then g a b c kept x y u r old mid new p q =
     does_then g _ _ _ u r old mid new p q (λ p q. made_then (GrowsBy a b kept x) (GrowsBy b c (kept ++ x) y) (GrowsBy a c kept (x ++ y)) _ _ _ p q (λ f h i. grows_then (a i) (b i) (c i) kept x y _ _ _ (f i) (h i)))
@@ -194,7 +199,8 @@ unfolding understood everything
 full_is = refl
 
 -- over no table all
-pub all_made : {S A : Type 0} (g : Ghosts S) (r : Result A Error) (old mid new : Transaction S) → Does g (Made MakesFirst) (Ok (tt {0})) old mid → Does g (Made MakesSecond) r mid new
+pub all_made : {S A : Type 0} (g : Ghosts S) (r : Result A Error) (old mid new : Transaction S)
+    → Does g (Made MakesFirst) (Ok (tt {0})) old mid → Does g (Made MakesSecond) r mid new
     → Does g (Made Makes) r old new
 all_made g r old mid new first second = does_then g _ _ _ _ r old mid new first second (λ p q. made_then MakesFirst MakesSecond Makes _ _ _ p q (λ first second has.
     let was = first has in

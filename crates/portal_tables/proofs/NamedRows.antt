@@ -9,13 +9,16 @@ use Rattle.std.specs.List.Sorted.{IsBinarySearchResult, IsSearchInRange}
 use Rattle.std.specs.Prelude.{is_ok}
 
 -- a key that is found at a place is there
-there : (rows : List Row) (k : Key) (n : ℕ) (d : Row) → n < length rows → slice_cmp nat_cmp (first_cell (get_or rows n d)) k ≡ Equal → has (map first_cell rows) k ≡ true
+there : (rows : List Row) (k : Key) (n : ℕ) (d : Row) → n < length rows
+    → slice_cmp nat_cmp (first_cell (get_or rows n d)) k ≡ Equal → has (map first_cell rows) k ≡ true
 there [] k n d low equal = absurd (omega (arith, low))
 there (r ∷ rows) k zero d low equal = ap (λ b. b || has (map first_cell rows) k) (subst (λ x. equals k x ≡ true) (sym (exact_bytes (first_cell r) k equal)) (is_own k))
 there (r ∷ rows) k (suc n) d low equal = ap (λ b. equals k (first_cell r) || b) (there rows k n d (omega (arith, low)) equal) ∙ or-true (equals k (first_cell r))
 
 -- one that is at no place is not
-nowhere : (rows : List Row) (k : Key) → ((i : ℕ) (d : Row) → i < length rows → slice_cmp nat_cmp (first_cell (get_or rows i d)) k ≡ Equal → ⊥) → has (map first_cell rows) k ≡ false
+nowhere : (rows : List Row) (k : Key)
+    → ((i : ℕ) (d : Row) → i < length rows → slice_cmp nat_cmp (first_cell (get_or rows i d)) k ≡ Equal → ⊥)
+    → has (map first_cell rows) k ≡ false
 nowhere [] k other = refl
 nowhere (r ∷ rows) k other = elim (cases_Bool (equals k (first_cell r))) [
   | inl same ↦ absurd (other 0 r (omega arith) (subst (λ x. slice_cmp nat_cmp x k ≡ Equal) (is_same k (first_cell r) same) (tied_itself nat_list_cmp_total k)))
@@ -23,7 +26,8 @@ nowhere (r ∷ rows) k other = elim (cases_Bool (equals k (first_cell r))) [
 ]
 
 -- the answer of a binary search is whether the key is there
-pub known_by : (rows : List Row) (k : Key) (r : Result ℕ ℕ) → IsSearchInRange r (length rows) → IsBinarySearchResult (λ row. slice_cmp nat_cmp (first_cell row) k) rows r → Rise (map first_cell rows)
+pub known_by : (rows : List Row) (k : Key) (r : Result ℕ ℕ) → IsSearchInRange r (length rows)
+    → IsBinarySearchResult (λ row. slice_cmp nat_cmp (first_cell row) k) rows r → Rise (map first_cell rows)
     → is_ok r ≡ has (map first_cell rows) k
 known_by rows k (Ok n) low found up = sym (there rows k n [] low (found []))
 known_by rows k (Err n) low parts up =

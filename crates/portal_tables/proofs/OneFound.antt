@@ -31,7 +31,8 @@ listed_map f None = refl
 listed_map f (Some x) = refl
 
 -- the row that a query by code shows is what a search of the roll finds
-pub found : {X : Type 0} (keys : List ℕ) (p : Row → Bool) (show : Row → Row) (of : Row → X) (from : Row → X) (test : X → Bool) → ((r : Row) → from (show r) ≡ of r) → (table shown : List Row)
+pub found : {X : Type 0} (keys : List ℕ) (p : Row → Bool) (show : Row → Row) (of : Row → X) (from : Row → X) (test : X → Bool)
+    → ((r : Row) → from (show r) ≡ of r) → (table shown : List Row)
     → AllByRecursion (λ r. p r ≡ test (of r)) table → ListsBy keys p show table shown → (o : Option Row) → as_list o ≡ shown → option_map from o ≡ find test (map of (by_key table))
 found keys p show of from test alike table shown agree lists o is =
     let one : IsPermutation (map from (map show (filter p table))) (map from shown) = IsPermutation-map from _ shown (permuted keys p show table shown lists) in

@@ -33,8 +33,10 @@ round_own First s h = h
 round_own Second s h = current_own s h
 
 -- what a crash leaves has one schema, whoever opens it
-pub one_schema : (left found : Database) → IsDatabase left → IsDatabase found → found.trees ≡ left.trees → found.schema ≡ left.schema
+pub one_schema : (left found : Database) → IsDatabase left → IsDatabase found → found.trees ≡ left.trees
+    → found.schema ≡ left.schema
 one_schema left found was is same = lists_once _ found.schema left.schema is.lists (subst (λ (t : Trees). IsSound left.schema t) (sym same) was).lists
 
-pub own_again : (P : Schema → Type 0) (left found : Database) → IsDatabase left → IsDatabase found → found.trees ≡ left.trees → P left.schema → P found.schema
+pub own_again : (P : Schema → Type 0) (left found : Database) → IsDatabase left → IsDatabase found
+    → found.trees ≡ left.trees → P left.schema → P found.schema
 own_again P left found was is same own = subst P (sym (one_schema left found was is same)) own

@@ -39,7 +39,8 @@ items_of Choices = project_tree
 items_of SecondChoices = project_tree
 items_of _ = student_tree
 
-both_found : (l : Lists) (o : Open) (db : Trees) (n : ℤ) (k : Key) (p : ℤ) (m : Key) → Follows ForeignKey (OfLists l) o db (Int n ∷ place_cells k p m) ≡ (Found (db (owners_of l)) k && (Found (db (items_of l)) m && true))
+both_found : (l : Lists) (o : Open) (db : Trees) (n : ℤ) (k : Key) (p : ℤ) (m : Key)
+    → Follows ForeignKey (OfLists l) o db (Int n ∷ place_cells k p m) ≡ (Found (db (owners_of l)) k && (Found (db (items_of l)) m && true))
 unfolding everything
 both_found Choices o db n k p m = refl
 both_found _ o db n k p m = refl
@@ -51,7 +52,8 @@ on_roll roll k h =
     any_map (equals k) row_key roll ∙ some_from (λ r. equals k (row_key r)) roll found.0 found.1 (ap (λ v. equals k (bytes v)) text ∙ is_own k)
 
 -- each row of a list has its owner on a roll, and its item
-pub place_parents : (db : Database) (l : Lists) → HasRound (round_of l) db.schema → IsDatabase db → RowNumbersDiffer (db.trees (tree_of l))
+pub place_parents : (db : Database) (l : Lists) → HasRound (round_of l) db.schema → IsDatabase db
+    → RowNumbersDiffer (db.trees (tree_of l))
     → AllByRecursion (λ r. OnRoll (db.trees (owners_of l)) (row_key r) × OnRoll (db.trees (items_of l)) (named_by r)) (db.trees (tree_of l))
 place_parents db l own sound apart =
     let owners = db.trees (owners_of l) in
@@ -66,7 +68,8 @@ place_parents db l own sound apart =
     (db.trees (tree_of l)) (place_rows_formed db l own sound apart) (followed db (OfLists l) own sound ForeignKey)
 
 -- who is not on the roll has no row
-pub none_of : (Q : Row → Type 0) (roll : List Row) (k : Key) (rows : List Row) → AllByRecursion (λ r. OnRoll roll (row_key r) × Q r) rows → has (map row_key roll) k ≡ false → of_key k rows ≡ []
+pub none_of : (Q : Row → Type 0) (roll : List Row) (k : Key) (rows : List Row)
+    → AllByRecursion (λ r. OnRoll roll (row_key r) × Q r) rows → has (map row_key roll) k ≡ false → of_key k rows ≡ []
 none_of Q roll k rows all off = filter_none (has_text 1 k) rows (all_weaker _ _ (λ r both. elim (cases_Bool (has_text 1 k r)) [
   | inl is_so ↦ absurd (let there : has (map row_key roll) k ≡ true = sym (ap (λ v. has (map row_key roll) (bytes v)) (text_there 1 k r is_so)) ∙ both.0 in let e : true ≡ false = sym there ∙ off in cc)
   | inr other ↦ other

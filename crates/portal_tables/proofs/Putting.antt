@@ -19,11 +19,13 @@ use Rattle.portal_tables.proofs.Sorted.{in_order, put_all_map, map_twice}
 use Rattle.portal_tables.proofs.Shapes.{text_equals}
 
 -- a text is one text
-pub same_text : (v : Value) (k s : Key) → is_eq (value_cmp v (Words k)) ≡ true → is_eq (value_cmp v (Words s)) ≡ equals k s
+pub same_text : (v : Value) (k s : Key) → is_eq (value_cmp v (Words k)) ≡ true
+    → is_eq (value_cmp v (Words s)) ≡ equals k s
 same_text v k s e = ap is_eq (value_cmp_total.congr v (Words k) (Words s) ((Equal-is (value_cmp v (Words k))).0 e)) ∙ text_equals k s
 
 -- the rows of another key stay where those of one key go
-pub kept_key : (key s : Key) (rows : List Row) → equals key s ≡ false → of_key key (filter (λ r. not (has_text 1 s r)) rows) ≡ of_key key rows
+pub kept_key : (key s : Key) (rows : List Row) → equals key s ≡ false
+    → of_key key (filter (λ r. not (has_text 1 s r)) rows) ≡ of_key key rows
 kept_key key s rows other = filter-filter (has_text 1 key) (λ r. not (has_text 1 s r)) rows ∙ filter_same _ _ rows (λ r has. go r (has_text 1 key r) refl)
   where
     go : (r : Row) (b : Bool) → has_text 1 key r ≡ b → (not (has_text 1 s r) && has_text 1 key r) ≡ has_text 1 key r
@@ -34,7 +36,8 @@ pub none_left : (s : Key) (rows : List Row) → of_key s (filter (λ r. not (has
 none_left s rows = filter-filter (has_text 1 s) (λ r. not (has_text 1 s r)) rows ∙ filter_none _ rows (all_of _ (λ r. not-and_self (has_text 1 s r)) rows)
 
 -- once the owner's rows are gone nothing is put
-put_begun : (tree : ℕ) (owner : Key) (first now : Database) → Clears tree owner first now → PutsList tree owner [] first now
+put_begun : (tree : ℕ) (owner : Key) (first now : Database) → Clears tree owner first now
+    → PutsList tree owner [] first now
 put_begun tree owner first now cleared own apart =
     let drops = cleared own apart in
     record {
@@ -50,7 +53,8 @@ split_key : (key : Key) (front back : List Row) (new : Row) (b : Bool) → has_t
     → of_key key (front ++ new ∷ back) ≡ of_key key front ++ cond b (new ∷ of_key key back) (of_key key back)
 split_key key front back new b e = filter-append (has_text 1 key) front (new ∷ back) ∙ ap (λ c. of_key key front ++ cond c (new ∷ of_key key back) (of_key key back)) e
 
-numbered_more : (n : ℕ) (done : List Key) (k : Key) → numbered n (done ++ k ∷ []) ≡ numbered n done ++ (length done + n, k) ∷ []
+numbered_more : (n : ℕ) (done : List Key) (k : Key)
+    → numbered n (done ++ k ∷ []) ≡ numbered n done ++ (length done + n, k) ∷ []
 numbered_more n [] k = ap (λ m. (m, k) ∷ []) (sym (zero-add n))
 numbered_more n (d ∷ done) k =
     let shifted : length done + (n + 1) ≡ suc (length done) + n = omega arith in
@@ -75,7 +79,8 @@ record Listed (owner : Key) (list : List Key) (first now : List Row) : Type 0 wh
   pub places : IsPermutation (map placed (of_key owner now)) (numbered 1 list)
 
 -- one row more
-listed_more : (owner k : Key) (done : List Key) (n : ℕ) (first mid : List Row) → n ≡ length done + 1 → Listed owner done first mid
+listed_more : (owner k : Key) (done : List Key) (n : ℕ) (first mid : List Row) → n ≡ length done + 1
+    → Listed owner done first mid
     → is_taken mid (Int (next_rowid mid) ∷ place_cells owner (pos n) k) ≡ false
     → Listed owner (done ++ k ∷ []) first (put_row (Int (next_rowid mid) ∷ place_cells owner (pos n) k) mid)
 listed_more owner k done n first mid at was free =
@@ -96,7 +101,8 @@ listed_more owner k done n first mid at was free =
     }
 
 -- and all the rows of a list
-listed_all : (owner : Key) (done ks : List Key) (n : ℕ) (first mid : List Row) → n ≡ length done + 1 → Listed owner done first mid
+listed_all : (owner : Key) (done ks : List Key) (n : ℕ) (first mid : List Row) → n ≡ length done + 1
+    → Listed owner done first mid
     → AreNew mid (map (λ p. place_cells owner (pos p.0) p.1) (numbered n ks))
     → Listed owner (done ++ ks) first (with_rows mid (map (λ p. place_cells owner (pos p.0) p.1) (numbered n ks)))
 listed_all owner done [] n first mid at was new = subst (λ l. Listed owner l first mid) (sym (append-nil done)) was
@@ -108,7 +114,8 @@ listed_all owner done (k ∷ ks) n first mid at was new =
     (listed_more owner k done n first mid at was new.0) new.1)
 
 -- where the owner's rows are gone, the rows of a list put it
-put_whole : (tree : ℕ) (owner : Key) (list : List Key) (first mid now : Database) → PutsList tree owner [] first mid → Adds tree (list_cells owner list) mid now
+put_whole : (tree : ℕ) (owner : Key) (list : List Key) (first mid now : Database) → PutsList tree owner [] first mid
+    → Adds tree (list_cells owner list) mid now
     → PutsList tree owner list first now
 put_whole tree owner list first mid now puts adds own apart =
     let was = puts own apart in
@@ -124,7 +131,8 @@ put_whole tree owner list first mid now puts adds own apart =
     }
 
 -- the loop's turn: the row of the place at i is written
-pub cells_next : {X : Type 0} (cells_of : X → Row) (rows : List X) (x : X) (owner k : Key) (keys : List Key) (i place : ℕ) → place ≡ i → i < length keys → k ≡ get_or keys i k
+pub cells_next : {X : Type 0} (cells_of : X → Row) (rows : List X) (x : X) (owner k : Key) (keys : List Key) (i place : ℕ)
+    → place ≡ i → i < length keys → k ≡ get_or keys i k
     → cells_of x ≡ place_cells owner (pos (place + 1)) k
     → map cells_of rows ≡ list_cells owner (take i keys) → map cells_of (rows ++ x ∷ []) ≡ list_cells owner (take (i + 1) keys)
 cells_next cells_of rows x owner k keys i place at within equals cell was =
@@ -159,7 +167,8 @@ module _ (rows : List Row) (list : List Key) (same : IsPermutation (map placed r
   whole_is = subst (CountUp 1) (sym (map_twice (λ (p : ℕ × Key). p.0) placed (by_place rows) ∙ ap (map (λ (p : ℕ × Key). p.0)) in_place)) (count_up 1 list)
 
 -- the same, of steps of a transaction
-pub list_put : (tree : ℕ) (owner : Key) (list : List Key) (old mid new : State) → Made (Clears tree owner) old mid → GoesOn (Adds tree (list_cells owner list)) mid new
+pub list_put : (tree : ℕ) (owner : Key) (list : List Key) (old mid new : State) → Made (Clears tree owner) old mid
+    → GoesOn (Adds tree (list_cells owner list)) mid new
     → GoesOn (PutsList tree owner list) old new
 list_put tree owner list old mid new cleared added =
     goes_both _ _ _ old mid new (made_goes _ old mid cleared) added (λ c a. put_whole tree owner list old.now mid.now new.now (put_begun tree owner old.now mid.now c) a)

@@ -12,11 +12,13 @@ use Rattle.portal_tables.proofs.Lists.{looped}
 abbrev pub by_columns : ℕ → List Term → List Term → List ℕ → Query
 by_columns tree tests project keys = record (one_table tree tests project) { order = map (λ at. (col 1 at, ascending Binary)) keys }
 
-pub columns_are : (places : List ℕ) (params r : Row) → shown_as (map (λ at. col 1 at) places) params r ≡ columns places r
+pub columns_are : (places : List ℕ) (params r : Row)
+    → shown_as (map (λ at. col 1 at) places) params r ≡ columns places r
 columns_are [] params r = refl
 columns_are (at ∷ places) params r = ap (λ l. column r at ∷ l) (columns_are places params r)
 
-pub listed : (tree : ℕ) (keys : List ℕ) (tests project : List Term) (db : Trees) (params : Row) (rows : List Row) → IsProgramAnswer [] (by_columns tree tests project keys) db params rows
+pub listed : (tree : ℕ) (keys : List ℕ) (tests project : List Term) (db : Trees) (params : Row) (rows : List Row)
+    → IsProgramAnswer [] (by_columns tree tests project keys) db params rows
     → ListsBy keys (passes tests params) (shown_as project params) (db tree) rows
 listed tree keys tests project db params rows h =
     let q = by_columns tree tests project keys in
@@ -34,13 +36,15 @@ listed tree keys tests project db params rows h =
     }
 
 -- a plain query changes nothing and commits nothing
-pub shown_same : (sql : List ℕ) (params : Row) (old new : State) (rows : List Row) → IsPlainIfAny (understood old.now.schema sql) → Shown sql params old new rows → IsUnchanged old new
+pub shown_same : (sql : List ℕ) (params : Row) (old new : State) (rows : List Row)
+    → IsPlainIfAny (understood old.now.schema sql) → Shown sql params old new rows → IsUnchanged old new
 unfolding Shown
 shown_same sql params old new rows plain h =
     let none = (subst IsPlainIfAny h.1.is plain).0 in
     (subst (ShowsRows old new sql h.0 (timed params h.0.formats h.1.now) rows) none h.2).3
 
-pub failed_leaves : (sql : List ℕ) (params : Row) (old new : State) (e : Error) → IsPlainIfAny (understood old.now.schema sql) → FailsToQuery sql params old new e → IsUnchangedOrUndone old new
+pub failed_leaves : (sql : List ℕ) (params : Row) (old new : State) (e : Error)
+    → IsPlainIfAny (understood old.now.schema sql) → FailsToQuery sql params old new e → IsUnchangedOrUndone old new
 unfolding FailsToQuery IsNotRun
 failed_leaves sql params old new e plain (inl (inl none)) = inl none.1
 failed_leaves sql params old new e plain (inl (inr fails)) = inr fails.3

@@ -23,7 +23,8 @@ after m _ h = absurd cc
 abbrev ids : List Row → List Value
 ids rows = map (λ r. column r 0) rows
 
-above_all : (m : ℤ) (rows : List Row) → rises (Some m) rows ≡ true → AllByRecursion (λ v. value_cmp (Int m) v ≡ Less) (ids rows)
+above_all : (m : ℤ) (rows : List Row) → rises (Some m) rows ≡ true
+    → AllByRecursion (λ v. value_cmp (Int m) v ≡ Less) (ids rows)
 above_all m [] h = tt
 above_all m (r ∷ rs) h =
     let p = and_parts _ _ h in
@@ -50,7 +51,8 @@ unfolding IsDistinct
 build [] d w = tt
 build (r ∷ rs) d w = (w.0, all_unmap (λ v. same (column r 0) v ≡ false) (λ s. column s 0) rs d.0, build rs d.1 w.1)
 
-pub apart_of : (table shown : List Row) → ListsBy (0 ∷ []) every (columns (0 ∷ [])) table shown → rises None shown ≡ true → RowNumbersDiffer table
+pub apart_of : (table shown : List Row) → ListsBy (0 ∷ []) every (columns (0 ∷ [])) table shown
+    → rises None shown ≡ true → RowNumbersDiffer table
 apart_of table shown h up =
     let first = λ (k : Row × Row). column k.1 0 in
     let there : map first (map (λ r. (columns (0 ∷ []) r, columns (0 ∷ []) r)) (filter every table)) ≡ ids table =

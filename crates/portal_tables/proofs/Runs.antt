@@ -6,14 +6,16 @@ use Rattle.portal_tables.proofs.Base.{Ghosts, Held, state, doubt, no_doubt, surv
 use Rattle.portal_tables.proofs.Base.{Made, GoesOn, Does, Commits, IsAfter, Stays}
 
 -- a step after another
-pub made_then : (A B C : Database → Database → Type 0) (old mid new : State) → Made A old mid → Made B mid new → (A old.now mid.now → B mid.now new.now → C old.now new.now) → Made C old new
+pub made_then : (A B C : Database → Database → Type 0) (old mid new : State) → Made A old mid → Made B mid new
+    → (A old.now mid.now → B mid.now new.now → C old.now new.now) → Made C old new
 made_then A B C old mid new a b joined = record {
   shown = record { was_open = a.shown.was_open; is_open = b.shown.is_open; now_is = refl; committed_is = b.shown.committed_is ∙ a.shown.committed_is; mode = b.shown.mode };
   changed = joined a.changed b.changed;
 }
 
 -- what was made is so much more
-pub made_more : (A B : Database → Database → Type 0) (old new : State) → Made A old new → (A old.now new.now → B old.now new.now) → Made B old new
+pub made_more : (A B : Database → Database → Type 0) (old new : State) → Made A old new
+    → (A old.now new.now → B old.now new.now) → Made B old new
 made_more A B old new a more = record { shown = a.shown; changed = more a.changed }
 
 -- a step is one of those that may be none
@@ -24,13 +26,16 @@ made_goes C old new made = record { mode = λ _. made.shown.mode; changed = made
 pub goes_nowhere : (C : Database → Database → Type 0) (s : State) → C s.now s.now → GoesOn C s s
 goes_nowhere C s same = record { mode = λ on. on; changed = same }
 
-pub goes_then : (A B C : Database → Database → Type 0) (old mid new : State) → GoesOn A old mid → Made B mid new → (A old.now mid.now → B mid.now new.now → C old.now new.now) → GoesOn C old new
+pub goes_then : (A B C : Database → Database → Type 0) (old mid new : State) → GoesOn A old mid → Made B mid new
+    → (A old.now mid.now → B mid.now new.now → C old.now new.now) → GoesOn C old new
 goes_then A B C old mid new a b joined = record { mode = λ _. b.shown.mode; changed = joined a.changed b.changed }
 
-pub goes_both : (A B C : Database → Database → Type 0) (old mid new : State) → GoesOn A old mid → GoesOn B mid new → (A old.now mid.now → B mid.now new.now → C old.now new.now) → GoesOn C old new
+pub goes_both : (A B C : Database → Database → Type 0) (old mid new : State) → GoesOn A old mid → GoesOn B mid new
+    → (A old.now mid.now → B mid.now new.now → C old.now new.now) → GoesOn C old new
 goes_both A B C old mid new a b joined = record { mode = λ on. b.mode (a.mode on); changed = joined a.changed b.changed }
 
-pub goes_more : (A B : Database → Database → Type 0) (old new : State) → GoesOn A old new → (A old.now new.now → B old.now new.now) → GoesOn B old new
+pub goes_more : (A B : Database → Database → Type 0) (old new : State) → GoesOn A old new
+    → (A old.now new.now → B old.now new.now) → GoesOn B old new
 goes_more A B old new a more = record { mode = a.mode; changed = more a.changed }
 
 pub kept_same : (s : State) → KeepsCommit s s
@@ -40,11 +45,13 @@ pub survives_same : (s : State) → Survives s s (λ _. ⊥)
 survives_same s = record { clean = omega arith; shield = λ h. h; counts = omega arith; limit = refl; closes = λ clean on. inl on; crash = λ clean db h. inl h }
 
 -- Calls in one transaction: none yet.
-pub does_none : {S A : Type 0} (g : Ghosts S) (P : State → State → Type 0) (a : A) (tx : Transaction S) → P (state g tx.conn.now) (state g tx.conn.now) → Does g P (Ok a) tx tx
+pub does_none : {S A : Type 0} (g : Ghosts S) (P : State → State → Type 0) (a : A) (tx : Transaction S)
+    → P (state g tx.conn.now) (state g tx.conn.now) → Does g P (Ok a) tx tx
 does_none g P a tx same = record { same_reference = refl; done = λ clean. same; kept = λ clean. kept_same (state g tx.conn.now); survives = survives_same (state g tx.conn.now) }
 
 -- a call after another that answered Ok
-pub does_then : {S A B : Type 0} (g : Ghosts S) (P Q R : State → State → Type 0) (a : A) (r : Result B Error) (old mid new : Transaction S) → Does g P (Ok a) old mid → Does g Q r mid new
+pub does_then : {S A B : Type 0} (g : Ghosts S) (P Q R : State → State → Type 0) (a : A) (r : Result B Error) (old mid new : Transaction S)
+    → Does g P (Ok a) old mid → Does g Q r mid new
     → (P (state g old.conn.now) (state g mid.conn.now) → Q (state g mid.conn.now) (state g new.conn.now) → R (state g old.conn.now) (state g new.conn.now)) → Does g R r old new
 does_then g P Q R a r old mid new before after joined = record {
   same_reference = after.same_reference ∙ before.same_reference;
@@ -55,14 +62,16 @@ does_then g P Q R a r old mid new before after joined = record {
 
 -- an error is answered: what it left, after a call that was made, and where none was
 module _ {S B : Type 0} (g : Ghosts S) {Q : State → State → Type 0} (s : Result B Error) (failed : IsErr s) where
-  pub does_failed : {A : Type 0} {P : State → State → Type 0} {r : Result A Error} {old new : Transaction S} → Does g P r old new → Does g Q s old new
+  pub does_failed : {A : Type 0} {P : State → State → Type 0} {r : Result A Error} {old new : Transaction S}
+      → Does g P r old new → Does g Q s old new
   does_failed does = record { same_reference = does.same_reference; done = λ clean. IfOk-from_err s _ failed; kept = does.kept; survives = does.survives }
 
   pub does_nothing : (tx : Transaction S) → Does g Q s tx tx
   does_nothing tx = record { same_reference = refl; done = λ clean. IfOk-from_err s _ failed; kept = λ clean. kept_same (state g tx.conn.now); survives = survives_same (state g tx.conn.now) }
 
 -- a call after another, where only that they were made counts
-pub does_both : {S A B : Type 0} (g : Ghosts S) {P Q : State → State → Type 0} {a : A} {r : Result B Error} {old mid new : Transaction S} → Does g P (Ok a) old mid → Does g Q r mid new → Does g (λ _ _. Unit {0}) r old new
+pub does_both : {S A B : Type 0} (g : Ghosts S) {P Q : State → State → Type 0} {a : A} {r : Result B Error} {old mid new : Transaction S}
+    → Does g P (Ok a) old mid → Does g Q r mid new → Does g (λ _ _. Unit {0}) r old new
 does_both g before after = does_then g _ _ (λ _ _. Unit {0}) _ _ _ _ _ before after (λ p q. tt)
 
 -- three calls in turn
@@ -77,13 +86,16 @@ does_three g A B C D x y r a b c d p q s joined =
     does_then g (Made Both) (Made C) (GoesOn D) y r a c d first s (λ p q. made_goes D _ _ (made_then Both C D _ _ _ p q (λ both. joined both.0 both.1)))
 
 -- what was done is so much more
-pub does_more : {S A : Type 0} (g : Ghosts S) (P Q : State → State → Type 0) (r : Result A Error) (old new : Transaction S) → Does g P r old new
+pub does_more : {S A : Type 0} (g : Ghosts S) (P Q : State → State → Type 0) (r : Result A Error) (old new : Transaction S)
+    → Does g P r old new
     → (P (state g old.conn.now) (state g new.conn.now) → Q (state g old.conn.now) (state g new.conn.now)) → Does g Q r old new
 does_more g P Q r old new does more = record { same_reference = does.same_reference; done = λ clean. on_ok_weaker r more (does.done clean); kept = does.kept; survives = does.survives }
 
 -- A transaction whose steps may be none: what its commit and a crash leave.
 module _ {S : Type 0} (g : Ghosts S) (C : Database → Database → Type 0) (old begun mid last : Held S) (is : begun ≡ record old { in_transaction = true }) where
-  pub ended_well : KeepsCommit (state g begun) (state g mid) → GoesOn C (state g begun) (state g mid) → Shows (state g mid) (state g last) (state g mid).now (state g mid).now false → Commits C (state g old) (state g last)
+  pub ended_well : KeepsCommit (state g begun) (state g mid) → GoesOn C (state g begun) (state g mid)
+      → Shows (state g mid) (state g last) (state g mid).now (state g mid).now false
+      → Commits C (state g old) (state g last)
   ended_well kept made done = record {
     was_open = (subst (λ h. KeepsCommit (state g h) (state g mid)) is kept).was_open done.was_open;
     is_open = done.is_open;
@@ -91,7 +103,9 @@ module _ {S : Type 0} (g : Ghosts S) (C : Database → Database → Type 0) (old
     changed = subst (C (state g old).now) (sym done.now_is) (subst (λ h. C (state g h).now (state g mid).now) is made.changed);
   }
 
-  pub ended_crash : Survives (state g begun) (state g mid) (λ _. ⊥) → (HasCleanDisk (state g mid) → GoesOn C (state g begun) (state g mid)) → Survives (state g mid) (state g last) (λ db. db ≡ (state g mid).now.trees)
+  pub ended_crash : Survives (state g begun) (state g mid) (λ _. ⊥)
+      → (HasCleanDisk (state g mid) → GoesOn C (state g begun) (state g mid))
+      → Survives (state g mid) (state g last) (λ db. db ≡ (state g mid).now.trees)
       → Survives (state g old) (state g last) (IsAfter C (state g old))
   ended_crash inside made ends =
       let first : Survives (state g old) (state g mid) (λ _. ⊥) = survives_begin g old (state g mid) (λ _. ⊥) (subst (λ h. Survives (state g h) (state g mid) (λ _. ⊥)) is inside) in
@@ -100,7 +114,8 @@ module _ {S : Type 0} (g : Ghosts S) (C : Database → Database → Type 0) (old
       let m = subst (λ h. C (state g h).now (state g mid).now) is (made (omega (arith, clean, ends.clean))).changed in ((state g mid).now, m, same)) first ends
 
   -- where the commit fails, nothing is changed
-  pub ended_badly : (e : Error) → (IsTrue (state g old).is_open → (state g old).now ≡ (state g old).committed) → KeepsCommit (state g begun) (state g mid) → GoesOn C (state g begun) (state g mid)
+  pub ended_badly : (e : Error) → (IsTrue (state g old).is_open → (state g old).now ≡ (state g old).committed)
+      → KeepsCommit (state g begun) (state g mid) → GoesOn C (state g begun) (state g mid)
       → FailsToCommit (state g mid) (state g last) e → IsTrue (state g last).is_open → Stays (state g old) (state g last)
   ended_badly e settled kept made (inl fails) on =
       let undone : IsRolledBack (state g mid) (state g last) = fails.3 in

@@ -14,13 +14,15 @@ abbrev stands : Key → List Row → Bool
 stands k = list_any (λ r. equals k (row_key r))
 
 -- the rows without those of one key have every other
-stands_without : (key k : Key) (rows : List Row) → equals k key ≡ false → stands k (filter (λ r. not (has_text 1 key r)) rows) ≡ stands k rows
+stands_without : (key k : Key) (rows : List Row) → equals k key ≡ false
+    → stands k (filter (λ r. not (has_text 1 key r)) rows) ≡ stands k rows
 stands_without key k rows other =
     any-filter_same (λ r. equals k (row_key r)) (λ r. not (has_text 1 key r)) true
     (λ r is. elim (cases_Bool (has_text 1 key r)) [ inl hit ↦ absurd (let e : true ≡ false = sym is ∙ ap (λ v. equals k (bytes v)) (text_there 1 key r hit) ∙ other in cc) | inr missed ↦ ap not missed ]) rows
 
 -- a lecturer's row in place of any
-pub rank_put : (key : Key) (first mid now : Database) → Clears ranked2_tree key first mid → Adds ranked2_tree ((Words key ∷ []) ∷ []) mid now → RanksSecond key first now
+pub rank_put : (key : Key) (first mid now : Database) → Clears ranked2_tree key first mid
+    → Adds ranked2_tree ((Words key ∷ []) ∷ []) mid now → RanksSecond key first now
 rank_put key first mid now cleared adds own apart =
     let drops = cleared own apart in
     let put = adds (subst IsCurrentSchema (sym drops.schema_is) own) in
@@ -43,7 +45,9 @@ rank_put key first mid now cleared adds own apart =
     }
 
 -- the pairs in place of all rows
-pub places_put : (pairs : List (Key × Key)) (first mid now : Database) → (IsCurrentSchema first.schema → RowNumbersDiffer (first.trees assigned2_tree) → Drops assigned2_tree every first mid) → Adds assigned2_tree (map pair_new pairs) mid now
+pub places_put : (pairs : List (Key × Key)) (first mid now : Database)
+    → (IsCurrentSchema first.schema → RowNumbersDiffer (first.trees assigned2_tree) → Drops assigned2_tree every first mid)
+    → Adds assigned2_tree (map pair_new pairs) mid now
     → PutsPlacements pairs first now
 places_put pairs first mid now dropped adds own apart =
     let drops = dropped own apart in

@@ -24,7 +24,8 @@ any_there : (rows : List Row) → not (is_empty rows) ≡ list_any (λ _. true) 
 any_there [] = refl
 any_there (r ∷ rows) = refl
 
-pub ranked_found : (db : Database) → IsCurrentSchema db.schema → IsDatabase db → (k : Key) (shown : List Row) → ListsBy (1 ∷ []) (has_text 1 k) (columns (1 ∷ [])) (db.trees ranked2_tree) shown
+pub ranked_found : (db : Database) → IsCurrentSchema db.schema → IsDatabase db → (k : Key) (shown : List Row)
+    → ListsBy (1 ∷ []) (has_text 1 k) (columns (1 ∷ [])) (db.trees ranked2_tree) shown
     → not (is_empty shown) ≡ has (map row_key (db.trees ranked2_tree)) k
 ranked_found db own sound k shown lists =
     let table = db.trees ranked2_tree in
@@ -42,7 +43,8 @@ first_map : {X Y : Type 0} (f : X → Y) (xs : List X) → first_of (map f xs) �
 first_map f [] = refl
 first_map f (x ∷ xs) = refl
 
-alone : (P : Key → Type 0) (rows : List Row) → length rows ≤ 1 → IfSome (option_map placed_project (first_of rows)) P → AllByRecursion (λ a. P (placed_project a)) rows
+alone : (P : Key → Type 0) (rows : List Row) → length rows ≤ 1 → IfSome (option_map placed_project (first_of rows)) P
+    → AllByRecursion (λ a. P (placed_project a)) rows
 alone P [] few h = tt
 alone P (a ∷ []) few h = (h, tt)
 alone P (a ∷ b ∷ rows) few h = absurd (omega (arith, few))
@@ -67,7 +69,8 @@ module _ (db : Database) (own : IsCurrentSchema db.schema) (sound : IsDatabase d
       sym (first_back o) ∙ ap first_of (sym (only_one o (map placed_project mine) named)) ∙ first_map placed_project mine ∙ first_mine
 
   -- where there is no more than one row, and it names a key
-  pub place_fine : IfSome (second_placement db.trees k) (λ p. is_key p ≡ true) → length mine ≤ 1 → (length shown ≤ 1) × AllByRecursion (λ c. is_key (shown_name c) ≡ true) shown
+  pub place_fine : IfSome (second_placement db.trees k) (λ p. is_key p ≡ true) → length mine ≤ 1
+      → (length shown ≤ 1) × AllByRecursion (λ c. is_key (shown_name c) ≡ true) shown
   place_fine key once = (
     subst (λ n. n ≤ 1) (sym (length_permutation _ shown same ∙ length-map mine (columns (1 ∷ 2 ∷ [])))) once,
     all_permuted (λ c. is_key (shown_name c) ≡ true) _ shown same

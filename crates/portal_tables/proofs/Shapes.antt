@@ -74,7 +74,9 @@ pub record IsPlace (r : Row) : Type 0 where
 
 -- A row whose next cell is a text or a number has what holds at each such cell, whatever columns
 -- follow it.
-next : {X : Type 0} {of : X → Value} (kind : Kind) → ((v : Value) → is_of kind v ≡ true → not (is_null v) ≡ true → (x : X) × (v ≡ of x)) → (P : Row → Type 0) (row : Row → Row) (name : List ℕ) (at : ℕ) (cs : List Column)
+next : {X : Type 0} {of : X → Value} (kind : Kind)
+    → ((v : Value) → is_of kind v ≡ true → not (is_null v) ≡ true → (x : X) × (v ≡ of x))
+    → (P : Row → Type 0) (row : Row → Row) (name : List ℕ) (at : ℕ) (cs : List Column)
     → ((x : Row) → are_present None at (column_of name kind true ∷ cs) (row x) ≡ (not (is_null (column x 0)) && are_present None (at + 1) cs (row x)))
     → ((x : X) (rest : Row) → are_typed None (at + 1) cs rest ≡ true → are_present None (at + 1) cs (row (of x ∷ rest)) ≡ true → P (row (of x ∷ rest)))
     → (cells : Row) → are_typed None at (column_of name kind true ∷ cs) cells ≡ true → are_present None at (column_of name kind true ∷ cs) (row cells) ≡ true → P (row cells)
@@ -104,7 +106,8 @@ lecturer_form n =
     record { number = n; key = key; name = name; code = code; capacity = capacity; ranked = ranked; is = ap (λ x. Int n ∷ Words key ∷ Words name ∷ Words code ∷ Int capacity ∷ Int ranked ∷ x) (none_more 5 rest typed) })))))
 
 -- what may stand where the last column of a student is
-last_cell : (name : List ℕ) (at : ℕ) (cells : Row) → are_typed None at (column_of name Text false ∷ []) cells ≡ true → ((cells ≡ []) ⊎ ((v : Value) × (cells ≡ v ∷ []))) × IsNullOrText (column cells 0)
+last_cell : (name : List ℕ) (at : ℕ) (cells : Row) → are_typed None at (column_of name Text false ∷ []) cells ≡ true
+    → ((cells ≡ []) ⊎ ((v : Value) × (cells ≡ v ∷ []))) × IsNullOrText (column cells 0)
 last_cell name at [] t = (inl refl, inl refl)
 last_cell name at (v ∷ []) t = (inr (v, refl), null_or_text v (and_parts (is_of Text v) true t).0)
 last_cell name at (v ∷ w ∷ vs) t = let e = (and_parts (is_of Text v) false t).1 in absurd (cc)
@@ -126,7 +129,8 @@ project_form n =
     next Text text_cell HasLecturer (λ x. Int n ∷ x) (codes "key") 0 (drop 1 cs) (λ x. refl) (λ key.
     next Text text_cell HasLecturer (λ x. Int n ∷ Words key ∷ x) (codes "lecturer") 1 (drop 2 cs) (λ x. refl) (λ lecturer rest typed present. (lecturer, refl)))
 
-place_form : (k l m : List ℕ) → Forms IsPlace (column_of k Text true ∷ column_of l Integer true ∷ column_of m Text true ∷ [])
+place_form : (k l m : List ℕ)
+    → Forms IsPlace (column_of k Text true ∷ column_of l Integer true ∷ column_of m Text true ∷ [])
 place_form k l m n =
     next Text text_cell IsPlace (λ x. Int n ∷ x) k 0 (column_of l Integer true ∷ column_of m Text true ∷ []) (λ x. refl) (λ owner.
     next Integer number_cell IsPlace (λ x. Int n ∷ Words owner ∷ x) l 1 (column_of m Text true ∷ []) (λ x. refl) (λ place.
@@ -134,7 +138,8 @@ place_form k l m n =
     record { number = n; owner = owner; place = place; item = item; is = ap (λ x. Int n ∷ Words owner ∷ Int place ∷ Words item ∷ x) (none_more 3 rest typed) })))
 
 -- the rows of a table, by what its rules say of them
-formed : (P : Row → Type 0) (cs : List Column) → Forms P cs → (rows : List Row) → RowNumbersDiffer rows → AllByRecursion (λ r. (are_typed None 0 cs (drop 1 r) && true) ≡ true) rows
+formed : (P : Row → Type 0) (cs : List Column) → Forms P cs → (rows : List Row) → RowNumbersDiffer rows
+    → AllByRecursion (λ r. (are_typed None 0 cs (drop 1 r) && true) ≡ true) rows
     → AllByRecursion (λ r. are_present None 0 cs r ≡ true) rows → AllByRecursion P rows
 formed P cs form [] apart t p = tt
 formed P cs form ([] ∷ rows) apart t p = absurd (let e = apart.0 in cc)
@@ -157,7 +162,8 @@ abbrev pub Follows : Constraint → (t : Named) → Open → Trees → Row → B
 Follows rule t o db row = passes rule (schema_with (table_round t) o) db (with_checks o.checks o.terms (form_of t)) row
 
 -- a rule of all tables is one of each
-at_table : (t : Named) (o : Open) (rule : Constraint) (db : Trees) → Keeps rule (schema_with (table_round t) o) db → AllByRecursion (λ row. Follows rule t o db row ≡ true) (db (table_tree t))
+at_table : (t : Named) (o : Open) (rule : Constraint) (db : Trees) → Keeps rule (schema_with (table_round t) o) db
+    → AllByRecursion (λ row. Follows rule t o db row ≡ true) (db (table_tree t))
 at_table (OfRoll Lecturers) o rule db all = all.1.0
 at_table (OfRoll Projects) o rule db all = all.1.1.0
 at_table (OfRoll Students) o rule db all = all.1.1.1.0
@@ -169,28 +175,34 @@ at_table (OfLists SecondRankings) o rule db all = all.1.1.1.1.1.1.1.1.1.0
 at_table OfPlaces o rule db all = all.1.1.1.1.1.1.1.1.1.1.0
 
 -- what the rules say of a sound database's tables, read as those of a round, and of one of them
-pub kept : (round : Round) (db : Database) → IsDatabase db → (rule : Constraint) (w : IsWith round db.schema) → Keeps rule (schema_with round w.o) db.trees
+pub kept : (round : Round) (db : Database) → IsDatabase db → (rule : Constraint) (w : IsWith round db.schema)
+    → Keeps rule (schema_with round w.o) db.trees
 kept round db sound rule w = subst (λ s. Keeps rule s db.trees) w.is (sound.obeys.rules rule)
 
-pub followed : (db : Database) (t : Named) (own : HasRound (table_round t) db.schema) → IsDatabase db → (rule : Constraint)
+pub followed : (db : Database) (t : Named) (own : HasRound (table_round t) db.schema) → IsDatabase db
+    → (rule : Constraint)
     → AllByRecursion (λ row. Follows rule t (own_is (table_round t) db.schema own).o db.trees row ≡ true) (db.trees (table_tree t))
 followed db t own sound rule =
     let w = own_is (table_round t) db.schema own in
     at_table t w.o rule db.trees (kept (table_round t) db sound rule w)
 
-pub lecturer_rows_formed : (db : Database) → HasFirstSchema db.schema → IsDatabase db → RowNumbersDiffer (db.trees lecturer_tree) → AllByRecursion IsLecturerRow (db.trees lecturer_tree)
+pub lecturer_rows_formed : (db : Database) → HasFirstSchema db.schema → IsDatabase db
+    → RowNumbersDiffer (db.trees lecturer_tree) → AllByRecursion IsLecturerRow (db.trees lecturer_tree)
 lecturer_rows_formed db own sound apart =
     formed IsLecturerRow (lecturer_schema 1).columns lecturer_form (db.trees lecturer_tree) apart (followed db (OfRoll Lecturers) own sound Datatype) (followed db (OfRoll Lecturers) own sound NotNull)
 
-pub student_rows_formed : (db : Database) → HasFirstSchema db.schema → IsDatabase db → RowNumbersDiffer (db.trees student_tree) → AllByRecursion IsStudentRow (db.trees student_tree)
+pub student_rows_formed : (db : Database) → HasFirstSchema db.schema → IsDatabase db
+    → RowNumbersDiffer (db.trees student_tree) → AllByRecursion IsStudentRow (db.trees student_tree)
 student_rows_formed db own sound apart =
     formed IsStudentRow (student_schema 6).columns student_form (db.trees student_tree) apart (followed db (OfRoll Students) own sound Datatype) (followed db (OfRoll Students) own sound NotNull)
 
-pub project_rows_formed : (db : Database) → HasFirstSchema db.schema → IsDatabase db → RowNumbersDiffer (db.trees project_tree) → AllByRecursion (λ r. IsText (column r 2)) (db.trees project_tree)
+pub project_rows_formed : (db : Database) → HasFirstSchema db.schema → IsDatabase db
+    → RowNumbersDiffer (db.trees project_tree) → AllByRecursion (λ r. IsText (column r 2)) (db.trees project_tree)
 project_rows_formed db own sound apart =
     formed (λ r. IsText (column r 2)) (project_schema 4).columns project_form (db.trees project_tree) apart (followed db (OfRoll Projects) own sound Datatype) (followed db (OfRoll Projects) own sound NotNull)
 
-pub place_rows_formed : (db : Database) (l : Lists) → HasRound (round_of l) db.schema → IsDatabase db → RowNumbersDiffer (db.trees (tree_of l)) → AllByRecursion IsPlace (db.trees (tree_of l))
+pub place_rows_formed : (db : Database) (l : Lists) → HasRound (round_of l) db.schema → IsDatabase db
+    → RowNumbersDiffer (db.trees (tree_of l)) → AllByRecursion IsPlace (db.trees (tree_of l))
 place_rows_formed db l own sound apart =
     formed IsPlace (list_table (names l) (tree_of l)).columns (place_form (names l).owner (codes "place") (names l).item) (db.trees (tree_of l)) apart
     (followed db (OfLists l) own sound Datatype) (followed db (OfLists l) own sound NotNull)

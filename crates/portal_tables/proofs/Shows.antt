@@ -73,7 +73,8 @@ abbrev plain_of : Result Compiled CompileError → Option Program
 plain_of (Ok c) = plain_query c.command c.returning c.formats
 plain_of (Err e) = None
 
-plain_parts : {R F : Type 0} (c : Command) (returning : Option R) (formats : List F) (p : Program) → plain_query c returning formats ≡ Some p → (program_of c ≡ Some p) × (returning ≡ None) × (formats ≡ [])
+plain_parts : {R F : Type 0} (c : Command) (returning : Option R) (formats : List F) (p : Program)
+    → plain_query c returning formats ≡ Some p → (program_of c ≡ Some p) × (returning ≡ None) × (formats ≡ [])
 plain_parts (Select p names) None [] q h = (h, refl, refl)
 plain_parts _ _ _ q h = absurd (cc)
 
@@ -110,20 +111,24 @@ abbrev is_read_alone : Checked Parsed → Bool
 is_read_alone (Ok p) = is_query_alone p.statement p.formats
 is_read_alone (Err e) = false
 
-alone_parts : {F : Type 0} (statement : Statement) (formats : List F) → is_query_alone statement formats ≡ true → ((q : written_select.Select) × (statement ≡ written.Select q)) × (formats ≡ [])
+alone_parts : {F : Type 0} (statement : Statement) (formats : List F) → is_query_alone statement formats ≡ true
+    → ((q : written_select.Select) × (statement ≡ written.Select q)) × (formats ≡ [])
 alone_parts (written.Select q) [] h = ((q, refl), refl)
 alone_parts _ _ h = absurd (cc)
 
 -- a query is plain over whatever schema, if it is understood there
-compiled_alone : (command : Checked Command) (p : Parsed) → IsPlainIfAny (and_then (and_then (and_then command (λ c. Ok (c, None))) (λ found. Ok ([], found))) (λ plan. Ok (with_command p plan)))
+compiled_alone : (command : Checked Command) (p : Parsed)
+    → IsPlainIfAny (and_then (and_then (and_then command (λ c. Ok (c, None))) (λ found. Ok ([], found))) (λ plan. Ok (with_command p plan)))
 compiled_alone (Ok c) p = (refl, refl)
 compiled_alone (Err e) p = tt
 
-planned_alone : (s : Schema) (p : Parsed) (q : written_select.Select) → IsPlainIfAny (and_then (planned s (record p { statement = written.Select q; formats = [] })) (λ plan. Ok (with_command (record p { statement = written.Select q; formats = [] }) plan)))
+planned_alone : (s : Schema) (p : Parsed) (q : written_select.Select)
+    → IsPlainIfAny (and_then (planned s (record p { statement = written.Select q; formats = [] })) (λ plan. Ok (with_command (record p { statement = written.Select q; formats = [] }) plan)))
 unfolding planned meaning returning timed
 planned_alone s p q = compiled_alone _ (record p { statement = written.Select q; formats = [] })
 
-parsed_alone : (s : Schema) (p : Parsed) → is_query_alone p.statement p.formats ≡ true → IsPlainIfAny (and_then (planned s p) (λ plan. Ok (with_command p plan)))
+parsed_alone : (s : Schema) (p : Parsed) → is_query_alone p.statement p.formats ≡ true
+    → IsPlainIfAny (and_then (planned s p) (λ plan. Ok (with_command p plan)))
 parsed_alone s p h =
     let it = alone_parts p.statement p.formats h in
     let is : record p { statement = written.Select it.0.0; formats = [] } ≡ p = λ i. record p { statement = sym it.0.1 i; formats = sym it.1 i } in
@@ -158,12 +163,14 @@ is_alone (Numbers (OfLists Choices)) = refl
 is_alone _ = refl
 
 -- a command that is a query is that one
-program_is : (c : Command) (p : Program) (db : Database) (params : Row) (rows : List Row) → program_of c ≡ Some p → Reads c db params rows → Answers db p params rows
+program_is : (c : Command) (p : Program) (db : Database) (params : Row) (rows : List Row) → program_of c ≡ Some p
+    → Reads c db params rows → Answers db p params rows
 program_is (Select p names) q db params rows is h = let same : p ≡ q = cc in subst (λ x. Answers db x params rows) same h
 program_is _ q db params rows is h = absurd (cc)
 
 -- it has no recursion, so that its first rows begin an answer
-program_ends : (c : Command) (p : Program) (db : Database) (params : Row) → program_of c ≡ Some p → Ends db.trees params [] (lets_of p) → EndsIn c db params
+program_ends : (c : Command) (p : Program) (db : Database) (params : Row) → program_of c ≡ Some p
+    → Ends db.trees params [] (lets_of p) → EndsIn c db params
 program_ends (Select p names) q db params is h = let same : q ≡ p = cc in subst (λ x. Ends db.trees params [] (lets_of x)) same h
 program_ends _ q db params is h = tt
 
@@ -172,11 +179,13 @@ module _ (q : Query) (sql : List ℕ) (params : Row) (text : sql ≡ query_text 
   pub plain : (s : Schema) → IsPlainIfAny (understood s sql)
   plain s = subst (λ t. IsPlainIfAny (understood s t)) (sym text) (plain_anywhere s (query_text q) (is_alone q))
 
-  pub ends : (s : Schema) → HasRound (round_asked q) s → (c : Compiled) → understood s sql ≡ Ok c → (db : Database) (full : Row) → EndsIn c.command db full
+  pub ends : (s : Schema) → HasRound (round_asked q) s → (c : Compiled) → understood s sql ≡ Ok c
+      → (db : Database) (full : Row) → EndsIn c.command db full
   ends s own c known db full =
       program_ends c.command (asked q) db full (ap (λ x. program_of (command_of x)) (sym known ∙ ap (understood s) text) ∙ (own_is_understood q s own).0) tt
 
-  pub shows : (old new : State) (rows : List Row) → HasRound (round_asked q) old.now.schema → Shown sql params old new rows → Shows q old.now.trees rows
+  pub shows : (old new : State) (rows : List Row) → HasRound (round_asked q) old.now.schema
+      → Shown sql params old new rows → Shows q old.now.trees rows
   shows old new rows own h =
       let it = own_is_understood q old.now.schema own in
       let here : Shown (query_text q) (given q) old new rows = subst₂ (λ t v. Shown t v old new rows) text values h in
@@ -185,13 +194,15 @@ module _ (q : Query) (sql : List ℕ) (params : Row) (text : sql ≡ query_text 
       subst₂ (λ p show. ListsBy (selection q).by p show (old.now.trees (selection q).tree) rows) (tested q) (λ i r. columns_are (selection q).shown (given q) r i) lists
 
   -- what is shown is what the text itself begins with, under any schema
-  pub begins : (old new : State) (rows : List Row) → Shown sql params old new rows → Begins (query_text q) (given q) new rows
+  pub begins : (old new : State) (rows : List Row) → Shown sql params old new rows
+      → Begins (query_text q) (given q) new rows
   unfolding Shown
   begins old new rows h =
       let sure : IsPlain (understood old.now.schema sql) = subst IsPlain (sym h.1.is) (subst IsPlainIfAny h.1.is (plain old.now.schema)) in
       subst₂ (λ t v. Begins t v new rows) text values (shown_begins sql params old new rows sure h)
 
-  pub asks : {V E : Type 0} {Told : Database → Result V E → Type 0} (r : Result V E) (old new : State) → (IsPlainIfAny (understood old.now.schema sql) → HasCleanDisk new → OnOk r (IsUnchanged old new))
+  pub asks : {V E : Type 0} {Told : Database → Result V E → Type 0} (r : Result V E) (old new : State)
+      → (IsPlainIfAny (understood old.now.schema sql) → HasCleanDisk new → OnOk r (IsUnchanged old new))
       → (IsPlainIfAny (understood old.now.schema sql) → HasCleanDisk new → OnErr r (IsUnchangedOrUndone old new)) → (old.in_transaction ≡ false → new.in_transaction ≡ false)
       → Survives old new (λ _. IsPlainIfAny (understood old.now.schema sql) → ⊥) → (HasRound (round_asked q) old.now.schema → HasCleanDisk new → Told old.now r) → Reading (round_asked q) Anyhow Always Told r old new
   asks r old new same err mode survives told = record {

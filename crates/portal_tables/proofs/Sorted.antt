@@ -56,11 +56,13 @@ module _ {X : Type 0} (key : X → Key) where
   pub permutes : (xs : List X) → IsPermutation xs (put_all key xs [])
   permutes xs = subst (λ l. IsPermutation l (put_all key xs [])) (append-nil xs) (permutes_more xs [])
 
-  above : (k : Key) (xs : List X) (x : X) → AllByRecursion (λ l. is_before k l ≡ true) (map key xs) → Has xs x → is_before k (key x) ≡ true
+  above : (k : Key) (xs : List X) (x : X) → AllByRecursion (λ l. is_before k l ≡ true) (map key xs) → Has xs x
+      → is_before k (key x) ≡ true
   above k xs x all = at (λ z. is_before k (key z) ≡ true) xs x (all_unmap (λ l. is_before k l ≡ true) key xs all)
 
   -- two lists with rising keys that have the same members are one
-  pub one_order : (xs ys : List X) → Rise (map key xs) → Rise (map key ys) → ((x : X) → Has xs x → Has ys x) → ((x : X) → Has ys x → Has xs x) → xs ≡ ys
+  pub one_order : (xs ys : List X) → Rise (map key xs) → Rise (map key ys) → ((x : X) → Has xs x → Has ys x)
+      → ((x : X) → Has ys x → Has xs x) → xs ≡ ys
   one_order [] [] p q to back = refl
   one_order [] (y ∷ ys) p q to back = absurd (back y (inl refl))
   one_order (x ∷ xs) [] p q to back = absurd (to x (inl refl))
@@ -87,26 +89,31 @@ module _ {X : Type 0} (key : X → Key) where
   one_rise xs ys same p q = one_order xs ys p q (has_permuted xs ys same) (has_permuted ys xs (IsPermutation-sym xs ys same))
 
   -- where the rows rise once put, no key is of two rows
-  pub distinct_permuted : (xs ys : List X) → IsPermutation xs ys → IsDistinct equals (map key xs) → IsDistinct equals (map key ys)
+  pub distinct_permuted : (xs ys : List X) → IsPermutation xs ys → IsDistinct equals (map key xs)
+      → IsDistinct equals (map key ys)
   distinct_permuted xs ys same d = IsDistinct-IsPermutation equals is_sym (map key xs) (map key ys) (IsPermutation-map key xs ys same) d
 
   pub distinct_if_rise : (xs : List X) → Rise (map key (put_all key xs [])) → IsDistinct equals (map key xs)
   distinct_if_rise xs up = distinct_permuted (put_all key xs []) xs (IsPermutation-sym _ _ (permutes xs)) (rise_distinct _ up)
 
-  rise_one : (x : X) (ys : List X) → Rise (map key ys) → AllByRecursion (λ l. equals (key x) l ≡ false) (map key ys) → Rise (map key (put key x ys))
+  rise_one : (x : X) (ys : List X) → Rise (map key ys) → AllByRecursion (λ l. equals (key x) l ≡ false) (map key ys)
+      → Rise (map key (put key x ys))
   rise_one x ys up d =
       rise_put key x ys up (none_is (key x) (map key ys) (all_weaker (λ l. equals (key x) l ≡ false) (λ l. equals l (key x) ≡ false) (λ l other. is_sym l (key x) ∙ other) (map key ys) d))
 
-  behind : (k : Key) (us ys : List X) → AllByRecursion (λ l. equals k l ≡ false) (map key (us ++ ys)) → AllByRecursion (λ l. equals k l ≡ false) (map key ys)
+  behind : (k : Key) (us ys : List X) → AllByRecursion (λ l. equals k l ≡ false) (map key (us ++ ys))
+      → AllByRecursion (λ l. equals k l ≡ false) (map key ys)
   behind k [] ys h = h
   behind k (u ∷ us) ys h = behind k us ys h.1
 
-  apart_from : (x : X) (us ys : List X) → IsDistinct equals (map key (x ∷ (us ++ ys))) → AllByRecursion (λ l. equals (key x) l ≡ false) (map key ys)
+  apart_from : (x : X) (us ys : List X) → IsDistinct equals (map key (x ∷ (us ++ ys)))
+      → AllByRecursion (λ l. equals (key x) l ≡ false) (map key ys)
   unfolding IsDistinct
   apart_from x us ys h = behind (key x) us ys h.0
 
   -- rows with distinct keys rise once they are put
-  pub rise_put_all : (xs ys : List X) → IsDistinct equals (map key (xs ++ ys)) → Rise (map key ys) → Rise (map key (put_all key xs ys))
+  pub rise_put_all : (xs ys : List X) → IsDistinct equals (map key (xs ++ ys)) → Rise (map key ys)
+      → Rise (map key (put_all key xs ys))
   rise_put_all [] ys d up = up
   rise_put_all (x ∷ xs) ys d up =
       let front : IsDistinct equals (map key (x ∷ (xs ++ ys))) = d in
@@ -121,18 +128,22 @@ module _ {X : Type 0} (key : X → Key) where
       one_rise ys (put_all key xs []) (IsPermutation-trans _ _ _ (IsPermutation-sym xs ys same) (permutes xs)) up (rise_put_all xs [] d tt)
 
   -- the same rows, in two orders, are one list once they are put, if that rises
-  pub put_same : (xs ys : List X) → IsPermutation xs ys → Rise (map key (put_all key xs [])) → put_all key ys [] ≡ put_all key xs []
+  pub put_same : (xs ys : List X) → IsPermutation xs ys → Rise (map key (put_all key xs []))
+      → put_all key ys [] ≡ put_all key xs []
   put_same xs ys same up = sym (in_order ys (put_all key xs []) (IsPermutation-trans _ _ _ (IsPermutation-sym xs ys same) (permutes xs)) up)
 
   -- rows in an order in which no key falls, where the same rows rise once they are put
-  pub sorted_order : (xs ys : List X) → IsPermutation xs ys → NeverFall (map key ys) → Rise (map key (put_all key xs [])) → ys ≡ put_all key xs []
+  pub sorted_order : (xs ys : List X) → IsPermutation xs ys → NeverFall (map key ys)
+      → Rise (map key (put_all key xs [])) → ys ≡ put_all key xs []
   sorted_order xs ys same sorted up = in_order xs ys same (rise_from_distinct (map key ys) sorted (distinct_permuted xs ys same (distinct_if_rise xs up)))
 
   -- new rows, among those that were there
-  pub more_rows : (xs ys zs : List X) → IsPermutation (xs ++ ys) zs → Rise (map key (put_all key xs ys)) → put_all key zs [] ≡ put_all key xs ys
+  pub more_rows : (xs ys zs : List X) → IsPermutation (xs ++ ys) zs → Rise (map key (put_all key xs ys))
+      → put_all key zs [] ≡ put_all key xs ys
   more_rows xs ys zs same up = sym (in_order zs (put_all key xs ys) (IsPermutation-trans _ _ _ (IsPermutation-sym _ _ same) (permutes_more xs ys)) up)
 
-  pub more_put : (xs ys zs : List X) → IsPermutation (xs ++ ys) zs → Rise (map key (put_all key xs (put_all key ys []))) → put_all key zs [] ≡ put_all key xs (put_all key ys [])
+  pub more_put : (xs ys zs : List X) → IsPermutation (xs ++ ys) zs → Rise (map key (put_all key xs (put_all key ys [])))
+      → put_all key zs [] ≡ put_all key xs (put_all key ys [])
   more_put xs ys zs same up = more_rows xs (put_all key ys []) zs (IsPermutation-trans _ _ _ (IsPermutation-append_right xs _ _ (IsPermutation-sym _ _ (permutes ys))) same) up
 
 -- a change of each row that keeps its key

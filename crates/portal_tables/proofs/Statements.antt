@@ -21,7 +21,8 @@ use Rattle.portal_tables.proofs.Writes.{inserted, deleted, updated, cast_int, ca
 
 -- a text that puts rows into a table
 pub record Inserts (sql : List ℕ) (at : ℕ) (terms : List Term) (width : ℕ) : Type 0 where
-  pub command : (checks more : ℕ → List Term) → command_of (understood (portal_with checks more) sql) ≡ Insert at (Values terms width)
+  pub command : (checks more : ℕ → List Term)
+      → command_of (understood (portal_with checks more) sql) ≡ Insert at (Values terms width)
   pub plain : (checks more : ℕ → List Term) → IsPlain (understood (portal_with checks more) sql)
 
 -- a text that takes rows from a table
@@ -35,7 +36,8 @@ pub record Updates (sql : List ℕ) (at tree : ℕ) (tests project_schema : List
   pub plain : (checks more : ℕ → List Term) → IsPlain (understood (portal_with checks more) sql)
 
 -- no table's foreign keys act, whatever rows go and come
-pub no_acts : (checks terms : ℕ → List Term) (tree : ℕ) (olds news : List Row) → works (portal_with checks terms) Enforced 0 tree olds news ≡ []
+pub no_acts : (checks terms : ℕ → List Term) (tree : ℕ) (olds news : List Row)
+    → works (portal_with checks terms) Enforced 0 tree olds news ≡ []
 no_acts checks terms tree olds news =
     let s = portal_with checks terms in
     elim (length news == 0) as (λ gone. flat_map (λ (child : Table). filter_map (λ ref. work_by 0 tree (pairs olds news) child ref (deed_for Enforced gone ref) (parent_key s.tables ref)) child.references) s.tables ≡ [])
@@ -47,13 +49,15 @@ StandsAt at t = (checks more : ℕ → List Term) → slice_get (portal_with che
 
 -- the values of so many rows, in the place of the terms, are their cells
 pub record Gives {R : Type 0} (values cells : R → Row) (count width : ℕ) (terms : List Term) : Type 0 where
-  pub is : (rows : List R) → length rows ≡ count → (more : Row) → value_rows (flat_map values rows ++ more) width (length terms / width) terms ≡ map unnumbered (map cells rows)
+  pub is : (rows : List R) → length rows ≡ count → (more : Row)
+      → value_rows (flat_map values rows ++ more) width (length terms / width) terms ≡ map unnumbered (map cells rows)
 
 pub by_one : {R : Type 0} {values cells : R → Row} {width : ℕ} {terms : List Term}
     → ((a : R) (more : Row) → value_rows (flat_map values (a ∷ []) ++ more) width (length terms / width) terms ≡ map unnumbered (map cells (a ∷ []))) → Gives values cells 1 width terms
 by_one {R} {values} {cells} {width} {terms} given = record { is = go }
   where
-    go : (rows : List R) → length rows ≡ 1 → (more : Row) → value_rows (flat_map values rows ++ more) width (length terms / width) terms ≡ map unnumbered (map cells rows)
+    go : (rows : List R) → length rows ≡ 1 → (more : Row)
+        → value_rows (flat_map values rows ++ more) width (length terms / width) terms ≡ map unnumbered (map cells rows)
     go (a ∷ []) are = given a
     go _ are = absurd (cc)
 
@@ -62,7 +66,8 @@ pub by_eight : {R : Type 0} {values cells : R → Row} {width : ℕ} {terms : Li
     → Gives values cells 8 width terms
 by_eight {R} {values} {cells} {width} {terms} given = record { is = go }
   where
-    go : (rows : List R) → length rows ≡ 8 → (more : Row) → value_rows (flat_map values rows ++ more) width (length terms / width) terms ≡ map unnumbered (map cells rows)
+    go : (rows : List R) → length rows ≡ 8 → (more : Row)
+        → value_rows (flat_map values rows ++ more) width (length terms / width) terms ≡ map unnumbered (map cells rows)
     go (a ∷ b ∷ c ∷ d ∷ e ∷ f ∷ g ∷ h ∷ []) are = given a b c d e f g h
     go _ are = absurd (cc)
 
@@ -79,7 +84,8 @@ module _ (at : ℕ) (name : List ℕ) (tree : ℕ) (columns : List Column) (key 
   abbrev Fits : (checks more : ℕ → List Term) → Row → Row → Type 0
   Fits checks more row fit = cast_row (with_checks checks more (schema_of name tree columns key primary uniques orders [] references)) row ≡ fit
 
-  rows_added : {S R : Type 0} (g : Ghosts S) (values cells : R → Row) → ((checks more : ℕ → List Term) (r : R) → Fits checks more (unnumbered (cells r)) (unnumbered (cells r)))
+  rows_added : {S R : Type 0} (g : Ghosts S) (values cells : R → Row)
+      → ((checks more : ℕ → List Term) (r : R) → Fits checks more (unnumbered (cells r)) (unnumbered (cells r)))
       → (count : ℕ) (sql : List ℕ) (terms : List Term) (width : ℕ) → Inserts sql at terms width → Gives values cells count width terms → AddsBy g sql count tree values cells
   rows_added g values cells fit count sql terms width inserts given rows are old new ran = record {
     shown = ran.shown;
@@ -121,7 +127,8 @@ module _ (at : ℕ) (name : List ℕ) (tree : ℕ) (columns : List Column) (key 
       record { schema_is = done.schema_is; rows = done.rows ∙ ap (put_row made) left; others = done.others; sound = done.sound }
 
 -- the row of `portal` with a version, and that of `second`
-pub portal_added : {S : Type 0} (g : Ghosts S) (version : ℕ) → AddsBy g (codes "INSERT INTO portal (version, phase, office) VALUES (?1, 0, ?2)") 1 portal_tree (λ office. Int (pos version) ∷ Text office ∷ []) (portal_cells (pos version) (pos 0))
+pub portal_added : {S : Type 0} (g : Ghosts S) (version : ℕ)
+    → AddsBy g (codes "INSERT INTO portal (version, phase, office) VALUES (?1, 0, ?2)") 1 portal_tree (λ office. Int (pos version) ∷ Text office ∷ []) (portal_cells (pos version) (pos 0))
 unfolding understood everything
 portal_added g version = rows_added 0 _ 0 _ _ _ _ _ _ (λ checks more. refl) g (λ office. Int (pos version) ∷ Text office ∷ []) (portal_cells (pos version) (pos 0))
     (λ checks more office. rw (cast_null, cast_int (pos version), cast_int (pos 0)) refl) 1 _ (lit Null ∷ lit Null ∷ param 0 ∷ lit (Int (pos 0)) ∷ param 1 ∷ []) 5 (record { command = λ checks more. refl; plain = λ checks more. (refl, refl) }) (by_one (λ office more. refl))
@@ -141,7 +148,8 @@ pub lecturer_eight : Inserts (codes "INSERT INTO lecturer (key, name, code, capa
 unfolding understood everything
 lecturer_eight = record { command = λ checks more. refl; plain = λ checks more. (refl, refl) }
 
-pub lecturers_added : {S : Type 0} (g : Ghosts S) (count : ℕ) (sql : List ℕ) (terms : List Term) → Inserts sql 1 terms 6 → Gives lecturer_values lecturer_new count 6 terms → AddsBy g sql count lecturer_tree lecturer_values lecturer_new
+pub lecturers_added : {S : Type 0} (g : Ghosts S) (count : ℕ) (sql : List ℕ) (terms : List Term) → Inserts sql 1 terms 6
+    → Gives lecturer_values lecturer_new count 6 terms → AddsBy g sql count lecturer_tree lecturer_values lecturer_new
 lecturers_added g count sql terms = rows_added 1 _ 1 _ _ _ _ _ _ (λ checks more. refl) g lecturer_values lecturer_new (λ checks more r. rw (cast_null, cast_int (pos r.capacity), cast_int (pos 0)) refl) count sql terms 6
 
 abbrev project_terms : ℕ → List Term
@@ -155,7 +163,8 @@ pub project_eight : Inserts (codes "INSERT INTO project (key, lecturer, title, c
 unfolding understood everything
 project_eight = record { command = λ checks more. refl; plain = λ checks more. (refl, refl) }
 
-pub projects_added : {S : Type 0} (g : Ghosts S) (count : ℕ) (sql : List ℕ) (terms : List Term) → Inserts sql 2 terms 5 → Gives project_new project_new count 5 terms → AddsBy g sql count project_tree project_new project_new
+pub projects_added : {S : Type 0} (g : Ghosts S) (count : ℕ) (sql : List ℕ) (terms : List Term) → Inserts sql 2 terms 5
+    → Gives project_new project_new count 5 terms → AddsBy g sql count project_tree project_new project_new
 projects_added g count sql terms = rows_added 2 _ 4 _ _ _ _ _ _ (λ checks more. refl) g project_new project_new (λ checks more r. rw (cast_null, cast_int (pos r.capacity)) refl) count sql terms 5
 
 abbrev student_terms : ℕ → List Term
@@ -169,7 +178,8 @@ pub student_eight : Inserts (codes "INSERT INTO student (key, name, code) VALUES
 unfolding understood everything
 student_eight = record { command = λ checks more. refl; plain = λ checks more. (refl, refl) }
 
-pub students_added : {S : Type 0} (g : Ghosts S) (count : ℕ) (sql : List ℕ) (terms : List Term) → Inserts sql 3 terms 5 → Gives student_values student_new count 5 terms → AddsBy g sql count student_tree student_values student_new
+pub students_added : {S : Type 0} (g : Ghosts S) (count : ℕ) (sql : List ℕ) (terms : List Term) → Inserts sql 3 terms 5
+    → Gives student_values student_new count 5 terms → AddsBy g sql count student_tree student_values student_new
 students_added g count sql terms = rows_added 3 _ 6 _ _ _ _ _ _ (λ checks more. refl) g student_values student_new (λ checks more r. rw (cast_null) refl) count sql terms 5
 
 -- the tables of lists, whichever it is
@@ -185,12 +195,14 @@ unfolding understood everything
 add_is Choices = record { command = λ checks more. refl; plain = λ checks more. (refl, refl) }
 add_is _ = record { command = λ checks more. refl; plain = λ checks more. (refl, refl) }
 
-pub add_eight_is : (l : Lists) → Inserts (add_eight_text (names l)) (place_among l) (flat_map place_terms (0 ∷ 3 ∷ 6 ∷ 9 ∷ 12 ∷ 15 ∷ 18 ∷ 21 ∷ [])) 4
+pub add_eight_is : (l : Lists)
+    → Inserts (add_eight_text (names l)) (place_among l) (flat_map place_terms (0 ∷ 3 ∷ 6 ∷ 9 ∷ 12 ∷ 15 ∷ 18 ∷ 21 ∷ [])) 4
 unfolding understood everything
 add_eight_is Choices = record { command = λ checks more. refl; plain = λ checks more. (refl, refl) }
 add_eight_is _ = record { command = λ checks more. refl; plain = λ checks more. (refl, refl) }
 
-pub places_added : (l : Lists) {S : Type 0} (g : Ghosts S) (count : ℕ) (sql : List ℕ) (terms : List Term) → Inserts sql (place_among l) terms 4 → Gives place_new place_new count 4 terms
+pub places_added : (l : Lists) {S : Type 0} (g : Ghosts S) (count : ℕ) (sql : List ℕ) (terms : List Term)
+    → Inserts sql (place_among l) terms 4 → Gives place_new place_new count 4 terms
     → AddsBy g sql count (tree_of l) place_new place_new
 places_added l g count sql terms = rows_added (place_among l) _ (tree_of l) _ _ _ _ _ _ (stands l) g place_new place_new (λ checks more r. rw (cast_null, cast_int (pos r.place)) refl) count sql terms 4
 
@@ -199,20 +211,25 @@ unfolding understood everything
 clear_is Choices = record { command = λ checks more. refl; plain = λ checks more. (refl, refl) }
 clear_is _ = record { command = λ checks more. refl; plain = λ checks more. (refl, refl) }
 
-pub list_cleared : (l : Lists) (old new : State) (owner : List ℕ) → Ran (clear_text (names l)) (Text owner ∷ []) old new → Made (Clears (tree_of l) owner) old new
+pub list_cleared : (l : Lists) (old new : State) (owner : List ℕ) → Ran (clear_text (names l)) (Text owner ∷ []) old new
+    → Made (Clears (tree_of l) owner) old new
 list_cleared l = cleared (place_among l) _ (tree_of l) _ _ _ _ _ _ (stands l) (clear_text (names l)) (clear_is l)
 
 -- who has a ranking in the second round
-pub rank_cleared : (old new : State) (owner : List ℕ) → Ran (codes "DELETE FROM ranked2 WHERE lecturer = ?1") (Text owner ∷ []) old new → Made (Clears ranked2_tree owner) old new
+pub rank_cleared : (old new : State) (owner : List ℕ)
+    → Ran (codes "DELETE FROM ranked2 WHERE lecturer = ?1") (Text owner ∷ []) old new
+    → Made (Clears ranked2_tree owner) old new
 unfolding understood everything
 rank_cleared = cleared 8 _ 19 _ _ _ _ _ _ (λ checks more. refl) (codes "DELETE FROM ranked2 WHERE lecturer = ?1") (record { command = λ checks more. refl; plain = λ checks more. (refl, refl) })
 
-pub rank_added : {S : Type 0} (g : Ghosts S) → AddsBy g (codes "INSERT INTO ranked2 (lecturer) VALUES (?1)") 1 ranked2_tree (λ k. Text k ∷ []) (λ k. Text k ∷ [])
+pub rank_added : {S : Type 0} (g : Ghosts S)
+    → AddsBy g (codes "INSERT INTO ranked2 (lecturer) VALUES (?1)") 1 ranked2_tree (λ k. Text k ∷ []) (λ k. Text k ∷ [])
 unfolding understood everything
 rank_added g = rows_added 8 _ 19 _ _ _ _ _ _ (λ checks more. refl) g (λ k. Text k ∷ []) (λ k. Text k ∷ []) (λ checks more k. rw (cast_null) refl) 1 _ (lit Null ∷ param 0 ∷ []) 2 (record { command = λ checks more. refl; plain = λ checks more. (refl, refl) }) (by_one (λ k more. refl))
 
 -- the result of the second round
-pub places_dropped : (old new : State) → Ran (codes "DELETE FROM assigned2") [] old new → IsCurrentSchema old.now.schema → RowNumbersDiffer (old.now.trees assigned2_tree) → Drops assigned2_tree every old.now new.now
+pub places_dropped : (old new : State) → Ran (codes "DELETE FROM assigned2") [] old new → IsCurrentSchema old.now.schema
+    → RowNumbersDiffer (old.now.trees assigned2_tree) → Drops assigned2_tree every old.now new.now
 unfolding understood everything
 places_dropped = dropped 10 _ 24 _ _ _ _ _ _ (λ checks more. refl) (codes "DELETE FROM assigned2") [] (record { command = λ checks more. refl; plain = λ checks more. (refl, refl) }) []
 
@@ -227,13 +244,15 @@ pub pair_eight : Inserts (codes "INSERT INTO assigned2 (student, project) VALUES
 unfolding understood everything
 pair_eight = record { command = λ checks more. refl; plain = λ checks more. (refl, refl) }
 
-pub pairs_added : {S : Type 0} (g : Ghosts S) (count : ℕ) (sql : List ℕ) (terms : List Term) → Inserts sql 10 terms 3 → Gives pair_new pair_new count 3 terms → AddsBy g sql count assigned2_tree pair_new pair_new
+pub pairs_added : {S : Type 0} (g : Ghosts S) (count : ℕ) (sql : List ℕ) (terms : List Term) → Inserts sql 10 terms 3
+    → Gives pair_new pair_new count 3 terms → AddsBy g sql count assigned2_tree pair_new pair_new
 pairs_added g count sql terms = rows_added 10 _ 24 _ _ _ _ _ _ (λ checks more. refl) g pair_new pair_new (λ checks more p. rw (cast_null) refl) count sql terms 3
 
 abbrev pub update_ranked : List ℕ
 update_ranked = codes "UPDATE lecturer SET ranked = 1 WHERE key = ?1"
 
-pub lecturer_ranked : (old new : State) (key : List ℕ) → Ran update_ranked (Text key ∷ []) old new → Made (Ranks key) old new
+pub lecturer_ranked : (old new : State) (key : List ℕ) → Ran update_ranked (Text key ∷ []) old new
+    → Made (Ranks key) old new
 unfolding understood everything
 lecturer_ranked old new key h = record {
   shown = h.shown;
@@ -246,7 +265,9 @@ lecturer_ranked old new key h = record {
       subst₂ (λ p row. Sets 1 p row old.now new.now) (same_key 1 key) (rw (cast_int number, cast_int capacity, cast_int (pos 1)) refl) set;
 }
 
-pub phase_moved : (old new : State) (phase : ℕ) → Ran (codes "UPDATE portal SET phase = ?1 WHERE id = 1") (Int (pos phase) ∷ []) old new → Made (MovesTo phase) old new
+pub phase_moved : (old new : State) (phase : ℕ)
+    → Ran (codes "UPDATE portal SET phase = ?1 WHERE id = 1") (Int (pos phase) ∷ []) old new
+    → Made (MovesTo phase) old new
 unfolding understood everything
 phase_moved old new phase h = record {
   shown = h.shown;
@@ -254,7 +275,9 @@ phase_moved old new phase h = record {
       (λ checks more. rw (cast_int (pos 1), cast_null, cast_int version, cast_int (pos phase)) refl) old new h own;
 }
 
-pub version_set : (old new : State) (version : ℕ) → Ran (codes "UPDATE portal SET version = ?1 WHERE id = 1") (Int (pos version) ∷ []) old new → Made (IsOfVersion version) old new
+pub version_set : (old new : State) (version : ℕ)
+    → Ran (codes "UPDATE portal SET version = ?1 WHERE id = 1") (Int (pos version) ∷ []) old new
+    → Made (IsOfVersion version) old new
 unfolding understood everything
 version_set old new version h = record {
   shown = h.shown;
@@ -262,7 +285,9 @@ version_set old new version h = record {
       (λ checks more. rw (cast_int (pos 1), cast_null, cast_int (pos version), cast_int phase) refl) old new h own;
 }
 
-pub second_moved : (old new : State) (phase : ℕ) → Ran (codes "UPDATE second SET phase = ?1 WHERE id = 1") (Int (pos phase) ∷ []) old new → Made (MovesSecond phase) old new
+pub second_moved : (old new : State) (phase : ℕ)
+    → Ran (codes "UPDATE second SET phase = ?1 WHERE id = 1") (Int (pos phase) ∷ []) old new
+    → Made (MovesSecond phase) old new
 unfolding understood everything
 second_moved old new phase h = record {
   shown = h.shown;

@@ -19,12 +19,14 @@ told : (o : Ordering) → (is_true (from_truth (Some (is_eq o))) && true) ≡ is
 told Equal = refl
 told _ = refl
 
-pub equals_text : (v : Value) (t : List ℕ) → (is_true (binary (Compare Eq Binary) v (Text t)) && true) ≡ is_eq (value_cmp v (Text t))
+pub equals_text : (v : Value) (t : List ℕ)
+    → (is_true (binary (Compare Eq Binary) v (Text t)) && true) ≡ is_eq (value_cmp v (Text t))
 unfolding binary value_cmp
 equals_text Null t = refl
 equals_text v t = told (value_cmp v (Text t))
 
-pub equals_int : (v : Value) (n : ℤ) → (is_true (binary (Compare Eq Binary) v (Int n)) && true) ≡ is_eq (value_cmp v (Int n))
+pub equals_int : (v : Value) (n : ℤ)
+    → (is_true (binary (Compare Eq Binary) v (Int n)) && true) ≡ is_eq (value_cmp v (Int n))
 unfolding binary value_cmp
 equals_int Null n = refl
 equals_int v n = told (value_cmp v (Int n))

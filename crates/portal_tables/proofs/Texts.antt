@@ -11,15 +11,19 @@ use Rattle.portal_tables.proofs.Listed.{IsText}
 use Rattle.portal_tables.proofs.Shapes.{text_cell, Follows, followed}
 use Rattle.portal_tables.proofs.Sorted.{all_two}
 
-text_key : (name : List ℕ) (cs : List Column) (r : Row) → (are_typed None 0 (column_of name Text true ∷ cs) (drop 1 r) && true) ≡ true → are_present None 0 (column_of name Text true ∷ cs) r ≡ true → IsText (column r 1)
+text_key : (name : List ℕ) (cs : List Column) (r : Row)
+    → (are_typed None 0 (column_of name Text true ∷ cs) (drop 1 r) && true) ≡ true
+    → are_present None 0 (column_of name Text true ∷ cs) r ≡ true → IsText (column r 1)
 text_key name cs (n ∷ v ∷ vs) t p = text_cell v (and_parts (is_of Text v) _ (and_parts _ _ t).0).0 (and_parts _ _ p).0
 text_key name cs _ t p = absurd (let e : false ≡ true = p in cc)
 
-texts : (name : List ℕ) (cs : List Column) (rows : List Row) → AllByRecursion (λ r. (are_typed None 0 (column_of name Text true ∷ cs) (drop 1 r) && true) ≡ true) rows
+texts : (name : List ℕ) (cs : List Column) (rows : List Row)
+    → AllByRecursion (λ r. (are_typed None 0 (column_of name Text true ∷ cs) (drop 1 r) && true) ≡ true) rows
     → AllByRecursion (λ r. are_present None 0 (column_of name Text true ∷ cs) r ≡ true) rows → AllByRecursion (λ r. IsText (column r 1)) rows
 texts name cs = all_two _ (λ r. are_present None 0 (column_of name Text true ∷ cs) r ≡ true) (λ r. IsText (column r 1)) (text_key name cs)
 
-pub key_texts : (db : Database) (t : Named) → HasRound (table_round t) db.schema → IsDatabase db → AllByRecursion (λ r. IsText (column r 1)) (db.trees (table_tree t))
+pub key_texts : (db : Database) (t : Named) → HasRound (table_round t) db.schema → IsDatabase db
+    → AllByRecursion (λ r. IsText (column r 1)) (db.trees (table_tree t))
 key_texts db t own sound = go t (own_is (table_round t) db.schema own).o (followed db t own sound Datatype) (followed db t own sound NotNull)
   where
     go : (t : Named) (o : Open) → AllByRecursion (λ r. Follows Datatype t o db.trees r ≡ true) (db.trees (table_tree t))

@@ -72,7 +72,8 @@ abbrev row_numbers_differ : List Table → Bool
 row_numbers_differ [] = true
 row_numbers_differ (u ∷ us) = list_all (λ v. not (eqb v.tree u.tree)) us && row_numbers_differ us
 
-others_have : (tree : ℕ) (c d : List Term) (checks terms : ℕ → List Term) (us : List Table) → list_all (λ v. not (eqb v.tree tree)) us ≡ true
+others_have : (tree : ℕ) (c d : List Term) (checks terms : ℕ → List Term) (us : List Table)
+    → list_all (λ v. not (eqb v.tree tree)) us ≡ true
     → map (with_checks checks terms) us ≡ map (with_checks (with_one tree c checks) (with_one tree d terms)) us
 others_have tree c d checks terms [] h = refl
 others_have tree c d checks terms (v ∷ us) h =

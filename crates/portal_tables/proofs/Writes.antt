@@ -53,11 +53,13 @@ same_value e = cc
 abbrev pub unnumbered : Row → Row
 unnumbered cells = Null ∷ cells
 
-rows_come : (table cells : List Row) → put_all table (numbered Chosen table (map unnumbered cells)) ≡ with_rows table cells
+rows_come : (table cells : List Row)
+    → put_all table (numbered Chosen table (map unnumbered cells)) ≡ with_rows table cells
 rows_come table [] = refl
 rows_come table (c ∷ cells) = rows_come (put_row (Int (next_rowid table) ∷ c) table) cells
 
-rows_new : (table cells : List Row) → are_fresh table (numbered Chosen table (map unnumbered cells)) ≡ true → AreNew table cells
+rows_new : (table cells : List Row) → are_fresh table (numbered Chosen table (map unnumbered cells)) ≡ true
+    → AreNew table cells
 rows_new table [] h = tt
 rows_new table (c ∷ cells) h =
     let row = Int (next_rowid table) ∷ c in
@@ -65,12 +67,14 @@ rows_new table (c ∷ cells) h =
     (not_true (is_taken table row) two.0, rows_new (put_row row table) cells two.1)
 
 -- what a query of one table shows, in some order
-pub answered : (tree : ℕ) (tests project : List Term) (db : Trees) (params : Row) (rows : List Row) → IsProgramAnswer [] (one_table tree tests project) db params rows
+pub answered : (tree : ℕ) (tests project : List Term) (db : Trees) (params : Row) (rows : List Row)
+    → IsProgramAnswer [] (one_table tree tests project) db params rows
     → IsPermutation (map (shown_as project params) (filter (passes tests params) (db tree))) rows
 answered tree tests project db params rows h = permuted [] (passes tests params) (shown_as project params) (db tree) rows (listed tree [] tests project db params rows h)
 
 -- the rows that are left where those that pass go by their numbers
-pub left_is : (p : Row → Bool) (rest : Row → Row) (rows shown : List Row) → RowNumbersDiffer rows → IsPermutation (map (λ r. rowid r ∷ rest r) (filter p rows)) shown
+pub left_is : (p : Row → Bool) (rest : Row → Row) (rows shown : List Row) → RowNumbersDiffer rows
+    → IsPermutation (map (λ r. rowid r ∷ rest r) (filter p rows)) shown
     → without_all rows (ids_of shown) ≡ filter (λ r. not (p r)) rows
 left_is p rest rows shown apart same =
     let ids : IsPermutation (map (λ r. id_in (rowid r)) (filter p rows)) (ids_of shown) =

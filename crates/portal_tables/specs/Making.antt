@@ -63,5 +63,7 @@ pub record Upgraded (phase : ℤ) (office : List ℕ) (old new : Database) : Typ
 
 -- a database of version 1 is upgraded, whatever its phase and the office's code
 abbrev pub Upgrades : Database → Database → Type 0
-Upgrades old new = IsFirstSchema old.schema → (phase : ℤ) (office : List ℕ) → old.trees portal_tree ≡ portal_row (pos first_version) phase office ∷ []
+Upgrades old new =
+    IsFirstSchema old.schema → (phase : ℤ) (office : List ℕ)
+    → old.trees portal_tree ≡ portal_row (pos first_version) phase office ∷ []
     → Upgraded phase office old new

@@ -53,7 +53,9 @@ text_or_none (Words t) = Some t
 -- each row has a number, and the numbers differ
 abbrev pub RowNumbersDiffer : List Row → Type 0
 RowNumbersDiffer [] = ⊤
-RowNumbersDiffer (r ∷ rs) = (rowid r ≡ Int (id_in (rowid r))) × AllByRecursion (λ s. is_eq (value_cmp (rowid r) (rowid s)) ≡ false) rs × RowNumbersDiffer rs
+RowNumbersDiffer (r ∷ rs) =
+    (rowid r ≡ Int (id_in (rowid r))) × AllByRecursion (λ s. is_eq (value_cmp (rowid r) (rowid s)) ≡ false) rs
+    × RowNumbersDiffer rs
 
 -- column `at` holds exactly this text
 abbrev pub has_text : ℕ → List ℕ → Row → Bool

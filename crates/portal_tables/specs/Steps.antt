@@ -52,7 +52,8 @@ pub record OnlyLooks (old new : State) : Type 0 where
 abbrev pub Anyhow : State → Type 0
 Anyhow _ = Unit {0}
 
-abbrev pub Reads : {S V E : Type 0} → Round → Ghosts S → (Database → Type 0) → (Database → Result V E → Type 0) → Result V E → Held S → Held S → Type 0
+abbrev pub Reads : {S V E : Type 0} → Round → Ghosts S → (Database → Type 0) → (Database → Result V E → Type 0)
+    → Result V E → Held S → Held S → Type 0
 Reads round g Right Told result old new = Reading round Anyhow Right Told result (state g old) (state g new)
 
 -- `Answer` holds of what a read returns, if it succeeds

@@ -8,7 +8,8 @@ use Rattle.portal_tables.specs.declared.list_table.Lists.{Lists}
 use Rattle.portal_tables.specs.declared.list_table.Lists.TheVariants.{Choices, Rankings, SecondChoices, SecondRankings}
 
 abbrev pub column_of : List ℕ → Kind → Bool → Column
-column_of name kind required = record { name = name; kind = kind; is_strict = true; not_null = required; default = Null; collation = Binary }
+column_of name kind required =
+    record { name = name; kind = kind; is_strict = true; not_null = required; default = Null; collation = Binary }
 
 abbrev pub refers_to : ℕ → List ℕ → Reference
 refers_to place parent = record {
@@ -21,7 +22,8 @@ refers_to place parent = record {
 }
 
 -- what the tables share: STRICT, no computed defaults, no AUTOINCREMENT
-abbrev pub schema_of : List ℕ → ℕ → List Column → Option ℕ → List ℕ → List (List ℕ) → List Order → List Term → List Reference → Table
+abbrev pub schema_of : List ℕ → ℕ → List Column → Option ℕ → List ℕ → List (List ℕ) → List Order → List Term
+    → List Reference → Table
 schema_of name tree columns key primary uniques orders checks references = record {
   name = name;
   tree = tree;

@@ -10,7 +10,8 @@ use Rattle.portal_views.proofs.Base.{place_parents, place_rows_formed}
 use Rattle.portal_views.proofs.Owners.{shown_there}
 
 -- a key is shown of the rows that pass where one of them is its own
-pub named_where : (t : Row → Bool) (table shown : List Row) → ListsBy (1 ∷ []) t (columns (1 ∷ [])) table shown → (k : Key) → has (map first_cell shown) k ≡ list_any (λ r. t r && equals k (row_key r)) table
+pub named_where : (t : Row → Bool) (table shown : List Row) → ListsBy (1 ∷ []) t (columns (1 ∷ [])) table shown
+    → (k : Key) → has (map first_cell shown) k ≡ list_any (λ r. t r && equals k (row_key r)) table
 named_where t table shown lists k =
     let f : Row → Row = columns (1 ∷ []) in
     any_map (equals k) first_cell shown
@@ -38,7 +39,8 @@ module _ (round : Round) (db : Database) (tables : HasTables db) (p : Key) (show
   abbrev table : List Row
   table = db.trees (tree_of (choice_table round))
 
-  alike : (k : Key) (r : Row) → IsPlace r → (has_text 3 p r && equals k (row_key r)) ≡ (has_text 1 k r && equals p (named_by r))
+  alike : (k : Key) (r : Row) → IsPlace r
+      → (has_text 3 p r && equals k (row_key r)) ≡ (has_text 1 k r && equals p (named_by r))
   alike k r x =
       let of : has_text 3 p r ≡ equals x.item p = has_text_of 3 p r x.item (ap (λ s. column s 3) x.is) in
       let by : has_text 1 k r ≡ equals x.owner k = has_text_of 1 k r x.owner (ap (λ s. column s 1) x.is) in

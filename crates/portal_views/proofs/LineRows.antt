@@ -15,12 +15,14 @@ use Rattle.portal_tables.proofs.Lists.{sifted}
 use Rattle.portal_rules.proofs.Keys.{find_map}
 use Rattle.sqlite_rules.proofs.ListLemmas.{has_filtered, some_has}
 
-only_told : (shown : List Row) (l : ApplicantLine) → map told_line shown ≡ l ∷ [] → (c : Row) × (shown ≡ c ∷ []) × (told_line c ≡ l)
+only_told : (shown : List Row) (l : ApplicantLine) → map told_line shown ≡ l ∷ []
+    → (c : Row) × (shown ≡ c ∷ []) × (told_line c ≡ l)
 only_told (c ∷ []) l e = (c, refl, cc)
 only_told _ l e = absurd (cc)
 
 -- the only row of a key tells the line of its student
-pub first_told : (db : Database) → HasTables db → (key : Key) (lines : List ApplicantLine) → ShowsAs told_line (ListsBy (1 ∷ []) (has_text 1 key) (columns (1 ∷ 2 ∷ 4 ∷ [])) (db.trees student_tree)) lines
+pub first_told : (db : Database) → HasTables db → (key : Key) (lines : List ApplicantLine)
+    → ShowsAs told_line (ListsBy (1 ∷ []) (has_text 1 key) (columns (1 ∷ 2 ∷ 4 ∷ [])) (db.trees student_tree)) lines
     → (l : ApplicantLine) → lines ≡ l ∷ [] → Some l ≡ applicant_at First db.trees key
 first_told db tables key lines shows l only =
     let one = only_told shows.rows l (sym shows.decoded ∙ only) in
@@ -30,13 +32,15 @@ first_told db tables key lines shows l only =
     ap Some (sym one.2) ∙ told ∙ ap (find (λ (x : ApplicantLine). equals x.person.key key)) (map_twice (shown_line First db.trees) roll_columns (by_key table)) ∙ find_map (shown_line First db.trees) (λ c. equals (first_cell c) key) (λ (x : ApplicantLine). equals x.person.key key) (λ c. refl) (students_shown db.trees)
 
 -- of either round, with its place
-by_round : (round : Round) (db : Trees) (o : Option Row) → option_map (in_round round db) (option_map (shown_line First db) o) ≡ option_map (shown_line round db) o
+by_round : (round : Round) (db : Trees) (o : Option Row)
+    → option_map (in_round round db) (option_map (shown_line First db) o) ≡ option_map (shown_line round db) o
 by_round First db None = refl
 by_round First db (Some c) = refl
 by_round Second db None = refl
 by_round Second db (Some c) = refl
 
-pub line_told : (round : Round) (db : Database) → HasTables db → (key : Key) (lines : List ApplicantLine) → ShowsAs told_line (ListsBy (1 ∷ []) (has_text 1 key) (columns (1 ∷ 2 ∷ 4 ∷ [])) (db.trees student_tree)) lines
+pub line_told : (round : Round) (db : Database) → HasTables db → (key : Key) (lines : List ApplicantLine)
+    → ShowsAs told_line (ListsBy (1 ∷ []) (has_text 1 key) (columns (1 ∷ 2 ∷ 4 ∷ [])) (db.trees student_tree)) lines
     → (l : ApplicantLine) → lines ≡ l ∷ [] → Some (in_round round db.trees l) ≡ applicant_at round db.trees key
 line_told round db tables key lines shows l only =
     ap (option_map (in_round round db.trees)) (first_told db tables key lines shows l only) ∙ by_round round db.trees (find (λ c. equals (first_cell c) key) (students_shown db.trees))
@@ -57,7 +61,8 @@ module _ (ks : List Key) (q : Row → Bool) where
   passed : (ss : List Row) → AllByRecursion Agree ss → AllByRecursion (λ s. has ks (first_cell s) ≡ true) (filter q ss)
   passed ss all = all_weaker (λ s. Agree s × (q s ≡ true)) _ (λ s both. both.0 ∙ both.1) (filter q ss) (sifted Agree q ss all)
 
-  kept : (ss : List Row) (k : Key) → AllByRecursion Agree ss → has (map first_cell ss) k ≡ true → has ks k ≡ true → Has (map first_cell (filter q ss)) k
+  kept : (ss : List Row) (k : Key) → AllByRecursion Agree ss → has (map first_cell ss) k ≡ true → has ks k ≡ true
+      → Has (map first_cell (filter q ss)) k
   kept [] k all on h = absurd (cc)
   kept (s ∷ ss) k all on h = elim (cases_Bool (equals k (first_cell s))) [
     | inl same ↦
@@ -70,7 +75,8 @@ module _ (ks : List Key) (q : Row → Bool) where
   ]
 
 -- where the keys rise, a student is found by the own key
-found_own : (ss : List Row) → Rise (map first_cell ss) → (s : Row) → Has ss s → find (λ t. equals (first_cell t) (first_cell s)) ss ≡ Some s
+found_own : (ss : List Row) → Rise (map first_cell ss) → (s : Row) → Has ss s
+    → find (λ t. equals (first_cell t) (first_cell s)) ss ≡ Some s
 found_own [] up s h = absurd h
 found_own (x ∷ ss) up s (inl e) =
     ap (λ b. cond b (Some x) (find (λ t. equals (first_cell t) (first_cell s)) ss)) (subst (λ y. equals (first_cell x) (first_cell y) ≡ true) (sym e) (is_own (first_cell x))) ∙ ap Some (sym e)
@@ -78,7 +84,9 @@ found_own (x ∷ ss) up s (inr h) =
     ap (λ b. cond b (Some x) (find (λ t. equals (first_cell t) (first_cell s)) ss)) (before_other (first_cell x) (first_cell s) (at (λ t. is_before (first_cell x) (first_cell t) ≡ true) ss s (all_unmap (λ l. is_before (first_cell x) l ≡ true) first_cell ss up.0) h))
     ∙ found_own ss up.1 s h
 
-pub lines_are : (round : Round) (db : Database) → HasTables db → (p : Key) (shown : List Row) → ListsBy (1 ∷ []) (has_text 3 p) (columns (1 ∷ [])) (db.trees (tree_of (choice_table round))) shown → (lines : List ApplicantLine) → Rise (map first_cell shown)
+pub lines_are : (round : Round) (db : Database) → HasTables db → (p : Key) (shown : List Row)
+    → ListsBy (1 ∷ []) (has_text 3 p) (columns (1 ∷ [])) (db.trees (tree_of (choice_table round))) shown
+    → (lines : List ApplicantLine) → Rise (map first_cell shown)
     → map Some lines ≡ map (λ c. applicant_at round db.trees (first_cell c)) shown → lines ≡ applicant_lines round db.trees p
 lines_are round db tables p shown lists lines up told =
     let roll : List Row = students_shown db.trees in

@@ -19,7 +19,8 @@ use Rattle.portal_views.proofs.Choosers.{named_where, choices_formed, choices_pa
 -- somebody names the project
 
 -- of rows that begin with these keys there is one, where there is a key
-anyone : (ks : List Key) (rows : List Row) → AllByRecursion (λ k. has (map first_cell rows) k ≡ true) ks → list_any (λ c. has ks (first_cell c)) rows ≡ not (is_empty ks)
+anyone : (ks : List Key) (rows : List Row) → AllByRecursion (λ k. has (map first_cell rows) k ≡ true) ks
+    → list_any (λ c. has ks (first_cell c)) rows ≡ not (is_empty ks)
 anyone [] rows all = any_nowhere rows
 anyone (k ∷ ks) rows all =
     let found = some_has (λ c. equals k (first_cell c)) rows (sym (any_map (equals k) first_cell rows) ∙ all.0) in
@@ -35,7 +36,8 @@ module _ (round : Round) (db : Database) (lists : HasWholeLists round db) (p : K
 -- who has a list
 
 -- each list of the table is whole: its owner is on the roll, or it is empty
-every_whole : (round : Round) (db : Database) → HasWholeLists round db → (k : Key) → IsWhole (of_key k (db.trees (tree_of (choice_table round))))
+every_whole : (round : Round) (db : Database) → HasWholeLists round db → (k : Key)
+    → IsWhole (of_key k (db.trees (tree_of (choice_table round))))
 every_whole round db lists k =
     let table = db.trees (tree_of (choice_table round)) in
     let roll = db.trees student_tree in
@@ -53,7 +55,8 @@ is_first r x e =
     ap (λ s. is_eq (value_cmp (column s 2) (Int (pos 1)))) x.is ∙ one_is x.place (sym (ap place_of x.is) ∙ e)
 
 -- rows with the places 1, 2 and so on begin with the first, if there are any
-begins : (rows : List Row) → AllByRecursion IsPlace rows → CountUp 1 (map place_of rows) → list_any (has_number 2 1) rows ≡ not (is_empty (map named_by rows))
+begins : (rows : List Row) → AllByRecursion IsPlace rows → CountUp 1 (map place_of rows)
+    → list_any (has_number 2 1) rows ≡ not (is_empty (map named_by rows))
 begins [] shapes up = refl
 begins (r ∷ rs) shapes up = ap (λ b. b || list_any (has_number 2 1) rs) (is_first r shapes.0 up.0)
 
@@ -64,7 +67,8 @@ module _ (round : Round) (db : Database) (lists : HasWholeLists round db) (shown
   formed : AllByRecursion IsPlace table
   formed = choices_formed round db lists.tables
 
-  alike : (k : Key) (r : Row) → IsPlace r → (has_number 2 1 r && equals k (row_key r)) ≡ (has_text 1 k r && has_number 2 1 r)
+  alike : (k : Key) (r : Row) → IsPlace r
+      → (has_number 2 1 r && equals k (row_key r)) ≡ (has_text 1 k r && has_number 2 1 r)
   alike k r x =
       let by : has_text 1 k r ≡ equals x.owner k = has_text_of 1 k r x.owner (ap (λ s. column s 1) x.is) in
       let key : equals k (row_key r) ≡ equals x.owner k = ap (λ s. equals k (bytes (column s 1))) x.is ∙ is_sym k x.owner in
@@ -80,11 +84,13 @@ module _ (round : Round) (db : Database) (lists : HasWholeLists round db) (shown
       ∙ list_any-IsPermutation (has_number 2 1) mine (by_place mine) (permutes place_key mine)
       ∙ begins (by_place mine) (all_permuted IsPlace mine (by_place mine) (permutes place_key mine) (all-filter IsPlace (has_text 1 k) table formed)) (every_whole round db lists k)
 
-  pub unlisted_are : (students : List Row) → map first_cell (filter (λ c. is_none (placement_before round c) && not (has (map first_cell shown) (first_cell c))) students) ≡ unlisted round db.trees students
+  pub unlisted_are : (students : List Row)
+      → map first_cell (filter (λ c. is_none (placement_before round c) && not (has (map first_cell shown) (first_cell c))) students) ≡ unlisted round db.trees students
   unlisted_are students =
       ap (map first_cell) (filter_alike (λ c. is_none (placement_before round c) && not (has (map first_cell shown) (first_cell c))) (λ c. is_none (placement_before round c) && is_empty (choice_shown round db.trees c)) students
       (all_of _ (λ c. ap (λ b. is_none (placement_before round c) && b) (ap not (lister (first_cell c)) ∙ not-not (is_empty (chosen table (first_cell c))))) students))
 
 -- a read of sound tables
-pub reads_whole : {round : Round} {On : State → Type 0} {V E : Type 0} {Told : Database → Result V E → Type 0} {r : Result V E} {a b : State} → Reading round On IsDatabase Told r a b → Reading round On (HasWholeLists round) Told r a b
+pub reads_whole : {round : Round} {On : State → Type 0} {V E : Type 0} {Told : Database → Result V E → Type 0} {r : Result V E} {a b : State}
+    → Reading round On IsDatabase Told r a b → Reading round On (HasWholeLists round) Told r a b
 reads_whole h = reads_of (λ own. own) (λ own lists. lists.tables.sound) h

@@ -12,7 +12,9 @@ use Rattle.portal_views.proofs.Base.{lecturer_tree, is_some, cons_option, roll_s
 use Rattle.portal_views.proofs.OneKey.{roll_keys_rise}
 use Rattle.portal_views.proofs.Owners.{lecturers_known, shown_there}
 
-pub own_found : (db : Database) → HasTables db → (k : Key) (shown : List Row) → ListsBy (1 ∷ []) (has_text 2 k) (columns (1 ∷ [])) (db.trees project_tree) shown → Rise (map first_cell shown) → map first_cell shown ≡ own_keys_shown db.trees k
+pub own_found : (db : Database) → HasTables db → (k : Key) (shown : List Row)
+    → ListsBy (1 ∷ []) (has_text 2 k) (columns (1 ∷ [])) (db.trees project_tree) shown → Rise (map first_cell shown)
+    → map first_cell shown ≡ own_keys_shown db.trees k
 own_found db tables k shown lists up =
     let table = db.trees project_tree in
     let p = has_text 2 k in
@@ -30,7 +32,8 @@ own_found db tables k shown lists up =
     ∙ sym (ap (map first_cell) (filter-map (λ c. equals (bytes (column c 1)) k) cells (by_key table)) ∙ map-map first_cell cells (filter q (by_key table)))
 
 -- a lecturer on the roll has a name
-name_known : (ls : List LecturerRow) (k : Key) → has (map (λ (l : LecturerRow). l.key) ls) k ≡ true → is_some (name_of ls k) ≡ true
+name_known : (ls : List LecturerRow) (k : Key) → has (map (λ (l : LecturerRow). l.key) ls) k ≡ true
+    → is_some (name_of ls k) ≡ true
 name_known [] k h = absurd (cc)
 name_known (l ∷ ls) k h =
     (elim (equals l.key k) as (λ b. (b || has (map (λ (x : LecturerRow). x.key) ls) k) ≡ true → is_some (option_map (λ (x : LecturerRow). x.name) (cond b (Some l) (find (λ (x : LecturerRow). equals x.key k) ls))) ≡ true) [
@@ -39,7 +42,8 @@ name_known (l ∷ ls) k h =
     ]) (ap (λ b. b || has (map (λ (x : LecturerRow). x.key) ls) k) (is_sym l.key k) ∙ h)
 
 -- where each project's lecturer has one, the catalogue leaves none out
-none_left_out : (ls : List LecturerRow) (k : Key) (ps : List ProjectRow) → AllByRecursion (λ p. is_some (name_of ls p.lecturer) ≡ true) ps
+none_left_out : (ls : List LecturerRow) (k : Key) (ps : List ProjectRow)
+    → AllByRecursion (λ p. is_some (name_of ls p.lecturer) ≡ true) ps
     → own_listed (offered ls ps) k ≡ map (λ (p : ProjectRow). p.key) (filter (λ p. equals p.lecturer k) ps)
 none_left_out ls k [] all = refl
 none_left_out ls k (p ∷ ps) all =
@@ -54,7 +58,8 @@ none_left_out ls k (p ∷ ps) all =
       ]
     ]) all.0
 
-pub listed_are : (db : Database) → HasTables db → (k : Key) → own_listed (catalogue_shown First db.trees) k ≡ own_keys_shown db.trees k
+pub listed_are : (db : Database) → HasTables db → (k : Key)
+    → own_listed (catalogue_shown First db.trees) k ≡ own_keys_shown db.trees k
 listed_are db tables k =
     let table = db.trees project_tree in
     let roll = db.trees lecturer_tree in

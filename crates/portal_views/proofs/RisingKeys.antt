@@ -16,7 +16,9 @@ use Rattle.portal_views.proofs.OneKey.{HasTextKey, IsAlone, kept_distinct, roll_
 use Rattle.portal_tables.proofs.Lists.{sifted}
 
 -- what is shown of a table by its keys, of the rows that pass
-kept_rise : (p : Row → Bool) (table shown : List Row) → AllByRecursion HasTextKey table → IsDistinct equals (map row_key (filter p table)) → ListsBy (1 ∷ []) p (columns (1 ∷ [])) table shown → Rise (map first_cell shown)
+kept_rise : (p : Row → Bool) (table shown : List Row) → AllByRecursion HasTextKey table
+    → IsDistinct equals (map row_key (filter p table)) → ListsBy (1 ∷ []) p (columns (1 ∷ [])) table shown
+    → Rise (map first_cell shown)
 kept_rise p table shown texts differ lists =
     let mine : List Row = filter p table in
     let pair : Row → Row × Row = λ r. (columns (1 ∷ []) r, columns (1 ∷ []) r) in
@@ -24,7 +26,8 @@ kept_rise p table shown texts differ lists =
     record { keyed = lists.keyed; same = subst (λ rows. IsPermutation (map pair rows) lists.keyed) (sym (filter_all mine)) lists.same; sorted = lists.sorted; is = lists.is } in
     roll_rises [] mine shown whole (all-filter HasTextKey p table texts) (rise_put_all row_key mine [] (subst (λ l. IsDistinct equals (map row_key l)) (sym (append-nil mine)) differ) tt)
 
-pub own_rise : (db : Database) → HasTables db → (k : Key) (shown : List Row) → ListsBy (1 ∷ []) (has_text 2 k) (columns (1 ∷ [])) (db.trees project_tree) shown → Rise (map first_cell shown)
+pub own_rise : (db : Database) → HasTables db → (k : Key) (shown : List Row)
+    → ListsBy (1 ∷ []) (has_text 2 k) (columns (1 ∷ [])) (db.trees project_tree) shown → Rise (map first_cell shown)
 own_rise db tables k shown lists =
     kept_rise (has_text 2 k) (db.trees project_tree) shown (key_texts db (OfRoll Projects) tables.own tables.sound) (roll_distinct db Projects (has_text 2 k) tables.current tables.sound tables.apart.1.1.0) lists
 
@@ -39,7 +42,8 @@ record HasNoTwin (table : List Row) (r : Row) : Type 0 where
   place : list_any (λ other. is_place_twin other r) table ≡ false
   name : list_any (λ other. is_name_twin other r) table ≡ false
 
-no_twin : (round : Round) (o : Open) (db : Trees) (r : Row) → IsAlone (OfLists (choice_table round)) o db r → HasNoTwin (db (tree_of (choice_table round))) r
+no_twin : (round : Round) (o : Open) (db : Trees) (r : Row) → IsAlone (OfLists (choice_table round)) o db r
+    → HasNoTwin (db (tree_of (choice_table round))) r
 unfolding everything
 no_twin First o db r h =
     let table = db (tree_of (choice_table First)) in
@@ -50,7 +54,8 @@ no_twin Second o db r h =
     let two = and_parts (not (list_any (λ other. is_place_twin other r) table)) _ h in
     record { place = not_true _ two.0; name = not_true _ (and_parts (not (list_any (λ other. is_name_twin other r) table)) _ two.1).0 }
 
-all_alone : (round : Round) (o : Open) (db : Trees) → Keeps Unique (schema_with Second o) db → AllByRecursion (IsAlone (OfLists (choice_table round)) o db) (db (tree_of (choice_table round)))
+all_alone : (round : Round) (o : Open) (db : Trees) → Keeps Unique (schema_with Second o) db
+    → AllByRecursion (IsAlone (OfLists (choice_table round)) o db) (db (tree_of (choice_table round)))
 all_alone First o db all = all.1.1.1.1.0
 all_alone Second o db all = all.1.1.1.1.1.1.1.0
 
@@ -67,7 +72,8 @@ Names k r = IsPlace r × (has_text 3 k r ≡ true)
 abbrev IsFirst : Row → Type 0
 IsFirst r = IsPlace r × (has_number 2 1 r ≡ true)
 
-name_twins : (k : Key) (r s : Row) → Names k r → Names k s → is_name_twin r s ≡ (equals (row_key r) (row_key s) && differ (rowid r) (rowid s))
+name_twins : (k : Key) (r s : Row) → Names k r → Names k s
+    → is_name_twin r s ≡ (equals (row_key r) (row_key s) && differ (rowid r) (rowid s))
 name_twins k r s x y =
     let a = text_there 3 k r x.1 in
     let b = text_there 3 k s y.1 in
@@ -81,7 +87,8 @@ tied _ e = absurd (cc)
 one_is : (n : ℤ) → is_eq (value_cmp (Int n) (Int (pos 1))) ≡ true → n ≡ pos 1
 one_is n e = let same = sym (value_cmp-Int n (pos 1)) ∙ tied _ e in grind (arith, ints, nat_tests, same)
 
-place_twins : (r s : Row) → IsFirst r → IsFirst s → is_place_twin r s ≡ (equals (row_key r) (row_key s) && differ (rowid r) (rowid s))
+place_twins : (r s : Row) → IsFirst r → IsFirst s
+    → is_place_twin r s ≡ (equals (row_key r) (row_key s) && differ (rowid r) (rowid s))
 place_twins r s x y =
     let number : column s 2 ≡ Int y.0.place = ap (λ c. column c 2) y.0.is in
     let b : column s 2 ≡ Int (pos 1) = number ∙ ap Int (one_is y.0.place (sym (ap (λ v. is_eq (value_cmp v (Int (pos 1)))) number) ∙ y.1)) in
@@ -105,13 +112,15 @@ module _ (round : Round) (db : Database) (tables : HasTables db) where
       let w = own_is Second db.schema tables.current in
       all_weaker _ (HasNoTwin table) (no_twin round w.o db.trees) table (all_alone round w.o db.trees (kept Second db tables.sound Unique w))
 
-  pub choosers_rise : (k : Key) (shown : List Row) → ListsBy (1 ∷ []) (has_text 3 k) (columns (1 ∷ [])) table shown → Rise (map first_cell shown)
+  pub choosers_rise : (k : Key) (shown : List Row) → ListsBy (1 ∷ []) (has_text 3 k) (columns (1 ∷ [])) table shown
+      → Rise (map first_cell shown)
   choosers_rise k shown =
       kept_rise (has_text 3 k) table shown texts
       (kept_distinct (Names k) is_name_twin (name_twins k) (has_text 3 k) table (choices_apart round db tables) (sifted IsPlace (has_text 3 k) table places)
       (all_weaker (HasNoTwin table) (λ r. list_any (λ other. is_name_twin other r) table ≡ false) (λ r h. h.name) table none))
 
-  pub listed_rise : (shown : List Row) → ListsBy (1 ∷ []) (has_number 2 1) (columns (1 ∷ [])) table shown → Rise (map first_cell shown)
+  pub listed_rise : (shown : List Row) → ListsBy (1 ∷ []) (has_number 2 1) (columns (1 ∷ [])) table shown
+      → Rise (map first_cell shown)
   listed_rise shown =
       kept_rise (has_number 2 1) table shown texts
       (kept_distinct IsFirst is_place_twin place_twins (has_number 2 1) table (choices_apart round db tables) (sifted IsPlace (has_number 2 1) table places)

@@ -30,7 +30,8 @@ module _ (db : Database) (key : Key) where
   Shown = ListsBy (1 ∷ []) (has_text 1 key) (columns (1 ∷ 2 ∷ 4 ∷ [])) table
 
   -- each cell that is shown of a student has its form
-  pub told_fine : (round : Round) → HasStudents round db → (shown : List Row) → Shown shown → AllByRecursion IsTold shown
+  pub told_fine : (round : Round) → HasStudents round db → (shown : List Row) → Shown shown
+      → AllByRecursion IsTold shown
   told_fine round students shown lists =
       let IsGood : Row → Type 0 = λ c. IsNamed c × HasFirstPlace c in
       let roll : AllByRecursion IsGood (students_shown db.trees) = all_two IsNamed HasFirstPlace IsGood (λ c n p. (n, p)) (students_shown db.trees) students.persons students.first in
@@ -39,7 +40,8 @@ module _ (db : Database) (key : Key) where
       (all_map IsTold (columns (1 ∷ 2 ∷ 4 ∷ [])) (filter (has_text 1 key) table) (all-filter (λ r. IsGood (roll_columns r)) (has_text 1 key) table rows))
 
   -- of a student on the roll there is one row
-  pub lines_once : HasTables db → IsStudentKey db.trees key → (lines : List ApplicantLine) → ShowsAs told_line Shown lines → length lines ≡ 1
+  pub lines_once : HasTables db → IsStudentKey db.trees key → (lines : List ApplicantLine)
+      → ShowsAs told_line Shown lines → length lines ≡ 1
   lines_once tables on lines shows =
       let roll = by_key table in
       let mine : List Row = of_key key table in
@@ -56,12 +58,15 @@ module _ (db : Database) (key : Key) where
       omega (arith, low, high, shown, told)
 
   -- which is that of the line
-  pub line_row : (round : Round) → HasStudents round db → (lines : List ApplicantLine) → ShowsAs told_line Shown lines → (l : ApplicantLine) → lines ≡ l ∷ []
+  pub line_row : (round : Round) → HasStudents round db → (lines : List ApplicantLine) → ShowsAs told_line Shown lines
+      → (l : ApplicantLine) → lines ≡ l ∷ []
       → (c : Row) × (first_cell c ≡ l.person.key) × HasPlacement round db.trees c
   line_row round students lines shows l only =
       go (find (λ c. equals (first_cell c) key) (students_shown db.trees)) refl (first_told db students.tables key lines shows l only)
     where
-      go : (o : Option Row) → find (λ c. equals (first_cell c) key) (students_shown db.trees) ≡ o → Some l ≡ option_map (shown_line First db.trees) o → (c : Row) × (first_cell c ≡ l.person.key) × HasPlacement round db.trees c
+      go : (o : Option Row) → find (λ c. equals (first_cell c) key) (students_shown db.trees) ≡ o
+          → Some l ≡ option_map (shown_line First db.trees) o
+          → (c : Row) × (first_cell c ≡ l.person.key) × HasPlacement round db.trees c
       go None is e = absurd (cc)
       go (Some c) is e =
           let same : shown_line First db.trees c ≡ l = cc in

@@ -22,17 +22,20 @@ after_body : (h : RequestHead) (n : ℕ) (rest : List ℕ) (a : Asked) (after : 
 after_body h n rest a after true e = cc
 after_body h n rest a after false e = absurd (cc)
 
-after_head : (h : RequestHead) (r : _) (rest : List ℕ) (a : Asked) (after : List ℕ) → whole a after ≡ after_lines h r rest
+after_head : (h : RequestHead) (r : _) (rest : List ℕ) (a : Asked) (after : List ℕ)
+    → whole a after ≡ after_lines h r rest
     → (n : ℕ) × (after ≡ drop n rest)
 after_head h (Err why) rest a after e = absurd (cc)
 after_head h (Ok n) rest a after e = (n, after_body h n rest a after (nat_le n (length rest)) e)
 
-pub not_headless : (a : Asked) (after : List ℕ) (b : Bool) → whole a after ≡ (if b then over else fault bad_head false) → ⊥
+pub not_headless : (a : Asked) (after : List ℕ) (b : Bool) → whole a after ≡ (if b then over else fault bad_head false)
+    → ⊥
 not_headless a after true e = cc
 not_headless a after false e = cc
 
 -- what is left after a request is a rest of the bytes
-leaves : (bytes : List ℕ) (a : Asked) (after : List ℕ) → Opens bytes (whole a after) → (front : List ℕ) × (bytes ≡ front ++ after)
+leaves : (bytes : List ℕ) (a : Asked) (after : List ℕ) → Opens bytes (whole a after)
+    → (front : List ℕ) × (bytes ≡ front ++ after)
 leaves bytes a after (inl (h, rest, t, e)) =
     let cut : (n : ℕ) × (after ≡ drop n rest) = after_head h (body_length h.minor (fields_of h)) rest a after e in (
       print_request h ++ take cut.0 rest,
@@ -54,7 +57,8 @@ shut_ends true = refl
 shut_ends false = refl
 
 -- a request that closes, or one after which others come
-first : (left : ℕ) (bytes : List ℕ) (a : Asked) (after : List ℕ) (b : Bool) → closes_at left a ≡ b → Opens bytes (whole a after)
+first : (left : ℕ) (bytes : List ℕ) (a : Asked) (after : List ℕ) (b : Bool) → closes_at left a ≡ b
+    → Opens bytes (whole a after)
     → (b ≡ false → Ended (left - 1) after) → Ended left bytes
 first left bytes a after true e opens later = (
   request_of (closes_at left a) a ∷ [],
@@ -91,7 +95,8 @@ ended (suc n) bytes fronts =
     (λ a after opens goes. let same : n ≡ suc n - 1 = omega arith in subst (λ k. Ended k after) same (ended n after (fronts_after bytes a after opens fronts)))
 
 -- the same of the places in the bytes, and of the end
-pub fronts_of : (bytes : List ℕ) (n : ℕ) → length bytes ≤ n → ((k : ℕ) → k < n → (item : Item) × Opens (drop k bytes) item)
+pub fronts_of : (bytes : List ℕ) (n : ℕ) → length bytes ≤ n
+    → ((k : ℕ) → k < n → (item : Item) × Opens (drop k bytes) item)
     → (item : Item) × Opens [] item → Fronts bytes
 fronts_of bytes n all each none front [] e = none
 fronts_of bytes n all each none front (b ∷ rest) e =

@@ -74,7 +74,8 @@ no_step token ((x ∷ t, k) ∷ rows) high e =
     let low : x < 256 = ltb-true x 256 tail.0 in
     ap (λ v. cond v ((t, k) ∷ step token rows) (step token rows)) (ne_eqb x token (λ same. omega (arith, low, high, same))) ∙ no_step token rows high parts.1
 
-pub seek_is : {K : Type 0} (path : List ℕ) (rows : RowsOf K) → is_literal rows ≡ true → seek 0 rows path ≡ find path rows
+pub seek_is : {K : Type 0} (path : List ℕ) (rows : RowsOf K) → is_literal rows ≡ true
+    → seek 0 rows path ≡ find path rows
 unfolding seek
 seek_is [] rows e = own_is rows
 seek_is {K} (b ∷ path) rows e =
@@ -85,7 +86,8 @@ seek_is {K} (b ∷ path) rows e =
     ∙ (ap (λ o. or_else A (or_else o None)) (ap (λ r. seek k r path) (after_none {K = K} b path) ∙ seek_none k path)
     ∙ (or_none A ∙ (seek_is path (step b rows) (literal_step b rows e) ∙ find_step b path rows))))
 
-map_find : (path : List ℕ) (ps : List (List ℕ × Route)) → option_map (λ r. r.value) (find path (map row_of ps)) ≡ look_up path ps
+map_find : (path : List ℕ) (ps : List (List ℕ × Route))
+    → option_map (λ r. r.value) (find path (map row_of ps)) ≡ look_up path ps
 map_find path [] = refl
 map_find path (p ∷ ps) = elim (cases_Bool (bytes_eq p.0 path)) [ inl same ↦ rw same | inr other ↦ rw other (map_find path ps) ]
 
@@ -94,7 +96,8 @@ unfolding the_rows the_paths route_at
 first_is path = ap (option_map (λ r. r.value)) (seek_is path the_rows refl) ∙ map_find path the_paths
 
 -- a path that is no text is none of these
-no_text : (path : List ℕ) (ps : List (List ℕ × Route)) → list_all (λ p. is_utf8 p.0) ps ≡ true → ¬ (IsUtf8 path) → look_up path ps ≡ None
+no_text : (path : List ℕ) (ps : List (List ℕ × Route)) → list_all (λ p. is_utf8 p.0) ps ≡ true → ¬ (IsUtf8 path)
+    → look_up path ps ≡ None
 no_text path [] e never = refl
 no_text path (p ∷ ps) e never =
     let parts = and_parts (is_utf8 p.0) (list_all (λ q. is_utf8 q.0) ps) e in
@@ -103,7 +106,8 @@ no_text path (p ∷ ps) e never =
       | inr other ↦ rw other (no_text path ps parts.1 never)
     ]
 
-all_text : (ps : List (List ℕ × Route)) → list_all (λ p. list_all (λ b. nat_lt b 128) p.0) ps ≡ true → list_all (λ p. is_utf8 p.0) ps ≡ true
+all_text : (ps : List (List ℕ × Route)) → list_all (λ p. list_all (λ b. nat_lt b 128) p.0) ps ≡ true
+    → list_all (λ p. is_utf8 p.0) ps ≡ true
 all_text [] e = refl
 all_text (p ∷ ps) e =
     let parts = and_parts (list_all (λ b. nat_lt b 128) p.0) (list_all (λ q. list_all (λ b. nat_lt b 128) q.0) ps) e in

@@ -8,7 +8,8 @@ use Rattle.portal_frame.proofs.Unique.{Opens-unique}
 abbrev pub Same : List Request → List Request → Last → Last → List ℕ → List ℕ → Type 0
 Same rs qs end last closing text = (rs ≡ qs) × (end ≡ last) × (closing ≡ text)
 
-ends_more : (bytes : List ℕ) (end last : Last) (closing text : List ℕ) → Ends (more bytes) end closing → Ends (more bytes) last text
+ends_more : (bytes : List ℕ) (end last : Last) (closing text : List ℕ) → Ends (more bytes) end closing
+    → Ends (more bytes) last text
     → (end ≡ last) × (closing ≡ text)
 ends_more bytes End End closing text x y = (refl, x.1 ∙ sym y.1)
 ends_more bytes End (Refused word) closing text x y = let same = Opens-unique bytes _ _ x.0 y.2 in absurd (cc)
@@ -20,14 +21,16 @@ ends_more bytes (Refused word) (Refused other) closing text x y =
     (ap Refused (x.3 ∙ ap (λ r. r.word) why ∙ sym y.3), x.4 ∙ (λ i. reply_text (answer_to (why i)) (head i) true) ∙ sym y.4)
 ends_more bytes _ _ closing text x y = absurd (search)
 
-ends_shut : (close : Bool) (end last : Last) (closing text : List ℕ) → Ends (shut close) end closing → Ends (shut close) last text
+ends_shut : (close : Bool) (end last : Last) (closing text : List ℕ) → Ends (shut close) end closing
+    → Ends (shut close) last text
     → (end ≡ last) × (closing ≡ text)
 ends_shut true Closed Closed closing text x y = (refl, x ∙ sym y)
 ends_shut false Limit Limit closing text x y = (refl, x ∙ sym y)
 ends_shut _ _ _ closing text x y = absurd (search)
 
 -- a stream that ends does not begin with a request
-ends_whole : (bytes : List ℕ) (end : Last) (closing : List ℕ) (a : Asked) (after : List ℕ) → Ends (more bytes) end closing → Opens bytes (whole a after) → ⊥
+ends_whole : (bytes : List ℕ) (end : Last) (closing : List ℕ) (a : Asked) (after : List ℕ)
+    → Ends (more bytes) end closing → Opens bytes (whole a after) → ⊥
 ends_whole bytes End closing a after x opens = let same = Opens-unique bytes _ _ x.0 opens in absurd (cc)
 ends_whole bytes (Refused r) closing a after x opens = let same = Opens-unique bytes _ _ x.2 opens in absurd (cc)
 ends_whole bytes _ closing a after x opens = x

@@ -7,7 +7,8 @@ use Rattle.std.specs.List.{AllByRecursion}
 use Rattle.http_header.specs.Token.{IsToken, is_token_byte}
 use Rattle.portal_wire.specs.declared.routes.Method.TheVariants.{Other}
 
-differs : (bytes word : List ℕ) → ¬ (IsToken bytes) → 0 < length word → AllByRecursion (λ x. IsTrue (is_token_byte x)) word → bytes_eq bytes word ≡ false
+differs : (bytes word : List ℕ) → ¬ (IsToken bytes) → 0 < length word
+    → AllByRecursion (λ x. IsTrue (is_token_byte x)) word → bytes_eq bytes word ≡ false
 differs bytes word not some all = false_from_ne_true (bytes_eq bytes word)
     (λ e. not (subst IsToken (sym ((bytes_decides bytes word).0 e)) (some, All-from_recursion (λ x. IsTrue (is_token_byte x)) word all)))
 

@@ -16,7 +16,8 @@ unfolding clap_on_literals
 simple = refl
 
 -- a word with no hyphen in front
-is_no_option : (word : Text) → IsTrue (is_file_word word) → (strip_byte 45 word ≡ None) × (bytes_eq word (codes "--") ≡ false)
+is_no_option : (word : Text) → IsTrue (is_file_word word)
+    → (strip_byte 45 word ≡ None) × (bytes_eq word (codes "--") ≡ false)
 is_no_option [] h = (refl, refl)
 is_no_option (b ∷ word) h = let other : (b == 45) ≡ false = search (rules, h) in (rw other refl, rw other refl)
 
@@ -33,7 +34,8 @@ unfolding clap_on_literals
 name_taken name (inl e) = rw e
 name_taken name (inr e) = rw e
 
-file_taken : (name file : Text) → TakesFile name → strip_byte 45 file ≡ None → bytes_eq file (codes "--") ≡ false → is_taken (name ∷ file ∷ []) ≡ true
+file_taken : (name file : Text) → TakesFile name → strip_byte 45 file ≡ None → bytes_eq file (codes "--") ≡ false
+    → is_taken (name ∷ file ∷ []) ≡ true
 unfolding clap_on_literals
 file_taken name file (inl e) short long = rw e (simp (short, long))
 file_taken name file (inr e) short long = rw e (simp (short, long))
@@ -43,16 +45,19 @@ unfolding clap_on_literals
 name_met name (inl e) = rw e (_, refl, refl)
 name_met name (inr e) = rw e (_, refl, refl)
 
-file_met : (name file : Text) → TakesFile name → strip_byte 45 file ≡ None → bytes_eq file (codes "--") ≡ false → MeetsFile (met (name ∷ file ∷ [])) name (Some file)
+file_met : (name file : Text) → TakesFile name → strip_byte 45 file ≡ None → bytes_eq file (codes "--") ≡ false
+    → MeetsFile (met (name ∷ file ∷ [])) name (Some file)
 unfolding clap_on_literals
 file_met name file (inl e) short long = rw e (_, refl, simp (short, long))
 file_met name file (inr e) short long = rw e (_, refl, simp (short, long))
 
-pub taken : (words : List Text) (name : Text) (file : Option Text) → AsksFile words name file → takes portal_app words ≡ true
+pub taken : (words : List Text) (name : Text) (file : Option Text) → AsksFile words name file
+    → takes portal_app words ≡ true
 taken words name None h = ap is_taken h.1 ∙ name_taken name h.0
 taken words name (Some file) h = let plain = is_no_option file h.2 in ap is_taken h.1 ∙ file_taken name file h.0 plain.0 plain.1
 
-pub is_met : (words : List Text) (name : Text) (file : Option Text) → AsksFile words name file → MeetsFile (subcommand_of portal_app words) name file
+pub is_met : (words : List Text) (name : Text) (file : Option Text) → AsksFile words name file
+    → MeetsFile (subcommand_of portal_app words) name file
 is_met words name None h = subst (λ ws. MeetsFile (met ws) name None) (sym h.1) (name_met name h.0)
 is_met words name (Some file) h =
     let plain = is_no_option file h.2 in

@@ -16,7 +16,8 @@ last_or_before s p t q (inl h) = inl (inl h)
 last_or_before s p t q (inr h) = elim (cases_lt q p) [ inl k ↦ inl (inr (h.0, k)) | inr k ↦ inr (h.0, omega arith) ]
 
 -- nothing from n to p is wanted
-pub blocks_jump : (i : Spa) (m : List (Option ℕ)) (blocks : List Block) (s n p : ℕ) → n ≤ p → ((q : ℕ) → Wants i m s q → (q < n) ⊎ (p ≤ q)) → AreBlocksBefore i m s n blocks → AreBlocksBefore i m s p blocks
+pub blocks_jump : (i : Spa) (m : List (Option ℕ)) (blocks : List Block) (s n p : ℕ) → n ≤ p
+    → ((q : ℕ) → Wants i m s q → (q < n) ⊎ (p ≤ q)) → AreBlocksBefore i m s n blocks → AreBlocksBefore i m s p blocks
 blocks_jump i m blocks s n p h apart listed = record {
   sound = listed.sound;
   complete = λ t q x before b. listed.complete t q x (below t q x before b) b;
@@ -28,7 +29,8 @@ blocks_jump i m blocks s n p h apart listed = record {
   below t q x (inr k) b = elim (apart q (rw k.0 at (blocks_wants i m t q x b))) [ inl less ↦ inr (k.0, less) | inr past ↦ absurd (omega (arith, k.1)) ]
 
 -- the pair at p does not block
-pub blocks_skip : (i : Spa) (m : List (Option ℕ)) (blocks : List Block) (s p : ℕ) → ((x : Letter) → Blocks i m s p x → ⊥) → AreBlocksBefore i m s p blocks → AreBlocksBefore i m s (p + 1) blocks
+pub blocks_skip : (i : Spa) (m : List (Option ℕ)) (blocks : List Block) (s p : ℕ)
+    → ((x : Letter) → Blocks i m s p x → ⊥) → AreBlocksBefore i m s p blocks → AreBlocksBefore i m s (p + 1) blocks
 blocks_skip i m blocks s p none listed = record {
   sound = listed.sound;
   complete = λ t q x before b. elim (last_or_before s p t q before) [ inl h ↦ listed.complete t q x h b | inr h ↦ absurd (none x (rw (h.0, h.1) at b)) ];
@@ -37,7 +39,9 @@ blocks_skip i m blocks s p none listed = record {
 }
 
 -- it blocks, and is listed
-pub blocks_push : (i : Spa) (m : List (Option ℕ)) (blocks : List Block) (s p : ℕ) (x : Letter) → Blocks i m s p x → AreBlocksBefore i m s p blocks → AreBlocksBefore i m s (p + 1) (blocks ++ record { student = s; project = p; letter = x } ∷ [])
+pub blocks_push : (i : Spa) (m : List (Option ℕ)) (blocks : List Block) (s p : ℕ) (x : Letter) → Blocks i m s p x
+    → AreBlocksBefore i m s p blocks
+    → AreBlocksBefore i m s (p + 1) (blocks ++ record { student = s; project = p; letter = x } ∷ [])
 blocks_push i m blocks s p x block listed =
     let new : Block = record { student = s; project = p; letter = x } in
     record {
@@ -55,7 +59,8 @@ blocks_push i m blocks s p x block listed =
     }
 
 -- the student is done
-pub blocks_row : (i : Spa) (m : List (Option ℕ)) (blocks : List Block) (s n : ℕ) → ((q : ℕ) → Wants i m s q → q < n) → AreBlocksBefore i m s n blocks → AreBlocksBefore i m (s + 1) 0 blocks
+pub blocks_row : (i : Spa) (m : List (Option ℕ)) (blocks : List Block) (s n : ℕ) → ((q : ℕ) → Wants i m s q → q < n)
+    → AreBlocksBefore i m s n blocks → AreBlocksBefore i m (s + 1) 0 blocks
 blocks_row i m blocks s n below listed = record {
   sound = listed.sound;
   complete = λ t q x before b. listed.complete t q x (row t q x before b) b;
@@ -67,6 +72,8 @@ blocks_row i m blocks s n below listed = record {
   row t q x (inr h) b = absurd (omega arith)
 
 -- no case, by what a search for one answers
-pub none_blocks : (i : Spa) (m : List (Option ℕ)) (s p : ℕ) (o : Option Letter) → MatchOption o ((x : Letter) → Blocks i m s p x → ⊥) (λ x. Blocks i m s p x) → is_some o ≡ false → (x : Letter) → Blocks i m s p x → ⊥
+pub none_blocks : (i : Spa) (m : List (Option ℕ)) (s p : ℕ) (o : Option Letter)
+    → MatchOption o ((x : Letter) → Blocks i m s p x → ⊥) (λ x. Blocks i m s p x) → is_some o ≡ false → (x : Letter)
+    → Blocks i m s p x → ⊥
 none_blocks i m s p (Some y) found e x b = absurd (cc)
 none_blocks i m s p None none e x b = none x b

@@ -12,7 +12,8 @@ pub place-position : (xs : List ℕ) (x : ℕ) → position_or_len (λ y. eqb y 
 place-position [] x = refl
 place-position (y ∷ xs) x = by_test (eqb y x) (place-position xs x)
   where
-    by_test : (b : Bool) → position_or_len (λ z. eqb z x) xs ≡ place xs x → cond (not b) (1 + position_or_len (λ z. eqb z x) xs) 0 ≡ cond b 0 (1 + place xs x)
+    by_test : (b : Bool) → position_or_len (λ z. eqb z x) xs ≡ place xs x
+        → cond (not b) (1 + position_or_len (λ z. eqb z x) xs) 0 ≡ cond b 0 (1 + place xs x)
     by_test true e = refl
     by_test false e = ap (λ n. 1 + n) e
 
@@ -28,18 +29,21 @@ front_holds xs n p h =
     )
 
 -- all of the list is wanted by who has no project
-pub wanted_all : (i : Spa) (m : List (Option ℕ)) (s p : ℕ) → project_of m s ≡ None → Contains (choices_of i s) p ↔ Wants i m s p
+pub wanted_all : (i : Spa) (m : List (Option ℕ)) (s p : ℕ) → project_of m s ≡ None
+    → Contains (choices_of i s) p ↔ Wants i m s p
 wanted_all i m s p none = search (rules, front_holds, take_all)
 
 -- what stands before the own project is wanted
-pub wanted_front : (i : Spa) (m : List (Option ℕ)) (s own p : ℕ) → project_of m s ≡ Some own → IsAcceptable i s own → Contains (take (place (choices_of i s) own) (choices_of i s)) p ↔ Wants i m s p
+pub wanted_front : (i : Spa) (m : List (Option ℕ)) (s own p : ℕ) → project_of m s ≡ Some own → IsAcceptable i s own
+    → Contains (take (place (choices_of i s) own) (choices_of i s)) p ↔ Wants i m s p
 wanted_front i m s own p has on =
     let front = front_holds (choices_of i s) (place (choices_of i s) own) p (place-le-length (choices_of i s) own) in (
       λ stands. let before : place (choices_of i s) p < place (choices_of i s) own = front.0 stands in (omega (arith, place-le-length (choices_of i s) own), rw has (before, on)),
       λ w. front.1 ((by_own (project_of m s) has w.1).0),
     )
   where
-    by_own : (o : Option ℕ) → o ≡ Some own → Improves i s p o → (place (choices_of i s) p < place (choices_of i s) own) × (place (choices_of i s) own < length (choices_of i s))
+    by_own : (o : Option ℕ) → o ≡ Some own → Improves i s p o
+        → (place (choices_of i s) p < place (choices_of i s) own) × (place (choices_of i s) own < length (choices_of i s))
     by_own o e h = rw e at h
 
 -- what a search for the first place answers
@@ -50,10 +54,12 @@ place_found xs x k r is some = by_test (ltb (position_or_len (λ y. eqb y x) xs)
     by_test true e = let same : k ≡ position_or_len (λ y. eqb y x) xs = cc in same ∙ place-position xs x
     by_test false e = absurd (cc)
 
-pub place_none : (xs : List ℕ) (x : ℕ) (r : Option ℕ) → r ≡ position (λ y. eqb y x) xs → r ≡ None → length xs ≡ place xs x
+pub place_none : (xs : List ℕ) (x : ℕ) (r : Option ℕ) → r ≡ position (λ y. eqb y x) xs → r ≡ None
+    → length xs ≡ place xs x
 place_none xs x r is none = by_test (ltb (position_or_len (λ y. eqb y x) xs) (length xs)) refl (sym none ∙ is)
   where
-    by_test : (b : Bool) → ltb (position_or_len (λ y. eqb y x) xs) (length xs) ≡ b → None ≡ cond b (Some (position_or_len (λ y. eqb y x) xs)) None → length xs ≡ place xs x
+    by_test : (b : Bool) → ltb (position_or_len (λ y. eqb y x) xs) (length xs) ≡ b
+        → None ≡ cond b (Some (position_or_len (λ y. eqb y x) xs)) None → length xs ≡ place xs x
     by_test true t e = absurd (cc)
     by_test false t e = omega (arith, ltb-false (position_or_len (λ y. eqb y x) xs) (length xs) t, place-position xs x, place-le-length xs x)
 
@@ -68,7 +74,8 @@ in_filter test (x ∷ xs) q (suc k, h, e) t = by_test (test x) (in_filter test x
     by_test false has = has
 
 -- what a filter keeps is on the list and passes
-pub from_filter : (test : ℕ → Bool) (xs : List ℕ) (q : ℕ) → Contains (filter test xs) q → Contains xs q × (test q ≡ true)
+pub from_filter : (test : ℕ → Bool) (xs : List ℕ) (q : ℕ) → Contains (filter test xs) q
+    → Contains xs q × (test q ≡ true)
 from_filter test xs q has = (
   All-contains (Contains xs) (filter test xs) q (All-filter test (Contains xs) xs (All-contains_itself xs)) has,
   All-contains (λ y. test y ≡ true) (filter test xs) q (filter_passes test xs) has,

@@ -11,7 +11,8 @@ IsEarlier a b = (a.student < b.student) ⊎ ((a.student ≡ b.student) × (a.pro
 -- exactly the blocking pairs, each with its letter, in order
 pub record AreAllBlocks (i : Spa) (m : List (Option ℕ)) (blocks : List Block) : Type 0 where
   pub sound : All (λ b. Blocks i m b.student b.project b.letter) blocks
-  pub complete : (s p : ℕ) (x : Letter) → Blocks i m s p x → Contains blocks (record { student = s; project = p; letter = x })
+  pub complete : (s p : ℕ) (x : Letter) → Blocks i m s p x
+      → Contains blocks (record { student = s; project = p; letter = x })
   pub sorted : AllPairs IsEarlier blocks
 
 -- s has a project in `other`, and in m a less preferred one or none

@@ -19,7 +19,8 @@ joined_length r [] (q ∷ n) e = absurd (omega arith)
 joined_length r (o ∷ x) [] e = absurd (omega arith)
 joined_length r (o ∷ x) (q ∷ n) e = omega (arith, joined_length (λ s. r (suc s)) x n (omega arith))
 
-pub joined_at : (r : ℕ → Bool) (x n : List (Option ℕ)) (s : ℕ) → length x ≡ length n → project_of (joined r x n) s ≡ cond (r s) (project_of x s) (project_of n s)
+pub joined_at : (r : ℕ → Bool) (x n : List (Option ℕ)) (s : ℕ) → length x ≡ length n
+    → project_of (joined r x n) s ≡ cond (r s) (project_of x s) (project_of n s)
 joined_at r [] [] s e = nothing (r s)
   where
     nothing : (b : Bool) → ◌≡◌ {A = Option ℕ} None (cond b None None)
@@ -43,14 +44,16 @@ module _ (i : Spa) (n x : List (Option ℕ)) (adds : AddsTo i n x) where
   no_fewer f off = count_by-le f n x (sym adds.students) (counted f off)
 
   -- and where x has no more, nobody else
-  nobody_new : (f : Option ℕ → Bool) → f None ≡ false → count_by f x ≤ count_by f n → (s : ℕ) → s < length x → f (project_of x s) ≡ true → f (project_of n s) ≡ true
+  nobody_new : (f : Option ℕ → Bool) → f None ≡ false → count_by f x ≤ count_by f n → (s : ℕ) → s < length x
+      → f (project_of x s) ≡ true → f (project_of n s) ≡ true
   nobody_new f off level s low on =
       true_from_ne_false (f (project_of n s)) (λ e. omega (arith, level, count_by-lt f n x s (sym adds.students) (counted f off) low e on))
 
   was_at : (u z : ℕ) → at_project x u ≤ at_project n u → project_of x z ≡ Some u → project_of n z ≡ Some u
   was_at u z level at = project_from_test u (project_of n z) (nobody_new (is_project u) refl level z (student_in_range i x z u at) (is_project-at u (project_of x z) at))
 
-  was_with : (l z q : ℕ) → at_lecturer i x l ≤ at_lecturer i n l → project_of x z ≡ Some q → lecturer_of i q ≡ l → project_of n z ≡ Some q
+  was_with : (l z q : ℕ) → at_lecturer i x l ≤ at_lecturer i n l → project_of x z ≡ Some q → lecturer_of i q ≡ l
+      → project_of n z ≡ Some q
   was_with l z q level at own = by_own (project_of n z) refl (nobody_new (is_lecturer i l) refl level z (student_in_range i x z q at) (ap (is_lecturer i l) at ∙ eq-eqb (lecturer_of i q) l own))
     where
       by_own : (o : Option ℕ) → project_of n z ≡ o → is_lecturer i l o ≡ true → o ≡ Some q
@@ -58,7 +61,8 @@ module _ (i : Spa) (n x : List (Option ℕ)) (adds : AddsTo i n x) where
       by_own (Some v) e on = sym (adds.keeps z v e) ∙ at
 
   -- where x has more at a project, n has room with its lecturer
-  room_before : (u : ℕ) → at_project n u < at_project x u → at_lecturer i n (lecturer_of i u) < limit_of i (lecturer_of i u)
+  room_before : (u : ℕ) → at_project n u < at_project x u
+      → at_lecturer i n (lecturer_of i u) < limit_of i (lecturer_of i u)
   room_before u more =
       let z = one_there i x n u adds.students more in
       let on : is_lecturer i (lecturer_of i u) (project_of x z.0) ≡ true = ap (is_lecturer i (lecturer_of i u)) z.1 ∙ eq-eqb (lecturer_of i u) (lecturer_of i u) refl in
@@ -66,7 +70,8 @@ module _ (i : Spa) (n x : List (Option ℕ)) (adds : AddsTo i n x) where
       = count_by-lt (is_lecturer i (lecturer_of i u)) n x z.0 (sym adds.students) (counted (is_lecturer i (lecturer_of i u)) refl) (student_in_range i x z.0 u z.1) (off z.0 z.1 z.2 (project_of n z.0) refl) on in
       omega (arith, new, adds.lecturers (lecturer_of i u))
     where
-      off : (z : ℕ) → project_of x z ≡ Some u → (project_of n z ≡ Some u → ⊥) → (o : Option ℕ) → project_of n z ≡ o → is_lecturer i (lecturer_of i u) o ≡ false
+      off : (z : ℕ) → project_of x z ≡ Some u → (project_of n z ≡ Some u → ⊥) → (o : Option ℕ) → project_of n z ≡ o
+          → is_lecturer i (lecturer_of i u) o ≡ false
       off z at not_at None e = refl
       off z at not_at (Some q) e = absurd (not_at (e ∙ sym (adds.keeps z q e) ∙ at))
 
@@ -87,7 +92,9 @@ module _ (i : Spa) (n x : List (Option ℕ)) (adds : AddsTo i n x) (t u : ℕ) (
             unblocked B (wants b.0, free, omega (arith, few, level, b.2), still level b.3)
       ]
     where
-      still : at_lecturer i x (lecturer_of i u) ≤ at_lecturer i n (lecturer_of i u) → IsWith i x (lecturer_of i u) t ⊎ SomeWorseWith i x (lecturer_of i u) t → IsWith i n (lecturer_of i u) t ⊎ SomeWorseWith i n (lecturer_of i u) t
+      still : at_lecturer i x (lecturer_of i u) ≤ at_lecturer i n (lecturer_of i u)
+          → IsWith i x (lecturer_of i u) t ⊎ SomeWorseWith i x (lecturer_of i u) t
+          → IsWith i n (lecturer_of i u) t ⊎ SomeWorseWith i n (lecturer_of i u) t
       still level (inl own) = inl (own.0, sym stays ∙ own.1, own.2)
       still level (inr worse) = inr (worse.0, (worse.1.0, was_with i n x adds (lecturer_of i u) worse.0 worse.1.0 level worse.1.1 worse.1.2, worse.1.2), worse.2)
   blocks_no_more C b = elim (cases_lt (at_project n u) (capacity_of i u)) [

@@ -15,14 +15,16 @@ has_one None = false
 has_one (Some q) = true
 
 -- one student adds to one lecturer
-one_lecturer : (i : Spa) (n : ℕ) (o : Option ℕ) → ((q : ℕ) → o ≡ Some q → lecturer_of i q < n) → sum_below (λ l. one_if (is_lecturer i l o)) n ≡ one_if (has_one o)
+one_lecturer : (i : Spa) (n : ℕ) (o : Option ℕ) → ((q : ℕ) → o ≡ Some q → lecturer_of i q < n)
+    → sum_below (λ l. one_if (is_lecturer i l o)) n ≡ one_if (has_one o)
 one_lecturer i n None h = sum_below-zero (λ l. 0) n (λ k _. refl)
 one_lecturer i n (Some q) h =
     sum_below-one (λ l. one_if (eqb (lecturer_of i q) l)) n (lecturer_of i q) (λ k other. ap one_if (ne_eqb (lecturer_of i q) k (λ e. other (sym e)))) (h q refl)
     ∙ ap one_if (eq-eqb (lecturer_of i q) (lecturer_of i q) refl)
 
 -- lecturers together have whoever has a project
-pub all_lecturers : (i : Spa) (n : ℕ) (m : List (Option ℕ)) → ((s q : ℕ) → project_of m s ≡ Some q → lecturer_of i q < n) → count_by has_one m ≡ sum_below (at_lecturer i m) n
+pub all_lecturers : (i : Spa) (n : ℕ) (m : List (Option ℕ))
+    → ((s q : ℕ) → project_of m s ≡ Some q → lecturer_of i q < n) → count_by has_one m ≡ sum_below (at_lecturer i m) n
 all_lecturers i n [] h = sym (sum_below-zero (at_lecturer i []) n (λ k _. refl))
 all_lecturers i n (o ∷ m) h =
     let first : ℕ → ℕ = λ l. one_if (is_lecturer i l o) in
@@ -39,7 +41,10 @@ greater_term f g (suc n) h = elim (cases_lt (g n) (f n)) [
 ]
 
 -- where m has more with a lecturer, by what is allowed for each project, it has so at a project
-pub more_over : (i : Spa) (l : ℕ) (m n : List (Option ℕ)) (extra : ℕ → ℕ) → ((s q : ℕ) → project_of m s ≡ Some q → q < length i.lecturers) → ((s q : ℕ) → project_of n s ≡ Some q → q < length i.lecturers) → at_lecturer i n l + sum_below extra (length i.lecturers) < at_lecturer i m l
+pub more_over : (i : Spa) (l : ℕ) (m n : List (Option ℕ)) (extra : ℕ → ℕ)
+    → ((s q : ℕ) → project_of m s ≡ Some q → q < length i.lecturers)
+    → ((s q : ℕ) → project_of n s ≡ Some q → q < length i.lecturers)
+    → at_lecturer i n l + sum_below extra (length i.lecturers) < at_lecturer i m l
     → (u : ℕ) × (lecturer_of i u ≡ l) × (at_project n u + extra u < at_project m u)
 more_over i l m n extra known_m known_n more =
     let count : ℕ = length i.lecturers in
@@ -50,25 +55,29 @@ more_over i l m n extra known_m known_n more =
     ]
 
 -- where m has more with a lecturer, it has more at a project of the lecturer
-pub more_at : (i : Spa) (l : ℕ) (m n : List (Option ℕ)) → ((s q : ℕ) → project_of m s ≡ Some q → q < length i.lecturers) → ((s q : ℕ) → project_of n s ≡ Some q → q < length i.lecturers) → at_lecturer i n l < at_lecturer i m l
+pub more_at : (i : Spa) (l : ℕ) (m n : List (Option ℕ)) → ((s q : ℕ) → project_of m s ≡ Some q → q < length i.lecturers)
+    → ((s q : ℕ) → project_of n s ≡ Some q → q < length i.lecturers) → at_lecturer i n l < at_lecturer i m l
     → (u : ℕ) × (lecturer_of i u ≡ l) × (at_project n u < at_project m u)
 more_at i l m n known_m known_n more =
     let at = more_over i l m n (λ u. 0) known_m known_n (omega (arith, more, sum_below-zero (λ u. 0) (length i.lecturers) (λ k _. refl))) in
     (at.0, at.1, omega (arith, at.2))
 
 -- where m has more at a project, some student is there in m alone
-pub one_there : (i : Spa) (m n : List (Option ℕ)) (u : ℕ) → length m ≡ length n → at_project n u < at_project m u → (s : ℕ) × (project_of m s ≡ Some u) × (project_of n s ≡ Some u → ⊥)
+pub one_there : (i : Spa) (m n : List (Option ℕ)) (u : ℕ) → length m ≡ length n → at_project n u < at_project m u
+    → (s : ℕ) × (project_of m s ≡ Some u) × (project_of n s ≡ Some u → ⊥)
 one_there i m n u same more =
     elim (greatest (λ s. (project_of m s ≡ Some u) × (project_of n s ≡ Some u → ⊥)) test (λ s. 0) (length m)) [
       | inl one ↦ (one.0, one.2.0, one.2.1)
       | inr none ↦ absurd (omega (arith, no_more m n u same (λ s at. elim (has_project u (project_of n s)) [ inl both ↦ both | inr alone ↦ absurd (none s (student_in_range i m s u at) (at, alone)) ])))
     ]
   where
-    test : (s : ℕ) → ((project_of m s ≡ Some u) × (project_of n s ≡ Some u → ⊥)) ⊎ ((project_of m s ≡ Some u) × (project_of n s ≡ Some u → ⊥) → ⊥)
+    test : (s : ℕ)
+        → ((project_of m s ≡ Some u) × (project_of n s ≡ Some u → ⊥)) ⊎ ((project_of m s ≡ Some u) × (project_of n s ≡ Some u → ⊥) → ⊥)
     test s = grind (arith, has_project)
 
 -- who is elsewhere in n wants the project of the best matching
-pub wants_best : (i : Spa) (n : List (Option ℕ)) (s u : ℕ) → IsAcceptable i s u → (project_of n s ≡ Some u → ⊥) → (o : Option ℕ) → project_of n s ≡ o → IsAsGood i s (Some u) o → Wants i n s u
+pub wants_best : (i : Spa) (n : List (Option ℕ)) (s u : ℕ) → IsAcceptable i s u → (project_of n s ≡ Some u → ⊥)
+    → (o : Option ℕ) → project_of n s ≡ o → IsAsGood i s (Some u) o → Wants i n s u
 wants_best i n s u on other None e good = (on, rw e tt)
 wants_best i n s u on other (Some q) e (inl same) = absurd (other (e ∙ ap Some (sym same)))
 wants_best i n s u on other (Some q) e (inr before) = (on, rw e before)

@@ -27,7 +27,8 @@ module _ (i j : Spa) (May : ℕ → Type 0) (m : List (Option ℕ)) (differ : Di
 
 module _ (i j : Spa) (May : ℕ → Type 0) (m : List (Option ℕ)) (differ : DifferInLists i j May) (law : IsRanked j) (stable : IsStable j m) where
   -- who stands after t for a lecturer stood so before
-  worse : (t u : ℕ) → Wants j m t u → (x q : ℕ) → project_of m x ≡ Some q → lecturer_of i q ≡ lecturer_of i u → IsBefore (ranking_of i (lecturer_of i u)) t x → IsBefore (ranking_of j (lecturer_of j u)) t x
+  worse : (t u : ℕ) → Wants j m t u → (x q : ℕ) → project_of m x ≡ Some q → lecturer_of i q ≡ lecturer_of i u
+      → IsBefore (ranking_of i (lecturer_of i u)) t x → IsBefore (ranking_of j (lecturer_of j u)) t x
   worse t u w x q e own before = search (rules, same_lecturer)
 
   -- no pair blocks it that is wanted there too

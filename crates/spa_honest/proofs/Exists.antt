@@ -10,7 +10,8 @@ use Rattle.spa_honest.proofs.Base.{place-get_or, swap_at_project_holds, swap_at_
 use Rattle.spa_student.proofs.Start.{none_there}
 
 -- of the numbers below n with a property, one of the greatest rank; or there is none
-pub greatest : (P : ℕ → Type 0) → ((x : ℕ) → P x ⊎ (P x → ⊥)) → (rank : ℕ → ℕ) (n : ℕ) → ((w : ℕ) × (w < n) × P w × ((x : ℕ) → x < n → P x → rank x ≤ rank w)) ⊎ ((x : ℕ) → x < n → P x → ⊥)
+pub greatest : (P : ℕ → Type 0) → ((x : ℕ) → P x ⊎ (P x → ⊥)) → (rank : ℕ → ℕ) (n : ℕ)
+    → ((w : ℕ) × (w < n) × P w × ((x : ℕ) → x < n → P x → rank x ≤ rank w)) ⊎ ((x : ℕ) → x < n → P x → ⊥)
 greatest P test rank zero = inr (λ x h p. omega arith)
 greatest P test rank (suc n) = elim (test n) [
   | inr misses ↦ elim (greatest P test rank n) [
@@ -27,7 +28,8 @@ greatest P test rank (suc n) = elim (test n) [
 ]
 
 -- one of the greatest rank, where there is one
-the_greatest : (P : ℕ → Type 0) → ((x : ℕ) → P x ⊎ (P x → ⊥)) → (rank : ℕ → ℕ) (n s : ℕ) → s < n → P s → (w : ℕ) × (w < n) × P w × ((x : ℕ) → x < n → P x → rank x ≤ rank w)
+the_greatest : (P : ℕ → Type 0) → ((x : ℕ) → P x ⊎ (P x → ⊥)) → (rank : ℕ → ℕ) (n s : ℕ) → s < n → P s
+    → (w : ℕ) × (w < n) × P w × ((x : ℕ) → x < n → P x → rank x ≤ rank w)
 the_greatest P test rank n s low p = elim (greatest P test rank n) [ inl one ↦ one | inr none ↦ absurd (none s low p) ]
 
 -- whether a student has nothing, has p, or has a project of l
@@ -39,7 +41,8 @@ pub has_project : (p : ℕ) (o : Option ℕ) → (o ≡ Some p) ⊎ (o ≡ Some 
 has_project p None = inr (λ e. absurd (cc))
 has_project p (Some q) = elim (cases_eq q p) [ inl same ↦ inl (ap Some same) | inr other ↦ inr (λ e. other (cc)) ]
 
-pub has_lecturer : (i : Spa) (l : ℕ) (o : Option ℕ) → ((q : ℕ) × (o ≡ Some q) × (lecturer_of i q ≡ l)) ⊎ ((q : ℕ) × (o ≡ Some q) × (lecturer_of i q ≡ l) → ⊥)
+pub has_lecturer : (i : Spa) (l : ℕ) (o : Option ℕ)
+    → ((q : ℕ) × (o ≡ Some q) × (lecturer_of i q ≡ l)) ⊎ ((q : ℕ) × (o ≡ Some q) × (lecturer_of i q ≡ l) → ⊥)
 has_lecturer i l None = inr (λ e. let none = e.1 in absurd (cc))
 has_lecturer i l (Some q) = elim (cases_eq (lecturer_of i q) l) [
   | inl same ↦ inl (q, refl, same)
@@ -122,7 +125,8 @@ module _ (i : Spa) (law : IsRanked i) (m : List (Option ℕ)) (c : ℕ → ℕ) 
     gone_other : (k : ℕ) → k ≢ w → project_of (set (set m s (Some p)) w None) k ≡ project_of (set m s (Some p)) k
     gone_other k other = get_or-set_other (set m s (Some p)) w k None None other
 
-    let_go : Holds i (set (set m s (Some p)) w None) (Passed i c) → IsSpent i (set (set m s (Some p)) w None) w u → UnderWay i (set (set m s (Some p)) w None) (moved c w)
+    let_go : Holds i (set (set m s (Some p)) w None) (Passed i c) → IsSpent i (set (set m s (Some p)) w None) w u
+        → UnderWay i (set (set m s (Some p)) w None) (moved c w)
     let_go holds spent = record {
       holds = delete_holds i (set (set m s (Some p)) w None) (Passed i c) (Passed i (moved c w)) law holds (λ x q old. (old.0, omega (arith, old.1, moved_more c w x))) new;
       at_cursor = λ x q e. elim (cases_eq x w) [
@@ -139,7 +143,8 @@ module _ (i : Spa) (law : IsRanked i) (m : List (Option ℕ)) (c : ℕ → ℕ) 
     go_less : turns i (set (set m s (Some p)) w None) (moved c w) s + 1 ≤ turns i m c s
     go_less = search (rules, w_free, moved_same, gone_other, moved_other, put_less, state)
 
-    goes : Holds i (set (set m s (Some p)) w None) (Passed i c) → IsSpent i (set (set m s (Some p)) w None) w u → Turned i m c s
+    goes : Holds i (set (set m s (Some p)) w None) (Passed i c) → IsSpent i (set (set m s (Some p)) w None) w u
+        → Turned i m c s
     goes holds spent = record {
       after = set (set m s (Some p)) w None;
       cursors = moved c w;
@@ -186,7 +191,8 @@ module _ (i : Spa) (law : IsRanked i) (m : List (Option ℕ)) (c : ℕ → ℕ) 
       ]
 
 -- a turn of s, who is free and has some of the list left
-pub turn_of : (i : Spa) → IsRanked i → (m : List (Option ℕ)) (c : ℕ → ℕ) → UnderWay i m c → (s : ℕ) → s < length i.choices → project_of m s ≡ None → c s < length (choices_of i s) → Turned i m c s
+pub turn_of : (i : Spa) → IsRanked i → (m : List (Option ℕ)) (c : ℕ → ℕ) → UnderWay i m c → (s : ℕ)
+    → s < length i.choices → project_of m s ≡ None → c s < length (choices_of i s) → Turned i m c s
 turn_of i law m c state s in_range free left =
     let p : ℕ = get_or (choices_of i s) (c s) 0 in
     let here : place (choices_of i s) p ≡ c s = place-get_or (choices_of i s) (c s) 0 (law.choices_distinct s) left in
@@ -197,7 +203,8 @@ abbrev pub HasTurn : Spa → List (Option ℕ) → (ℕ → ℕ) → (ℕ → Ty
 HasTurn i m c Still s = (Still s → ⊥) × (project_of m s ≡ None) × (c s < length (choices_of i s))
 
 -- a student who has a turn, or none has
-pub next_or_done : (i : Spa) (m : List (Option ℕ)) (c : ℕ → ℕ) (Still : ℕ → Type 0) → ((x : ℕ) → Still x ⊎ (Still x → ⊥))
+pub next_or_done : (i : Spa) (m : List (Option ℕ)) (c : ℕ → ℕ) (Still : ℕ → Type 0)
+    → ((x : ℕ) → Still x ⊎ (Still x → ⊥))
     → ((s : ℕ) × (s < length i.choices) × HasTurn i m c Still s) ⊎ ((x p : ℕ) → (Still x → ⊥) → project_of m x ≡ None → IsAcceptable i x p → Passed i c x p)
 next_or_done i m c Still still =
     elim (greatest (HasTurn i m c Still) test (λ x. 0) (length i.choices)) [
@@ -214,7 +221,8 @@ next_or_done i m c Still still =
       ]
     ]
 
-    past : (x p : ℕ) → (Still x → ⊥) → project_of m x ≡ None → IsAcceptable i x p → ((z : ℕ) → z < length i.choices → HasTurn i m c Still z → ⊥) → place (choices_of i x) p < c x
+    past : (x p : ℕ) → (Still x → ⊥) → project_of m x ≡ None → IsAcceptable i x p
+        → ((z : ℕ) → z < length i.choices → HasTurn i m c Still z → ⊥) → place (choices_of i x) p < c x
     past x p moves free on none = grind (arith, moves, free, acceptable_in_range)
 
 -- nobody keeps still
@@ -233,7 +241,9 @@ pub record Rested (i : Spa) (Still : ℕ → Type 0) (c : ℕ → ℕ) : Type 0 
   pub still : (x : ℕ) → Still x → project_of after x ≡ None
   pub done : (x p : ℕ) → (Still x → ⊥) → project_of after x ≡ None → IsAcceptable i x p → Passed i cursors x p
 
-pub rest : (i : Spa) → IsRanked i → (Still : ℕ → Type 0) → ((x : ℕ) → Still x ⊎ (Still x → ⊥)) → (fuel : ℕ) (m : List (Option ℕ)) (c : ℕ → ℕ) → UnderWay i m c → ((x : ℕ) → Still x → project_of m x ≡ None) → sum_below (turns i m c) (length i.choices) < fuel → Rested i Still c
+pub rest : (i : Spa) → IsRanked i → (Still : ℕ → Type 0) → ((x : ℕ) → Still x ⊎ (Still x → ⊥))
+    → (fuel : ℕ) (m : List (Option ℕ)) (c : ℕ → ℕ) → UnderWay i m c → ((x : ℕ) → Still x → project_of m x ≡ None)
+    → sum_below (turns i m c) (length i.choices) < fuel → Rested i Still c
 rest i law Still test zero m c state free enough = absurd (omega arith)
 rest i law Still test (suc fuel) m c state free enough = elim (next_or_done i m c Still test) [
   | inl next ↦

@@ -11,7 +11,8 @@ module _ (i : Spa) (m : List (Option ℕ)) (s p : ℕ) (wants : Wants i m s p) w
 
   module _ (law : IsRanked i) (stable : IsStable i m) where
     -- who is with the lecturer and not after s is above s
-    above : (t q : ℕ) → project_of m t ≡ Some q → lecturer_of i q ≡ lecturer_of i p → (t ≡ s → ⊥) → (IsBefore (ranking_of i (lecturer_of i p)) s t → ⊥) → IsBefore (ranking_of i (lecturer_of i p)) t s
+    above : (t q : ℕ) → project_of m t ≡ Some q → lecturer_of i q ≡ lecturer_of i p → (t ≡ s → ⊥)
+        → (IsBefore (ranking_of i (lecturer_of i p)) s t → ⊥) → IsBefore (ranking_of i (lecturer_of i p)) t s
     above t q at own other not_after = elim (cases_order (place (ranking_of i (lecturer_of i p)) t) (place (ranking_of i (lecturer_of i p)) s)) [
       | inl level ↦ absurd (other (place-injective (ranking_of i (lecturer_of i p)) t s (rw own at (law.ranked t q (stable.matching.acceptable t q at))) level))
       | inr apart ↦ elim apart [
@@ -41,7 +42,8 @@ module _ (i : Spa) (m : List (Option ℕ)) (s p : ℕ) (wants : Wants i m s p) w
     ]
 
 -- the other way round
-pub stable_so : (i : Spa) (m : List (Option ℕ)) → IsMatching i m → ((s p : ℕ) → Wants i m s p → IsTaken i m p s ⊎ IsBusy i m (lecturer_of i p) s) → IsStable i m
+pub stable_so : (i : Spa) (m : List (Option ℕ)) → IsMatching i m
+    → ((s p : ℕ) → Wants i m s p → IsTaken i m p s ⊎ IsBusy i m (lecturer_of i p) s) → IsStable i m
 stable_so i m matching why = record {
   matching = matching;
   unblocked = λ s p k b. spent_unblocked i m s p (elim (why s p (blocks_wants i m s p k b)) [

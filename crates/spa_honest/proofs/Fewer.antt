@@ -11,7 +11,8 @@ use Rattle.spa_honest.proofs.Carry.{same_lecturer, same_capacity, same_limit, sa
 use Rattle.spa_honest.proofs.Last.{as_good_trans}
 
 -- what is as good on one list is so on the same list
-pub as_good_alike : (i j : Spa) (t : ℕ) → choices_of j t ≡ choices_of i t → (a b : Option ℕ) → IsAsGood j t a b → IsAsGood i t a b
+pub as_good_alike : (i j : Spa) (t : ℕ) → choices_of j t ≡ choices_of i t → (a b : Option ℕ) → IsAsGood j t a b
+    → IsAsGood i t a b
 as_good_alike i j t same a None good = tt
 as_good_alike i j t same None (Some q) good = absurd good
 as_good_alike i j t same (Some p) (Some q) (inl here) = inl here
@@ -39,13 +40,16 @@ module _ (i j : Spa) (Gone : ℕ → Type 0) (law : IsRanked i) (differ : Differ
         (on, end.state.holds.spent t u (passed in' on (project_of end.after t) refl w.1))
   ]
     where
-      passed : (Gone t → ⊥) → IsAcceptable i t u → (o : Option ℕ) → project_of end.after t ≡ o → Improves j t u o → Passed i end.cursors t u
+      passed : (Gone t → ⊥) → IsAcceptable i t u → (o : Option ℕ) → project_of end.after t ≡ o → Improves j t u o
+          → Passed i end.cursors t u
       passed in' on None e better = end.done t u in' e on
       passed in' on (Some q) e better = end.state.holds.first t u q e (rw (differ.others t in') at better)
 
   module _ (t u : ℕ) (wants : Wants j end.after t u) where
     -- who stands before t still does
-    not_after : (z q : ℕ) → project_of end.after z ≡ Some q → rank_of i (lecturer_of i u) z < rank_of i (lecturer_of i u) t → IsBefore (ranking_of j (lecturer_of j u)) t z → ⊥
+    not_after : (z q : ℕ) → project_of end.after z ≡ Some q
+        → rank_of i (lecturer_of i u) z < rank_of i (lecturer_of i u) t → IsBefore (ranking_of j (lecturer_of j u)) t z
+        → ⊥
     not_after z q at less after =
         let here : IsBefore (ranking_of j (lecturer_of i u)) t z = rw (same_lecturer i j Gone end.after differ u) at after in
         let before = differ.orders (lecturer_of i u) z t here.1 (omega (arith, here.0, here.1)) (less, law.ranked t u (spent t u wants).0) in
@@ -54,7 +58,8 @@ module _ (i j : Spa) (Gone : ℕ → Type 0) (law : IsRanked i) (differ : Differ
     full_p : at_project end.after u ≡ capacity_of i u → at_project end.after u < capacity_of j u → ⊥
     full_p full room = omega (arith, full, room, same_capacity i j Gone end.after differ u)
 
-    full_l : at_lecturer i end.after (lecturer_of i u) ≡ limit_of i (lecturer_of i u) → at_lecturer j end.after (lecturer_of j u) < limit_of j (lecturer_of j u) → ⊥
+    full_l : at_lecturer i end.after (lecturer_of i u) ≡ limit_of i (lecturer_of i u)
+        → at_lecturer j end.after (lecturer_of j u) < limit_of j (lecturer_of j u) → ⊥
     full_l full room =
         let here : at_lecturer j end.after (lecturer_of i u) < limit_of j (lecturer_of i u) = rw (same_lecturer i j Gone end.after differ u) at room in
         omega (arith, full, here, same_count i j Gone end.after differ (lecturer_of i u), same_limit i j Gone end.after differ (lecturer_of i u))
@@ -80,7 +85,9 @@ module _ (i j : Spa) (Gone : ℕ → Type 0) (law : IsRanked i) (differ : Differ
   }
 
 -- NOBODY ELSE GETS ANYTHING WORSE
-pub fewer_never_harm : (i j : Spa) (group : List ℕ) (m n : List (Option ℕ)) (t : ℕ) → IsRanked i → DifferInLists i j (IsOn group) → ((s p : ℕ) → IsOn group s → IsAcceptable j s p → ⊥) → IsStable i m → IsBest j n → (IsOn group t → ⊥) → IsAsGood i t (project_of n t) (project_of m t)
+pub fewer_never_harm : (i j : Spa) (group : List ℕ) (m n : List (Option ℕ)) (t : ℕ) → IsRanked i
+    → DifferInLists i j (IsOn group) → ((s p : ℕ) → IsOn group s → IsAcceptable j s p → ⊥) → IsStable i m → IsBest j n
+    → (IsOn group t → ⊥) → IsAsGood i t (project_of n t) (project_of m t)
 fewer_never_harm i j group m n t law differ none stable best stays =
     let end : Rested i (IsOn group) (λ s. 0) =
     rest i law (IsOn group) gone (suc (sum_below (turns i (replicate (length i.choices) None) (λ s. 0)) (length i.choices))) (replicate (length i.choices) None) (λ s. 0) (start i) (λ s _. none_there (length i.choices) s) (omega arith) in

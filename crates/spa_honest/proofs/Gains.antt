@@ -12,7 +12,9 @@ use Rattle.spa_honest.proofs.Carry.{wanted_too, unblocked_too, same_capacity, sa
 use Rattle.spa_honest.proofs.Added.{joined, joined_at, adds_joined, blocks_no_more}
 
 -- WHERE SOMEBODY LIKES A MATCHING BETTER than the best one, somebody who does not blocks it
-pub blocked_outside : (i : Spa) → IsRanked i → (best : List (Option ℕ)) → IsBest i best → (x : List (Option ℕ)) → IsMatching i x → (s : ℕ) → gains i best x s ≡ true → ((t u : ℕ) (k : Letter) → gains i best x t ≡ false → Blocks i x t u k → ⊥) → ⊥
+pub blocked_outside : (i : Spa) → IsRanked i → (best : List (Option ℕ)) → IsBest i best → (x : List (Option ℕ))
+    → IsMatching i x → (s : ℕ) → gains i best x s ≡ true
+    → ((t u : ℕ) (k : Letter) → gains i best x t ≡ false → Blocks i x t u k → ⊥) → ⊥
 blocked_outside i law best is_best x there s meets unblocked =
     let y = turned_away i law best is_best x there s meets in
     outside i law i.capacities i.limits (not_grown i) (gains i best x) x y.0 y.1 there unblocked
@@ -36,7 +38,8 @@ module _ (i : Spa) (m n : List (Option ℕ)) (best : IsBest i m) where
   no_worse_or_gains : (s : ℕ) → IsNoWorse i s (project_of m s) (project_of n s) ⊎ Gains i m n s
   no_worse_or_gains s = by_own (project_of n s)
     where
-      by_own : (o : Option ℕ) → IsNoWorse i s (project_of m s) o ⊎ (((p : ℕ) → o ≡ Some p → IsAcceptable i s p) × (better i s o (project_of m s) ≡ true))
+      by_own : (o : Option ℕ)
+          → IsNoWorse i s (project_of m s) o ⊎ (((p : ℕ) → o ≡ Some p → IsAcceptable i s p) × (better i s o (project_of m s) ≡ true))
       by_own None = inl (λ p e on. absurd (cc))
       by_own (Some p) = elim (cases_lt (place (choices_of i s) p) (length (choices_of i s))) [
         | inr off ↦ inl (λ q e on. let is : p ≡ q = cc in absurd (omega (arith, on, ap (place (choices_of i s)) is)))
@@ -82,7 +85,8 @@ module _ (i j : Spa) (group : List ℕ) (m n x : List (Option ℕ)) (law : IsRan
   gains_too : (t : ℕ) → IsOn group t → gains i m (joined (member group) x n) t ≡ true
   gains_too t on = ap (λ o. better i t o (project_of m t)) (of_group t on) ∙ (all t on).1
 
-  unblocked : (t u : ℕ) (k : Letter) → gains i m (joined (member group) x n) t ≡ false → Blocks i (joined (member group) x n) t u k → ⊥
+  unblocked : (t u : ℕ) (k : Letter) → gains i m (joined (member group) x n) t ≡ false
+      → Blocks i (joined (member group) x n) t u k → ⊥
   unblocked t u k misses =
       let out : IsOn group t → ⊥ = λ on. let wrong : true ≡ false = sym (gains_too t on) ∙ misses in cc in
       blocks_no_more i n (joined (member group) x n) adds_here t u (of_others t out) (unblocked_too i j (IsOn group) n differ law stable t u (wanted_too i j (IsOn group) n differ t u out)) k
@@ -91,7 +95,9 @@ module _ (i j : Spa) (group : List ℕ) (m n x : List (Option ℕ)) (law : IsRan
   not_all lawful best t on = blocked_outside i lawful m best (joined (member group) x n) there t (gains_too t on) unblocked
 
 -- NO GROUP GAINS, not even over two rounds
-pub no_group_gains_over_both : (i j : Spa) (group : List ℕ) (m n x : List (Option ℕ)) → IsRanked i → IsRanked j → 1 ≤ length group → DifferInLists i j (IsOn group) → IsBest i m → IsStable j n → AddsTo j n x → (s : ℕ) × IsOn group s × IsNoWorse i s (project_of m s) (project_of x s)
+pub no_group_gains_over_both : (i j : Spa) (group : List ℕ) (m n x : List (Option ℕ)) → IsRanked i → IsRanked j
+    → 1 ≤ length group → DifferInLists i j (IsOn group) → IsBest i m → IsStable j n → AddsTo j n x
+    → (s : ℕ) × IsOn group s × IsNoWorse i s (project_of m s) (project_of x s)
 no_group_gains_over_both i j group m n x lawful law some differ best stable adds =
     elim (one_or_all (λ k. IsNoWorse i (get_or group k 0) (project_of m (get_or group k 0)) (project_of x (get_or group k 0))) (λ k. Gains i m x (get_or group k 0)) (λ k. no_worse_or_gains i m x best (get_or group k 0)) (length group)) [
       | inl one ↦ (get_or group one.0 0, omega (arith, one.1, place-get_or-le group one.0 0 one.1), one.2)
@@ -106,11 +112,14 @@ adds_nothing : (j : Spa) (n : List (Option ℕ)) → IsStable j n → AddsTo j n
 adds_nothing j n stable = record { students = refl; keeps = λ s p e. e; projects = stable.matching.projects; lecturers = stable.matching.lecturers }
 
 -- in one round
-pub no_group_gains : (i j : Spa) (group : List ℕ) (m n : List (Option ℕ)) → IsRanked i → IsRanked j → 1 ≤ length group → DifferInLists i j (IsOn group) → IsBest i m → IsStable j n → (s : ℕ) × IsOn group s × IsNoWorse i s (project_of m s) (project_of n s)
+pub no_group_gains : (i j : Spa) (group : List ℕ) (m n : List (Option ℕ)) → IsRanked i → IsRanked j → 1 ≤ length group
+    → DifferInLists i j (IsOn group) → IsBest i m → IsStable j n
+    → (s : ℕ) × IsOn group s × IsNoWorse i s (project_of m s) (project_of n s)
 no_group_gains i j group m n lawful law some differ best stable = no_group_gains_over_both i j group m n n lawful law some differ best stable (adds_nothing j n stable)
 
 -- ONE STUDENT: the group of one
-pub no_one_gains_over_both : (i j : Spa) (s : ℕ) (m n x : List (Option ℕ)) → IsRanked i → IsRanked j → DifferInOneList i j s → IsBest i m → IsStable j n → AddsTo j n x → IsNoWorse i s (project_of m s) (project_of x s)
+pub no_one_gains_over_both : (i j : Spa) (s : ℕ) (m n x : List (Option ℕ)) → IsRanked i → IsRanked j
+    → DifferInOneList i j s → IsBest i m → IsStable j n → AddsTo j n x → IsNoWorse i s (project_of m s) (project_of x s)
 no_one_gains_over_both i j s m n x lawful law differ best stable adds =
     let one = no_group_gains_over_both i j (s ∷ []) m n x lawful law (omega arith) (record {
       students = differ.students;
@@ -123,11 +132,14 @@ no_one_gains_over_both i j s m n x lawful law differ best stable adds =
     subst (λ t. IsNoWorse i t (project_of m t) (project_of x t)) (sym (one_on s one.0 one.1)) one.2
 
 -- NO OTHER LIST GAINS
-pub honest_is_best : (i j : Spa) (s : ℕ) (m n : List (Option ℕ)) → IsRanked i → IsRanked j → DifferInOneList i j s → IsBest i m → IsStable j n → IsNoWorse i s (project_of m s) (project_of n s)
+pub honest_is_best : (i j : Spa) (s : ℕ) (m n : List (Option ℕ)) → IsRanked i → IsRanked j → DifferInOneList i j s
+    → IsBest i m → IsStable j n → IsNoWorse i s (project_of m s) (project_of n s)
 honest_is_best i j s m n lawful law differ best stable = no_one_gains_over_both i j s m n n lawful law differ best stable (adds_nothing j n stable)
 
 -- NO OTHER ORDER of the same projects, or of some of them
-pub order_honestly : (i j : Spa) (s : ℕ) (m n : List (Option ℕ)) → IsRanked i → IsRanked j → DifferInOneList i j s → ((p : ℕ) → IsAcceptable j s p → IsAcceptable i s p) → IsBest i m → IsStable j n → IsAsGood i s (project_of m s) (project_of n s)
+pub order_honestly : (i j : Spa) (s : ℕ) (m n : List (Option ℕ)) → IsRanked i → IsRanked j → DifferInOneList i j s
+    → ((p : ℕ) → IsAcceptable j s p → IsAcceptable i s p) → IsBest i m → IsStable j n
+    → IsAsGood i s (project_of m s) (project_of n s)
 order_honestly i j s m n lawful law differ within best stable = by_own (project_of n s) refl
   where
     by_own : (o : Option ℕ) → project_of n s ≡ o → IsAsGood i s (project_of m s) o

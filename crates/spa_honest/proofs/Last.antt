@@ -15,7 +15,8 @@ better i s (Some p) None = true
 better i s (Some p) (Some q) = ltb (place (choices_of i s) p) (place (choices_of i s) q)
 
 -- where it is not, the other is as good
-pub not_better : (i : Spa) (s : ℕ) (mine other : Option ℕ) → ((p : ℕ) → mine ≡ Some p → IsAcceptable i s p) → ((q : ℕ) → other ≡ Some q → IsAcceptable i s q) → better i s mine other ≡ false → IsAsGood i s other mine
+pub not_better : (i : Spa) (s : ℕ) (mine other : Option ℕ) → ((p : ℕ) → mine ≡ Some p → IsAcceptable i s p)
+    → ((q : ℕ) → other ≡ Some q → IsAcceptable i s q) → better i s mine other ≡ false → IsAsGood i s other mine
 not_better i s None other on_mine on_other misses = tt
 not_better i s (Some p) None on_mine on_other misses = absurd (cc)
 not_better i s (Some p) (Some q) on_mine on_other misses = search (rules, place-injective, ltb-false)
@@ -67,7 +68,8 @@ module _ (i : Spa) (law : IsRanked i) (best : List (Option ℕ)) (is_best : IsBe
   in_range s meets = let has = gains_some s (project_of x s) meets in omega (arith, student_in_range i x s has.0 has.1, there.students)
 
   -- at the end nobody waits
-  none_waits : (m : List (Option ℕ)) (c : ℕ → ℕ) → UnderWay i m c → ((s p : ℕ) → project_of m s ≡ None → IsAcceptable i s p → Passed i c s p) → (s : ℕ) → Waits i best x c s → ⊥
+  none_waits : (m : List (Option ℕ)) (c : ℕ → ℕ) → UnderWay i m c
+      → ((s p : ℕ) → project_of m s ≡ None → IsAcceptable i s p → Passed i c s p) → (s : ℕ) → Waits i best x c s → ⊥
   none_waits m c state done s wait = each (project_of m s) refl
     where
       stable : IsBest i m
@@ -88,7 +90,8 @@ module _ (i : Spa) (law : IsRanked i) (best : List (Option ℕ)) (is_best : IsBe
           better_not i s (project_of x s) (project_of best s) wait.0
           (rw has.1 (as_good_trans i s (project_of best s) (Some q) (Some p) (subst (λ o. IsAsGood i s (project_of best s) o) e (is_best.best m stable.stable s)) good))
 
-  until : (fuel : ℕ) (m : List (Option ℕ)) (c : ℕ → ℕ) → UnderWay i m c → (s : ℕ) → Waits i best x c s → sum_below (turns i m c) (length i.choices) < fuel → Stopped i best x
+  until : (fuel : ℕ) (m : List (Option ℕ)) (c : ℕ → ℕ) → UnderWay i m c → (s : ℕ) → Waits i best x c s
+      → sum_below (turns i m c) (length i.choices) < fuel → Stopped i best x
   until zero m c state s wait enough = absurd (omega arith)
   until (suc fuel) m c state s wait enough = elim (next_or_done i m c Never never) [
     | inr done ↦ absurd (none_waits m c state (λ z p. done z p (λ e. e)) s wait)
@@ -106,7 +109,8 @@ module _ (i : Spa) (law : IsRanked i) (best : List (Option ℕ)) (is_best : IsBe
         ]
   ]
     where
-      passed : (z : ℕ) → gains i best x z ≡ true → (d : ℕ → ℕ) → ((z : ℕ) → z < length i.choices → Waits i best x d z → ⊥) → spot i z (project_of x z) < d z
+      passed : (z : ℕ) → gains i best x z ≡ true → (d : ℕ → ℕ)
+          → ((z : ℕ) → z < length i.choices → Waits i best x d z → ⊥) → spot i z (project_of x z) < d z
       passed z meets d over = elim (cases_lt (spot i z (project_of x z)) (d z)) [ inl here ↦ here | inr ahead ↦ absurd (over z (in_range z meets) (meets, ahead)) ]
 
   -- so there is a matching that turns all of them away and leaves one with nothing

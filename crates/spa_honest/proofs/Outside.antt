@@ -31,7 +31,8 @@ only_at : (r : ℕ → Bool) (m : List (Option ℕ)) (s : ℕ) → project_of (o
 only_at r m s = joined_at r m (replicate (length m) None) s (sym (length-replicate (length m) None)) ∙ ap (cond (r s) (project_of m s)) (none_there (length m) s)
 
 -- who keeps a project is of r and has it
-pub only_has : (r : ℕ → Bool) (m : List (Option ℕ)) (s q : ℕ) → project_of (only r m) s ≡ Some q → (r s ≡ true) × (project_of m s ≡ Some q)
+pub only_has : (r : ℕ → Bool) (m : List (Option ℕ)) (s q : ℕ) → project_of (only r m) s ≡ Some q
+    → (r s ≡ true) × (project_of m s ≡ Some q)
 only_has r m s q e = elim (cases_Bool (r s)) [
   | inl is ↦ (is, rw is at (rw only_at at e))
   | inr is ↦ absurd (let wrong : ◌≡◌ {A = Option ℕ} None (Some q) = rw is at (rw only_at at e) in cc)
@@ -45,7 +46,8 @@ pub others_not : (r : ℕ → Bool) (s : ℕ) → others r s ≡ true → r s �
 others_not r s is = false_from_ne_true (r s) (λ e. let wrong : false ≡ true = rw e at is in cc)
 
 -- a count over all is that over those of r and that over the others
-pub both_counted : (f : Option ℕ → Bool) → f None ≡ false → (r : ℕ → Bool) (m : List (Option ℕ)) → count_by f m ≡ count_by f (only r m) + count_by f (only (others r) m)
+pub both_counted : (f : Option ℕ → Bool) → f None ≡ false → (r : ℕ → Bool) (m : List (Option ℕ))
+    → count_by f m ≡ count_by f (only r m) + count_by f (only (others r) m)
 both_counted f off r [] = refl
 both_counted f off r (o ∷ m) =
     omega (
@@ -69,7 +71,8 @@ pub places_sum : (i : Spa) (l n : ℕ) → places_among i l n ≡ sum_below (pla
 places_sum i l zero = refl
 places_sum i l (suc n) = omega (arith, places_sum i l n)
 
-pub share_most : (i : Spa) (m : List (Option ℕ)) → ((q : ℕ) → at_project m q ≤ capacity_of i q) → (l p : ℕ) → share i m l p ≤ place_share i l p
+pub share_most : (i : Spa) (m : List (Option ℕ)) → ((q : ℕ) → at_project m q ≤ capacity_of i q) → (l p : ℕ)
+    → share i m l p ≤ place_share i l p
 share_most i m fits l p = elim (cases_Bool (eqb (lecturer_of i p) l)) [ inl own ↦ rw own (fits p) | inr other ↦ rw other (omega arith) ]
 
 -- what y is to x
@@ -88,7 +91,8 @@ growth i cs l p = cond (eqb (lecturer_of i p) l) (capacity_of i p - get_or cs p 
 -- or as many as all their places
 pub record Grown (i : Spa) (cs ls : List ℕ) : Type 0 where
   pub capacities : (p : ℕ) → get_or cs p 0 ≤ capacity_of i p
-  pub limits : (l : ℕ) → (get_or ls l 0 + sum_below (growth i cs l) (length i.lecturers) ≤ limit_of i l) ⊎ (places_with i l ≤ limit_of i l)
+  pub limits : (l : ℕ)
+      → (get_or ls l 0 + sum_below (growth i cs l) (length i.lecturers) ≤ limit_of i l) ⊎ (places_with i l ≤ limit_of i l)
 
 pub not_grown : (i : Spa) → Grown i i.capacities i.limits
 not_grown i = record {
@@ -125,7 +129,8 @@ module _ (i : Spa) (law : IsRanked i) (cs ls : List ℕ) (grown : Grown i cs ls)
       ]
 
   -- where those of r have fewer in y at p, some other who has p in y has another in x
-  instead : (p : ℕ) → at_project (only (others r) x) p < at_project (only (others r) y) p → (t : ℕ) × (r t ≡ false) × (project_of y t ≡ Some p) × (project_of x t ≡ Some p → ⊥)
+  instead : (p : ℕ) → at_project (only (others r) x) p < at_project (only (others r) y) p
+      → (t : ℕ) × (r t ≡ false) × (project_of y t ≡ Some p) × (project_of x t ≡ Some p → ⊥)
   instead p more =
       let one = one_there i (only (others r) y) (only (others r) x) p (only_length (others r) y ∙ sym same ∙ sym (only_length (others r) x)) more in
       let at = only_has (others r) y one.0 p one.1 in
@@ -134,7 +139,8 @@ module _ (i : Spa) (law : IsRanked i) (cs ls : List ℕ) (grown : Grown i cs ls)
   split : (m : List (Option ℕ)) (p : ℕ) → at_project m p ≡ at_project (only r m) p + at_project (only (others r) m) p
   split m p = both_counted (is_project p) refl r m
 
-  split_l : (m : List (Option ℕ)) (l : ℕ) → at_lecturer i m l ≡ at_lecturer i (only r m) l + at_lecturer i (only (others r) m) l
+  split_l : (m : List (Option ℕ)) (l : ℕ)
+      → at_lecturer i m l ≡ at_lecturer i (only r m) l + at_lecturer i (only (others r) m) l
   split_l m l = both_counted (is_lecturer i l) refl r m
 
   known_x : (f : ℕ → Bool) (s q : ℕ) → project_of (only f x) s ≡ Some q → q < length i.lecturers
@@ -159,14 +165,16 @@ module _ (i : Spa) (law : IsRanked i) (cs ls : List ℕ) (grown : Grown i cs ls)
       let term = greater_term (at_lecturer i (only r x)) (at_lecturer i (only r y)) count (omega (arith, all_x, all_y, less)) in
       (term.0, term.2)
     where
-      kept : (z : ℕ) (o : Option ℕ) → project_of (only r y) z ≡ o → has_one o ≡ true → has_one (project_of (only r x) z) ≡ true
+      kept : (z : ℕ) (o : Option ℕ) → project_of (only r y) z ≡ o → has_one o ≡ true
+          → has_one (project_of (only r x) z) ≡ true
       kept z None e on = absurd (cc)
       kept z (Some q) e on =
           let of : r z ≡ true = (only_has r y z q e).0 in
           ap has_one (only_keeps r x z of ∙ (turns.away z of).1)
 
   -- a full lecturer with no fewer places than all own projects has each of them full
-  all_full : (l p : ℕ) → lecturer_of i p ≡ l → p < length i.lecturers → at_lecturer i y l ≡ limit_of i l → places_with i l ≤ limit_of i l → at_project y p ≡ capacity_of i p
+  all_full : (l p : ℕ) → lecturer_of i p ≡ l → p < length i.lecturers → at_lecturer i y l ≡ limit_of i l
+      → places_with i l ≤ limit_of i l → at_project y p ≡ capacity_of i p
   all_full l p own low full enough = elim (cases_lt (at_project y p) (capacity_of i p)) [
     | inr least ↦ omega (arith, least, turns.here.projects p)
     | inl room ↦
@@ -183,7 +191,9 @@ module _ (i : Spa) (law : IsRanked i) (cs ls : List ℕ) (grown : Grown i cs ls)
   ]
 
   -- where p is full in y with students who stand before s, who has p in x
-  full_there : (s p : ℕ) → project_of x s ≡ Some p → at_project (only r y) p < at_project (only r x) p → at_project y p ≡ capacity_of i p → ((t : ℕ) → project_of y t ≡ Some p → rank_of i (lecturer_of i p) t < rank_of i (lecturer_of i p) s) → ⊥
+  full_there : (s p : ℕ) → project_of x s ≡ Some p → at_project (only r y) p < at_project (only r x) p
+      → at_project y p ≡ capacity_of i p
+      → ((t : ℕ) → project_of y t ≡ Some p → rank_of i (lecturer_of i p) t < rank_of i (lecturer_of i p) s) → ⊥
   full_there s p has fewer full before =
       let t = instead p (omega (arith, fewer, split x p, split y p, full, fits.projects p, grown.capacities p)) in
       blocks t.0 p t.1 t.2 t.3 s p has refl (before t.0 t.2) (λ _. (s, has, before t.0 t.2))
@@ -213,7 +223,10 @@ module _ (i : Spa) (law : IsRanked i) (cs ls : List ℕ) (grown : Grown i cs ls)
             ]
       ]
     where
-      at_full : (u : ℕ) → at_project (only (others r) x) u + (capacity_of i u - get_or cs u 0) < at_project (only (others r) y) u → (t : ℕ) → project_of y t ≡ Some u → at_project x u ≡ get_or cs u 0 → (z : ℕ) × (project_of x z ≡ Some u) × (rank_of i (lecturer_of i u) t < rank_of i (lecturer_of i u) z)
+      at_full : (u : ℕ)
+          → at_project (only (others r) x) u + (capacity_of i u - get_or cs u 0) < at_project (only (others r) y) u
+          → (t : ℕ) → project_of y t ≡ Some u → at_project x u ≡ get_or cs u 0
+          → (z : ℕ) × (project_of x z ≡ Some u) × (rank_of i (lecturer_of i u) t < rank_of i (lecturer_of i u) z)
       at_full u more t has full =
           let one = one_there i (only r x) (only r y) u (only_length r x ∙ same ∙ sym (only_length r y)) (omega (arith, more, split x u, split y u, full, turns.here.projects u)) in
           let mine = only_has r x one.0 u one.1 in

@@ -32,7 +32,8 @@ some_at : (test : ℕ → Bool) (n : ℕ) → some test n ≡ true → (k : ℕ)
 some_at test n h = let any = Any-from_list_any test (range_with_len 0 n) h in (any.1, any.4)
 
 -- of each element, and of what is past the end
-each_of : {X : Type 0} (test : X → Bool) (d : X) (xs : List X) → test d ≡ true → list_all test xs ≡ true → (k : ℕ) → test (get_or xs k d) ≡ true
+each_of : {X : Type 0} (test : X → Bool) (d : X) (xs : List X) → test d ≡ true → list_all test xs ≡ true → (k : ℕ)
+    → test (get_or xs k d) ≡ true
 each_of test d [] past h k = past
 each_of test d (x ∷ xs) past h zero = (and_parts (test x) (list_all test xs) h).0
 each_of test d (x ∷ xs) past h (suc k) = each_of test d xs past (and_parts (test x) (list_all test xs) h).1 k
@@ -44,7 +45,8 @@ entry test list q h on = rw (get_or-place list q 0 on) at (AllPass-from_list_all
 abbrev each_entry : (ℕ → ℕ → Bool) → List (List ℕ) → Bool
 each_entry test lists = each (λ s. list_all (test s) (get_or lists s [])) (length lists)
 
-entry_at : (test : ℕ → ℕ → Bool) (lists : List (List ℕ)) → each_entry test lists ≡ true → (s q : ℕ) → IsOn (get_or lists s []) q → test s q ≡ true
+entry_at : (test : ℕ → ℕ → Bool) (lists : List (List ℕ)) → each_entry test lists ≡ true → (s q : ℕ)
+    → IsOn (get_or lists s []) q → test s q ≡ true
 entry_at test lists h s q on = elim (cases_lt s (length lists)) [
   | inl low ↦ entry (test s) (get_or lists s []) q (each_at (λ k. list_all (test k) (get_or lists k [])) (length lists) s h low) on
   | inr past ↦ let none : get_or lists s [] ≡ [] = get_or_past lists s [] past in absurd (omega (arith, rw none at on))
@@ -55,7 +57,8 @@ abbrev pairwise : {X : Type 0} → (X → X → Bool) → List X → Bool
 pairwise test [] = true
 pairwise test (x ∷ xs) = list_all (test x) xs && pairwise test xs
 
-pairs : {X : Type 0} (test : X → X → Bool) (R : X → X → Type 0) → ((a b : X) → test a b ≡ true → R a b) → (xs : List X) → pairwise test xs ≡ true → AllPairs R xs
+pairs : {X : Type 0} (test : X → X → Bool) (R : X → X → Type 0) → ((a b : X) → test a b ≡ true → R a b) → (xs : List X)
+    → pairwise test xs ≡ true → AllPairs R xs
 pairs test R sound [] h i j d less low = absurd (omega arith)
 pairs test R sound (x ∷ xs) h i j d less low =
     let both = and_parts (list_all (test x) xs) (pairwise test xs) h in
@@ -139,7 +142,8 @@ abbrev all_ways : List (List ℕ) → (List (Option ℕ) → Bool) → Bool
 all_ways [] test = test []
 all_ways (list ∷ lists) test = all_ways lists (λ m. test (None ∷ m)) && list_all (λ p. all_ways lists (λ m. test (Some p ∷ m))) list
 
-way : (lists : List (List ℕ)) (test : List (Option ℕ) → Bool) (m : List (Option ℕ)) → all_ways lists test ≡ true → length m ≡ length lists → ((s p : ℕ) → project_of m s ≡ Some p → IsOn (get_or lists s []) p) → test m ≡ true
+way : (lists : List (List ℕ)) (test : List (Option ℕ) → Bool) (m : List (Option ℕ)) → all_ways lists test ≡ true
+    → length m ≡ length lists → ((s p : ℕ) → project_of m s ≡ Some p → IsOn (get_or lists s []) p) → test m ≡ true
 way [] test [] h e on = h
 way [] test (o ∷ m) h e on = absurd (omega arith)
 way (list ∷ lists) test [] h e on = absurd (omega arith)
@@ -230,7 +234,8 @@ module _ (i : Spa) (m : List (Option ℕ)) (stable : IsStable i m) where
   ]
 
 -- where each other way is unstable, the matching is the best one
-pub best_by : (i : Spa) → IsRanked i → (m : List (Option ℕ)) → all_ways i.choices (λ n. same n m || unstable i n) ≡ true → IsBest i m
+pub best_by : (i : Spa) → IsRanked i → (m : List (Option ℕ)) → all_ways i.choices (λ n. same n m || unstable i n) ≡ true
+    → IsBest i m
 best_by i law m all =
     let one = best_of i law in
     let stable : IsStable i one.0 = one.1.stable in

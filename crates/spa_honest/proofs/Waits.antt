@@ -7,11 +7,13 @@ use Rattle.spa_student.proofs.Machine.{one_more}
 use Rattle.spa_honest.proofs.Gains.{no_one_gains_over_both}
 
 -- WHO IS LEFT FINDS NONE: the pair would block
-pub left_finds_none : (i : Spa) (m : List (Option ℕ)) (s p : ℕ) → IsStable i m → project_of m s ≡ None → IsAcceptable i s p → HasRoom i m p → ⊥
+pub left_finds_none : (i : Spa) (m : List (Option ℕ)) (s p : ℕ) → IsStable i m → project_of m s ≡ None
+    → IsAcceptable i s p → HasRoom i m p → ⊥
 left_finds_none i m s p stable left on room = stable.unblocked s p A ((on, rw left tt), room.0, room.1)
 
 -- WAITING NEVER PAYS: p is what a second round may add
-pub waiting_never_pays : (i j : Spa) (s p : ℕ) (m n : List (Option ℕ)) → IsRanked i → IsRanked j → DifferInOneList i j s → IsBest i m → IsStable j n → project_of n s ≡ None → IsAcceptable i s p → HasRoom j n p
+pub waiting_never_pays : (i j : Spa) (s p : ℕ) (m n : List (Option ℕ)) → IsRanked i → IsRanked j → DifferInOneList i j s
+    → IsBest i m → IsStable j n → project_of n s ≡ None → IsAcceptable i s p → HasRoom j n p
     → IsAsGood i s (project_of m s) (Some p)
 waiting_never_pays i j s p m n lawful law differ best stable left on room =
     no_one_gains_over_both i j s m n (set n s (Some p)) lawful law differ best stable adds p (put_same j n s p in_range left) on

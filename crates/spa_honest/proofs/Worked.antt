@@ -37,7 +37,8 @@ one_may_gain nobody = no_better honest_list (nobody (example honest_list) (examp
     differ : DifferInLists (example honest_list) (example safe_list) (IsOn (ann ∷ cem ∷ []))
     differ = record { students = refl; lecturers = refl; capacities = refl; limits = refl; others = others; orders = λ l a b on_a on_b before. before }
       where
-        others : (t : ℕ) → (IsOn (ann ∷ cem ∷ []) t → ⊥) → choices_of (example safe_list) t ≡ choices_of (example honest_list) t
+        others : (t : ℕ) → (IsOn (ann ∷ cem ∷ []) t → ⊥)
+            → choices_of (example safe_list) t ≡ choices_of (example honest_list) t
         others zero other = absurd (other (omega arith))
         others (suc t) other = refl
 
@@ -60,7 +61,8 @@ many_best = best_by (with_room (example (tides ∷ bells ∷ [])) (1 ∷ 1 ∷ 2
 pub more_places_may_harm : MorePlacesNeverHarm → ⊥
 more_places_may_harm never = no_better (tides ∷ bells ∷ []) (never (example (tides ∷ bells ∷ [])) (1 ∷ 1 ∷ 2 ∷ []) _ _ few_lawful many_lawful no_fewer few_best many_best cem)
   where
-    no_fewer : (q : ℕ) → capacity_of (example (tides ∷ bells ∷ [])) q ≤ capacity_of (with_room (example (tides ∷ bells ∷ [])) (1 ∷ 1 ∷ 2 ∷ []) (2 ∷ 1 ∷ [])) q
+    no_fewer : (q : ℕ)
+        → capacity_of (example (tides ∷ bells ∷ [])) q ≤ capacity_of (with_room (example (tides ∷ bells ∷ [])) (1 ∷ 1 ∷ 2 ∷ []) (2 ∷ 1 ∷ [])) q
     no_fewer zero = omega arith
     no_fewer (suc zero) = omega arith
     no_fewer (suc (suc zero)) = omega arith

@@ -89,7 +89,8 @@ places_with i l = places_among i l (length i.lecturers)
 -- projects together, or is as high as all their places, so that it binds nobody
 pub record GivesRoom (i j : Spa) : Type 0 where
   pub projects : (p : ℕ) → capacity_of i p ≤ capacity_of j p
-  pub lecturers : (l : ℕ) → (limit_of i l + places_with j l ≤ limit_of j l + places_with i l) ⊎ (places_with j l ≤ limit_of j l)
+  pub lecturers : (l : ℕ)
+      → (limit_of i l + places_with j l ≤ limit_of j l + places_with i l) ⊎ (places_with j l ≤ limit_of j l)
 
 -- then nobody gets worse in j's best than in a stable matching of i
 abbrev pub MoreRoomNeverHarms : Type 0

@@ -13,7 +13,9 @@ use Rattle.spa_model.proofs.Counts.{count_by-set, one_if}
 use Rattle.spa_model.proofs.PairFaults.{number_at, good_pair, students_below, same_student, count_by-map}
 
 -- one more
-pub assigned_more : (n : ℕ) (students projects : List ℕ) (m : List (Option ℕ)) (j s p : ℕ) → IsDistinct students → j < length students → length students ≡ length projects → get_or students j 0 ≡ s → get_or projects j 0 ≡ p → s < n
+pub assigned_more : (n : ℕ) (students projects : List ℕ) (m : List (Option ℕ)) (j s p : ℕ) → IsDistinct students
+    → j < length students → length students ≡ length projects → get_or students j 0 ≡ s → get_or projects j 0 ≡ p
+    → s < n
     → AreAssigned n (take j students) (take j projects) m → AreAssigned n (take (j + 1) students) (take (j + 1) projects) (set m s (Some p))
 assigned_more n students projects m j s p apart h size s_is p_is below so_far =
     let front : length (take j students) ≡ j = length-take-le j students (omega arith) in
@@ -45,7 +47,8 @@ assigned_more n students projects m j s p apart h size s_is p_is below so_far =
         absurd (apart found.0 j 0 (omega (arith, found.1)) h (sym (get_or-take j students found.0 0 (omega (arith, found.1))) ∙ found.2 ∙ sym s_is))
 
 -- pairs without a fault hold each student once
-pub apart_pairs : (i : Spa) (lines : List Pair) (students : List ℕ) → IsLawful i → AreSound i lines → students ≡ map (student_in i) lines → IsDistinct students
+pub apart_pairs : (i : Spa) (lines : List Pair) (students : List ℕ) → IsLawful i → AreSound i lines
+    → students ≡ map (student_in i) lines → IsDistinct students
 apart_pairs i lines students lawful sound is a b d before h e =
     let long : length students ≡ length lines = ap length is ∙ length-map lines (student_in i) in
     let x : Pair = get_or lines b nobody in
@@ -62,11 +65,13 @@ apart_pairs i lines students lawful sound is a b d before h e =
     nobody : Pair
     nobody = record { row = 0; student = []; project = [] }
 
-pub known_pairs : (i : Spa) (lines : List Pair) (students : List ℕ) → IsLawful i → AreSound i lines → students ≡ map (student_in i) lines → All (λ s. s < length i.choices) students
+pub known_pairs : (i : Spa) (lines : List Pair) (students : List ℕ) → IsLawful i → AreSound i lines
+    → students ≡ map (student_in i) lines → All (λ s. s < length i.choices) students
 known_pairs i lines students lawful sound is = students_below i lines students lawful (sound NoSuchStudent) is
 
 -- where no pair goes over, nothing is over
-within : (lines : List Pair) (number : Pair → ℕ) (limit : ℕ → ℕ) (q : ℕ) → ((n : ℕ) (x : Pair) → n < length lines → get_or lines n x ≡ x → limit (number x) < count_by (λ y. eqb (number y) (number x)) (take (n + 1) lines) → ⊥)
+within : (lines : List Pair) (number : Pair → ℕ) (limit : ℕ → ℕ) (q : ℕ)
+    → ((n : ℕ) (x : Pair) → n < length lines → get_or lines n x ≡ x → limit (number x) < count_by (λ y. eqb (number y) (number x)) (take (n + 1) lines) → ⊥)
     → (n : ℕ) → n ≤ length lines → count_by (λ y. eqb (number y) q) (take n lines) ≤ limit q
 within lines number limit q good zero h = omega arith
 within lines number limit q good (suc n) h =
@@ -90,7 +95,8 @@ module _ (i : Spa) (lines : List Pair) (students projects : List ℕ) (m : List 
   long = ap length students_are ∙ length-map lines (student_in i)
 
   -- what stands for a pair
-  stands : (j : ℕ) (x : Pair) → j < length lines → get_or lines j x ≡ x → project_of m (student_in i x) ≡ Some (project_in i x)
+  stands : (j : ℕ) (x : Pair) → j < length lines → get_or lines j x ≡ x
+      → project_of m (student_in i x) ≡ Some (project_in i x)
   stands j x h e =
       let p : get_or projects j 0 ≡ project_in i x = number_at (project_in i) lines projects j x projects_are h e in
       rw (← (number_at (student_in i) lines students j x students_are h e), ← p) (put.each j (omega (arith, long)))

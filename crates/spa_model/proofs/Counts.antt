@@ -14,14 +14,17 @@ off_project p None off = refl
 off_project p (Some q) off = ne_eqb q p (λ same. off (ap Some same))
 
 -- a count after a write
-pub count_by-set : (p : Option ℕ → Bool) (m : List (Option ℕ)) (s : ℕ) (v : Option ℕ) → s < length m → count_by p (set m s v) + one_if (p (get_or m s None)) ≡ count_by p m + one_if (p v)
+pub count_by-set : (p : Option ℕ → Bool) (m : List (Option ℕ)) (s : ℕ) (v : Option ℕ) → s < length m
+    → count_by p (set m s v) + one_if (p (get_or m s None)) ≡ count_by p m + one_if (p v)
 count_by-set p m s v h = sum_by-set (λ x. cond (p x) 1 0) m s v None h
 
-pub count_by-cons : (p : Option ℕ → Bool) (o : Option ℕ) (m : List (Option ℕ)) → count_by p (o ∷ m) ≡ one_if (p o) + count_by p m
+pub count_by-cons : (p : Option ℕ → Bool) (o : Option ℕ) (m : List (Option ℕ))
+    → count_by p (o ∷ m) ≡ one_if (p o) + count_by p m
 count_by-cons p o m = sum_by-cons (λ x. cond (p x) 1 0) o m
 
 -- a count of what nobody has
-pub count_by-none : (p : Option ℕ → Bool) (m : List (Option ℕ)) → ((s : ℕ) → p (get_or m s None) ≡ false) → count_by p m ≡ 0
+pub count_by-none : (p : Option ℕ → Bool) (m : List (Option ℕ)) → ((s : ℕ) → p (get_or m s None) ≡ false)
+    → count_by p m ≡ 0
 count_by-none p [] h = refl
 count_by-none p (o ∷ m) h = omega (arith, count_by-cons p o m, ap one_if (h 0), count_by-none p m (λ s. h (suc s)))
 
@@ -31,7 +34,8 @@ one_le true false f = let wrong = f refl in cc
 one_le false b f = omega arith
 
 -- where each that counts in m counts in n, m has no more
-pub count_by-le : (p : Option ℕ → Bool) (m n : List (Option ℕ)) → length m ≡ length n → ((s : ℕ) → p (get_or m s None) ≡ true → p (get_or n s None) ≡ true) → count_by p m ≤ count_by p n
+pub count_by-le : (p : Option ℕ → Bool) (m n : List (Option ℕ)) → length m ≡ length n
+    → ((s : ℕ) → p (get_or m s None) ≡ true → p (get_or n s None) ≡ true) → count_by p m ≤ count_by p n
 count_by-le p [] [] e h = omega arith
 count_by-le p [] (y ∷ n) e h = absurd (omega arith)
 count_by-le p (x ∷ m) [] e h = absurd (omega arith)
@@ -39,7 +43,9 @@ count_by-le p (x ∷ m) (y ∷ n) e h =
     omega (arith, count_by-cons p x m, count_by-cons p y n, one_le (p x) (p y) (h 0), count_by-le p m n (omega arith) (λ s. h (suc s)))
 
 -- where each that counts in m counts in n, and one more counts in n, m has fewer
-pub count_by-lt : (p : Option ℕ → Bool) (m n : List (Option ℕ)) (j : ℕ) → length m ≡ length n → ((s : ℕ) → p (get_or m s None) ≡ true → p (get_or n s None) ≡ true) → j < length n → p (get_or m j None) ≡ false → p (get_or n j None) ≡ true → count_by p m + 1 ≤ count_by p n
+pub count_by-lt : (p : Option ℕ → Bool) (m n : List (Option ℕ)) (j : ℕ) → length m ≡ length n
+    → ((s : ℕ) → p (get_or m s None) ≡ true → p (get_or n s None) ≡ true) → j < length n → p (get_or m j None) ≡ false
+    → p (get_or n j None) ≡ true → count_by p m + 1 ≤ count_by p n
 count_by-lt p m [] j e h l off on = absurd (omega arith)
 count_by-lt p [] (y ∷ n) j e h l off on = absurd (omega arith)
 count_by-lt p (x ∷ m) (y ∷ n) zero e h l off on =
@@ -56,7 +62,8 @@ pub sum_below-le : (f g : ℕ → ℕ) (n : ℕ) → ((k : ℕ) → f k ≤ g k)
 sum_below-le f g zero h = omega arith
 sum_below-le f g (suc n) h = omega (arith, sum_below-le f g n h, h n)
 
-pub sum_below-lt : (f g : ℕ → ℕ) (n j : ℕ) → ((k : ℕ) → f k ≤ g k) → j < n → f j + 1 ≤ g j → sum_below f n + 1 ≤ sum_below g n
+pub sum_below-lt : (f g : ℕ → ℕ) (n j : ℕ) → ((k : ℕ) → f k ≤ g k) → j < n → f j + 1 ≤ g j
+    → sum_below f n + 1 ≤ sum_below g n
 sum_below-lt f g zero j h l s = absurd (omega arith)
 sum_below-lt f g (suc n) j h l s = elim (cases_lt j n) [
   | inl i ↦ omega (arith, sum_below-lt f g n j h i s, h n)
@@ -93,7 +100,8 @@ cond_zero true = refl
 cond_zero false = refl
 
 -- one student adds to one project
-one_share : (i : Spa) (l n : ℕ) (o : Option ℕ) → ((q : ℕ) → o ≡ Some q → q < n) → sum_below (λ p. cond (eqb (lecturer_of i p) l) (one_if (is_project p o)) 0) n ≡ one_if (is_lecturer i l o)
+one_share : (i : Spa) (l n : ℕ) (o : Option ℕ) → ((q : ℕ) → o ≡ Some q → q < n)
+    → sum_below (λ p. cond (eqb (lecturer_of i p) l) (one_if (is_project p o)) 0) n ≡ one_if (is_lecturer i l o)
 one_share i l n None h = sum_below-zero _ n (λ k _. cond_zero (eqb (lecturer_of i k) l))
 one_share i l n (Some q) h =
     let one : sum_below (λ p. cond (eqb (lecturer_of i p) l) (one_if (eqb q p)) 0) n ≡ cond (eqb (lecturer_of i q) l) (one_if (eqb q q)) 0 =
@@ -106,7 +114,8 @@ cond_add true x y z e = e
 cond_add false x y z e = refl
 
 -- a lecturer has the students of the own projects together
-pub at_lecturer-sum : (i : Spa) (l n : ℕ) (m : List (Option ℕ)) → ((s q : ℕ) → project_of m s ≡ Some q → q < n) → at_lecturer i m l ≡ sum_below (share i m l) n
+pub at_lecturer-sum : (i : Spa) (l n : ℕ) (m : List (Option ℕ)) → ((s q : ℕ) → project_of m s ≡ Some q → q < n)
+    → at_lecturer i m l ≡ sum_below (share i m l) n
 at_lecturer-sum i l n [] h = sym (sum_below-zero _ n (λ k _. cond_zero (eqb (lecturer_of i k) l)))
 at_lecturer-sum i l n (o ∷ m) h =
     let first : ℕ → ℕ = λ p. cond (eqb (lecturer_of i p) l) (one_if (is_project p o)) 0 in

@@ -22,14 +22,19 @@ none_below_one i lines NoSuchStudent h = absurd (omega arith)
 none_below_one i lines fault h = absurd (omega arith)
 
 -- nor the next one, where none is told
-pub none_below_more : (i : Spa) (lines : List Pair) (fault : MatchingFault) (row : Option ℕ) → NoneBelow i lines (number_of_pair_fault fault) → IsLeastOf (HasPairFault i lines fault) row → row ≡ None → NoneBelow i lines (number_of_pair_fault fault + 1)
+pub none_below_more : (i : Spa) (lines : List Pair) (fault : MatchingFault) (row : Option ℕ)
+    → NoneBelow i lines (number_of_pair_fault fault) → IsLeastOf (HasPairFault i lines fault) row → row ≡ None
+    → NoneBelow i lines (number_of_pair_fault fault + 1)
 none_below_more i lines fault row below least told f h = search (rules, fault_of-number)
 
 -- the first fault is told
-pub first_fault : (i : Spa) (lines : List Pair) (fault told : MatchingFault) (row : Option ℕ) (r : ℕ) → NoneBelow i lines (number_of_pair_fault fault) → IsLeastOf (HasPairFault i lines fault) row → (told ≡ fault) × (row ≡ Some r) → IsPairRefusal i lines told r
+pub first_fault : (i : Spa) (lines : List Pair) (fault told : MatchingFault) (row : Option ℕ) (r : ℕ)
+    → NoneBelow i lines (number_of_pair_fault fault) → IsLeastOf (HasPairFault i lines fault) row
+    → (told ≡ fault) × (row ≡ Some r) → IsPairRefusal i lines told r
 first_fault i lines fault told row r below least e = rw e.0 (by_fault fault below (rw e.1 at least))
   where
-    by_fault : (f : MatchingFault) → NoneBelow i lines (number_of_pair_fault f) → IsLeastOf (HasPairFault i lines f) (Some r) → IsPairRefusal i lines f r
+    by_fault : (f : MatchingFault) → NoneBelow i lines (number_of_pair_fault f)
+        → IsLeastOf (HasPairFault i lines f) (Some r) → IsPairRefusal i lines f r
     by_fault Memory b l = absurd l.0
     by_fault other b l = record { here = l.0; least = l.1; none_before = b }
 

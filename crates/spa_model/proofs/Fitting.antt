@@ -17,7 +17,8 @@ on_from_answer xs x false none = (
 )
 
 -- nobody is at a project that is not there
-pub at_project-past : (i : Spa) (m : List (Option ℕ)) (p : ℕ) → IsLawful i → AreAcceptable i m → length i.lecturers ≤ p → at_project m p ≡ 0
+pub at_project-past : (i : Spa) (m : List (Option ℕ)) (p : ℕ) → IsLawful i → AreAcceptable i m → length i.lecturers ≤ p
+    → at_project m p ≡ 0
 at_project-past i m p lawful acceptable past = count_by-none (is_project p) m (λ s. other s (project_of m s) refl)
   where
     other : (s : ℕ) (o : Option ℕ) → project_of m s ≡ o → is_project p o ≡ false
@@ -25,7 +26,8 @@ at_project-past i m p lawful acceptable past = count_by-none (is_project p) m (�
     other s (Some q) e = let known : q < length i.lecturers = lawful.known s q (acceptable s q e) in ne_eqb q p (λ same. omega arith)
 
 -- nobody is with a lecturer who is not there
-pub at_lecturer-past : (i : Spa) (m : List (Option ℕ)) (l : ℕ) → IsLawful i → AreAcceptable i m → length i.rankings ≤ l → at_lecturer i m l ≡ 0
+pub at_lecturer-past : (i : Spa) (m : List (Option ℕ)) (l : ℕ) → IsLawful i → AreAcceptable i m → length i.rankings ≤ l
+    → at_lecturer i m l ≡ 0
 at_lecturer-past i m l lawful acceptable past = count_by-none (is_lecturer i l) m (λ s. other s (project_of m s) refl)
   where
     other : (s : ℕ) (o : Option ℕ) → project_of m s ≡ o → is_lecturer i l o ≡ false
@@ -33,13 +35,15 @@ at_lecturer-past i m l lawful acceptable past = count_by-none (is_lecturer i l) 
     other s (Some q) e = let known : lecturer_of i q < length i.rankings = lawful.offered q (lawful.known s q (acceptable s q e)) in ne_eqb (lecturer_of i q) l (λ same. omega arith)
 
 -- no project is over capacity where none of those that are there is
-pub projects_all : (i : Spa) (m : List (Option ℕ)) → IsLawful i → AreAcceptable i m → ((p : ℕ) → p < length i.lecturers → at_project m p ≤ capacity_of i p) → (p : ℕ) → at_project m p ≤ capacity_of i p
+pub projects_all : (i : Spa) (m : List (Option ℕ)) → IsLawful i → AreAcceptable i m
+    → ((p : ℕ) → p < length i.lecturers → at_project m p ≤ capacity_of i p) → (p : ℕ) → at_project m p ≤ capacity_of i p
 projects_all i m lawful acceptable fit p = elim (cases_lt p (length i.lecturers)) [
   | inl known ↦ fit p known
   | inr past ↦ omega (arith, at_project-past i m p lawful acceptable past)
 ]
 
-pub lecturers_all : (i : Spa) (m : List (Option ℕ)) → IsLawful i → AreAcceptable i m → ((l : ℕ) → l < length i.rankings → at_lecturer i m l ≤ limit_of i l) → (l : ℕ) → at_lecturer i m l ≤ limit_of i l
+pub lecturers_all : (i : Spa) (m : List (Option ℕ)) → IsLawful i → AreAcceptable i m
+    → ((l : ℕ) → l < length i.rankings → at_lecturer i m l ≤ limit_of i l) → (l : ℕ) → at_lecturer i m l ≤ limit_of i l
 lecturers_all i m lawful acceptable fit l = elim (cases_lt l (length i.rankings)) [
   | inl known ↦ fit l known
   | inr past ↦ omega (arith, at_lecturer-past i m l lawful acceptable past)

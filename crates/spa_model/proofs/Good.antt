@@ -11,11 +11,14 @@ use Rattle.spa_rows.specs.declared.faults.InstanceFault.TheVariants.{NoSuchProje
 use Rattle.spa_model.proofs.Keys.{known, all_known}
 
 -- lines that are not bad
-none_bad : {X : Type 0} (lines : List X) (row : X → ℕ) (Bad : ℕ → X → Type 0) → ((r : ℕ) → BadAt lines row Bad r → ⊥) → (k : ℕ) (d : X) → k < length lines → Bad k (get_or lines k d) → ⊥
+none_bad : {X : Type 0} (lines : List X) (row : X → ℕ) (Bad : ℕ → X → Type 0) → ((r : ℕ) → BadAt lines row Bad r → ⊥)
+    → (k : ℕ) (d : X) → k < length lines → Bad k (get_or lines k d) → ⊥
 none_bad lines row Bad none k d h bad = none (row (get_or lines k d)) (k, get_or lines k d, h, h, get_or_default lines k (get_or lines k d) d h, refl, bad)
 
 -- sorted lines whose keys differ have keys that rise
-rise_from_sorted : {X : Type 0} (key : X → Text) (lines : List X) → IsSortedByKey key (slice_cmp nat_cmp) lines → ((k : ℕ) (d : X) → k < length lines → Any (λ y. key y ≡ key (get_or lines k d)) (take k lines) → ⊥) → Rise (map key lines)
+rise_from_sorted : {X : Type 0} (key : X → Text) (lines : List X) → IsSortedByKey key (slice_cmp nat_cmp) lines
+    → ((k : ℕ) (d : X) → k < length lines → Any (λ y. key y ≡ key (get_or lines k d)) (take k lines) → ⊥)
+    → Rise (map key lines)
 rise_from_sorted {X} key lines sorted apart i j d less h =
     let low : j < length lines = omega (arith, length-map lines key) in
     let x = at_place lines i (omega arith) in
@@ -26,7 +29,8 @@ rise_from_sorted {X} key lines sorted apart i j d less h =
     let differ : key x.0 ≡ key y.0 → ⊥ = λ same. apart j y.0 low (i, x.0, omega (arith, length-take j lines), get_or-take j lines i x.0 less ∙ x.1, same ∙ ap key (sym y.1)) in
     rw ((map_at key lines i x.0 d (omega arith) x.1), is_y) (by_order (key x.0) (key y.0) (slice_cmp nat_cmp (key x.0) (key y.0)) refl back differ)
   where
-    by_order : (a b : Text) (o : Ordering) → slice_cmp nat_cmp a b ≡ o → is_lt (slice_cmp nat_cmp b a) ≡ false → (a ≡ b → ⊥) → slice_cmp nat_cmp a b ≡ Less
+    by_order : (a b : Text) (o : Ordering) → slice_cmp nat_cmp a b ≡ o → is_lt (slice_cmp nat_cmp b a) ≡ false
+        → (a ≡ b → ⊥) → slice_cmp nat_cmp a b ≡ Less
     by_order a b Less e back differ = e
     by_order a b Equal e back differ = absurd (differ (exact_bytes a b e))
     by_order a b Greater e back differ =
@@ -54,7 +58,9 @@ pub record AreGood (rows : Rows) : Type 0 where
   pub few_projects : length rows.projects ≤ 1000
   pub few_lecturers : length rows.lecturers ≤ 300
 
-pub are_good : (rows : Rows) → IsSortedByKey (λ x. x.key) (slice_cmp nat_cmp) rows.lecturers → IsSortedByKey (λ x. x.key) (slice_cmp nat_cmp) rows.projects → IsSortedByKey (λ x. x.key) (slice_cmp nat_cmp) rows.students → HasNoneBefore rows NotApplicant → AreGood rows
+pub are_good : (rows : Rows) → IsSortedByKey (λ x. x.key) (slice_cmp nat_cmp) rows.lecturers
+    → IsSortedByKey (λ x. x.key) (slice_cmp nat_cmp) rows.projects
+    → IsSortedByKey (λ x. x.key) (slice_cmp nat_cmp) rows.students → HasNoneBefore rows NotApplicant → AreGood rows
 are_good rows lecturers projects students none = record {
   rise_students = rise_from_sorted (λ x. x.key) rows.students students (none_bad rows.students (λ x. x.row) _ (λ r bad. none KeyTwice (omega arith) r (inr (inr bad))));
   rise_projects = rise_from_sorted (λ x. x.key) rows.projects projects (none_bad rows.projects (λ x. x.row) _ (λ r bad. none KeyTwice (omega arith) r (inr (inl bad))));

@@ -83,7 +83,8 @@ module _ (rows : Rows) (students : List Student) (projects : List Project) (lect
     abbrev ranking_at : ℕ → List ℕ
     ranking_at l = get_or (map (λ z. z.ranking.items) lecturers) l []
 
-    ranking_here : (l : ℕ) (y : Lines.Lecturer) → l < length rows.lecturers → get_or rows.lecturers l y ≡ y → AreNumbers (student_keys rows.students) y.list (ranking_at l)
+    ranking_here : (l : ℕ) (y : Lines.Lecturer) → l < length rows.lecturers → get_or rows.lecturers l y ≡ y
+        → AreNumbers (student_keys rows.students) y.list (ranking_at l)
     ranking_here l y h at =
         let z = Missing.row_of rows students projects lecturers so lists l y h at in
         rw (map_at (λ w. w.ranking.items) lecturers l z.0 [] (omega (arith, n_lecturers)) z.1) z.2.ranking
@@ -116,7 +117,8 @@ module _ (rows : Rows) (students : List Student) (projects : List Project) (lect
           absurd (no_missing (row_at rows.lecturers l) (s, omega (arith, n_students), (place (choices_at students s) p, p, on, on, on_at (choices_at students s) p on, refl, none)))
     ]
 
-    applies : (l s : ℕ) → IsOn (ranking_at l) s → (p : ℕ) × IsOn (choices_at students s) p × (lecturer_at projects p ≡ l)
+    applies : (l s : ℕ) → IsOn (ranking_at l) s
+        → (p : ℕ) × IsOn (choices_at students s) p × (lecturer_at projects p ≡ l)
     applies l s on =
         let low : l < length rows.lecturers = ranking_there l s on in
         let y = at_place rows.lecturers l low in
@@ -217,18 +219,21 @@ module _ (rows : Rows) (students : List Student) (projects : List Project) (lect
         let ranks : AreRanks (length (student_keys rows.students)) (get_or lecturers k d).ranking.items (get_or lecturers k d).ranks.items = zip_all (IsLecturerOf (student_keys rows.students)) (λ z. AreRanks (length (student_keys rows.students)) z.ranking.items z.ranks.items) rows.lecturers lecturers (λ x z is. is.ranks) lists k d h in
         subst (λ n. AreRanks n (get_or lecturers k d).ranking.items (get_or lecturers k d).ranks.items) count ranks
 
-    stands_student : (k : ℕ) (x : Lines.Student) → k < length rows.students → get_or rows.students k x ≡ x → StandsStudent built x
+    stands_student : (k : ℕ) (x : Lines.Student) → k < length rows.students → get_or rows.students k x ≡ x
+        → StandsStudent built x
     stands_student k x h at =
         let same : keys_at (project_keys rows.projects) (choices_at students k) ≡ x.list = keys_same (project_keys rows.projects) x.list (choices_at students k) (Numbered.choices_numbered rows students projects so k x h at) in
         (k, rw student_column (key_number (λ y. y.key) rows.students k x h at), rw project_column same)
 
-    stands_project : (k : ℕ) (x : Lines.Project) → k < length rows.projects → get_or rows.projects k x ≡ x → StandsProject built x
+    stands_project : (k : ℕ) (x : Lines.Project) → k < length rows.projects → get_or rows.projects k x ≡ x
+        → StandsProject built x
     stands_project k x h at =
         let mine : HasKey built.project_keys k x.key = rw project_column (key_number (λ y. y.key) rows.projects k x h at) in
         let lecturer : HasKey (lecturer_keys rows.lecturers) (lecturer_at projects k) x.lecturer = Numbered.lecturer_numbered rows students projects so k x h at in
         (k, mine, ap (λ column. get_or column k 0) capacity_column ∙ map_at (λ y. y.capacity) rows.projects k x 0 h at, rw lecturer_column lecturer.1)
 
-    stands_lecturer : (k : ℕ) (x : Lines.Lecturer) → k < length rows.lecturers → get_or rows.lecturers k x ≡ x → StandsLecturer built x
+    stands_lecturer : (k : ℕ) (x : Lines.Lecturer) → k < length rows.lecturers → get_or rows.lecturers k x ≡ x
+        → StandsLecturer built x
     stands_lecturer k x h at =
         let mine : HasKey built.lecturer_keys k x.key = rw lecturer_column (key_number (λ y. y.key) rows.lecturers k x h at) in
         let same : keys_at (student_keys rows.students) (ranking_at k) ≡ x.list = keys_same (student_keys rows.students) x.list (ranking_at k) (ranking_here k x h at) in

@@ -24,7 +24,8 @@ module _ (rows : Rows) (students : List Student) (projects : List Project) (lect
   lecturer_count = AllZip-long (IsLecturerOf (student_keys rows.students)) rows.lecturers lecturers lists
 
   -- the row of a lecturer
-  pub row_of : (l : ℕ) (y : Lines.Lecturer) → l < length rows.lecturers → get_or rows.lecturers l y ≡ y → (z : Lecturer) × (get_or lecturers l z ≡ z) × IsLecturerOf (student_keys rows.students) y z
+  pub row_of : (l : ℕ) (y : Lines.Lecturer) → l < length rows.lecturers → get_or rows.lecturers l y ≡ y
+      → (z : Lecturer) × (get_or lecturers l z ≡ z) × IsLecturerOf (student_keys rows.students) y z
   row_of l y h at =
       let row = at_place lecturers l (omega (arith, lecturer_count)) in
       (row.0, row.1, rw (at, row.1) at (zip_at (IsLecturerOf (student_keys rows.students)) rows.lecturers lecturers l y row.0 h lists))
@@ -52,18 +53,24 @@ module _ (rows : Rows) (students : List Student) (projects : List Project) (lect
         (i, text.0, omega (arith, long), text.1, sym text.1 ∙ sym mine.1 ∙ ap (λ n. get_or (student_keys rows.students) n []) is_s ∙ key_x.1)
 
   -- the table's entry
-  pub rank_is : (l : ℕ) (y : Lines.Lecturer) (z : Lecturer) (s : ℕ) → l < length rows.lecturers → get_or lecturers l z ≡ z → IsLecturerOf (student_keys rows.students) y z → s < length rows.students → rank_at lecturers l s ≡ rank_in z.ranking.items s
+  pub rank_is : (l : ℕ) (y : Lines.Lecturer) (z : Lecturer) (s : ℕ) → l < length rows.lecturers
+      → get_or lecturers l z ≡ z → IsLecturerOf (student_keys rows.students) y z → s < length rows.students
+      → rank_at lecturers l s ≡ rank_in z.ranking.items s
   rank_is l y z s h at is_z low = rank_here lecturers l s z (omega (arith, lecturer_count)) (sym at) ∙ is_z.ranks.each s (omega (arith, length-map rows.students (λ q. q.key)))
 
   -- a student who finds a project of the lecturer and has no place there is missing
-  missed : (r s l : ℕ) (x : Lines.Student) (y : Lines.Lecturer) → s < length rows.students → get_or rows.students s x ≡ x → l < length rows.lecturers → get_or rows.lecturers l y ≡ y → Finds projects (choices_at students s) l → row_at rows.lecturers l ≡ r → rank_at lecturers l s ≡ None → HasFault rows ApplicantMissing r
+  missed : (r s l : ℕ) (x : Lines.Student) (y : Lines.Lecturer) → s < length rows.students
+      → get_or rows.students s x ≡ x → l < length rows.lecturers → get_or rows.lecturers l y ≡ y
+      → Finds projects (choices_at students s) l → row_at rows.lecturers l ≡ r → rank_at lecturers l s ≡ None
+      → HasFault rows ApplicantMissing r
   missed r s l x y low is_x l_low is_y found row none =
       let z = row_of l y l_low is_y in
       let off : IsOn z.0.ranking.items s → ⊥ = λ on. ranked z.0.ranking.items s on (sym (rank_is l y z.0 s l_low z.1 z.2 low) ∙ none) in
       (l, y, l_low, l_low, is_y, sym (row_here rows.lecturers l y l_low (sym is_y)) ∙ row, (s, x, low, is_x, (Numbered.finds_text rows students projects so l y l_low is_y s x low is_x found, λ any. off (on_number y z.0 z.2 s x low is_x any))))
 
   -- the fault ApplicantMissing, by number
-  pub misses_fault : (r : ℕ) → MissesBelow rows.lecturers lecturers projects students (length students) r → HasFault rows ApplicantMissing r
+  pub misses_fault : (r : ℕ) → MissesBelow rows.lecturers lecturers projects students (length students) r
+      → HasFault rows ApplicantMissing r
   misses_fault r (s, s_low, (k, p, under, short, is_p, row, none)) =
       let low : s < length rows.students = omega (arith, Numbered.student_count rows students projects so) in
       let x = at_place rows.students s low in
@@ -72,7 +79,8 @@ module _ (rows : Rows) (students : List Student) (projects : List Project) (lect
       let y = at_place rows.lecturers (lecturer_at projects p) l_low in
       missed r s (lecturer_at projects p) x.0 y.0 low x.1 l_low y.1 (k, p, under, is_p, refl) row none
 
-  pub fault_misses : (r : ℕ) → HasFault rows ApplicantMissing r → MissesBelow rows.lecturers lecturers projects students (length students) r
+  pub fault_misses : (r : ℕ) → HasFault rows ApplicantMissing r
+      → MissesBelow rows.lecturers lecturers projects students (length students) r
   fault_misses r (l, y, a, l_low, is_y, row, (s, x, low, is_x, (finds, off))) =
       let found : Finds projects (choices_at students s) l = Numbered.finds_number rows students projects so l y l_low is_y s x low is_x finds in
       let z = row_of l y l_low is_y in

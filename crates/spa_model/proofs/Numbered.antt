@@ -29,21 +29,24 @@ module _ (rows : Rows) (students : List Student) (projects : List Project) (so :
   project_count = AllZip-long (IsProjectOf (lecturer_keys rows.lecturers)) rows.projects projects so.offers
 
   -- the choices of a student have the texts of the line
-  pub choices_numbered : (s : ℕ) (x : Lines.Student) → s < length rows.students → get_or rows.students s x ≡ x → AreNumbers (project_keys rows.projects) x.list (choices_at students s)
+  pub choices_numbered : (s : ℕ) (x : Lines.Student) → s < length rows.students → get_or rows.students s x ≡ x
+      → AreNumbers (project_keys rows.projects) x.list (choices_at students s)
   choices_numbered s x h at =
       let row = at_place students s (omega (arith, student_count)) in
       let both : IsStudentOf (project_keys rows.projects) (get_or rows.students s x) (get_or students s row.0) = zip_at (IsStudentOf (project_keys rows.projects)) rows.students students s x row.0 h so.choices in
       rw (choices_here students s row.0 (omega (arith, student_count)) (sym row.1)) (rw (at, row.1) at both).choices
 
   -- the lecturer of a project has the text of the line
-  pub lecturer_numbered : (p : ℕ) (x : Lines.Project) → p < length rows.projects → get_or rows.projects p x ≡ x → HasKey (lecturer_keys rows.lecturers) (lecturer_at projects p) x.lecturer
+  pub lecturer_numbered : (p : ℕ) (x : Lines.Project) → p < length rows.projects → get_or rows.projects p x ≡ x
+      → HasKey (lecturer_keys rows.lecturers) (lecturer_at projects p) x.lecturer
   lecturer_numbered p x h at =
       let row = at_place projects p (omega (arith, project_count)) in
       let both : IsProjectOf (lecturer_keys rows.lecturers) (get_or rows.projects p x) (get_or projects p row.0) = zip_at (IsProjectOf (lecturer_keys rows.lecturers)) rows.projects projects p x row.0 h so.offers in
       rw (lecturer_here projects p row.0 (omega (arith, project_count)) (sym row.1)) (rw (at, row.1) at both).lecturer
 
   -- a choice is a project
-  pub choice_known : (s k p : ℕ) (x : Lines.Student) → s < length rows.students → get_or rows.students s x ≡ x → k < length (choices_at students s) → get_or (choices_at students s) k p ≡ p → p < length rows.projects
+  pub choice_known : (s k p : ℕ) (x : Lines.Student) → s < length rows.students → get_or rows.students s x ≡ x
+      → k < length (choices_at students s) → get_or (choices_at students s) k p ≡ p → p < length rows.projects
   choice_known s k p x h at under is_p =
       let below : get_or (choices_at students s) k p < length (project_keys rows.projects) = numbers_below (project_keys rows.projects) x.list (choices_at students s) (choices_numbered s x h at) k p under in
       omega (arith, is_p, length-map rows.projects (λ q. q.key))
@@ -59,7 +62,8 @@ module _ (rows : Rows) (students : List Student) (projects : List Project) (so :
     key_y = key_number (λ x. x.key) rows.lecturers l y low is_y
 
     -- a student lists a project of the lecturer
-    pub finds_number : (s : ℕ) (x : Lines.Student) → s < length rows.students → get_or rows.students s x ≡ x → FindsOne rows x y.key → Finds projects (choices_at students s) l
+    pub finds_number : (s : ℕ) (x : Lines.Student) → s < length rows.students → get_or rows.students s x ≡ x
+        → FindsOne rows x y.key → Finds projects (choices_at students s) l
     finds_number s x h at (k, text, under, is_text, (j, line, j_low, is_line, (key, offers))) =
         let zip : AreNumbers (project_keys rows.projects) x.list (choices_at students s) = choices_numbered s x h at in
         let long : length (choices_at students s) ≡ length x.list = AllZip-long (λ t n. HasKey (project_keys rows.projects) n t) x.list (choices_at students s) zip in
@@ -71,7 +75,8 @@ module _ (rows : Rows) (students : List Student) (projects : List Project) (so :
         let is_l : lecturer_at projects j ≡ l = one_number (lecturer_keys rows.lecturers) (lecturer_at projects j) l y.key so.rise_lecturers (lecturer.0, lecturer.1 ∙ offers) key_y in
         (k, p, omega arith, get_or_default (choices_at students s) k p 0 (omega arith), ap (lecturer_at projects) same ∙ is_l)
 
-    pub finds_text : (s : ℕ) (x : Lines.Student) → s < length rows.students → get_or rows.students s x ≡ x → Finds projects (choices_at students s) l → FindsOne rows x y.key
+    pub finds_text : (s : ℕ) (x : Lines.Student) → s < length rows.students → get_or rows.students s x ≡ x
+        → Finds projects (choices_at students s) l → FindsOne rows x y.key
     finds_text s x h at (k, p, under, is_p, offers) =
         let zip : AreNumbers (project_keys rows.projects) x.list (choices_at students s) = choices_numbered s x h at in
         let long : length (choices_at students s) ≡ length x.list = AllZip-long (λ t n. HasKey (project_keys rows.projects) n t) x.list (choices_at students s) zip in
@@ -85,12 +90,14 @@ module _ (rows : Rows) (students : List Student) (projects : List Project) (so :
         (k, text.0, omega arith, text.1, (p, line.0, known, line.1, (sym its.1 ∙ key_p.1, sym lecturer.1 ∙ ap (λ n. get_or (lecturer_keys rows.lecturers) n []) offers ∙ key_y.1)))
 
     -- the text is an applicant's
-    pub applicant_number : (text : Text) → IsApplicant rows y.key text → IsApplicantOf rows.students students projects l text
+    pub applicant_number : (text : Text) → IsApplicant rows y.key text
+        → IsApplicantOf rows.students students projects l text
     applicant_number text (s, x, h, at, (key, finds)) =
         let its : HasKey (student_keys rows.students) s x.key = key_number (λ q. q.key) rows.students s x h at in
         (s, (its.0, its.1 ∙ key), finds_number s x h at finds)
 
-    pub applicant_text : (text : Text) → IsApplicantOf rows.students students projects l text → IsApplicant rows y.key text
+    pub applicant_text : (text : Text) → IsApplicantOf rows.students students projects l text
+        → IsApplicant rows y.key text
     applicant_text text (s, key, finds) =
         let known : s < length rows.students = omega (arith, key.0, length-map rows.students (λ q. q.key)) in
         let x = at_place rows.students s known in
@@ -107,7 +114,8 @@ module _ (rows : Rows) (students : List Student) (projects : List Project) (so :
   fault_others r (l, y, a, low, at, row, (k, text, under, is_text, none)) = (l, y, a, low, at, row, (k, text, under, is_text, λ yes. none (applicant_text l y low at text yes)))
 
   -- of a number and of its text
-  applicant_same : (l : ℕ) (text : Text) (n : ℕ) → HasNumber rows.students (λ x. x.key) text n → IsApplicantOf rows.students students projects l text ↔ IsApplicantNumber students projects l n
+  applicant_same : (l : ℕ) (text : Text) (n : ℕ) → HasNumber rows.students (λ x. x.key) text n
+      → IsApplicantOf rows.students students projects l text ↔ IsApplicantNumber students projects l n
   applicant_same l text n has = (
     λ (s, key, finds).
         let known : n < length rows.students = elim (cases_lt n (length rows.students)) [ inl low ↦ low | inr past ↦ absurd (has.unknown past (is_key_of (λ x. x.key) rows.students s text key)) ] in
@@ -119,7 +127,10 @@ module _ (rows : Rows) (students : List Student) (projects : List Project) (so :
   )
 
   -- the least row of a ranking with a number that is no applicant's
-  pub others_numbered : (rankings : List (Vec ℕ Global)) → AreListNumbers rows.students (λ x. x.key) (λ x. x.list) rows.lecturers rankings → (o : Option ℕ) → IsLeastOf (BadAt rows.lecturers (λ x. x.row) (λ l _. Any (λ n. IsApplicantNumber students projects l n → ⊥) (numbers_at rankings l))) o → IsLeastOf OthersAt o
+  pub others_numbered : (rankings : List (Vec ℕ Global))
+      → AreListNumbers rows.students (λ x. x.key) (λ x. x.list) rows.lecturers rankings → (o : Option ℕ)
+      → IsLeastOf (BadAt rows.lecturers (λ x. x.row) (λ l _. Any (λ n. IsApplicantNumber students projects l n → ⊥) (numbers_at rankings l))) o
+      → IsLeastOf OthersAt o
   others_numbered rankings are o least =
       let Has : Lines.Lecturer → Vec ℕ Global → Type 0 = λ y own. HaveNumbers rows.students (λ x. x.key) y.list own.items in
       alike rows.lecturers (λ x. x.row) (λ _ _. ⊤) (λ l _. Any (λ n. IsApplicantNumber students projects l n → ⊥) (numbers_at rankings l)) (λ l x. Any (λ text. IsApplicantOf rows.students students projects l text → ⊥) x.list) (length rows.lecturers) o

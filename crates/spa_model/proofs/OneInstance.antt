@@ -73,14 +73,16 @@ own_number keys n rise h =
     let low : number_in keys text < length keys = number_known keys text (own_key keys n h) in
     one_number keys (number_in keys text) n text rise (low, number_is keys text low) (h, refl)
 
-pub numbers_back : (keys : List Text) (list : List ℕ) → Rise keys → All (λ n. n < length keys) list → map (number_in keys) (keys_at keys list) ≡ list
+pub numbers_back : (keys : List Text) (list : List ℕ) → Rise keys → All (λ n. n < length keys) list
+    → map (number_in keys) (keys_at keys list) ≡ list
 numbers_back keys [] rise all = refl
 numbers_back keys (n ∷ ns) rise all =
     let here : number_in keys (get_or keys n []) ≡ n = own_number keys n rise (all zero n (omega arith)) in
     cc (numbers_back keys ns rise (λ k d h. all (suc k) d (omega arith)))
 
 -- two lists of numbers that have the same keys are one
-numbers_one : (keys others : List Text) (ns ms : List ℕ) → keys ≡ others → Rise keys → All (λ n. n < length keys) ns → All (λ n. n < length others) ms → keys_at keys ns ≡ keys_at others ms → ns ≡ ms
+numbers_one : (keys others : List Text) (ns ms : List ℕ) → keys ≡ others → Rise keys → All (λ n. n < length keys) ns
+    → All (λ n. n < length others) ms → keys_at keys ns ≡ keys_at others ms → ns ≡ ms
 numbers_one keys others ns ms same rise low below e =
     let low_too : All (λ n. n < length keys) ms = subst (λ (ks : List Text). All (λ n. n < length ks) ms) (sym same) below in
     sym (numbers_back keys ns rise low) ∙ ap (map (number_in keys)) (e ∙ ap (λ ks. keys_at ks ms) (sym same)) ∙ numbers_back keys ms rise low_too
@@ -92,11 +94,14 @@ all_on P list known k d h = let low : place list (get_or list k d) ≤ k = place
 known_key : (keys : List Text) (n : ℕ) (text : Text) → HasKey keys n text → Contains keys text
 known_key keys n text h = (n, h.0, get_or_default keys n text [] h.0 ∙ h.1)
 
-none_equal : (text : Text) (ks : List Text) → is_member bytes_eq ks text ≡ false → AllByRecursion (λ y. bytes_eq text y ≡ false) ks
+none_equal : (text : Text) (ks : List Text) → is_member bytes_eq ks text ≡ false
+    → AllByRecursion (λ y. bytes_eq text y ≡ false) ks
 none_equal text [] h = tt
 none_equal text (k ∷ ks) h = at (bytes_eq text k) refl h (none_equal text ks)
   where
-    at : (b : Bool) → bytes_eq text k ≡ b → (b || is_member bytes_eq ks text) ≡ false → (is_member bytes_eq ks text ≡ false → AllByRecursion (λ y. bytes_eq text y ≡ false) ks) → AllByRecursion (λ y. bytes_eq text y ≡ false) (k ∷ ks)
+    at : (b : Bool) → bytes_eq text k ≡ b → (b || is_member bytes_eq ks text) ≡ false
+        → (is_member bytes_eq ks text ≡ false → AllByRecursion (λ y. bytes_eq text y ≡ false) ks)
+        → AllByRecursion (λ y. bytes_eq text y ≡ false) (k ∷ ks)
     at true e h rest = cc
     at false e h rest = (e, rest h)
 
@@ -114,7 +119,8 @@ module _ {X : Type 0} (key : X → Text) (lines : List X) (keys : List Text) (lo
       let equal : key y.0 ≡ key x.0 = sym (map_at key lines i y.0 d i_low y.1) ∙ same ∙ map_at key lines j x.0 d j_low x.1 in
       apart j x.0 j_low x.1 (i, y.0, omega (arith, length-take j lines), get_or-take j lines i y.0 less ∙ y.1, equal)
 
-  line_at : (text : Text) → Contains (map key lines) text → (j : ℕ) × (x : X) × (j < length lines) × (get_or lines j x ≡ x) × (key x ≡ text)
+  line_at : (text : Text) → Contains (map key lines) text
+      → (j : ℕ) × (x : X) × (j < length lines) × (get_or lines j x ≡ x) × (key x ≡ text)
   line_at text c =
       let low : c.0 < length lines = omega (arith, length-map lines key, c.1) in
       let x = at_place lines c.0 low in
@@ -125,10 +131,12 @@ module _ {X : Type 0} (key : X → Text) (lines : List X) (keys : List Text) (lo
       let x = line_at text ((is_member-Decides bytes_eq-Decides (map key lines) text).0 h) in
       (is_member-Decides bytes_eq-Decides keys text).1 (subst (Contains keys) x.4 (there x.0 x.1 x.2 x.3))
 
-  pub line_of : (text : Text) → Contains keys text → (j : ℕ) × (x : X) × (j < length lines) × (get_or lines j x ≡ x) × (key x ≡ text)
+  pub line_of : (text : Text) → Contains keys text
+      → (j : ℕ) × (x : X) × (j < length lines) × (get_or lines j x ≡ x) × (key x ≡ text)
   line_of text c = line_at text (at (is_member bytes_eq (map key lines) text) refl)
     where
-      also : (b : Bool) (q : Text) → bytes_eq q text ≡ b → (b || is_member bytes_eq (map key lines) q) ≡ true → is_member bytes_eq keys q ≡ true
+      also : (b : Bool) (q : Text) → bytes_eq q text ≡ b → (b || is_member bytes_eq (map key lines) q) ≡ true
+          → is_member bytes_eq keys q ≡ true
       also true q e h = (is_member-Decides bytes_eq-Decides keys q).1 (subst (Contains keys) (sym ((bytes_eq-Decides q text).0 e)) c)
       also false q e h = among q h
 
@@ -140,7 +148,8 @@ module _ {X : Type 0} (key : X → Text) (lines : List X) (keys : List Text) (lo
           absurd (omega (arith, length-map lines key))
 
 -- keys that rise, and hold each key of others that rise, as many as they are, are these
-pub keys_one : (ks ls : List Text) → Rise ks → Rise ls → length ks ≡ length ls → ((text : Text) → Contains ls text → Contains ks text) → ks ≡ ls
+pub keys_one : (ks ls : List Text) → Rise ks → Rise ls → length ks ≡ length ls
+    → ((text : Text) → Contains ls text → Contains ks text) → ks ≡ ls
 keys_one ks ls up rise long into = same_keys ks ls up rise long (λ k h.
     let c : Contains ks (get_or ls k []) = into (get_or ls k []) (own_key ls k h) in
     (c.0, c.1, get_or_default ks c.0 [] (get_or ls k []) c.1 ∙ c.2))
@@ -149,26 +158,35 @@ keys_one ks ls up rise long into = same_keys ks ls up rise long (λ k h.
 
 module _ (rows : Rows) (i : Spa) (lawful : IsLawful i) (for : StandsFor rows i) where
   -- what holds of each line holds of the line at a place
-  here : {X : Type 0} (P : X → Type 0) (lines : List X) → All P lines → (k : ℕ) (x : X) → k < length lines → get_or lines k x ≡ x → P x
+  here : {X : Type 0} (P : X → Type 0) (lines : List X) → All P lines → (k : ℕ) (x : X) → k < length lines
+      → get_or lines k x ≡ x → P x
   here P lines all k x low at = rw at at (all k x low)
 
-  pub student_there : (k : ℕ) (x : Student) → k < length rows.students → get_or rows.students k x ≡ x → Contains i.student_keys x.key
+  pub student_there : (k : ℕ) (x : Student) → k < length rows.students → get_or rows.students k x ≡ x
+      → Contains i.student_keys x.key
   student_there k x low at = let s = here (StandsStudent i) rows.students for.students k x low at in known_key i.student_keys s.0 x.key s.1
 
-  pub project_there : (k : ℕ) (x : Project) → k < length rows.projects → get_or rows.projects k x ≡ x → Contains i.project_keys x.key
+  pub project_there : (k : ℕ) (x : Project) → k < length rows.projects → get_or rows.projects k x ≡ x
+      → Contains i.project_keys x.key
   project_there k x low at = let s = here (StandsProject i) rows.projects for.projects k x low at in known_key i.project_keys s.0 x.key s.1
 
-  pub lecturer_there : (k : ℕ) (x : Lecturer) → k < length rows.lecturers → get_or rows.lecturers k x ≡ x → Contains i.lecturer_keys x.key
+  pub lecturer_there : (k : ℕ) (x : Lecturer) → k < length rows.lecturers → get_or rows.lecturers k x ≡ x
+      → Contains i.lecturer_keys x.key
   lecturer_there k x low at = let s = here (StandsLecturer i) rows.lecturers for.lecturers k x low at in known_key i.lecturer_keys s.0 x.key s.1
 
   -- what a line says, at the number of its key
-  pub student_says : (k : ℕ) (x : Student) (n : ℕ) → k < length rows.students → get_or rows.students k x ≡ x → HasKey i.student_keys n x.key → keys_at i.project_keys (choices_of i n) ≡ x.list
+  pub student_says : (k : ℕ) (x : Student) (n : ℕ) → k < length rows.students → get_or rows.students k x ≡ x
+      → HasKey i.student_keys n x.key → keys_at i.project_keys (choices_of i n) ≡ x.list
   student_says k x n low at own = search (rules, here (StandsStudent i) rows.students for.students, one_number)
 
-  pub project_says : (k : ℕ) (x : Project) (n : ℕ) → k < length rows.projects → get_or rows.projects k x ≡ x → HasKey i.project_keys n x.key → (capacity_of i n ≡ x.capacity) × (get_or i.lecturer_keys (lecturer_of i n) [] ≡ x.lecturer)
+  pub project_says : (k : ℕ) (x : Project) (n : ℕ) → k < length rows.projects → get_or rows.projects k x ≡ x
+      → HasKey i.project_keys n x.key
+      → (capacity_of i n ≡ x.capacity) × (get_or i.lecturer_keys (lecturer_of i n) [] ≡ x.lecturer)
   project_says k x n low at own = search (rules, here (StandsProject i) rows.projects for.projects, one_number)
 
-  pub lecturer_says : (k : ℕ) (x : Lecturer) (n : ℕ) → k < length rows.lecturers → get_or rows.lecturers k x ≡ x → HasKey i.lecturer_keys n x.key → (limit_of i n ≡ x.capacity) × (keys_at i.student_keys (ranking_of i n) ≡ x.list)
+  pub lecturer_says : (k : ℕ) (x : Lecturer) (n : ℕ) → k < length rows.lecturers → get_or rows.lecturers k x ≡ x
+      → HasKey i.lecturer_keys n x.key
+      → (limit_of i n ≡ x.capacity) × (keys_at i.student_keys (ranking_of i n) ≡ x.list)
   lecturer_says k x n low at own = search (rules, here (StandsLecturer i) rows.lecturers for.lecturers, one_number)
 
 -- ---- what numbers are on the lists of a lawful instance
@@ -188,13 +206,16 @@ module _ (i : Spa) (lawful : IsLawful i) where
 -- ---- two instances of the same rows
 
 module _ (rows : Rows) (none : HasNoneBefore rows Memory) (i j : Spa) (li : IsLawful i) (fi : StandsFor rows i) (lj : IsLawful j) (fj : StandsFor rows j) where
-  students_apart : (k : ℕ) (x : Student) → k < length rows.students → get_or rows.students k x ≡ x → IsEarlierKey rows.students (λ y. y.key) k x.key → ⊥
+  students_apart : (k : ℕ) (x : Student) → k < length rows.students → get_or rows.students k x ≡ x
+      → IsEarlierKey rows.students (λ y. y.key) k x.key → ⊥
   students_apart k x low at early = none KeyTwice (omega arith) x.row (inr (inr (k, x, low, low, at, refl, early)))
 
-  projects_apart : (k : ℕ) (x : Project) → k < length rows.projects → get_or rows.projects k x ≡ x → IsEarlierKey rows.projects (λ y. y.key) k x.key → ⊥
+  projects_apart : (k : ℕ) (x : Project) → k < length rows.projects → get_or rows.projects k x ≡ x
+      → IsEarlierKey rows.projects (λ y. y.key) k x.key → ⊥
   projects_apart k x low at early = none KeyTwice (omega arith) x.row (inr (inl (k, x, low, low, at, refl, early)))
 
-  lecturers_apart : (k : ℕ) (x : Lecturer) → k < length rows.lecturers → get_or rows.lecturers k x ≡ x → IsEarlierKey rows.lecturers (λ y. y.key) k x.key → ⊥
+  lecturers_apart : (k : ℕ) (x : Lecturer) → k < length rows.lecturers → get_or rows.lecturers k x ≡ x
+      → IsEarlierKey rows.lecturers (λ y. y.key) k x.key → ⊥
   lecturers_apart k x low at early = none KeyTwice (omega arith) x.row (inl (k, x, low, low, at, refl, early))
 
   same_students : i.student_keys ≡ j.student_keys
@@ -213,7 +234,8 @@ module _ (rows : Rows) (none : HasNoneBefore rows Memory) (i j : Spa) (li : IsLa
       subst (Contains i.lecturer_keys) x.4 (lecturer_there rows i li fi x.0 x.1 x.2 x.3))
 
   -- a number's key, in both
-  both : (keys others : List Text) (n : ℕ) (text : Text) → keys ≡ others → n < length keys → text ≡ get_or keys n [] → HasKey keys n text × HasKey others n text
+  both : (keys others : List Text) (n : ℕ) (text : Text) → keys ≡ others → n < length keys → text ≡ get_or keys n []
+      → HasKey keys n text × HasKey others n text
   both keys others n text same low e = ((low, sym e), (rw same at low, rw same at (sym e)))
 
   same_choices : i.choices ≡ j.choices
@@ -224,7 +246,8 @@ module _ (rows : Rows) (none : HasNoneBefore rows Memory) (i j : Spa) (li : IsLa
       numbers_one i.project_keys j.project_keys (choices_of i s) (choices_of j s) same_projects li.project_keys_rise (choices_below i li s) (choices_below j lj s)
       (student_says rows i li fi x.0 x.1 s x.2 x.3 own.0 ∙ sym (student_says rows j lj fj x.0 x.1 s x.2 x.3 own.1)))
 
-  project_at : (p : ℕ) → p < length i.lecturers → (capacity_of i p ≡ capacity_of j p) × (get_or i.lecturer_keys (lecturer_of i p) [] ≡ get_or j.lecturer_keys (lecturer_of j p) [])
+  project_at : (p : ℕ) → p < length i.lecturers
+      → (capacity_of i p ≡ capacity_of j p) × (get_or i.lecturer_keys (lecturer_of i p) [] ≡ get_or j.lecturer_keys (lecturer_of j p) [])
   project_at p h =
       let low : p < length i.project_keys = omega (arith, li.project_key_rows) in
       let x = line_of (λ y. y.key) rows.projects i.project_keys fi.project_count projects_apart (project_there rows i li fi) (get_or i.project_keys p []) (own_key i.project_keys p low) in

@@ -11,7 +11,8 @@ place-le-length (x ∷ xs) a = elim (eqb x a) as (λ b. cond b 0 (1 + place xs a
   | false ↦ omega (arith, place-le-length xs a)
 ]
 
-by_tests : (x a b m n k : ℕ) (p q : Bool) → (p ≡ true → x ≡ a) → (q ≡ true → x ≡ b) → (m < k → m ≡ n → a ≡ b) → cond p 0 (1 + m) < suc k → cond p 0 (1 + m) ≡ cond q 0 (1 + n) → a ≡ b
+by_tests : (x a b m n k : ℕ) (p q : Bool) → (p ≡ true → x ≡ a) → (q ≡ true → x ≡ b) → (m < k → m ≡ n → a ≡ b)
+    → cond p 0 (1 + m) < suc k → cond p 0 (1 + m) ≡ cond q 0 (1 + n) → a ≡ b
 by_tests x a b m n k true true f g r h e = let l = f refl in let o = g refl in cc
 by_tests x a b m n k true false f g r h e = absurd (omega arith)
 by_tests x a b m n k false true f g r h e = absurd (omega arith)
@@ -27,7 +28,8 @@ pub get_or-place : (xs : List ℕ) (a d : ℕ) → place xs a < length xs → ge
 get_or-place [] a d h = absurd (omega arith)
 get_or-place (x ∷ xs) a d h = by_test (eqb x a) (eqb-true x a) (get_or-place xs a d) h
   where
-    by_test : (b : Bool) → (b ≡ true → x ≡ a) → (place xs a < length xs → get_or xs (place xs a) d ≡ a) → cond b 0 (1 + place xs a) < suc (length xs) → get_or (x ∷ xs) (cond b 0 (1 + place xs a)) d ≡ a
+    by_test : (b : Bool) → (b ≡ true → x ≡ a) → (place xs a < length xs → get_or xs (place xs a) d ≡ a)
+        → cond b 0 (1 + place xs a) < suc (length xs) → get_or (x ∷ xs) (cond b 0 (1 + place xs a)) d ≡ a
     by_test true f r h = f refl
     by_test false f r h = rw one-add (r (omega arith))
 

@@ -15,7 +15,9 @@ pub record AreRanksBelow (n : ℕ) (list : List ℕ) (i : ℕ) (ranks : List (Op
   pub before : (s : ℕ) → s < n → place list s < i → get_or ranks s None ≡ Some (place list s)
   pub after : (s : ℕ) → s < n → i ≤ place list s → get_or ranks s None ≡ None
 
-pub one_rank : (n : ℕ) (list : List ℕ) (i s : ℕ) (ranks : List (Option ℕ)) → AllPairs (λ a b. a ≢ b) list → i < length list → s ≡ get_or list i s → s < n → AreRanksBelow n list i ranks → AreRanksBelow n list (i + 1) (set ranks s (Some i))
+pub one_rank : (n : ℕ) (list : List ℕ) (i s : ℕ) (ranks : List (Option ℕ)) → AllPairs (λ a b. a ≢ b) list
+    → i < length list → s ≡ get_or list i s → s < n → AreRanksBelow n list i ranks
+    → AreRanksBelow n list (i + 1) (set ranks s (Some i))
 one_rank n list i s ranks apart h at l so =
     let here : place list s ≡ i = subst (λ t. place list t ≡ i) (sym at) (place-get_or list i s apart h) in
     let mine : get_or (set ranks s (Some i)) s None ≡ Some i = get_or-set_same ranks s (Some i) None (omega arith) in
@@ -44,7 +46,8 @@ at_most list n apart below = length-le_from_distinct_below list n (IsDistinct-fr
     omega (arith, on.3, eqb-true q on.1 on.4))
 
 -- texts, none twice, have numbers, none twice
-pub distinct_numbers : (keys : List Text) (texts : List Text) (numbers : List ℕ) → AreNumbers keys texts numbers → (Repeats texts → ⊥) → AllPairs (λ a b. a ≢ b) numbers
+pub distinct_numbers : (keys : List Text) (texts : List Text) (numbers : List ℕ) → AreNumbers keys texts numbers
+    → (Repeats texts → ⊥) → AllPairs (λ a b. a ≢ b) numbers
 distinct_numbers keys texts numbers zip apart i j d less h = λ same.
     let long : length numbers ≡ length texts = AllZip-long (λ text n. HasKey keys n text) texts numbers zip in
     let first : HasKey keys (get_or numbers i d) (get_or texts i []) = zip_at (λ text n. HasKey keys n text) texts numbers i [] d (omega arith) zip in
@@ -59,5 +62,6 @@ distinct_numbers keys texts numbers zip apart i j d less h = λ same.
     )
 
 -- the numbers are those of keys
-pub numbers_below : (keys : List Text) (texts : List Text) (numbers : List ℕ) → AreNumbers keys texts numbers → All (λ n. n < length keys) numbers
+pub numbers_below : (keys : List Text) (texts : List Text) (numbers : List ℕ) → AreNumbers keys texts numbers
+    → All (λ n. n < length keys) numbers
 numbers_below keys texts numbers zip = zip_all (λ text n. HasKey keys n text) (λ n. n < length keys) texts numbers (λ text n h. h.0) zip

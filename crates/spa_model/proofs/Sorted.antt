@@ -6,7 +6,8 @@ use Rattle.spa_model.proofs.Base.{length_permutation, first_fault_carry}
 use Rattle.spa_rows.specs.declared.faults.InstanceFault.{InstanceFault}
 
 -- the sorted rows are refused as the rows are
-pub refusal_of_rows : (rows sorted : Rows) → SameLines rows sorted → HasNoneBefore rows NoSuchLecturer → (fault : InstanceFault) (r : ℕ) → IsRefusal sorted fault r → IsRefusal rows fault r
+pub refusal_of_rows : (rows sorted : Rows) → SameLines rows sorted → HasNoneBefore rows NoSuchLecturer
+    → (fault : InstanceFault) (r : ℕ) → IsRefusal sorted fault r → IsRefusal rows fault r
 refusal_of_rows rows sorted same none KeyTwice r first = absurd (none_before_carry rows sorted same NoSuchLecturer none KeyTwice (omega arith) r first.here)
 refusal_of_rows rows sorted same none Memory r first = first
 refusal_of_rows rows sorted same none fault r first = first_fault_carry sorted rows (same_lines_sym rows sorted same) fault (λ e. cc) r first

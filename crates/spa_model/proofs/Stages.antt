@@ -16,7 +16,9 @@ use Rattle.spa_model.proofs.Numbered
 use Rattle.spa_model.proofs.Missing
 
 -- the numbers of texts that are keys
-pub numbers_listed : {X L : Type 0} (key : X → Text) (lines : List X) (list : L → List Text) (owners : List L) (numbers : List (Vec ℕ Global)) → AreListNumbers lines key list owners numbers → All (λ x. AreKeysOf lines key (list x)) owners → AllZip (λ x own. AreNumbers (map key lines) (list x) own.items) owners numbers
+pub numbers_listed : {X L : Type 0} (key : X → Text) (lines : List X) (list : L → List Text) (owners : List L) (numbers : List (Vec ℕ Global))
+    → AreListNumbers lines key list owners numbers → All (λ x. AreKeysOf lines key (list x)) owners
+    → AllZip (λ x own. AreNumbers (map key lines) (list x) own.items) owners numbers
 numbers_listed key lines list owners numbers are known =
     zip_also (λ x own. HaveNumbers lines key (list x) own.items) (λ x own. AreNumbers (map key lines) (list x) own.items) (λ x. AreKeysOf lines key (list x)) owners numbers (λ x own have keys. zip_also (HasNumber lines key) (λ text n. HasKey (map key lines) n text) (IsKeyOf lines key) (list x) own.items one keys have) known are
   where
@@ -37,7 +39,9 @@ module _ (rows : Rows) (rankings : List (Vec ℕ Global)) (are : AllZip (λ x ow
       let line = at_place rows.lecturers k (omega (arith, low, AllZip-long (λ x own. AreNumbers (student_keys rows.students) x.list own.items) rows.lecturers rankings are)) in
       distinct_numbers (student_keys rows.students) (get_or rows.lecturers k line.0).list (get_or rankings k d).items (zip_at (λ x own. AreNumbers (student_keys rows.students) x.list own.items) rows.lecturers rankings k line.0 d (omega (arith, low, AllZip-long (λ x own. AreNumbers (student_keys rows.students) x.list own.items) rows.lecturers rankings are)) are) (apart k line.0 (omega (arith, low, AllZip-long (λ x own. AreNumbers (student_keys rows.students) x.list own.items) rows.lecturers rankings are)))
 
-pub numbered : (rows : Rows) (students : List Student) (projects : List Project) → AreGood rows → AllZip (IsStudentOf (project_keys rows.projects)) rows.students students → AllZip (IsProjectOf (lecturer_keys rows.lecturers)) rows.projects projects → AreNumbered rows students projects
+pub numbered : (rows : Rows) (students : List Student) (projects : List Project) → AreGood rows
+    → AllZip (IsStudentOf (project_keys rows.projects)) rows.students students
+    → AllZip (IsProjectOf (lecturer_keys rows.lecturers)) rows.projects projects → AreNumbered rows students projects
 numbered rows students projects good choices offers = search rules
 
 module _ (rows : Rows) (students : List Student) (projects : List Project) (so : AreNumbered rows students projects) where
@@ -49,11 +53,13 @@ module _ (rows : Rows) (students : List Student) (projects : List Project) (so :
       (zip_all (IsStudentOf (project_keys rows.projects)) (λ s. All (λ p. p < length (project_keys rows.projects)) s.choices.items) rows.students students (λ x s is. numbers_below (project_keys rows.projects) x.list s.choices.items is.choices) so.choices)
 
   -- the least row of the fault NotApplicant
-  pub other_least : (o : Option ℕ) → IsLeastOf (Numbered.OthersAt rows students projects so) o → IsLeastOf (HasFault rows NotApplicant) o
+  pub other_least : (o : Option ℕ) → IsLeastOf (Numbered.OthersAt rows students projects so) o
+      → IsLeastOf (HasFault rows NotApplicant) o
   other_least o least = least_same (Numbered.OthersAt rows students projects so) (HasFault rows NotApplicant) o (Numbered.others_fault rows students projects so) (Numbered.fault_others rows students projects so) least
 
   -- lists name students where no list names another
-  pub lists_known : HasNoneBefore rows ApplicantMissing → All (λ y. AreKeysOf rows.students (λ x. x.key) y.list) rows.lecturers
+  pub lists_known : HasNoneBefore rows ApplicantMissing
+      → All (λ y. AreKeysOf rows.students (λ x. x.key) y.list) rows.lecturers
   lists_known none k d h =
       let y : Lines.Lecturer = get_or rows.lecturers k d in
       all_known (λ x. x.key) rows.students y.list (λ (i, text, under, at, unknown).
@@ -75,5 +81,7 @@ module _ (rows : Rows) (students : List Student) (projects : List Project) (so :
         (zip_all (IsLecturerOf (student_keys rows.students)) (λ l. length l.ranks.items ≡ length (student_keys rows.students)) rows.lecturers lecturers (λ x l is. is.ranks.count) lists)
 
     -- the least row of the fault ApplicantMissing
-    pub missing_least : (o : Option ℕ) → IsLeastOf (MissesBelow rows.lecturers lecturers projects students (length students)) o → IsLeastOf (HasFault rows ApplicantMissing) o
+    pub missing_least : (o : Option ℕ)
+        → IsLeastOf (MissesBelow rows.lecturers lecturers projects students (length students)) o
+        → IsLeastOf (HasFault rows ApplicantMissing) o
     missing_least o least = least_same (MissesBelow rows.lecturers lecturers projects students (length students)) (HasFault rows ApplicantMissing) o (Missing.misses_fault rows students projects lecturers so lists) (Missing.fault_misses rows students projects lecturers so lists) least

@@ -28,7 +28,9 @@ StandsProject i x =
     (p : ℕ) × HasKey i.project_keys p x.key × (capacity_of i p ≡ x.capacity) × (slice_index_or i.lecturer_keys (lecturer_of i p) [] ≡ x.lecturer)
 
 abbrev pub StandsLecturer : Spa → Lecturer → Type 0
-StandsLecturer i x = (l : ℕ) × HasKey i.lecturer_keys l x.key × (limit_of i l ≡ x.capacity) × (keys_at i.student_keys (ranking_of i l) ≡ x.list)
+StandsLecturer i x =
+    (l : ℕ) × HasKey i.lecturer_keys l x.key × (limit_of i l ≡ x.capacity)
+    × (keys_at i.student_keys (ranking_of i l) ≡ x.list)
 
 -- the instance has exactly the lines of the rows; only one lawful instance has, as its keys rise
 pub record StandsFor (rows : Rows) (i : Spa) : Type 0 where
@@ -63,8 +65,10 @@ lecturer_in i x = lecturer_of i (project_in i x)
 abbrev pub HasPairFault : Spa → List Pair → MatchingFault → ℕ → Type 0
 HasPairFault i lines NoSuchStudent r = BadAt lines (λ x. x.row) (λ _ x. Contains i.student_keys x.student → ⊥) r
 HasPairFault i lines NoSuchProject r = BadAt lines (λ x. x.row) (λ _ x. Contains i.project_keys x.project → ⊥) r
-HasPairFault i lines NotAcceptable r = BadAt lines (λ x. x.row) (λ _ x. IsAcceptable i (student_in i x) (project_in i x) → ⊥) r
-HasPairFault i lines StudentTwice r = BadAt lines (λ x. x.row) (λ j x. Any (λ y. y.student ≡ x.student) (take j lines)) r
+HasPairFault i lines NotAcceptable r =
+    BadAt lines (λ x. x.row) (λ _ x. IsAcceptable i (student_in i x) (project_in i x) → ⊥) r
+HasPairFault i lines StudentTwice r =
+    BadAt lines (λ x. x.row) (λ j x. Any (λ y. y.student ≡ x.student) (take j lines)) r
 HasPairFault i lines ProjectOver r =
     BadAt lines (λ x. x.row) (λ j x. capacity_of i (project_in i x) < count_by (λ y. project_in i y == project_in i x) (take (j + 1) lines)) r
 HasPairFault i lines LecturerOver r =
@@ -85,7 +89,8 @@ number_of_pair_fault Memory = 7
 pub record IsFirstPairFault (i : Spa) (lines : List Pair) (fault : MatchingFault) (r : ℕ) : Type 0 where
   pub here : HasPairFault i lines fault r
   pub least : (q : ℕ) → HasPairFault i lines fault q → r ≤ q
-  pub none_before : (f : MatchingFault) → number_of_pair_fault f < number_of_pair_fault fault → (q : ℕ) → HasPairFault i lines f q → ⊥
+  pub none_before : (f : MatchingFault) → number_of_pair_fault f < number_of_pair_fault fault → (q : ℕ)
+      → HasPairFault i lines f q → ⊥
 
 abbrev pub IsPairRefusal : Spa → List Pair → MatchingFault → ℕ → Type 0
 IsPairRefusal i lines Memory r = r ≡ 0

@@ -105,7 +105,9 @@ SomeWorseWith i m l s = (t : ℕ) × IsWith i m l t × IsBefore (ranking_of i l)
 
 -- (s, p) blocks the matching: A, p and its lecturer have room; B, only p has; C, p is full
 abbrev pub Blocks : Spa → List (Option ℕ) → ℕ → ℕ → Letter → Type 0
-Blocks i m s p A = Wants i m s p × (at_project m p < capacity_of i p) × (at_lecturer i m (lecturer_of i p) < limit_of i (lecturer_of i p))
+Blocks i m s p A =
+    Wants i m s p × (at_project m p < capacity_of i p)
+    × (at_lecturer i m (lecturer_of i p) < limit_of i (lecturer_of i p))
 Blocks i m s p B =
     Wants i m s p × (at_project m p < capacity_of i p) × (at_lecturer i m (lecturer_of i p) ≡ limit_of i (lecturer_of i p))
     × (IsWith i m (lecturer_of i p) s ⊎ SomeWorseWith i m (lecturer_of i p) s)

@@ -26,7 +26,8 @@ same_lines_sym a b same = record {
 }
 
 -- some element of a list
-any_carry : {X : Type 0} (P Q : X → Type 0) (xs ys : List X) → IsPermutation xs ys → ((x : X) → P x → Q x) → Any P xs → Any Q ys
+any_carry : {X : Type 0} (P Q : X → Type 0) (xs ys : List X) → IsPermutation xs ys → ((x : X) → P x → Q x) → Any P xs
+    → Any Q ys
 any_carry P Q xs ys same step (k, x, h, at, p) =
     let (j, g, is) = Contains-permutation xs ys x same (k, h, at) in
     (j, x, g, is, step x p)
@@ -35,22 +36,27 @@ any_step : {X : Type 0} (P Q : X → Type 0) (xs : List X) → ((x : X) → P x 
 any_step P Q xs step (k, x, h, at, p) = (k, x, h, at, step x p)
 
 -- some line in a row
-bad_carry : {X : Type 0} (row : X → ℕ) (P Q : X → Type 0) (xs ys : List X) → IsPermutation xs ys → ((x : X) → P x → Q x) → (r : ℕ) → BadAt xs row (λ _ x. P x) r → BadAt ys row (λ _ x. Q x) r
+bad_carry : {X : Type 0} (row : X → ℕ) (P Q : X → Type 0) (xs ys : List X) → IsPermutation xs ys → ((x : X) → P x → Q x)
+    → (r : ℕ) → BadAt xs row (λ _ x. P x) r → BadAt ys row (λ _ x. Q x) r
 bad_carry row P Q xs ys same step r (k, x, h, h2, at, in_row, p) =
     let (j, g, is) = Contains-permutation xs ys x same (k, h, at) in
     (j, x, g, g, is, in_row, step x p)
 
-pub key_carry : {X : Type 0} (key : X → Text) (xs ys : List X) (text : Text) → IsPermutation xs ys → IsKeyOf xs key text → IsKeyOf ys key text
+pub key_carry : {X : Type 0} (key : X → Text) (xs ys : List X) (text : Text) → IsPermutation xs ys → IsKeyOf xs key text
+    → IsKeyOf ys key text
 key_carry key xs ys text same known = any_carry (λ x. key x ≡ text) (λ x. key x ≡ text) xs ys same (λ x h. h) known
 
 -- what is said of applicants
-pub offered_carry : (a b : Rows) → SameLines a b → (project lecturer : Text) → IsOffered a project lecturer → IsOffered b project lecturer
+pub offered_carry : (a b : Rows) → SameLines a b → (project lecturer : Text) → IsOffered a project lecturer
+    → IsOffered b project lecturer
 offered_carry a b same project lecturer offered = any_carry (λ p. (p.key ≡ project) × (p.lecturer ≡ lecturer)) (λ p. (p.key ≡ project) × (p.lecturer ≡ lecturer)) a.projects b.projects same.projects (λ x h. h) offered
 
-pub finds_carry : (a b : Rows) → SameLines a b → (s : Student) (lecturer : Text) → FindsOne a s lecturer → FindsOne b s lecturer
+pub finds_carry : (a b : Rows) → SameLines a b → (s : Student) (lecturer : Text) → FindsOne a s lecturer
+    → FindsOne b s lecturer
 finds_carry a b same s lecturer found = any_step (λ project. IsOffered a project lecturer) (λ project. IsOffered b project lecturer) s.list (λ project h. offered_carry a b same project lecturer h) found
 
-pub applicant_carry : (a b : Rows) → SameLines a b → (lecturer text : Text) → IsApplicant a lecturer text → IsApplicant b lecturer text
+pub applicant_carry : (a b : Rows) → SameLines a b → (lecturer text : Text) → IsApplicant a lecturer text
+    → IsApplicant b lecturer text
 applicant_carry a b same lecturer text is = any_carry (λ s. (s.key ≡ text) × FindsOne a s lecturer) (λ s. (s.key ≡ text) × FindsOne b s lecturer) a.students b.students same.students (λ s h. (h.0, finds_carry a b same s lecturer h.1)) is
 
 pub misses_carry : (a b : Rows) → SameLines a b → (x : Lecturer) → MissesOne a x → MissesOne b x
@@ -62,13 +68,16 @@ either_carry f g (inl h) = inl (f h)
 either_carry f g (inr h) = inr (g h)
 
 module _ (a b : Rows) (same : SameLines a b) where
-  lecturer_carry : (P Q : Lecturer → Type 0) → ((x : Lecturer) → P x → Q x) → (r : ℕ) → BadAt a.lecturers (λ x. x.row) (λ _ x. P x) r → BadAt b.lecturers (λ x. x.row) (λ _ x. Q x) r
+  lecturer_carry : (P Q : Lecturer → Type 0) → ((x : Lecturer) → P x → Q x) → (r : ℕ)
+      → BadAt a.lecturers (λ x. x.row) (λ _ x. P x) r → BadAt b.lecturers (λ x. x.row) (λ _ x. Q x) r
   lecturer_carry P Q step r bad = bad_carry (λ x. x.row) P Q a.lecturers b.lecturers same.lecturers step r bad
 
-  project_carry : (P Q : Project → Type 0) → ((x : Project) → P x → Q x) → (r : ℕ) → BadAt a.projects (λ x. x.row) (λ _ x. P x) r → BadAt b.projects (λ x. x.row) (λ _ x. Q x) r
+  project_carry : (P Q : Project → Type 0) → ((x : Project) → P x → Q x) → (r : ℕ)
+      → BadAt a.projects (λ x. x.row) (λ _ x. P x) r → BadAt b.projects (λ x. x.row) (λ _ x. Q x) r
   project_carry P Q step r bad = bad_carry (λ x. x.row) P Q a.projects b.projects same.projects step r bad
 
-  student_carry : (P Q : Student → Type 0) → ((x : Student) → P x → Q x) → (r : ℕ) → BadAt a.students (λ x. x.row) (λ _ x. P x) r → BadAt b.students (λ x. x.row) (λ _ x. Q x) r
+  student_carry : (P Q : Student → Type 0) → ((x : Student) → P x → Q x) → (r : ℕ)
+      → BadAt a.students (λ x. x.row) (λ _ x. P x) r → BadAt b.students (λ x. x.row) (λ _ x. Q x) r
   student_carry P Q step r bad = bad_carry (λ x. x.row) P Q a.students b.students same.students step r bad
 
   -- a fault other than a repeated key
@@ -88,7 +97,9 @@ module _ (a b : Rows) (same : SameLines a b) where
   fault_carry Memory ne r has = has
 
 -- the keys of lines that do not repeat are distinct, and the other way round
-keys_apart : {X : Type 0} (key : X → Text) (xs : List X) → ((j : ℕ) (x : X) → j < length xs → get_or xs j x ≡ x → IsEarlierKey xs key j (key x) → ⊥) → IsDistinct bytes_eq (map key xs)
+keys_apart : {X : Type 0} (key : X → Text) (xs : List X)
+    → ((j : ℕ) (x : X) → j < length xs → get_or xs j x ≡ x → IsEarlierKey xs key j (key x) → ⊥)
+    → IsDistinct bytes_eq (map key xs)
 keys_apart key xs none = IsDistinct-from_apart bytes_eq (map key xs) (λ i j d before below.
     let in_j : j < length xs = omega (arith, below, length-map xs key) in
     let in_i : i < length xs = omega (arith, before, in_j) in
@@ -98,7 +109,8 @@ keys_apart key xs none = IsDistinct-from_apart bytes_eq (map key xs) (λ i j d b
     let one : key x ≡ key y = sym (map_at key xs i x d in_i is_x) ∙ (bytes_eq-Decides _ _).0 e ∙ map_at key xs j y d in_j is_y in
     none j y in_j is_y (i, x, omega (arith, before, in_j, length-take j xs), get_or-take j xs i x before ∙ is_x, one)))
 
-keys_unlike : {X : Type 0} (key : X → Text) (xs : List X) → IsDistinct bytes_eq (map key xs) → (j : ℕ) (x : X) → j < length xs → get_or xs j x ≡ x → IsEarlierKey xs key j (key x) → ⊥
+keys_unlike : {X : Type 0} (key : X → Text) (xs : List X) → IsDistinct bytes_eq (map key xs) → (j : ℕ) (x : X)
+    → j < length xs → get_or xs j x ≡ x → IsEarlierKey xs key j (key x) → ⊥
 keys_unlike key xs apart j y in_j is_y (i, x, in_take, taken, one) =
     let long : length (map key xs) ≡ length xs = length-map xs key in
     let before : i < j = omega (arith, in_take, length-take j xs) in
@@ -111,13 +123,16 @@ bytes_flip : (x y : Text) → bytes_eq x y ≡ bytes_eq y x
 bytes_flip x y = nat_list_eq_equiv.symm x y
 
 -- no line of a permutation has the key of an earlier one
-twice_carry : {X : Type 0} (key : X → Text) (row : X → ℕ) (xs ys : List X) → IsPermutation xs ys → ((r : ℕ) → BadAt xs row (λ j x. IsEarlierKey xs key j (key x)) r → ⊥) → (r : ℕ) → BadAt ys row (λ j x. IsEarlierKey ys key j (key x)) r → ⊥
+twice_carry : {X : Type 0} (key : X → Text) (row : X → ℕ) (xs ys : List X) → IsPermutation xs ys
+    → ((r : ℕ) → BadAt xs row (λ j x. IsEarlierKey xs key j (key x)) r → ⊥) → (r : ℕ)
+    → BadAt ys row (λ j x. IsEarlierKey ys key j (key x)) r → ⊥
 twice_carry key row xs ys same none r (j, y, h, h2, at, in_row, earlier) =
     let apart = keys_apart key xs (λ i x g is before. none (row x) (i, x, g, g, is, refl, before)) in
     keys_unlike key ys (IsDistinct-IsPermutation bytes_eq bytes_flip (map key xs) (map key ys) (IsPermutation-map key xs ys same) apart) j y h at earlier
 
 -- a repeated key
-pub twice_none_carry : (a b : Rows) → SameLines a b → ((r : ℕ) → HasFault a KeyTwice r → ⊥) → (r : ℕ) → HasFault b KeyTwice r → ⊥
+pub twice_none_carry : (a b : Rows) → SameLines a b → ((r : ℕ) → HasFault a KeyTwice r → ⊥) → (r : ℕ)
+    → HasFault b KeyTwice r → ⊥
 twice_none_carry a b same none r has = elim has [
   | inl h ↦ twice_carry (λ x. x.key) (λ x. x.row) a.lecturers b.lecturers same.lecturers (λ q bad. none q (inl bad)) r h
   | inr later ↦ elim later [
@@ -130,7 +145,8 @@ is_twice : (f : InstanceFault) → (f ≡ KeyTwice) ⊎ (f ≢ KeyTwice)
 is_twice f = search (rules, same_number)
 
 -- no fault of a lesser number
-pub none_before_carry : (a b : Rows) → SameLines a b → (fault : InstanceFault) → HasNoneBefore a fault → HasNoneBefore b fault
+pub none_before_carry : (a b : Rows) → SameLines a b → (fault : InstanceFault) → HasNoneBefore a fault
+    → HasNoneBefore b fault
 none_before_carry a b same fault none f below r has = elim (is_twice f) [
   | inl twice ↦
       twice_none_carry a b same (λ q h. none KeyTwice (omega (arith, below, ap number_of twice)) q h) r (subst (λ x. HasFault b x r) twice has)
@@ -138,7 +154,8 @@ none_before_carry a b same fault none f below r has = elim (is_twice f) [
 ]
 
 -- the first fault
-pub first_fault_carry : (a b : Rows) → SameLines a b → (fault : InstanceFault) → fault ≢ KeyTwice → (r : ℕ) → IsFirstFault a fault r → IsFirstFault b fault r
+pub first_fault_carry : (a b : Rows) → SameLines a b → (fault : InstanceFault) → fault ≢ KeyTwice → (r : ℕ)
+    → IsFirstFault a fault r → IsFirstFault b fault r
 first_fault_carry a b same fault other r first = record {
   here = fault_carry a b same fault other r first.here;
   least = λ q has. first.least q (fault_carry b a (same_lines_sym a b same) fault other q has);

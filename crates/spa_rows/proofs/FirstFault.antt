@@ -20,7 +20,8 @@ pub same_number : (f g : InstanceFault) → number_of f ≡ number_of g → f �
 same_number f g e = sym (back f) ∙ ap fault_at e ∙ back g
 
 -- no row has this fault either
-pub none_before_next : (rows : Rows) (fault next : InstanceFault) → number_of next ≡ number_of fault + 1 → HasNoneBefore rows fault → IsLeastOf (HasFault rows fault) None → HasNoneBefore rows next
+pub none_before_next : (rows : Rows) (fault next : InstanceFault) → number_of next ≡ number_of fault + 1
+    → HasNoneBefore rows fault → IsLeastOf (HasFault rows fault) None → HasNoneBefore rows next
 none_before_next rows fault next step before none f below q has = search (rules, same_number)
 
 -- a fault that is the first is a refusal
@@ -30,14 +31,19 @@ refusal_first rows fault r first = first
 
 module _ (rows : Rows) (fault : InstanceFault) where
   -- where the one fault is refused, it is the first
-  pub refuse_err : {X : Type 0} (row : Option ℕ) (result : Result X BadInstance) → MatchOption row (IsOk result) (λ r. result ≡ Err (record { fault = fault; row = r })) → HasNoneBefore rows fault → IsLeastOf (HasFault rows fault) row → IfErr result (λ e. IsRefusal rows e.fault e.row)
+  pub refuse_err : {X : Type 0} (row : Option ℕ) (result : Result X BadInstance)
+      → MatchOption row (IsOk result) (λ r. result ≡ Err (record { fault = fault; row = r })) → HasNoneBefore rows fault
+      → IsLeastOf (HasFault rows fault) row → IfErr result (λ e. IsRefusal rows e.fault e.row)
   refuse_err None (Ok x) told before least = tt
   refuse_err None (Err e) told before least = absurd (false≢true told)
   refuse_err (Some r) (Ok x) told before least = tt
   refuse_err (Some r) (Err e) told before least = search (rules, refusal_first)
 
   -- where it is not, no row has it
-  pub refuse_ok : {X : Type 0} (next : InstanceFault) (row : Option ℕ) (result : Result X BadInstance) → number_of next ≡ number_of fault + 1 → MatchOption row (IsOk result) (λ r. result ≡ Err (record { fault = fault; row = r })) → HasNoneBefore rows fault → IsLeastOf (HasFault rows fault) row → OnOk result (HasNoneBefore rows next)
+  pub refuse_ok : {X : Type 0} (next : InstanceFault) (row : Option ℕ) (result : Result X BadInstance)
+      → number_of next ≡ number_of fault + 1
+      → MatchOption row (IsOk result) (λ r. result ≡ Err (record { fault = fault; row = r })) → HasNoneBefore rows fault
+      → IsLeastOf (HasFault rows fault) row → OnOk result (HasNoneBefore rows next)
   refuse_ok next None (Ok x) step told before least = none_before_next rows fault next step before least
   refuse_ok next None (Err e) step told before least = tt
   refuse_ok next (Some r) (Ok x) step told before least = absurd (cc)
@@ -52,6 +58,7 @@ pub none_before_first : (rows : Rows) → HasNoneBefore rows TooMany
 none_before_first rows f below = absurd (omega (arith, below, positive f))
 
 -- an error handed on as it was
-pub handed_on : {X E : Type 0} (result : Result X E) (y : E) (P : E → Type 0) → IsErrAnd result (λ e. e ≡ y) → P y → IfErr result P
+pub handed_on : {X E : Type 0} (result : Result X E) (y : E) (P : E → Type 0) → IsErrAnd result (λ e. e ≡ y) → P y
+    → IfErr result P
 handed_on (Ok x) y P is h = tt
 handed_on (Err e) y P is h = rw is h

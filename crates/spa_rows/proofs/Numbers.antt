@@ -10,7 +10,8 @@ use Rattle.spa_rows.proofs.LeastRow.{alike}
 
 module _ {X : Type 0} (lines : List X) (key : X → Text) where
   -- a line with the key was found, or none
-  pub number_found : (text : Text) (n : ℕ) → n < length lines → ((d : X) → key (get_or lines n d) ≡ text) → HasNumber lines key text n
+  pub number_found : (text : Text) (n : ℕ) → n < length lines → ((d : X) → key (get_or lines n d) ≡ text)
+      → HasNumber lines key text n
   number_found text n h at = record { bound = omega arith; known = λ _. at; unknown = λ past. absurd (omega arith) }
 
   pub number_none : (text : Text) (n : ℕ) → n ≡ length lines → (IsKeyOf lines key text → ⊥) → HasNumber lines key text n
@@ -21,11 +22,13 @@ module _ {X : Type 0} (lines : List X) (key : X → Text) where
   number_known text n has h = let row = at_place lines n h in (n, row.0, h, row.1, ap key (sym row.1) ∙ has.known h row.0)
 
   -- numbers are at most the count
-  pub numbers_bounded : (texts : List Text) (numbers : List ℕ) → HaveNumbers lines key texts numbers → All (λ n. n < length lines + 1) numbers
+  pub numbers_bounded : (texts : List Text) (numbers : List ℕ) → HaveNumbers lines key texts numbers
+      → All (λ n. n < length lines + 1) numbers
   numbers_bounded texts numbers have = zip_all (HasNumber lines key) (λ n. n < length lines + 1) texts numbers (λ text n has. omega (arith, has.bound)) have
 
   -- a list has the number that no line has where it names none
-  pub names_none_iff : (texts : List Text) (numbers : List ℕ) → HaveNumbers lines key texts numbers → Contains numbers (length lines) ↔ NamesNone lines key texts
+  pub names_none_iff : (texts : List Text) (numbers : List ℕ) → HaveNumbers lines key texts numbers
+      → Contains numbers (length lines) ↔ NamesNone lines key texts
   names_none_iff texts numbers have = (
     λ (k, h, at).
         let text = at_place texts k (omega (arith, h, long)) in
@@ -44,7 +47,8 @@ module _ {X : Type 0} (lines : List X) (key : X → Text) where
       long = AllZip-long (HasNumber lines key) texts numbers have
 
   module _ (apart : (n : ℕ) (x : X) → n < length lines → get_or lines n x ≡ x → IsEarlierKey lines key n (key x) → ⊥) where
-    later : (text : Text) (m n : ℕ) → m < n → n < length lines → ((d : X) → key (get_or lines m d) ≡ text) → ((d : X) → key (get_or lines n d) ≡ text) → ⊥
+    later : (text : Text) (m n : ℕ) → m < n → n < length lines → ((d : X) → key (get_or lines m d) ≡ text)
+        → ((d : X) → key (get_or lines n d) ≡ text) → ⊥
     later text m n less h at_m at_n =
         let x = at_place lines m (omega arith) in
         let y = at_place lines n h in
@@ -70,7 +74,8 @@ module _ {X : Type 0} (lines : List X) (key : X → Text) where
     ]
 
     -- where numbers differ, so do their texts
-    pub texts_differ : (texts : List Text) (numbers : List ℕ) → HaveNumbers lines key texts numbers → Differ numbers → Repeats texts → ⊥
+    pub texts_differ : (texts : List Text) (numbers : List ℕ) → HaveNumbers lines key texts numbers → Differ numbers
+        → Repeats texts → ⊥
     texts_differ texts numbers have differ (j, text, h, at, (i, earlier, under, at_i, same)) =
         let less : i < j = omega (arith, under, length-take j texts) in
         let long : length numbers ≡ length texts = AllZip-long (HasNumber lines key) texts numbers have in
@@ -82,7 +87,9 @@ module _ {X : Type 0} (lines : List X) (key : X → Text) where
 
   module _ {L : Type 0} (owners : List L) (list : L → List Text) (numbers : List (Vec ℕ Global)) (are : AreListNumbers lines key list owners numbers) where
     -- the least row whose list names none
-    pub unknown_least : (row : L → ℕ) (o : Option ℕ) → IsLeastOf (BadAt owners row (λ j _. Contains (get_or (map (λ own. own.items) numbers) j []) (length lines))) o → IsLeastOf (BadAt owners row (λ _ x. NamesNone lines key (list x))) o
+    pub unknown_least : (row : L → ℕ) (o : Option ℕ)
+        → IsLeastOf (BadAt owners row (λ j _. Contains (get_or (map (λ own. own.items) numbers) j []) (length lines))) o
+        → IsLeastOf (BadAt owners row (λ _ x. NamesNone lines key (list x))) o
     unknown_least row o least = alike owners row (λ _ _. ⊤) (λ j _. Contains (get_or (map (λ own. own.items) numbers) j []) (length lines)) (λ _ x. NamesNone lines key (list x)) (length owners) o
         (λ j x below at.
         let own = at_place numbers j (omega (arith, AllZip-long (λ x own. HaveNumbers lines key (list x) own.items) owners numbers are)) in
@@ -96,17 +103,21 @@ module _ {X : Type 0} (lines : List X) (key : X → Text) where
     below_count = zip_all (λ x own. HaveNumbers lines key (list x) own.items) (λ own. All (λ n. n < length lines + 1) own.items) owners numbers (λ x own have. numbers_bounded (list x) own.items have) are
 
     -- where the numbers of a list differ, so do its texts
-    pub lists_differ : ((n : ℕ) (x : X) → n < length lines → get_or lines n x ≡ x → IsEarlierKey lines key n (key x) → ⊥) → AllZip (λ x own. Differ own.items → Repeats (list x) → ⊥) owners numbers
+    pub lists_differ : ((n : ℕ) (x : X) → n < length lines → get_or lines n x ≡ x → IsEarlierKey lines key n (key x) → ⊥)
+        → AllZip (λ x own. Differ own.items → Repeats (list x) → ⊥) owners numbers
     lists_differ apart = zip_weaker (λ x own. HaveNumbers lines key (list x) own.items) (λ x own. Differ own.items → Repeats (list x) → ⊥) owners numbers (λ x own have. texts_differ apart (list x) own.items have) are
 
 -- what a search of a list answers
-pub contains_answer : (xs : List ℕ) (x : ℕ) (r : Bool) → IsAnyAnswer (λ y b. eqb y x ≡ b) xs r → IsTrue r ↔ Contains xs x
+pub contains_answer : (xs : List ℕ) (x : ℕ) (r : Bool) → IsAnyAnswer (λ y b. eqb y x ≡ b) xs r
+    → IsTrue r ↔ Contains xs x
 contains_answer xs x true (k, h, at) = (λ _. (k, h, eqb-true (get_or xs k x) x (at x)), λ _. refl)
 contains_answer xs x false none = (λ e. absurd (false≢true e), λ (k, h, at). absurd (false≢true (sym (none k x (omega arith) h) ∙ eq-eqb (get_or xs k x) x at)))
 
 -- no line has the key of an earlier one
-pub students_apart : (rows : Rows) → HasNoneBefore rows NoSuchLecturer → (n : ℕ) (x : Student) → n < length rows.students → get_or rows.students n x ≡ x → IsEarlierKey rows.students (λ y. y.key) n x.key → ⊥
+pub students_apart : (rows : Rows) → HasNoneBefore rows NoSuchLecturer → (n : ℕ) (x : Student)
+    → n < length rows.students → get_or rows.students n x ≡ x → IsEarlierKey rows.students (λ y. y.key) n x.key → ⊥
 students_apart rows none n x h at earlier = none KeyTwice (omega arith) x.row (inr (inr (n, x, h, h, at, refl, earlier)))
 
-pub projects_apart : (rows : Rows) → HasNoneBefore rows NoSuchLecturer → (n : ℕ) (x : Project) → n < length rows.projects → get_or rows.projects n x ≡ x → IsEarlierKey rows.projects (λ y. y.key) n x.key → ⊥
+pub projects_apart : (rows : Rows) → HasNoneBefore rows NoSuchLecturer → (n : ℕ) (x : Project)
+    → n < length rows.projects → get_or rows.projects n x ≡ x → IsEarlierKey rows.projects (λ y. y.key) n x.key → ⊥
 projects_apart rows none n x h at earlier = none KeyTwice (omega arith) x.row (inr (inl (n, x, h, h, at, refl, earlier)))

@@ -30,7 +30,8 @@ same_text : (p q : Bor Text) → (is_eq (text_cmp p q) ≡ true) ↔ (p.now ≡ 
 same_text p q = (λ same. exact_bytes _ _ ((Equal-is _).0 same), λ one. rw one (ap is_eq (tied_itself nat_list_cmp_total q.now)))
 
 module _ {X : Type 0} (xs : List X) (key : X → Text) where
-  pub more : (n : ℕ) (x : X) (text : Text) → n < length xs → get_or xs n x ≡ x → IsEarlierKey xs key (n + 1) text ↔ (IsEarlierKey xs key n text ⊎ (key x ≡ text))
+  pub more : (n : ℕ) (x : X) (text : Text) → n < length xs → get_or xs n x ≡ x
+      → IsEarlierKey xs key (n + 1) text ↔ (IsEarlierKey xs key n text ⊎ (key x ≡ text))
   more n x text h e =
       let grown : take (n + 1) xs ≡ take n xs ++ x ∷ [] = take_more xs n x h ∙ ap (λ y. take n xs ++ y ∷ []) e in
       rw grown (λ any. any_push (λ y. key y ≡ text) (take n xs) x any, λ either. elim either [ inl before ↦ any_left (λ y. key y ≡ text) (take n xs) (x ∷ []) before | inr here ↦ Any-push (λ y. key y ≡ text) (take n xs) x here ])
@@ -40,10 +41,13 @@ module _ {X : Type 0} (xs : List X) (key : X → Text) where
     pub has : (q : Bor Text) → IsTrue (tree.contains text_cmp set q) ↔ IsEarlierKey xs key n q.now
 
   -- the text of the next one was put in
-  pub tree_more : (s t : BTreeSet (Bor Text)) (k : Bor Text) (n : ℕ) (x : X) → tree.Updates text_cmp s t k true → k.now ≡ key x → n < length xs → get_or xs n x ≡ x → IsInTree s n → IsInTree t (n + 1)
+  pub tree_more : (s t : BTreeSet (Bor Text)) (k : Bor Text) (n : ℕ) (x : X) → tree.Updates text_cmp s t k true
+      → k.now ≡ key x → n < length xs → get_or xs n x ≡ x → IsInTree s n → IsInTree t (n + 1)
   tree_more s t k n x updates is h e seen = record { has = λ q. step q (is_eq (text_cmp k q)) refl (updates.0 q) }
     where
-      step : (q : Bor Text) (b : Bool) → is_eq (text_cmp k q) ≡ b → tree.contains text_cmp t q ≡ cond b true (tree.contains text_cmp s q) → IsTrue (tree.contains text_cmp t q) ↔ IsEarlierKey xs key (n + 1) q.now
+      step : (q : Bor Text) (b : Bool) → is_eq (text_cmp k q) ≡ b
+          → tree.contains text_cmp t q ≡ cond b true (tree.contains text_cmp s q)
+          → IsTrue (tree.contains text_cmp t q) ↔ IsEarlierKey xs key (n + 1) q.now
       step q true one now = (λ _. (more n x q.now h e).1 (inr (sym is ∙ (same_text k q).0 one)), λ _. now)
       step q false other now = (
         λ had. (more n x q.now h e).1 (inl ((seen.has q).0 (sym now ∙ had))),
@@ -54,5 +58,7 @@ module _ {X : Type 0} (xs : List X) (key : X → Text) where
       )
 
   -- what was there before is no new one
-  pub tree_before : (s : BTreeSet (Bor Text)) (k : Bor Text) (added : Bool) (n : ℕ) (x : X) → added ≡ not (tree.contains text_cmp s k) → k.now ≡ key x → IsInTree s n → (IsTrue (not added) ↔ IsEarlierKey xs key n (key x))
+  pub tree_before : (s : BTreeSet (Bor Text)) (k : Bor Text) (added : Bool) (n : ℕ) (x : X)
+      → added ≡ not (tree.contains text_cmp s k) → k.now ≡ key x → IsInTree s n
+      → (IsTrue (not added) ↔ IsEarlierKey xs key n (key x))
   tree_before s k added n x was is seen = search (rules, not-not)

@@ -9,7 +9,8 @@ use Rattle.spa_rows.specs.declared.faults.InstanceFault.TheVariants.{Memory}
 
 -- one of the first n lines has the row number r and is bad; `Bad` also takes its index, from 0
 abbrev pub BadBelow : {X : Type 0} → List X → (X → ℕ) → (ℕ → X → Type 0) → ℕ → ℕ → Type 0
-BadBelow {X} lines row Bad n r = (j : ℕ) × (x : X) × (j < n) × (j < length lines) × (slice_index_or lines j x ≡ x) × (row x ≡ r) × Bad j x
+BadBelow {X} lines row Bad n r =
+    (j : ℕ) × (x : X) × (j < n) × (j < length lines) × (slice_index_or lines j x ≡ x) × (row x ≡ r) × Bad j x
 
 -- one of the lines has the row number r and is bad
 abbrev pub BadAt : {X : Type 0} → List X → (X → ℕ) → (ℕ → X → Type 0) → ℕ → Type 0
@@ -43,7 +44,9 @@ NamesNone lines key list = Any (λ text. IsKeyOf lines key text → ⊥) list
 
 -- the list holds some text twice
 abbrev pub Repeats : List Text → Type 0
-Repeats list = (j : ℕ) × (text : Text) × (j < length list) × (slice_index_or list j text ≡ text) × Any (λ earlier. earlier ≡ text) (take j list)
+Repeats list =
+    (j : ℕ) × (text : Text) × (j < length list) × (slice_index_or list j text ≡ text)
+    × Any (λ earlier. earlier ≡ text) (take j list)
 
 -- the project of the first key is offered by the lecturer of the second
 abbrev pub IsOffered : Rows → Text → Text → Type 0
@@ -63,13 +66,15 @@ MissesOne rows x = Any (λ s. FindsOne rows s x.key × (Any (λ text. text ≡ s
 
 -- row r has the fault; `TooMany` belongs to no single row and has r = 0
 abbrev pub HasFault : Rows → InstanceFault → ℕ → Type 0
-HasFault rows TooMany r = (r ≡ 0) × ((300 < length rows.lecturers) ⊎ ((1000 < length rows.projects) ⊎ (2000 < length rows.students)))
+HasFault rows TooMany r =
+    (r ≡ 0) × ((300 < length rows.lecturers) ⊎ ((1000 < length rows.projects) ⊎ (2000 < length rows.students)))
 HasFault rows BadKey r =
     BadLecturer rows (λ _ x. is_key x.key ≡ false) r ⊎ (BadProject rows (λ _ x. is_key x.key ≡ false) r ⊎ BadStudent rows (λ _ x. is_key x.key ≡ false) r)
 HasFault rows KeyTwice r =
     BadLecturer rows (λ j x. IsEarlierKey rows.lecturers (λ y. y.key) j x.key) r
     ⊎ (BadProject rows (λ j x. IsEarlierKey rows.projects (λ y. y.key) j x.key) r ⊎ BadStudent rows (λ j x. IsEarlierKey rows.students (λ y. y.key) j x.key) r)
-HasFault rows BadCapacity r = BadLecturer rows (λ _ x. IsBadCapacity x.capacity) r ⊎ BadProject rows (λ _ x. IsBadCapacity x.capacity) r
+HasFault rows BadCapacity r =
+    BadLecturer rows (λ _ x. IsBadCapacity x.capacity) r ⊎ BadProject rows (λ _ x. IsBadCapacity x.capacity) r
 HasFault rows NoSuchLecturer r = BadProject rows (λ _ x. IsKeyOf rows.lecturers (λ y. y.key) x.lecturer → ⊥) r
 HasFault rows NoSuchProject r = BadStudent rows (λ _ x. NamesNone rows.projects (λ y. y.key) x.list) r
 HasFault rows RepeatInList r = BadLecturer rows (λ _ x. Repeats x.list) r ⊎ BadStudent rows (λ _ x. Repeats x.list) r

@@ -21,26 +21,31 @@ pub acceptable_in_range : (i : Spa) (s p : ℕ) → IsAcceptable i s p → s < l
 acceptable_in_range i s p on = search (rules, get_or_past)
 
 -- what stands on a student's list is acceptable
-pub entry_acceptable : (i : Spa) (s k : ℕ) → k < length (choices_of i s) → IsAcceptable i s (get_or (choices_of i s) k 0)
+pub entry_acceptable : (i : Spa) (s k : ℕ) → k < length (choices_of i s)
+    → IsAcceptable i s (get_or (choices_of i s) k 0)
 entry_acceptable i s k h = omega (arith, place-get_or-le (choices_of i s) k 0 h)
 
 -- who stands on a ranking is a student
-pub ranked_in_range : (i : Spa) → IsLawful i → (l k : ℕ) → k < length (ranking_of i l) → get_or (ranking_of i l) k 0 < length i.choices
+pub ranked_in_range : (i : Spa) → IsLawful i → (l k : ℕ) → k < length (ranking_of i l)
+    → get_or (ranking_of i l) k 0 < length i.choices
 ranked_in_range i lawful l k h =
     let why = lawful.applicants l (get_or (ranking_of i l) k 0) (omega (arith, place-get_or-le (ranking_of i l) k 0 h)) in
     acceptable_in_range i (get_or (ranking_of i l) k 0) why.0 why.1
 
 -- who is not cut at the own project stands before the cuts
-pub rank_at_below : (i : Spa) (q : Progress) → IsUncut i q → (w p : ℕ) → project_of q.projects.items w ≡ Some p → rank_of i (lecturer_of i p) w < get_or q.project_cuts.items p 0
+pub rank_at_below : (i : Spa) (q : Progress) → IsUncut i q → (w p : ℕ) → project_of q.projects.items w ≡ Some p
+    → rank_of i (lecturer_of i p) w < get_or q.project_cuts.items p 0
 rank_at_below i q uncut w p e = elim (cases_lt (rank_of i (lecturer_of i p) w) (get_or q.project_cuts.items p 0)) [ inl h ↦ h | inr h ↦ absurd (uncut w p e (inl h)) ]
 
-pub rank_with_below : (i : Spa) (q : Progress) → IsUncut i q → (w l : ℕ) → IsWith i q.projects.items l w → rank_of i l w < get_or q.lecturer_cuts.items l 0
+pub rank_with_below : (i : Spa) (q : Progress) → IsUncut i q → (w l : ℕ) → IsWith i q.projects.items l w
+    → rank_of i l w < get_or q.lecturer_cuts.items l 0
 rank_with_below i q uncut w l with_l = elim (cases_lt (rank_of i l w) (get_or q.lecturer_cuts.items l 0)) [ inl h ↦ h | inr h ↦ absurd (uncut w with_l.0 with_l.1 (inr (rw with_l.2 h))) ]
 
 -- those on a list who have P, each before the cut
 module _ (list : List ℕ) (cut : ℕ) (P : ℕ → Type 0) (on : (x : ℕ) → P x → place list x < length list) (before : (x : ℕ) → P x → place list x < cut) where
   -- where nobody later before the cut has it, the student found is the last
-  last_found : IsDistinct list → (k : ℕ) → k < length list → ((j : ℕ) → k < j → j < cut → P (get_or list j 0) → ⊥) → (x : ℕ) → P x → place list x ≤ place list (get_or list k 0)
+  last_found : IsDistinct list → (k : ℕ) → k < length list → ((j : ℕ) → k < j → j < cut → P (get_or list j 0) → ⊥)
+      → (x : ℕ) → P x → place list x ≤ place list (get_or list k 0)
   last_found apart k h later x has = elim (cases_lt k (place list x)) [
     | inl after ↦ absurd (later (place list x) after (before x has) (rw (get_or-place list x 0 (on x has)) has))
     | inr not ↦ omega (arith, place-get_or list k 0 apart h)
@@ -51,17 +56,20 @@ module _ (list : List ℕ) (cut : ℕ) (P : ℕ → Type 0) (on : (x : ℕ) → 
   some_found s has none = none (place list s) (before s has) (rw (get_or-place list s 0 (on s has)) has)
 
 module _ (i : Spa) (lawful : IsLawful i) (q : Progress) (marks : AreMarks i q) (uncut : IsUncut i q) where
-  at_on : (p x : ℕ) → project_of q.projects.items x ≡ Some p → place (ranking_of i (lecturer_of i p)) x < length (ranking_of i (lecturer_of i p))
+  at_on : (p x : ℕ) → project_of q.projects.items x ≡ Some p
+      → place (ranking_of i (lecturer_of i p)) x < length (ranking_of i (lecturer_of i p))
   at_on p x e = lawful.ranked x p (marks.assigned.acceptable x p e)
 
   with_on : (l x : ℕ) → IsWith i q.projects.items l x → place (ranking_of i l) x < length (ranking_of i l)
   with_on l x with_l = rw with_l.2 at (at_on with_l.0 x with_l.1)
 
-  pub found_worst_at : (p k : ℕ) → k < length (ranking_of i (lecturer_of i p)) → project_of q.projects.items (get_or (ranking_of i (lecturer_of i p)) k 0) ≡ Some p
+  pub found_worst_at : (p k : ℕ) → k < length (ranking_of i (lecturer_of i p))
+      → project_of q.projects.items (get_or (ranking_of i (lecturer_of i p)) k 0) ≡ Some p
       → ((j : ℕ) → k < j → j < get_or q.project_cuts.items p 0 → project_of q.projects.items (get_or (ranking_of i (lecturer_of i p)) j 0) ≡ Some p → ⊥) → IsWorstAt i q.projects.items p (get_or (ranking_of i (lecturer_of i p)) k 0)
   found_worst_at p k h at later = record { at = at; worst = last_found (ranking_of i (lecturer_of i p)) (get_or q.project_cuts.items p 0) (λ x. project_of q.projects.items x ≡ Some p) (at_on p) (λ x. rank_at_below i q uncut x p) (lawful.distinct (lecturer_of i p)) k h later }
 
-  pub found_worst_with : (l k : ℕ) → k < length (ranking_of i l) → IsWith i q.projects.items l (get_or (ranking_of i l) k 0)
+  pub found_worst_with : (l k : ℕ) → k < length (ranking_of i l)
+      → IsWith i q.projects.items l (get_or (ranking_of i l) k 0)
       → ((j : ℕ) → k < j → j < get_or q.lecturer_cuts.items l 0 → IsWith i q.projects.items l (get_or (ranking_of i l) j 0) → ⊥) → IsWorstWith i q.projects.items l (get_or (ranking_of i l) k 0)
   found_worst_with l k h at later = record { with_l = at; worst = λ x u e own. last_found (ranking_of i l) (get_or q.lecturer_cuts.items l 0) (IsWith i q.projects.items l) (with_on l) (λ y. rank_with_below i q uncut y l) (lawful.distinct l) k h later x (u, e, own) }
 
@@ -69,22 +77,27 @@ module _ (i : Spa) (lawful : IsLawful i) (q : Progress) (marks : AreMarks i q) (
       → ((j : ℕ) → j < get_or q.project_cuts.items p 0 → project_of q.projects.items (get_or (ranking_of i (lecturer_of i p)) j 0) ≡ Some p → ⊥) → ⊥
   found_at p = some_found (ranking_of i (lecturer_of i p)) (get_or q.project_cuts.items p 0) (λ x. project_of q.projects.items x ≡ Some p) (at_on p) (λ x. rank_at_below i q uncut x p)
 
-  pub found_with : (l s : ℕ) → IsWith i q.projects.items l s → ((j : ℕ) → j < get_or q.lecturer_cuts.items l 0 → IsWith i q.projects.items l (get_or (ranking_of i l) j 0) → ⊥) → ⊥
+  pub found_with : (l s : ℕ) → IsWith i q.projects.items l s
+      → ((j : ℕ) → j < get_or q.lecturer_cuts.items l 0 → IsWith i q.projects.items l (get_or (ranking_of i l) j 0) → ⊥)
+      → ⊥
   found_with l = some_found (ranking_of i l) (get_or q.lecturer_cuts.items l 0) (IsWith i q.projects.items l) (with_on l) (λ x. rank_with_below i q uncut x l)
 
 -- the cuts that stay cut the same
-pub same_cut : (i : Spa) (q after : Progress) → KeepsCuts q after → (s p : ℕ) → IsPastCut i q s p → IsPastCut i after s p
+pub same_cut : (i : Spa) (q after : Progress) → KeepsCuts q after → (s p : ℕ) → IsPastCut i q s p
+    → IsPastCut i after s p
 same_cut i q after cuts s p past = rw (cuts.project_cuts, cuts.lecturer_cuts) past
 
 was_cut : (i : Spa) (q after : Progress) → KeepsCuts q after → (s p : ℕ) → IsPastCut i after s p → IsPastCut i q s p
 was_cut i q after cuts s p past = rw (cuts.project_cuts, cuts.lecturer_cuts) at past
 
 -- nobody is cut at the own project
-held_uncut : (i : Spa) (m : List (Option ℕ)) (q : Progress) → Holds i m (IsCut i q) → (s p : ℕ) → project_of m s ≡ Some p → IsPastCut i q s p → ⊥
+held_uncut : (i : Spa) (m : List (Option ℕ)) (q : Progress) → Holds i m (IsCut i q) → (s p : ℕ)
+    → project_of m s ≡ Some p → IsPastCut i q s p → ⊥
 held_uncut i m q holds s p e past = search rules
 
 -- the rank of who was found
-pub rank_found : (i : Spa) → IsLawful i → (l k : ℕ) → k < length (ranking_of i l) → rank_of i l (get_or (ranking_of i l) k 0) ≡ k
+pub rank_found : (i : Spa) → IsLawful i → (l k : ℕ) → k < length (ranking_of i l)
+    → rank_of i l (get_or (ranking_of i l) k 0) ≡ k
 rank_found i lawful l k h = place-get_or (ranking_of i l) k 0 (lawful.distinct l) h
 
 -- A STUDENT IS PUT
@@ -92,7 +105,8 @@ module _ (i : Spa) (q after : Progress) (marks : AreMarks i q) (s p : ℕ) (next
   pub next_in_range : s < length q.projects.items
   next_in_range = omega (arith, acceptable_in_range i s p next.acceptable, marks.assigned.students)
 
-  after_cases : (x u : ℕ) → project_of after.projects.items x ≡ Some u → ((x ≡ s) × (u ≡ p)) ⊎ (project_of q.projects.items x ≡ Some u)
+  after_cases : (x u : ℕ) → project_of after.projects.items x ≡ Some u
+      → ((x ≡ s) × (u ≡ p)) ⊎ (project_of q.projects.items x ≡ Some u)
   after_cases x u e = put_cases i q.projects.items s p next_in_range next.free x u (rw puts.projects at e)
 
   pub placed_uncut : Holds i q.projects.items (IsCut i q) → IsUncut i after
@@ -112,7 +126,8 @@ module _ (i : Spa) (q : Progress) (marks : AreMarks i q) (w u : ℕ) (has : proj
   one_less : (v : ℕ) → at_project (set q.projects.items w None) v + one_if (eqb u v) ≡ at_project q.projects.items v
   one_less v = omega (arith, count_by-set (is_project v) q.projects.items w None leaver_in_range, ap (λ o. one_if (is_project v o)) has)
 
-  one_less_with : (l : ℕ) → at_lecturer i (set q.projects.items w None) l + one_if (eqb (lecturer_of i u) l) ≡ at_lecturer i q.projects.items l
+  one_less_with : (l : ℕ)
+      → at_lecturer i (set q.projects.items w None) l + one_if (eqb (lecturer_of i u) l) ≡ at_lecturer i q.projects.items l
   one_less_with l = omega (arith, count_by-set (is_lecturer i l) q.projects.items w None leaver_in_range, ap (λ o. one_if (is_lecturer i l o)) has)
 
   pub some_at : 1 ≤ at_project q.projects.items u
@@ -122,7 +137,9 @@ module _ (i : Spa) (q : Progress) (marks : AreMarks i q) (w u : ℕ) (has : proj
   some_with = omega (arith, one_less_with (lecturer_of i u), one_here (lecturer_of i u))
 
 -- counts with one less at u
-counted_less : (counts : List ℕ) (u : ℕ) (before after : ℕ → ℕ) → u < length counts → ((v : ℕ) → get_or counts v 0 ≡ before v) → ((v : ℕ) → after v + one_if (eqb u v) ≡ before v) → (v : ℕ) → get_or (set counts u (get_or counts u 0 - 1)) v 0 ≡ after v
+counted_less : (counts : List ℕ) (u : ℕ) (before after : ℕ → ℕ) → u < length counts
+    → ((v : ℕ) → get_or counts v 0 ≡ before v) → ((v : ℕ) → after v + one_if (eqb u v) ≡ before v) → (v : ℕ)
+    → get_or (set counts u (get_or counts u 0 - 1)) v 0 ≡ after v
 counted_less counts u before after low same less v = elim (cases_eq u v) [
   | inl here ↦ rw (sym here) (omega (arith, get_or-set_same counts u (get_or counts u 0 - 1) 0 low, same u, less u, one_here u))
   | inr other ↦ omega (arith, get_or-set_other counts u v (get_or counts u 0 - 1) 0 (λ e. other (sym e)), same v, less v, none_there u v other)
@@ -133,7 +150,8 @@ module _ (i : Spa) (q after : Progress) (marks : AreMarks i q) (w u : ℕ) (has 
   stays : (x v : ℕ) → project_of after.projects.items x ≡ Some v → (x ≢ w) × (project_of q.projects.items x ≡ Some v)
   stays x v e = search (rules, get_or-set_same, leaver_in_range, get_or-set_other)
 
-  moved_one : (x : ℕ) → (x ≡ w) × (get_or after.cursors.items x 0 ≡ get_or q.cursors.items w 0 + 1) ⊎ (x ≢ w) × (get_or after.cursors.items x 0 ≡ get_or q.cursors.items x 0)
+  moved_one : (x : ℕ)
+      → (x ≡ w) × (get_or after.cursors.items x 0 ≡ get_or q.cursors.items w 0 + 1) ⊎ (x ≢ w) × (get_or after.cursors.items x 0 ≡ get_or q.cursors.items x 0)
   moved_one x = search (rules, get_or-set_same, leaver_cursor, get_or-set_other)
 
   pub left_marks : KeepsCuts q after → IsPastCut i q w u → AreMarks i after
@@ -177,7 +195,8 @@ module _ (i : Spa) (q after : Progress) (p r : ℕ) (p_in : p < length q.project
   project_cut_more x u (inl past) = inl (rw now (omega (arith, falls q.project_cuts.items p r p_in less u)))
   project_cut_more x u (inr past) = inr (rw same past)
 
-  pub project_cut_new : (x u : ℕ) → IsPastCut i after x u → IsPastCut i q x u ⊎ ((u ≡ p) × (r ≤ rank_of i (lecturer_of i p) x))
+  pub project_cut_new : (x u : ℕ) → IsPastCut i after x u
+      → IsPastCut i q x u ⊎ ((u ≡ p) × (r ≤ rank_of i (lecturer_of i p) x))
   project_cut_new x u (inr past) = inl (inr (rw same at past))
   project_cut_new x u (inl past) = search (rules, get_or-set_same, get_or-set_other)
 
@@ -186,29 +205,38 @@ module _ (i : Spa) (q after : Progress) (l r : ℕ) (l_in : l < length q.lecture
   lecturer_cut_more x u (inl past) = inl (rw same past)
   lecturer_cut_more x u (inr past) = inr (rw now (omega (arith, falls q.lecturer_cuts.items l r l_in less (lecturer_of i u))))
 
-  pub lecturer_cut_new : (x u : ℕ) → IsPastCut i after x u → IsPastCut i q x u ⊎ ((lecturer_of i u ≡ l) × (r ≤ rank_of i l x))
+  pub lecturer_cut_new : (x u : ℕ) → IsPastCut i after x u
+      → IsPastCut i q x u ⊎ ((lecturer_of i u ≡ l) × (r ≤ rank_of i l x))
   lecturer_cut_new x u (inl past) = inl (inl (rw same at past))
   lecturer_cut_new x u (inr past) = search (rules, get_or-set_same, get_or-set_other)
 
-pub fallen_project_marks : (i : Spa) (q : Progress) → AreMarks i q → (p r : ℕ) (v : Vec ℕ Global) → p < length q.project_cuts.items → r ≤ get_or q.project_cuts.items p 0 → v.items ≡ set q.project_cuts.items p r → AreMarks i (record q { project_cuts = v })
+pub fallen_project_marks : (i : Spa) (q : Progress) → AreMarks i q → (p r : ℕ) (v : Vec ℕ Global)
+    → p < length q.project_cuts.items → r ≤ get_or q.project_cuts.items p 0 → v.items ≡ set q.project_cuts.items p r
+    → AreMarks i (record q { project_cuts = v })
 fallen_project_marks i q marks p r v p_in less now = search (rules, length-set, falls, project_cut_more)
 
-pub fallen_lecturer_marks : (i : Spa) (q : Progress) → AreMarks i q → (l r : ℕ) (v : Vec ℕ Global) → l < length q.lecturer_cuts.items → r ≤ get_or q.lecturer_cuts.items l 0 → v.items ≡ set q.lecturer_cuts.items l r → AreMarks i (record q { lecturer_cuts = v })
+pub fallen_lecturer_marks : (i : Spa) (q : Progress) → AreMarks i q → (l r : ℕ) (v : Vec ℕ Global)
+    → l < length q.lecturer_cuts.items → r ≤ get_or q.lecturer_cuts.items l 0 → v.items ≡ set q.lecturer_cuts.items l r
+    → AreMarks i (record q { lecturer_cuts = v })
 fallen_lecturer_marks i q marks l r v l_in less now = search (rules, length-set, falls, lecturer_cut_more)
 
 -- who stands no better than a student whose pair may be deleted may have it deleted too
-spent_below_project : (i : Spa) (m : List (Option ℕ)) (p w t : ℕ) → ProjectSpent i m p w → rank_of i (lecturer_of i p) w ≤ rank_of i (lecturer_of i p) t → ProjectSpent i m p t
+spent_below_project : (i : Spa) (m : List (Option ℕ)) (p w t : ℕ) → ProjectSpent i m p w
+    → rank_of i (lecturer_of i p) w ≤ rank_of i (lecturer_of i p) t → ProjectSpent i m p t
 spent_below_project i m p w t spent le = record { full = spent.full; before = λ x e. omega (arith, spent.before x e) }
 
-spent_below_lecturer : (i : Spa) (m : List (Option ℕ)) (l w t : ℕ) → LecturerSpent i m l w → rank_of i l w ≤ rank_of i l t → LecturerSpent i m l t
+spent_below_lecturer : (i : Spa) (m : List (Option ℕ)) (l w t : ℕ) → LecturerSpent i m l w
+    → rank_of i l w ≤ rank_of i l t → LecturerSpent i m l t
 spent_below_lecturer i m l w t spent le = record { full = spent.full; before = λ x q e own. omega (arith, spent.before x q e own) }
 
 -- where the cuts are the same, the same pairs are deleted
-held_on : (i : Spa) (m : List (Option ℕ)) (q after : Progress) → KeepsCuts q after → Holds i m (IsCut i q) → Holds i m (IsCut i after)
+held_on : (i : Spa) (m : List (Option ℕ)) (q after : Progress) → KeepsCuts q after → Holds i m (IsCut i q)
+    → Holds i m (IsCut i after)
 held_on i m q after cuts holds = search (rules, same_cut, was_cut)
 
 -- the entries before the next one are deleted
-earlier_cut : (i : Spa) (q : Progress) → AreMarks i q → (s p : ℕ) → IsNextEntry i q s p → (u : ℕ) → IsBefore (choices_of i s) u p → IsCut i q s u
+earlier_cut : (i : Spa) (q : Progress) → AreMarks i q → (s p : ℕ) → IsNextEntry i q s p → (u : ℕ)
+    → IsBefore (choices_of i s) u p → IsCut i q s u
 earlier_cut i q marks s p next u before = (omega (arith, before.0, before.1), marks.passed s u (omega (arith, before.0, next.at_cursor)))
 
 -- A TURN: s was put at p
@@ -223,7 +251,8 @@ module _ (i : Spa) (lawful : IsLawful i) (q placed : Progress) (state : IsUnderW
   now_with = omega (arith, rw puts.projects at (counts.at_lecturers (lecturer_of i p)), put_at_lecturer i q.projects.items s p in_range next.free (lecturer_of i p), one_here (lecturer_of i p))
 
   -- nobody was let go
-  pub placed_state : AreMarks i placed → get_or placed.project_counts.items p 0 ≤ capacity_of i p → get_or placed.lecturer_counts.items (lecturer_of i p) 0 ≤ limit_of i (lecturer_of i p) → IsUnderWay i placed
+  pub placed_state : AreMarks i placed → get_or placed.project_counts.items p 0 ≤ capacity_of i p
+      → get_or placed.lecturer_counts.items (lecturer_of i p) 0 ≤ limit_of i (lecturer_of i p) → IsUnderWay i placed
   placed_state marks room room_l = record {
     marks = marks;
     counts = counts;
@@ -232,7 +261,9 @@ module _ (i : Spa) (lawful : IsLawful i) (q placed : Progress) (state : IsUnderW
   }
 
   -- a student was let go, and a cut fell to where the student stands
-  gone_state : (w : ℕ) (after : Progress) → Leaves w placed after → AreMarks i after → AreCounts i after → Holds i (set (set q.projects.items s (Some p)) w None) (IsCut i q) → ((x u : ℕ) → IsPastCut i placed x u → IsPastCut i after x u)
+  gone_state : (w : ℕ) (after : Progress) → Leaves w placed after → AreMarks i after → AreCounts i after
+      → Holds i (set (set q.projects.items s (Some p)) w None) (IsCut i q)
+      → ((x u : ℕ) → IsPastCut i placed x u → IsPastCut i after x u)
       → ((x u : ℕ) → IsPastCut i after x u → IsPastCut i placed x u ⊎ IsSpent i (set (set q.projects.items s (Some p)) w None) x u) → IsUnderWay i after
   gone_state w after leaves marks after_counts held more new = record {
     marks = marks;
@@ -243,7 +274,8 @@ module _ (i : Spa) (lawful : IsLawful i) (q placed : Progress) (state : IsUnderW
   }
 
   -- the worst student at the project was let go
-  pub project_state : (w : ℕ) (after : Progress) → capacity_of i p < get_or placed.project_counts.items p 0 → IsWorstAt i placed.projects.items p w → Leaves w placed after
+  pub project_state : (w : ℕ) (after : Progress) → capacity_of i p < get_or placed.project_counts.items p 0
+      → IsWorstAt i placed.projects.items p w → Leaves w placed after
       → after.project_cuts.items ≡ set placed.project_cuts.items p (rank_of i (lecturer_of i p) w) → after.lecturer_cuts.items ≡ placed.lecturer_cuts.items → AreMarks i after → AreCounts i after → IsUnderWay i after
   project_state w after over worst leaves cut same marks after_counts =
       let worst_now : IsWorstAt i (set q.projects.items s (Some p)) p w = rw puts.projects at worst in
@@ -258,7 +290,9 @@ module _ (i : Spa) (lawful : IsLawful i) (q placed : Progress) (state : IsUnderW
       less = omega (arith, rank_at_below i placed (placed_uncut i q placed state.marks s p next puts cuts state.holds) w p worst.at)
 
   -- the lecturer's worst student was let go
-  pub lecturer_state : (w : ℕ) (after : Progress) → get_or placed.project_counts.items p 0 ≤ capacity_of i p → limit_of i (lecturer_of i p) < get_or placed.lecturer_counts.items (lecturer_of i p) 0 → IsWorstWith i placed.projects.items (lecturer_of i p) w → Leaves w placed after
+  pub lecturer_state : (w : ℕ) (after : Progress) → get_or placed.project_counts.items p 0 ≤ capacity_of i p
+      → limit_of i (lecturer_of i p) < get_or placed.lecturer_counts.items (lecturer_of i p) 0
+      → IsWorstWith i placed.projects.items (lecturer_of i p) w → Leaves w placed after
       → after.project_cuts.items ≡ placed.project_cuts.items → after.lecturer_cuts.items ≡ set placed.lecturer_cuts.items (lecturer_of i p) (rank_of i (lecturer_of i p) w) → AreMarks i after → AreCounts i after → IsUnderWay i after
   lecturer_state w after room over worst leaves same cut marks after_counts =
       let worst_now : IsWorstWith i (set q.projects.items s (Some p)) (lecturer_of i p) w = rw puts.projects at worst in
@@ -286,21 +320,26 @@ module _ (i : Spa) (q : Progress) (state : IsUnderWay i q) (s k : ℕ) (in_range
   mover_in : s < length q.cursors.items
   mover_in = omega (arith, state.marks.cursor_rows)
 
-  cursor_now : (x : ℕ) → (x ≡ s) × (get_or (set q.cursors.items s k) x 0 ≡ k) ⊎ (x ≢ s) × (get_or (set q.cursors.items s k) x 0 ≡ get_or q.cursors.items x 0)
+  cursor_now : (x : ℕ)
+      → (x ≡ s) × (get_or (set q.cursors.items s k) x 0 ≡ k) ⊎ (x ≢ s) × (get_or (set q.cursors.items s k) x 0 ≡ get_or q.cursors.items x 0)
   cursor_now x = search (rules, get_or-set_same, mover_in, get_or-set_other)
 
   pub moved_state : (v : Vec ℕ Global) → v.items ≡ set q.cursors.items s k → IsUnderWay i (record q { cursors = v })
   moved_state v now = search (rules, length-set, cursor_now, passed_cut)
 
-  pub moved_next : (v : Vec ℕ Global) → v.items ≡ set q.cursors.items s k → k < length (choices_of i s) → (IsPastCut i q s (get_or (choices_of i s) k 0) → ⊥) → IsNextEntry i (record q { cursors = v }) s (get_or (choices_of i s) k 0)
+  pub moved_next : (v : Vec ℕ Global) → v.items ≡ set q.cursors.items s k → k < length (choices_of i s)
+      → (IsPastCut i q s (get_or (choices_of i s) k 0) → ⊥)
+      → IsNextEntry i (record q { cursors = v }) s (get_or (choices_of i s) k 0)
   moved_next v now within uncut = search (rules, entry_acceptable, get_or-set_same, mover_in, passed_cut, place-get_or-le)
 
 -- THE END: every student is settled
-pub best_when_settled : (i : Spa) (q : Progress) → IsUnderWay i q → ((s : ℕ) → s < length i.choices → IsSettled i q s) → IsBest i q.projects.items
+pub best_when_settled : (i : Spa) (q : Progress) → IsUnderWay i q → ((s : ℕ) → s < length i.choices → IsSettled i q s)
+    → IsBest i q.projects.items
 best_when_settled i q state settled = best_at_end i q.projects.items (IsCut i q) state.holds (λ s p free on. (on, state.marks.passed s p (omega (arith, settled s (acceptable_in_range i s p on) free))))
 
 -- the sum of the cursors is bounded
-sum_within : (xs : List ℕ) (rows : List (List ℕ)) → length xs ≡ length rows → ((k : ℕ) → get_or xs k 0 ≤ length (get_or rows k [])) → sum_by (λ x. x) xs ≤ sum_by length rows
+sum_within : (xs : List ℕ) (rows : List (List ℕ)) → length xs ≡ length rows
+    → ((k : ℕ) → get_or xs k 0 ≤ length (get_or rows k [])) → sum_by (λ x. x) xs ≤ sum_by length rows
 sum_within [] [] e h = omega arith
 sum_within [] (r ∷ rows) e h = omega arith
 sum_within (x ∷ xs) [] e h = absurd (omega arith)
@@ -309,7 +348,8 @@ sum_within (x ∷ xs) (r ∷ rows) e h = omega (arith, sum_by-cons (λ y. y) x x
 pub cursors_within : (i : Spa) (q : Progress) → AreMarks i q → sum q.cursors.items ≤ sum_by length i.choices
 cursors_within i q marks = sum_within q.cursors.items i.choices marks.cursor_rows marks.cursors
 
-pub sum_moved : (xs : List ℕ) (s k w : ℕ) → s < length xs → get_or xs s 0 ≤ k → w < length xs → sum xs < sum (set (set xs s k) w (get_or (set xs s k) w 0 + 1))
+pub sum_moved : (xs : List ℕ) (s k w : ℕ) → s < length xs → get_or xs s 0 ≤ k → w < length xs
+    → sum xs < sum (set (set xs s k) w (get_or (set xs s k) w 0 + 1))
 sum_moved xs s k w s_in from w_in = omega (arith, sum_by-set (λ x. x) xs s k 0 s_in, sum_by-set (λ x. x) (set xs s k) w (get_or (set xs s k) w 0 + 1) 0 (omega (arith, length-set xs s k)))
 
 -- THE START
@@ -319,7 +359,8 @@ zeros n = replicate n 0
 zero_there : (n p : ℕ) → get_or (zeros n) p 0 ≡ 0
 zero_there n p = search (rules, get_or-replicate, get_or_past, length-replicate)
 
-pub state_at_first : (i : Spa) → IsLawful i → (q : Progress) → q.projects.items ≡ replicate (length i.choices) None → q.cursors.items ≡ zeros (length i.choices)
+pub state_at_first : (i : Spa) → IsLawful i → (q : Progress) → q.projects.items ≡ replicate (length i.choices) None
+    → q.cursors.items ≡ zeros (length i.choices)
     → q.project_counts.items ≡ zeros (length i.lecturers) → q.lecturer_counts.items ≡ zeros (length i.rankings)
     → length q.project_cuts.items ≡ length i.lecturers → ((p : ℕ) → p < length i.lecturers → get_or q.project_cuts.items p 0 ≡ length (ranking_of i (lecturer_of i p)))
     → length q.lecturer_cuts.items ≡ length i.rankings → ((l : ℕ) → l < length i.rankings → get_or q.lecturer_cuts.items l 0 ≡ length (ranking_of i l)) → IsUnderWay i q

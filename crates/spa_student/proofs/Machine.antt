@@ -29,7 +29,8 @@ project_from_test p None e = absurd (cc)
 project_from_test p (Some q) e = ap Some (eqb-true q p e)
 
 -- a pair that would block, once its project has room or has a student who stands after s
-pub blocked : (i : Spa) (n : List (Option ℕ)) (stable : IsStable i n) (t p s u : ℕ) → project_of n t ≡ Some p → lecturer_of i u ≡ lecturer_of i p → IsBefore (ranking_of i (lecturer_of i u)) s t
+pub blocked : (i : Spa) (n : List (Option ℕ)) (stable : IsStable i n) (t p s u : ℕ) → project_of n t ≡ Some p
+    → lecturer_of i u ≡ lecturer_of i p → IsBefore (ranking_of i (lecturer_of i u)) s t
     → Wants i n s u → (u ≡ p) ⊎ (at_project n u < capacity_of i u) → ⊥
 blocked i n stable t p s u at same before wants room =
     let l : ℕ = lecturer_of i u in
@@ -45,7 +46,8 @@ blocked i n stable t p s u at same before wants room =
     ]
 
 -- s has u in m, ranked before t, and has u in each stable n with t at p, if u is p or has room in n
-kept : (i : Spa) (m n : List (Option ℕ)) (Deleted : ℕ → ℕ → Type 0) → Holds i m Deleted → (stable : IsStable i n) → IsRanked i → (t p s u : ℕ) → project_of n t ≡ Some p → project_of m s ≡ Some u
+kept : (i : Spa) (m n : List (Option ℕ)) (Deleted : ℕ → ℕ → Type 0) → Holds i m Deleted → (stable : IsStable i n)
+    → IsRanked i → (t p s u : ℕ) → project_of n t ≡ Some p → project_of m s ≡ Some u
     → lecturer_of i u ≡ lecturer_of i p → rank_of i (lecturer_of i u) s < rank_of i (lecturer_of i u) t → (u ≡ p) ⊎ (at_project n u < capacity_of i u)
     → (o : Option ℕ) → project_of n s ≡ o → o ≡ Some u
 kept i m n Deleted holds stable lawful t p s u at has same less room None e = search (rules, blocked)
@@ -62,16 +64,20 @@ kept i m n Deleted holds stable lawful t p s u at has same less room (Some v) e 
     ]
 
 -- where n has at u each student whom m has there, m has no more
-pub no_more : (m n : List (Option ℕ)) (u : ℕ) → length m ≡ length n → ((s : ℕ) → project_of m s ≡ Some u → project_of n s ≡ Some u) → at_project m u ≤ at_project n u
+pub no_more : (m n : List (Option ℕ)) (u : ℕ) → length m ≡ length n
+    → ((s : ℕ) → project_of m s ≡ Some u → project_of n s ≡ Some u) → at_project m u ≤ at_project n u
 no_more m n u same keeps = count_by-le (is_project u) m n same (λ s h. is_project-at u (project_of n s) (keeps s (project_from_test u (project_of m s) h)))
 
 -- and fewer, where n has one more there
-fewer : (m n : List (Option ℕ)) (u t : ℕ) → length m ≡ length n → ((s : ℕ) → project_of m s ≡ Some u → project_of n s ≡ Some u) → t < length n → project_of n t ≡ Some u → (project_of m t ≡ Some u → ⊥) → at_project m u + 1 ≤ at_project n u
+fewer : (m n : List (Option ℕ)) (u t : ℕ) → length m ≡ length n
+    → ((s : ℕ) → project_of m s ≡ Some u → project_of n s ≡ Some u) → t < length n → project_of n t ≡ Some u
+    → (project_of m t ≡ Some u → ⊥) → at_project m u + 1 ≤ at_project n u
 fewer m n u t same keeps t_in at not_at =
     count_by-lt (is_project u) m n t same (λ s h. is_project-at u (project_of n s) (keeps s (project_from_test u (project_of m s) h))) t_in (off_project u (project_of m t) not_at) (is_project-at u (project_of n t) at)
 
 -- a pair that may be deleted is in no stable matching
-pub spent_is_hopeless : (i : Spa) (m n : List (Option ℕ)) (Deleted : ℕ → ℕ → Type 0) → Holds i m Deleted → IsRanked i → (t p : ℕ) → IsSpent i m t p → IsStable i n → project_of n t ≡ Some p → ⊥
+pub spent_is_hopeless : (i : Spa) (m n : List (Option ℕ)) (Deleted : ℕ → ℕ → Type 0) → Holds i m Deleted → IsRanked i
+    → (t p : ℕ) → IsSpent i m t p → IsStable i n → project_of n t ≡ Some p → ⊥
 spent_is_hopeless i m n Deleted holds lawful t p (inr project) stable at =
     let keeps : (s : ℕ) → project_of m s ≡ Some p → project_of n s ≡ Some p =
     λ s has. kept i m n Deleted holds stable lawful t p s p at has refl (project.before s has) (inl refl) (project_of n s) refl in
@@ -99,7 +105,8 @@ spent_is_hopeless i m n Deleted holds lawful t p (inl lecturer) stable at =
     omega (arith, sum_m, sum_n, less, lecturer.full, stable.matching.lecturers l)
 
 -- DELETE: pairs that may be deleted are deleted
-pub delete_holds : (i : Spa) (m : List (Option ℕ)) (Deleted More : ℕ → ℕ → Type 0) → IsRanked i → Holds i m Deleted → ((s p : ℕ) → Deleted s p → More s p) → ((s p : ℕ) → More s p → Deleted s p ⊎ IsSpent i m s p) → Holds i m More
+pub delete_holds : (i : Spa) (m : List (Option ℕ)) (Deleted More : ℕ → ℕ → Type 0) → IsRanked i → Holds i m Deleted
+    → ((s p : ℕ) → Deleted s p → More s p) → ((s p : ℕ) → More s p → Deleted s p ⊎ IsSpent i m s p) → Holds i m More
 delete_holds i m Deleted More lawful holds keeps new = record {
   matching = holds.matching;
   first = λ s p q has better. keeps s p (holds.first s p q has better);
@@ -120,7 +127,8 @@ spent_unblocked i m s p (inr project) B b = omega (arith, project.full, b.1)
 spent_unblocked i m s p (inr project) C b = omega (arith, project.before b.2.0 b.2.1, b.2.2.0)
 
 -- at the end: each free student has no pair left
-pub stable_at_end : (i : Spa) (m : List (Option ℕ)) (Deleted : ℕ → ℕ → Type 0) → Holds i m Deleted → ((s p : ℕ) → project_of m s ≡ None → IsAcceptable i s p → Deleted s p) → IsStable i m
+pub stable_at_end : (i : Spa) (m : List (Option ℕ)) (Deleted : ℕ → ℕ → Type 0) → Holds i m Deleted
+    → ((s p : ℕ) → project_of m s ≡ None → IsAcceptable i s p → Deleted s p) → IsStable i m
 stable_at_end i m Deleted holds free = record {
   matching = holds.matching;
   unblocked = λ s p x b. spent_unblocked i m s p (why s p (blocks_wants i m s p x b)) x b;
@@ -133,7 +141,10 @@ stable_at_end i m Deleted holds free = record {
   why s p wants = holds.spent s p (gone s p (project_of m s) refl wants.0 wants.1)
 
 -- a student who, when free, has no pair left has no worse than in any stable matching
-pub as_good_as_stable : (i : Spa) (m : List (Option ℕ)) (Deleted : ℕ → ℕ → Type 0) → Holds i m Deleted → (n : List (Option ℕ)) → IsStable i n → (s : ℕ) → ((p : ℕ) → project_of m s ≡ None → IsAcceptable i s p → Deleted s p) → IsAsGood i s (project_of m s) (project_of n s)
+pub as_good_as_stable : (i : Spa) (m : List (Option ℕ)) (Deleted : ℕ → ℕ → Type 0) → Holds i m Deleted
+    → (n : List (Option ℕ)) → IsStable i n → (s : ℕ)
+    → ((p : ℕ) → project_of m s ≡ None → IsAcceptable i s p → Deleted s p)
+    → IsAsGood i s (project_of m s) (project_of n s)
 as_good_as_stable i m Deleted holds n stable s free = each (project_of m s) (project_of n s) refl refl
   where
     each : (mine other : Option ℕ) → project_of m s ≡ mine → project_of n s ≡ other → IsAsGood i s mine other
@@ -149,7 +160,8 @@ as_good_as_stable i m Deleted holds n stable s free = each (project_of m s) (pro
         ]
 
 -- at the end: each student has the best of all stable matchings
-pub best_at_end : (i : Spa) (m : List (Option ℕ)) (Deleted : ℕ → ℕ → Type 0) → Holds i m Deleted → ((s p : ℕ) → project_of m s ≡ None → IsAcceptable i s p → Deleted s p) → IsBest i m
+pub best_at_end : (i : Spa) (m : List (Option ℕ)) (Deleted : ℕ → ℕ → Type 0) → Holds i m Deleted
+    → ((s p : ℕ) → project_of m s ≡ None → IsAcceptable i s p → Deleted s p) → IsBest i m
 best_at_end i m Deleted holds free = search (rules, stable_at_end, as_good_as_stable)
 
 -- what the students have after s is put at p, in a matching in which s was free
@@ -163,7 +175,8 @@ module _ (i : Spa) (m : List (Option ℕ)) (s p : ℕ) (in_range : s < length m)
   pub put_at_project : (q : ℕ) → at_project (set m s (Some p)) q ≡ at_project m q + one_if (eqb p q)
   put_at_project q = omega (arith, count_by-set (is_project q) m s (Some p) in_range, ap (λ o. one_if (is_project q o)) free)
 
-  pub put_at_lecturer : (l : ℕ) → at_lecturer i (set m s (Some p)) l ≡ at_lecturer i m l + one_if (eqb (lecturer_of i p) l)
+  pub put_at_lecturer : (l : ℕ)
+      → at_lecturer i (set m s (Some p)) l ≡ at_lecturer i m l + one_if (eqb (lecturer_of i p) l)
   put_at_lecturer l = omega (arith, count_by-set (is_lecturer i l) m s (Some p) in_range, ap (λ o. one_if (is_lecturer i l o)) free)
 
 pub one_here : (p : ℕ) → one_if (eqb p p) ≡ 1
@@ -173,7 +186,8 @@ pub none_there : (p q : ℕ) → (p ≡ q → ⊥) → one_if (eqb p q) ≡ 0
 none_there p q other = ap one_if (ne_eqb p q other)
 
 -- one more at p, which has room
-pub one_more : (before after limit : ℕ → ℕ) (p : ℕ) → ((q : ℕ) → after q ≤ before q + one_if (eqb p q)) → before p < limit p → ((q : ℕ) → before q ≤ limit q) → (q : ℕ) → after q ≤ limit q
+pub one_more : (before after limit : ℕ → ℕ) (p : ℕ) → ((q : ℕ) → after q ≤ before q + one_if (eqb p q))
+    → before p < limit p → ((q : ℕ) → before q ≤ limit q) → (q : ℕ) → after q ≤ limit q
 one_more before after limit p more room fits q = elim (cases_eq p q) [
   | inl same ↦ rw (sym same) (omega (arith, more p, one_here p, room))
   | inr other ↦ omega (arith, more q, none_there p q other, fits q)
@@ -188,11 +202,13 @@ module _ (i : Spa) (m : List (Option ℕ)) (Deleted : ℕ → ℕ → Type 0) (h
   pub put_on : (x q : ℕ) → project_of (set m s (Some p)) x ≡ Some q → IsAcceptable i x q
   put_on x q e = elim (put_cases i m s p in_range free x q e) [ inl new ↦ rw (new.0, new.1) on | inr old ↦ holds.matching.acceptable x q old ]
 
-  put_first : (x better q : ℕ) → project_of (set m s (Some p)) x ≡ Some q → IsBefore (choices_of i x) better q → Deleted x better
+  put_first : (x better q : ℕ) → project_of (set m s (Some p)) x ≡ Some q → IsBefore (choices_of i x) better q
+      → Deleted x better
   put_first x better q e h = elim (put_cases i m s p in_range free x q e) [ inl new ↦ rw new.0 (first better (rw (new.0, new.1) at h)) | inr old ↦ holds.first x better q old h ]
 
   -- PLACE: the project and its lecturer have room
-  pub place_holds : at_project m p < capacity_of i p → at_lecturer i m (lecturer_of i p) < limit_of i (lecturer_of i p) → Holds i (set m s (Some p)) Deleted
+  pub place_holds : at_project m p < capacity_of i p → at_lecturer i m (lecturer_of i p) < limit_of i (lecturer_of i p)
+      → Holds i (set m s (Some p)) Deleted
   place_holds room room_l = record {
     matching = record {
       students = length-set m s (Some p) ∙ holds.matching.students;
@@ -225,21 +241,25 @@ module _ (i : Spa) (m : List (Option ℕ)) (Deleted : ℕ → ℕ → Type 0) (h
     w_in_range : w < length (set m s (Some p))
     w_in_range = student_in_range i (set m s (Some p)) w u has
 
-    cases : (x q : ℕ) → project_of (set (set m s (Some p)) w None) x ≡ Some q → (x ≢ w) × (project_of (set m s (Some p)) x ≡ Some q) × (((x ≡ s) × (q ≡ p)) ⊎ (project_of m x ≡ Some q))
+    cases : (x q : ℕ) → project_of (set (set m s (Some p)) w None) x ≡ Some q
+        → (x ≢ w) × (project_of (set m s (Some p)) x ≡ Some q) × (((x ≡ s) × (q ≡ p)) ⊎ (project_of m x ≡ Some q))
     cases x q e = search (rules, get_or-set_same, w_in_range, get_or-set_other, put_cases)
 
     -- who is let go was there before, or is s
     was : (w ≢ s) → project_of m w ≡ Some u
     was other = rw (get_or-set_other m s w (Some p) None other) at has
 
-    count : (q : ℕ) → at_project (set (set m s (Some p)) w None) q + one_if (eqb u q) ≡ at_project m q + one_if (eqb p q)
+    count : (q : ℕ)
+        → at_project (set (set m s (Some p)) w None) q + one_if (eqb u q) ≡ at_project m q + one_if (eqb p q)
     count q = omega (arith, count_by-set (is_project q) (set m s (Some p)) w None w_in_range, ap (λ o. one_if (is_project q o)) has, put_at_project i m s p in_range free q)
 
     count_l : (l : ℕ) → at_lecturer i (set (set m s (Some p)) w None) l ≡ at_lecturer i m l
     count_l l =
         omega (arith, count_by-set (is_lecturer i l) (set m s (Some p)) w None w_in_range, ap (λ o. one_if (is_lecturer i l o)) has, put_at_lecturer i m s p in_range free l, ap (λ k. one_if (eqb k l)) own)
 
-    let_go : ((q : ℕ) → at_project (set (set m s (Some p)) w None) q ≤ capacity_of i q) → ((t v : ℕ) → Deleted t v → IsSpent i (set (set m s (Some p)) w None) t v) → Holds i (set (set m s (Some p)) w None) Deleted
+    let_go : ((q : ℕ) → at_project (set (set m s (Some p)) w None) q ≤ capacity_of i q)
+        → ((t v : ℕ) → Deleted t v → IsSpent i (set (set m s (Some p)) w None) t v)
+        → Holds i (set (set m s (Some p)) w None) Deleted
     let_go fits spent = record {
       matching = record {
         students = length-set (set m s (Some p)) w None ∙ length-set m s (Some p) ∙ holds.matching.students;
@@ -253,7 +273,8 @@ module _ (i : Spa) (m : List (Option ℕ)) (Deleted : ℕ → ℕ → Type 0) (h
     }
 
     -- a lecturer who was spent is spent still
-    still_spent : rank_of i (lecturer_of i p) s ≤ rank_of i (lecturer_of i p) w → (v t : ℕ) → LecturerSpent i m (lecturer_of i v) t → LecturerSpent i (set (set m s (Some p)) w None) (lecturer_of i v) t
+    still_spent : rank_of i (lecturer_of i p) s ≤ rank_of i (lecturer_of i p) w → (v t : ℕ)
+        → LecturerSpent i m (lecturer_of i v) t → LecturerSpent i (set (set m s (Some p)) w None) (lecturer_of i v) t
     still_spent no_lower v t lecturer = record {
       full = omega (arith, count_l (lecturer_of i v), lecturer.full);
       before = λ x q e there. let c = cases x q e in elim c.2 [
@@ -265,7 +286,9 @@ module _ (i : Spa) (m : List (Option ℕ)) (Deleted : ℕ → ℕ → Type 0) (h
     }
 
   -- SWAP AT A PROJECT: it was full; its worst goes, whose pair may be deleted
-  pub swap_at_project_holds : IsRanked i → (w : ℕ) → at_project m p ≡ capacity_of i p → project_of (set m s (Some p)) w ≡ Some p → ((x : ℕ) → project_of (set m s (Some p)) x ≡ Some p → rank_of i (lecturer_of i p) x ≤ rank_of i (lecturer_of i p) w)
+  pub swap_at_project_holds : IsRanked i → (w : ℕ) → at_project m p ≡ capacity_of i p
+      → project_of (set m s (Some p)) w ≡ Some p
+      → ((x : ℕ) → project_of (set m s (Some p)) x ≡ Some p → rank_of i (lecturer_of i p) x ≤ rank_of i (lecturer_of i p) w)
       → Holds i (set (set m s (Some p)) w None) Deleted × ProjectSpent i (set (set m s (Some p)) w None) p w
   swap_at_project_holds lawful w full has worst = (
     let_go w p has refl (λ q. omega (arith, count w p has refl q, holds.matching.projects q)) (λ t u gone. elim (holds.spent t u gone) [
@@ -287,7 +310,8 @@ module _ (i : Spa) (m : List (Option ℕ)) (Deleted : ℕ → ℕ → Type 0) (h
     s_worst = worst s (put_same i m s p in_range free)
 
   -- SWAP AT A LECTURER: the project has room, its lecturer was full; the lecturer's worst is let go
-  pub swap_at_lecturer_holds : IsRanked i → (w u : ℕ) → at_project m p < capacity_of i p → at_lecturer i m (lecturer_of i p) ≡ limit_of i (lecturer_of i p)
+  pub swap_at_lecturer_holds : IsRanked i → (w u : ℕ) → at_project m p < capacity_of i p
+      → at_lecturer i m (lecturer_of i p) ≡ limit_of i (lecturer_of i p)
       → project_of (set m s (Some p)) w ≡ Some u → lecturer_of i u ≡ lecturer_of i p
       → ((x q : ℕ) → project_of (set m s (Some p)) x ≡ Some q → lecturer_of i q ≡ lecturer_of i p → rank_of i (lecturer_of i p) x ≤ rank_of i (lecturer_of i p) w)
       → Holds i (set (set m s (Some p)) w None) Deleted × LecturerSpent i (set (set m s (Some p)) w None) (lecturer_of i u) w

@@ -23,7 +23,8 @@ CanDo w (Render sheet) = Unit {0}
 
 -- the pairs are those of the best matching
 abbrev pub IsSolved : Spa → List (Key × Key) → Type 0
-IsSolved i pairs = (places : List (Option ℕ)) × IsBest i places × (pairs ≡ pairs_by i.student_keys i.project_keys places)
+IsSolved i pairs =
+    (places : List (Option ℕ)) × IsBest i places × (pairs ≡ pairs_by i.student_keys i.project_keys places)
 
 -- the text of a sheet
 abbrev pub sheet_text : OfficeSees → Sheet → Said

@@ -15,7 +15,8 @@ ReadsMore old new before after ended =
 
 -- the same where reading failed
 abbrev pub KeepsStream : Option (List ℕ) → Option (List ℕ) → List ℕ → List ℕ → Type 0
-KeepsStream old new before after = IfSome old (λ more. (rest : List ℕ) × (new ≡ Some rest) × (after ++ rest ≡ before ++ more))
+KeepsStream old new before after =
+    IfSome old (λ more. (rest : List ℕ) × (new ≡ Some rest) × (after ++ rest ≡ before ++ more))
 
 -- a read that added some bytes to the buffer, or found the source at its end
 pub record IsPieceRead (old new : Option (List ℕ)) (before after : List ℕ) (ended : Bool) : Type 0 where

@@ -11,7 +11,8 @@ unless_empty keys = if is_empty keys then None else Some keys
 
 -- what a lecturer gets: a ranking where there is an applicant, and no ranking
 abbrev pub missing : List ProjectRow → List Student → Lecturer → Option (List Key)
-missing projects students l = if is_none l.ranking then unless_empty (applicant_keys projects students l.row.key) else None
+missing projects students l =
+    if is_none l.ranking then unless_empty (applicant_keys projects students l.row.key) else None
 
 abbrev pub with_missing : Lecturer → Option (List Key) → Lecturer
 with_missing l None = l
@@ -23,4 +24,5 @@ filled projects students l = with_missing l (missing projects students l)
 
 -- the lecturers still to rank, each with the keys of the applicants
 abbrev pub fill_missing : World → List (Key × List Key)
-fill_missing w = map (λ l. (l.row.key, map student_key (applicants_of w l.row.key))) (filter (is_still_to_rank w) w.lecturers)
+fill_missing w =
+    map (λ l. (l.row.key, map student_key (applicants_of w l.row.key))) (filter (is_still_to_rank w) w.lecturers)

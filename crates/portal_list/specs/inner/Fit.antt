@@ -38,14 +38,17 @@ lecturers_fitting (r ∷ rs) rankings earlier =
     (lecturers_fitting rs (rest_for r.key rankings) (rest_for r.key earlier))
 
 -- a student with the lists, if they are there, before other students
-abbrev pub with_lists : StudentRow → Option (List Key) → Option Key → Option (List Key) → Option Key → Option (List Student) → Option (List Student)
+abbrev pub with_lists : StudentRow → Option (List Key) → Option Key → Option (List Key) → Option Key
+    → Option (List Student) → Option (List Student)
 with_lists r (Some list) place (Some earlier) earlier_placement others =
     option_map (λ ss. record { row = r; choice = list; placed = place; earlier_choice = earlier; earlier_placement = earlier_placement } ∷ ss) others
 with_lists r _ place _ earlier_placement others = None
 
 -- by the lists and the places, and those of the earlier round
-abbrev pub students_fitting : Round → List StudentRow → List (Key × List Key) → List (Key × Key) → List (Key × List Key) → List (Key × Key) → Option (List Student)
-students_fitting round [] choices pairs earlier earlier_pairs = if is_empty choices && is_empty pairs && is_empty earlier && is_empty earlier_pairs then Some [] else None
+abbrev pub students_fitting : Round → List StudentRow → List (Key × List Key) → List (Key × Key) → List (Key × List Key)
+    → List (Key × Key) → Option (List Student)
+students_fitting round [] choices pairs earlier earlier_pairs =
+    if is_empty choices && is_empty pairs && is_empty earlier && is_empty earlier_pairs then Some [] else None
 students_fitting round (r ∷ rs) choices pairs earlier earlier_pairs =
     with_lists r (next_for r.key choices) (next_for r.key pairs) (earlier_for round r.key earlier) (next_for r.key earlier_pairs)
     (students_fitting round rs (rest_for r.key choices) (rest_for r.key pairs) (earlier_rest round r.key earlier) (rest_for r.key earlier_pairs))

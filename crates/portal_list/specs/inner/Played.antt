@@ -20,7 +20,8 @@ lecturer_played projects pairs l = option_map (λ row. record { row = row; ranki
 
 -- the project, if room is left and its lecturer is one of these
 abbrev pub project_played : List Lecturer → List (Key × Key) → ProjectRow → Option ProjectRow
-project_played lecturers pairs p = if list_any (λ l. equals p.lecturer l.row.key) lecturers then project_left pairs p else None
+project_played lecturers pairs p =
+    if list_any (λ l. equals p.lecturer l.row.key) lecturers then project_left pairs p else None
 
 -- all of them
 abbrev pub all_played : AllEntries → AllEntries

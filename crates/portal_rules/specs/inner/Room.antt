@@ -28,7 +28,8 @@ abbrev pub project_left : List (Key × Key) → ProjectRow → Option ProjectRow
 project_left pairs p = option_map (λ n. record p { capacity = n }) (room_of p.capacity (students_at pairs p.key))
 
 abbrev pub lecturer_left : List ProjectRow → List (Key × Key) → LecturerRow → Option LecturerRow
-lecturer_left projects pairs l = option_map (λ n. record l { capacity = n }) (room_of l.capacity (pairs_among pairs (own_keys projects l.key)))
+lecturer_left projects pairs l =
+    option_map (λ n. record l { capacity = n }) (room_of l.capacity (pairs_among pairs (own_keys projects l.key)))
 
 -- the persons at each project
 abbrev pub by_project : List (kept.Key × Vec Person Global) → List (Key × List Person)
@@ -36,7 +37,8 @@ by_project ps = map (λ p. (p.0, p.1.items)) ps
 
 -- a project as JSON, with its persons as a member of this name
 abbrev pub project_and_persons : List ℕ → Key × List Person → Data
-project_and_persons name p = object (with_member name (several (map person p.1)) (members ((codes "id", string p.0) ∷ [])))
+project_and_persons name p =
+    object (with_member name (several (map person p.1)) (members ((codes "id", string p.0) ∷ [])))
 
 -- the pairs of a matching by numbers, for these students and projects, by student
 abbrev pub pairs_by : List Key → List Key → List (Option ℕ) → List (Key × Key)

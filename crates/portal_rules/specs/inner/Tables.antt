@@ -17,11 +17,14 @@ HasTexts texts table = (q : Bor Key) → set.contains text_eq table q ≡ has te
 
 -- the table has at each key the first of the rows with that key
 abbrev pub HasRows : {X S : Type 0} → (X → Key) → List X → HashMap (Bor Key) (Bor X) S → Type 0
-HasRows key rows table = (q : Bor Key) → option_map (λ row. row.now) (map.get text_eq table q) ≡ find (λ x. equals (key x) q.now) rows
+HasRows key rows table =
+    (q : Bor Key) → option_map (λ row. row.now) (map.get text_eq table q) ≡ find (λ x. equals (key x) q.now) rows
 
 -- the table has at each known text the key that it is the text of, and nothing at another
 abbrev pub HasKeys : {S : Type 0} → (Key → Bool) → HashMap (Bor Key) (Bor Key) S → Type 0
-HasKeys known table = (q : Bor Key) → (is_some (map.get text_eq table q) ≡ known q.now) × IfSome (map.get text_eq table q) (λ key. key.now ≡ q.now)
+HasKeys known table =
+    (q : Bor Key) → (is_some (map.get text_eq table q) ≡ known q.now)
+    × IfSome (map.get text_eq table q) (λ key. key.now ≡ q.now)
 
 -- the pairs are those of the result, and the table has the projects by their keys
 abbrev pub HasPlacings : {S : Type 0} → OfficeSees → List (Key × Key) → HashMap (Bor Key) (Bor ProjectRow) S → Type 0

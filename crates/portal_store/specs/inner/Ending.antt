@@ -17,4 +17,5 @@ pub record CommitsChange {V E : Type 0} (Change : Database → Database → Type
 
 -- a stop leaves what it left before, or what the change made of the own tables of an open connection
 abbrev pub LeavesMade : (Database → Database → Type 0) → State → State → Type 0
-LeavesMade Change old new = Survives old new (λ db. IsTrue old.is_open × (IsCurrentSchema old.now.schema → IsAfter Change old db))
+LeavesMade Change old new =
+    Survives old new (λ db. IsTrue old.is_open × (IsCurrentSchema old.now.schema → IsAfter Change old db))

@@ -24,7 +24,8 @@ abbrev pub LoadsIn : Round → Trees → RowsOfWorld → Type 0
 LoadsIn = Loads version
 
 -- the rows of a round's tables, with its phase, the code of the office, and the rows of what was before
-abbrev pub joined : Round → Phase → Key → AllRows → List (Key × List Key) → List (Key × List Key) → List (Key × Key) → RowsOfWorld
+abbrev pub joined : Round → Phase → Key → AllRows → List (Key × List Key) → List (Key × List Key) → List (Key × Key)
+    → RowsOfWorld
 joined round phase code rows choices rankings pairs =
     record {
       round = round;

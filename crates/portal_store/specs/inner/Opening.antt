@@ -10,7 +10,8 @@ use Rattle.portal_store.specs.inner.Keeping.{HasChangedFrom}
 
 -- where the first round is published, the tables turn to the world in which the second is open
 abbrev pub OpensSecondRound : Database → Database → Type 0
-OpensSecondRound old new = IsConsistentIn First old → phase_in First old.trees ≡ Published → HasChangedFrom First SecondRound old new
+OpensSecondRound old new =
+    IsConsistentIn First old → phase_in First old.trees ≡ Published → HasChangedFrom First SecondRound old new
 
 abbrev pub is_opening : Change → Bool
 is_opening SecondRound = true

@@ -31,4 +31,6 @@ TurnsShown round pairs shown old new = ShowsRoll shown old → IsTransitionIn ro
 
 -- the places of the second round and its phase, where these are what pairs say of the roll
 abbrev pub TurnsLeft : List (Key × Key) → Database → Database → Type 0
-TurnsLeft left old new = (pairs : List (Key × Key)) (shown : List Row) → left ≡ filter_map (pair_left pairs) shown → TurnsShown Second pairs shown old new
+TurnsLeft left old new =
+    (pairs : List (Key × Key)) (shown : List Row) → left ≡ filter_map (pair_left pairs) shown
+    → TurnsShown Second pairs shown old new

@@ -21,7 +21,8 @@ choice_before Second db c = choice_shown First db c
 
 -- the lecturer whose row is shown, and the student, with what the tables hold
 abbrev pub lecturer_from : Round → Trees → Row → Lecturer
-lecturer_from round db c = record { row = shown_lecturer c; ranking = ranking_shown round db c; earlier_ranking = ranking_before round db c }
+lecturer_from round db c =
+    record { row = shown_lecturer c; ranking = ranking_shown round db c; earlier_ranking = ranking_before round db c }
 
 abbrev pub student_from : Round → Trees → Row → Student
 student_from round db c =

@@ -56,7 +56,8 @@ abbrev pub RemembersIn : Round → ViewCache → Database → Type 0
 RemembersIn round cache db = IsConsistentIn round db × IsCacheOf cache (world_in round db.trees)
 
 abbrev pub ShowsIn : {V E : Type 0} → Round → ViewCache → (World → V → Type 0) → Database → Result V E → Type 0
-ShowsIn round cache Answer db result = IsCacheOf cache (world_in round db.trees) × IfOk result (Answer (world_in round db.trees))
+ShowsIn round cache Answer db result =
+    IsCacheOf cache (world_in round db.trees) × IfOk result (Answer (world_in round db.trees))
 
 -- the same result, with another fault for a fault
 abbrev pub IsToldAs : {V E F : Type 0} → Result V E → Result V F → Type 0

@@ -21,7 +21,8 @@ pub record UpgradesTables {S : Type 0} (g : Ghosts S) (entries : AllEntries) (ol
   -- own tables were admitted
   pub admitted : IsFirstSchema old.schema → HasCleanDisk (state g new) → AdmitsAs first_version (state g old).now.trees
   -- and the entries are those of their world
-  pub entered : IsFirstSchema old.schema → HasCleanDisk (state g new) → HasEntries entries (world_in First (state g old).now.trees)
+  pub entered : IsFirstSchema old.schema → HasCleanDisk (state g new)
+      → HasEntries entries (world_in First (state g old).now.trees)
   -- they were upgraded in one commit
   pub commits : IsFirstSchema old.schema → HasCleanDisk (state g new) → Commits Upgrades (state g old) (state g new)
   -- a crash leaves only what was committed

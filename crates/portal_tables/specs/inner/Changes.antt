@@ -19,7 +19,8 @@ with_rows table (c ∷ cells) = with_rows (put_row (Int (next_rowid table) ∷ c
 -- no row has the number that one of these gets
 abbrev pub AreNew : List Row → List Row → Type 0
 AreNew table [] = ⊤
-AreNew table (c ∷ cells) = (is_taken table (Int (next_rowid table) ∷ c) ≡ false) × AreNew (put_row (Int (next_rowid table) ∷ c) table) cells
+AreNew table (c ∷ cells) =
+    (is_taken table (Int (next_rowid table) ∷ c) ≡ false) × AreNew (put_row (Int (next_rowid table) ∷ c) table) cells
 
 -- more rows, with these cells after their numbers, and nothing else; a row that came leaves a sound
 -- database, and none leaves it as it was

@@ -38,20 +38,26 @@ IsPlainIfAny (Err e) = Unit {0}
 -- What a plain query leaves: nothing is changed, or after an error the open transaction is rolled
 -- back; and what a crash leaves.
 pub record Leaves {S V E : Type 0} (g : Ghosts S) (sql : List ℕ) (result : Result V E) (old new : Held S) : Type 0 where
-  pub same : IsPlainIfAny (understood old.schema sql) → HasCleanDisk (state g new) → OnOk result (IsUnchanged (state g old) (state g new))
-  pub err : IsPlainIfAny (understood old.schema sql) → HasCleanDisk (state g new) → OnErr result (IsUnchangedOrUndone (state g old) (state g new))
+  pub same : IsPlainIfAny (understood old.schema sql) → HasCleanDisk (state g new)
+      → OnOk result (IsUnchanged (state g old) (state g new))
+  pub err : IsPlainIfAny (understood old.schema sql) → HasCleanDisk (state g new)
+      → OnErr result (IsUnchangedOrUndone (state g old) (state g new))
   pub mode : old.in_transaction ≡ false → new.in_transaction ≡ false
   pub survives : Survives (state g old) (state g new) (λ _. IsPlainIfAny (understood old.schema sql) → ⊥)
 
 -- What it comes to that each row of a query is decoded as it is read.
 pub record ReadsEach {S T : Type 0} (g : Ghosts S) (decode : Row → T) (is_fine : Row → Type 0) (sql : List ℕ) (params : Row) (result : Result (Vec T Global) TableFault) (old new : Held S) : Type 0 where
   pub leaves : Leaves g sql result old new
-  pub rows : IsPlainIfAny (understood old.schema sql) → HasCleanDisk (state g new) → IfOk result (λ v. ShowsAs decode (Shown sql params (state g old) (state g new)) v.items)
+  pub rows : IsPlainIfAny (understood old.schema sql) → HasCleanDisk (state g new)
+      → IfOk result (λ v. ShowsAs decode (Shown sql params (state g old) (state g new)) v.items)
   pub undamaged : result ≡ Err Damaged → ((c : Row) → is_fine c) → ⊥
-  pub refused : IsPlainIfAny (understood old.schema sql) → HasCleanDisk (state g new) → result ≡ Err Damaged → Refuses is_fine sql params (state g old) (state g new)
+  pub refused : IsPlainIfAny (understood old.schema sql) → HasCleanDisk (state g new) → result ≡ Err Damaged
+      → Refuses is_fine sql params (state g old) (state g new)
 
 -- What it comes to that at most one row of a query is read.
 pub record FindsRow {S : Type 0} (g : Ghosts S) (sql : List ℕ) (params : Row) (result : Result Bool Error) (old new : Held S) : Type 0 where
   pub leaves : Leaves g sql result old new
-  pub none : IsPlainIfAny (understood old.schema sql) → HasCleanDisk (state g new) → IfOk result (λ found. found ≡ false → Shown sql params (state g old) (state g new) [])
-  pub some : IsPlainIfAny (understood old.schema sql) → HasCleanDisk (state g new) → IfOk result (λ found. found ≡ true → (first : Row) × Begins sql params (state g new) (first ∷ []))
+  pub none : IsPlainIfAny (understood old.schema sql) → HasCleanDisk (state g new)
+      → IfOk result (λ found. found ≡ false → Shown sql params (state g old) (state g new) [])
+  pub some : IsPlainIfAny (understood old.schema sql) → HasCleanDisk (state g new)
+      → IfOk result (λ found. found ≡ true → (first : Row) × Begins sql params (state g new) (first ∷ []))

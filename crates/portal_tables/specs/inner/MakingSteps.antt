@@ -24,7 +24,8 @@ Makes = Grows no_schema portal_schema [] own_trees
 
 -- behind tables the five of the second round, as they are made one after the other
 abbrev pub with_second : Schema → Schema
-with_second s = created (created (created (created (created s (second 0)) (choice2 0)) (ranked2 0)) (ranking2 0)) (assigned2 0)
+with_second s =
+    created (created (created (created (created s (second 0)) (choice2 0)) (ranked2 0)) (ranking2 0)) (assigned2 0)
 
 abbrev pub MakesSecond : Database → Database → Type 0
 MakesSecond old new = IsFirstSchema old.schema → Grown (with_second old.schema) first_trees second_trees old new

@@ -40,7 +40,8 @@ HasFirstPlace c = IfSome (text_or_none (column c 3)) (λ p. is_key p ≡ true)
 -- what the reading of a place asks: it has the form of a key, and in the second round there is no
 -- more than one row of the student with this key
 abbrev pub HasSecondPlace : Trees → Key → Type 0
-HasSecondPlace db student = IfSome (second_placement db student) (λ p. is_key p ≡ true) × (length (of_key student (db assigned2_tree)) ≤ 1)
+HasSecondPlace db student =
+    IfSome (second_placement db student) (λ p. is_key p ≡ true) × (length (of_key student (db assigned2_tree)) ≤ 1)
 
 abbrev pub HasPlacement : Round → Trees → Row → Type 0
 HasPlacement First db c = HasFirstPlace c

@@ -30,7 +30,8 @@ pub record HasPut (tree : ℕ) (owner : Key) (list : List Key) (old new : Databa
   pub places : IsPermutation (map placed (of_key owner (new.trees tree))) (numbered 1 list)
 
 abbrev pub PutsList : ℕ → Key → List Key → Database → Database → Type 0
-PutsList tree owner list old new = IsCurrentSchema old.schema → RowNumbersDiffer (old.trees tree) → HasPut tree owner list old new
+PutsList tree owner list old new =
+    IsCurrentSchema old.schema → RowNumbersDiffer (old.trees tree) → HasPut tree owner list old new
 
 -- the result of the second round is these pairs, in place of any other
 pub record HasPlacements (pairs : List (Key × Key)) (old new : Database) : Type 0 where
@@ -41,7 +42,8 @@ pub record HasPlacements (pairs : List (Key × Key)) (old new : Database) : Type
   pub rows : new.trees assigned2_tree ≡ with_rows [] (map pair_new pairs)
 
 abbrev pub PutsPlacements : List (Key × Key) → Database → Database → Type 0
-PutsPlacements pairs old new = IsCurrentSchema old.schema → RowNumbersDiffer (old.trees assigned2_tree) → HasPlacements pairs old new
+PutsPlacements pairs old new =
+    IsCurrentSchema old.schema → RowNumbersDiffer (old.trees assigned2_tree) → HasPlacements pairs old new
 
 -- the lecturer is one of those with a ranking in the second round, and who else is one has not
 -- changed
@@ -50,7 +52,9 @@ pub record HasRanked (lecturer : Key) (old new : Database) : Type 0 where
   pub sound : IsDatabase new
   pub apart : RowNumbersDiffer (new.trees ranked2_tree)
   pub tables : Keeps ranked2_tree old new
-  pub known : (k : Key) → has (map row_key (new.trees ranked2_tree)) k ≡ (equals k lecturer || has (map row_key (old.trees ranked2_tree)) k)
+  pub known : (k : Key)
+      → has (map row_key (new.trees ranked2_tree)) k ≡ (equals k lecturer || has (map row_key (old.trees ranked2_tree)) k)
 
 abbrev pub RanksSecond : Key → Database → Database → Type 0
-RanksSecond lecturer old new = IsCurrentSchema old.schema → RowNumbersDiffer (old.trees ranked2_tree) → HasRanked lecturer old new
+RanksSecond lecturer old new =
+    IsCurrentSchema old.schema → RowNumbersDiffer (old.trees ranked2_tree) → HasRanked lecturer old new

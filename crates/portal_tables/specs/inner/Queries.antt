@@ -65,26 +65,37 @@ pub record Selection : Type 0 where
 abbrev pub selection : Query → Selection
 selection Office = record { tree = portal_tree; passes = every; by = 0 ∷ []; shown = 0 ∷ 2 ∷ 3 ∷ 4 ∷ [] }
 selection (Whole roll) = record { tree = roll_tree roll; passes = every; by = 1 ∷ []; shown = 1 ∷ columns_of roll }
-selection (LecturerByCode code) = record { tree = lecturer_tree; passes = has_text 3 code.now; by = 1 ∷ []; shown = 1 ∷ columns_of Lecturers }
-selection (StudentByCode code) = record { tree = student_tree; passes = has_text 3 code.now; by = 1 ∷ []; shown = 1 ∷ columns_of Students }
-selection (LecturerByKey key) = record { tree = lecturer_tree; passes = has_text 1 key.now; by = 1 ∷ []; shown = 1 ∷ [] }
-selection (StudentTold key) = record { tree = student_tree; passes = has_text 1 key.now; by = 1 ∷ []; shown = 1 ∷ 2 ∷ 4 ∷ [] }
+selection (LecturerByCode code) =
+    record { tree = lecturer_tree; passes = has_text 3 code.now; by = 1 ∷ []; shown = 1 ∷ columns_of Lecturers }
+selection (StudentByCode code) =
+    record { tree = student_tree; passes = has_text 3 code.now; by = 1 ∷ []; shown = 1 ∷ columns_of Students }
+selection (LecturerByKey key) =
+    record { tree = lecturer_tree; passes = has_text 1 key.now; by = 1 ∷ []; shown = 1 ∷ [] }
+selection (StudentTold key) =
+    record { tree = student_tree; passes = has_text 1 key.now; by = 1 ∷ []; shown = 1 ∷ 2 ∷ 4 ∷ [] }
 selection (AllLists lists) = record { tree = tree_of lists; passes = every; by = []; shown = 1 ∷ 2 ∷ 3 ∷ [] }
-selection (ListOf lists owner) = record { tree = tree_of lists; passes = has_text 1 owner.now; by = 2 ∷ []; shown = 2 ∷ 3 ∷ [] }
-selection (Choosers round project) = record { tree = tree_of (choice_table round); passes = has_text 3 project.now; by = 1 ∷ []; shown = 1 ∷ [] }
-selection (ProjectsOf lecturer) = record { tree = project_tree; passes = has_text 2 lecturer.now; by = 1 ∷ []; shown = 1 ∷ [] }
-selection (Listed round) = record { tree = tree_of (choice_table round); passes = has_number 2 1; by = 1 ∷ []; shown = 1 ∷ [] }
+selection (ListOf lists owner) =
+    record { tree = tree_of lists; passes = has_text 1 owner.now; by = 2 ∷ []; shown = 2 ∷ 3 ∷ [] }
+selection (Choosers round project) =
+    record { tree = tree_of (choice_table round); passes = has_text 3 project.now; by = 1 ∷ []; shown = 1 ∷ [] }
+selection (ProjectsOf lecturer) =
+    record { tree = project_tree; passes = has_text 2 lecturer.now; by = 1 ∷ []; shown = 1 ∷ [] }
+selection (Listed round) =
+    record { tree = tree_of (choice_table round); passes = has_number 2 1; by = 1 ∷ []; shown = 1 ∷ [] }
 selection FirstPlacements = record { tree = student_tree; passes = every; by = 1 ∷ []; shown = 1 ∷ 4 ∷ [] }
 selection Second = record { tree = second_tree; passes = every; by = 0 ∷ []; shown = 0 ∷ 2 ∷ [] }
 selection SecondRanked = record { tree = ranked2_tree; passes = every; by = 1 ∷ []; shown = 1 ∷ [] }
-selection (SecondRankedBy lecturer) = record { tree = ranked2_tree; passes = has_text 1 lecturer.now; by = 1 ∷ []; shown = 1 ∷ [] }
+selection (SecondRankedBy lecturer) =
+    record { tree = ranked2_tree; passes = has_text 1 lecturer.now; by = 1 ∷ []; shown = 1 ∷ [] }
 selection SecondPlacements = record { tree = assigned2_tree; passes = every; by = 1 ∷ []; shown = 1 ∷ 2 ∷ [] }
-selection (SecondPlaceOf student) = record { tree = assigned2_tree; passes = has_text 1 student.now; by = 1 ∷ []; shown = 1 ∷ 2 ∷ [] }
+selection (SecondPlaceOf student) =
+    record { tree = assigned2_tree; passes = has_text 1 student.now; by = 1 ∷ []; shown = 1 ∷ 2 ∷ [] }
 selection (Numbers table) = record { tree = table_tree table; passes = every; by = 0 ∷ []; shown = 0 ∷ [] }
 
 -- the query shows these rows of the tables
 abbrev pub Shows : Query → Trees → List Row → Type 0
-Shows q db rows = ListsBy (selection q).by (selection q).passes (columns (selection q).shown) (db (selection q).tree) rows
+Shows q db rows =
+    ListsBy (selection q).by (selection q).passes (columns (selection q).shown) (db (selection q).tree) rows
 
 -- the texts, and the value that each asks for
 
@@ -107,15 +118,18 @@ whole_text Students = codes "SELECT key, name, code, assigned FROM student ORDER
 abbrev pub query_text : Query → List ℕ
 query_text Office = codes "SELECT id, version, phase, office FROM portal ORDER BY id"
 query_text (Whole roll) = whole_text roll
-query_text (LecturerByCode code) = codes "SELECT key, name, code, capacity, ranked FROM lecturer WHERE code = ?1 ORDER BY key"
+query_text (LecturerByCode code) =
+    codes "SELECT key, name, code, capacity, ranked FROM lecturer WHERE code = ?1 ORDER BY key"
 query_text (StudentByCode code) = codes "SELECT key, name, code, assigned FROM student WHERE code = ?1 ORDER BY key"
 query_text (LecturerByKey key) = codes "SELECT key FROM lecturer WHERE key = ?1 ORDER BY key"
 query_text (StudentTold key) = codes "SELECT key, name, assigned FROM student WHERE key = ?1 ORDER BY key"
 query_text (AllLists lists) = all_text (names lists)
 query_text (ListOf lists owner) = list_text (names lists)
-query_text (Choosers round project) = codes "SELECT student FROM " ++ (names (choice_table round)).name ++ codes " WHERE project = ?1 ORDER BY student"
+query_text (Choosers round project) =
+    codes "SELECT student FROM " ++ (names (choice_table round)).name ++ codes " WHERE project = ?1 ORDER BY student"
 query_text (ProjectsOf lecturer) = codes "SELECT key FROM project WHERE lecturer = ?1 ORDER BY key"
-query_text (Listed round) = codes "SELECT student FROM " ++ (names (choice_table round)).name ++ codes " WHERE place = 1 ORDER BY student"
+query_text (Listed round) =
+    codes "SELECT student FROM " ++ (names (choice_table round)).name ++ codes " WHERE place = 1 ORDER BY student"
 query_text FirstPlacements = codes "SELECT key, assigned FROM student ORDER BY key"
 query_text Second = codes "SELECT id, phase FROM second ORDER BY id"
 query_text SecondRanked = codes "SELECT lecturer FROM ranked2 ORDER BY lecturer"

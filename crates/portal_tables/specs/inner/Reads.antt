@@ -12,7 +12,8 @@ abbrev pub Always : Database → Type 0
 Always _ = Unit {0}
 
 -- a read that may make no query, of an open connection
-abbrev pub MayRead : {S V E : Type 0} → Round → Ghosts S → (Database → Type 0) → (Database → Result V E → Type 0) → Result V E → Held S → Held S → Type 0
+abbrev pub MayRead : {S V E : Type 0} → Round → Ghosts S → (Database → Type 0) → (Database → Result V E → Type 0)
+    → Result V E → Held S → Held S → Type 0
 MayRead round g Right Told result old new = Reading round IfOpen Right Told result (state g old) (state g new)
 
 -- `Answer` holds of an answer, `Fault` of an error

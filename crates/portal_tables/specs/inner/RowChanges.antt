@@ -53,30 +53,41 @@ Adds tree cells old new = IsCurrentSchema old.schema → InsertsRows tree cells 
 -- a text that adds so many rows to the table, where it is run with the values of one after the
 -- other
 abbrev pub AddsBy : {S R : Type 0} → Ghosts S → List ℕ → ℕ → ℕ → (R → Row) → (R → Row) → Type 0
-AddsBy {S} {R} g text count tree values cells = (rows : List R) → length rows ≡ count → (old new : Held S) → Ran text (flat_map values rows) (state g old) (state g new)
+AddsBy {S} {R} g text count tree values cells =
+    (rows : List R) → length rows ≡ count → (old new : Held S)
+    → Ran text (flat_map values rows) (state g old) (state g new)
     → Made (Adds tree (map cells rows)) (state g old) (state g new)
 
 -- the rows with this key in their first column are gone
 abbrev pub Clears : ℕ → List ℕ → Database → Database → Type 0
-Clears tree key old new = IsCurrentSchema old.schema → RowNumbersDiffer (old.trees tree) → Drops tree (has_text 1 key) old new
+Clears tree key old new =
+    IsCurrentSchema old.schema → RowNumbersDiffer (old.trees tree) → Drops tree (has_text 1 key) old new
 
 -- the one row of `portal` tells this phase
 abbrev pub MovesTo : ℕ → Database → Database → Type 0
-MovesTo phase old new = IsCurrentSchema old.schema → (version was : ℤ) (office : List ℕ) → old.trees portal_tree ≡ portal_row version was office ∷ []
+MovesTo phase old new =
+    IsCurrentSchema old.schema → (version was : ℤ) (office : List ℕ)
+    → old.trees portal_tree ≡ portal_row version was office ∷ []
     → Becomes portal_tree (portal_row version (pos phase) office) old new
 
 -- the one row of `portal` tells this version
 abbrev pub IsOfVersion : ℕ → Database → Database → Type 0
-IsOfVersion version old new = IsCurrentSchema old.schema → (was phase : ℤ) (office : List ℕ) → old.trees portal_tree ≡ portal_row was phase office ∷ []
+IsOfVersion version old new =
+    IsCurrentSchema old.schema → (was phase : ℤ) (office : List ℕ)
+    → old.trees portal_tree ≡ portal_row was phase office ∷ []
     → Becomes portal_tree (portal_row (pos version) phase office) old new
 
 -- the one row of `second` tells this phase
 abbrev pub MovesSecond : ℕ → Database → Database → Type 0
-MovesSecond phase old new = IsCurrentSchema old.schema → (was : ℤ) → old.trees second_tree ≡ second_row was ∷ [] → Becomes second_tree (second_row (pos phase)) old new
+MovesSecond phase old new =
+    IsCurrentSchema old.schema → (was : ℤ) → old.trees second_tree ≡ second_row was ∷ []
+    → Becomes second_tree (second_row (pos phase)) old new
 
 -- the lecturer's one row says that a ranking is there
 abbrev pub Ranks : List ℕ → Database → Database → Type 0
-Ranks key old new = IsCurrentSchema old.schema → RowNumbersDiffer (old.trees lecturer_tree) → (number : ℤ) (name code : List ℕ) (capacity ranked : ℤ)
+Ranks key old new =
+    IsCurrentSchema old.schema → RowNumbersDiffer (old.trees lecturer_tree)
+    → (number : ℤ) (name code : List ℕ) (capacity ranked : ℤ)
     → filter (has_text 1 key) (old.trees lecturer_tree) ≡ (Int number ∷ lecturer_cells key name code capacity ranked) ∷ []
     → Sets lecturer_tree (has_text 1 key) (Int number ∷ lecturer_cells key name code capacity (pos 1)) old new
 
@@ -92,7 +103,8 @@ student_columns = columns (0 ∷ 1 ∷ 2 ∷ 3 ∷ 4 ∷ [])
 -- what the last of these says of the student with this key, or this value where none does
 abbrev pub assigned_by : List Assigned → Value → Value → Value
 assigned_by [] key value = value
-assigned_by (a ∷ all) key value = assigned_by all key (if is_eq (value_cmp key (Words a.0)) then text_cell a.1 else value)
+assigned_by (a ∷ all) key value =
+    assigned_by all key (if is_eq (value_cmp key (Words a.0)) then text_cell a.1 else value)
 
 abbrev pub with_assigned : List Assigned → Row → Row
 with_assigned all r = column r 0 ∷ column r 1 ∷ column r 2 ∷ column r 3 ∷ assigned_by all (column r 1) (column r 4) ∷ []
@@ -100,7 +112,9 @@ with_assigned all r = column r 0 ∷ column r 1 ∷ column r 2 ∷ column r 3 �
 -- each of these students is assigned to the project or to none, one after another, and no other
 -- student's row has changed
 abbrev pub Assigns : List Assigned → Database → Database → Type 0
-Assigns all old new = IsCurrentSchema old.schema → IsDatabase old → RowNumbersDiffer (old.trees student_tree) → Alters student_tree student_columns (with_assigned all) old new
+Assigns all old new =
+    IsCurrentSchema old.schema → IsDatabase old → RowNumbersDiffer (old.trees student_tree)
+    → Alters student_tree student_columns (with_assigned all) old new
 
 -- the row of `portal`, as it is shown
 pub record IsOffice (version : ℕ) (phase : Phase) (code : Key) (row : Row) : Type 0 where

@@ -11,20 +11,24 @@ portal_text = codes "CREATE TABLE portal (id INTEGER NOT NULL PRIMARY KEY CHECK 
     ++ codes "phase INTEGER NOT NULL, office TEXT NOT NULL) STRICT"
 
 abbrev pub lecturer_text : List ℕ
-lecturer_text = codes "CREATE TABLE lecturer (key TEXT NOT NULL PRIMARY KEY, name TEXT NOT NULL, code TEXT NOT NULL UNIQUE, "
+lecturer_text =
+    codes "CREATE TABLE lecturer (key TEXT NOT NULL PRIMARY KEY, name TEXT NOT NULL, code TEXT NOT NULL UNIQUE, "
     ++ codes "capacity INTEGER NOT NULL CHECK (capacity >= 1 AND capacity <= 200), "
     ++ codes "ranked INTEGER NOT NULL CHECK (ranked = 0 OR ranked = 1)) STRICT"
 
 abbrev pub project_text : List ℕ
-project_text = codes "CREATE TABLE project (key TEXT NOT NULL PRIMARY KEY, lecturer TEXT NOT NULL REFERENCES lecturer (key), "
+project_text =
+    codes "CREATE TABLE project (key TEXT NOT NULL PRIMARY KEY, lecturer TEXT NOT NULL REFERENCES lecturer (key), "
     ++ codes "title TEXT NOT NULL, capacity INTEGER NOT NULL CHECK (capacity >= 1 AND capacity <= 200)) STRICT"
 
 abbrev pub student_text : List ℕ
-student_text = codes "CREATE TABLE student (key TEXT NOT NULL PRIMARY KEY, name TEXT NOT NULL, code TEXT NOT NULL UNIQUE, "
+student_text =
+    codes "CREATE TABLE student (key TEXT NOT NULL PRIMARY KEY, name TEXT NOT NULL, code TEXT NOT NULL UNIQUE, "
     ++ codes "assigned TEXT REFERENCES project (key)) STRICT"
 
 abbrev pub list_table_text : ListTable → List ℕ
-list_table_text t = codes "CREATE TABLE " ++ t.name ++ codes " (" ++ t.owner ++ codes " TEXT NOT NULL REFERENCES " ++ t.owner
+list_table_text t =
+    codes "CREATE TABLE " ++ t.name ++ codes " (" ++ t.owner ++ codes " TEXT NOT NULL REFERENCES " ++ t.owner
     ++ codes " (key), place INTEGER NOT NULL, " ++ t.item ++ codes " TEXT NOT NULL REFERENCES " ++ t.item
     ++ codes " (key), PRIMARY KEY (" ++ t.owner ++ codes ", place), UNIQUE (" ++ t.item ++ codes ", " ++ t.owner ++ codes ")) STRICT"
 

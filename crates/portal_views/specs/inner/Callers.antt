@@ -61,7 +61,8 @@ pub record AreTold (round : Round) (db : Trees) (phase : Phase) (keys : List Key
 
 -- what the lecturer sees whose row is shown, with the catalogue, a ranking, and what is told of the
 -- own projects
-abbrev pub lecturer_sees_with : Round → Phase → Row → List Listing → Option (List Key) → List (Key × List Person) → List (Key × List Person) → LecturerSees
+abbrev pub lecturer_sees_with : Round → Phase → Row → List Listing → Option (List Key) → List (Key × List Person)
+    → List (Key × List Person) → LecturerSees
 lecturer_sees_with round phase c offers ranking applicants placed =
     record {
       round = round;
@@ -107,7 +108,8 @@ student_sees_with round phase c offers choices place =
     }
 
 abbrev pub student_shown : Round → Trees → Phase → Row → List Listing → StudentSees
-student_shown round db phase c offers = student_sees_with round phase c offers (choice_shown round db c) (result_shown round db phase c)
+student_shown round db phase c offers =
+    student_sees_with round phase c offers (choice_shown round db c) (result_shown round db phase c)
 
 -- what the reading of a student's view asks: key, name and places have their forms, and the list of
 -- the round has no gap

@@ -18,7 +18,8 @@ offered_in Second ls ps pairs = offered (filter_map (lecturer_left ps pairs) ls)
 
 -- of the tables
 abbrev pub catalogue_shown : Round → Trees → List Listing
-catalogue_shown round db = offered_in round (map shown_lecturer (lecturers_shown db)) (map shown_project (projects_shown db)) (first_pairs db)
+catalogue_shown round db =
+    offered_in round (map shown_lecturer (lecturers_shown db)) (map shown_project (projects_shown db)) (first_pairs db)
 
 -- what the reading of the rolls asks: they are sound, their keys rise, and each cell has its form
 pub record HasOffers (db : Database) : Type 0 where

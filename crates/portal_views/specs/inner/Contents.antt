@@ -51,7 +51,8 @@ pub record AreRead (round : Round) (db : Trees) (lecturers students : List Row) 
 
 -- these are those of shown rows, with what was found while they were read
 abbrev pub HasReadOf : Round → AllRows → Trees → List Row → List Row → List Row → Type 0
-HasReadOf round rows db lecturers projects students = (rows ≡ rows_from round db lecturers projects students) × AreRead round db lecturers students
+HasReadOf round rows db lecturers projects students =
+    (rows ≡ rows_from round db lecturers projects students) × AreRead round db lecturers students
 
 abbrev pub HasRead : Round → AllRows → Trees → Type 0
 HasRead round rows db = HasReadOf round rows db (lecturers_shown db) (projects_shown db) (students_shown db)

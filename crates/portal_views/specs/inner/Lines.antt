@@ -46,11 +46,13 @@ pub record HasStudents (round : Round) (db : Database) : Type 0 where
 
 -- what is told of the student whose row is shown, with the place in a round
 abbrev pub shown_line : Round → Trees → Row → ApplicantLine
-shown_line round db c = record { person = record { key = first_cell c; name = bytes (column c 1) }; placed = placement_shown round db c }
+shown_line round db c =
+    record { person = record { key = first_cell c; name = bytes (column c 1) }; placed = placement_shown round db c }
 
 -- and of the student whose key, name and assigned project are shown alone, with that project
 abbrev pub told_line : Row → ApplicantLine
-told_line c = record { person = record { key = first_cell c; name = bytes (column c 1) }; placed = text_or_none (column c 2) }
+told_line c =
+    record { person = record { key = first_cell c; name = bytes (column c 1) }; placed = text_or_none (column c 2) }
 
 -- the line with the place in a round, in place of the assigned project
 abbrev pub in_round : Round → Trees → ApplicantLine → ApplicantLine
@@ -63,4 +65,5 @@ applicant_at round db k = option_map (shown_line round db) (find (λ c. equals (
 
 -- of the students whose list of the round holds the project, by their keys
 abbrev pub applicant_lines : Round → Trees → Key → List ApplicantLine
-applicant_lines round db project = map (shown_line round db) (filter (λ c. has (choice_shown round db c) project) (students_shown db))
+applicant_lines round db project =
+    map (shown_line round db) (filter (λ c. has (choice_shown round db c) project) (students_shown db))

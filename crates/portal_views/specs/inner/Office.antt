@@ -31,7 +31,8 @@ pub record AreReadable (round : Round) (lecturers projects students : List Row) 
 
 -- the same of the rolls in the tables
 abbrev pub IsReadableByOffice : Round → Database → Type 0
-IsReadableByOffice round db = AreReadable round (lecturers_shown db.trees) (projects_shown db.trees) (students_shown db.trees) db
+IsReadableByOffice round db =
+    AreReadable round (lecturers_shown db.trees) (projects_shown db.trees) (students_shown db.trees) db
 
 -- some student's list holds the project
 abbrev pub is_chosen_shown : Round → Trees → Key → Bool
@@ -39,7 +40,8 @@ is_chosen_shown round db k = list_any (λ c. has (choice_shown round db c) k) (s
 
 -- or one of these projects that is the lecturer's
 abbrev pub is_wanted_shown : Round → Trees → List ProjectRow → Key → Bool
-is_wanted_shown round db projects lecturer = list_any (λ p. equals p.lecturer lecturer && is_chosen_shown round db p.key) projects
+is_wanted_shown round db projects lecturer =
+    list_any (λ p. equals p.lecturer lecturer && is_chosen_shown round db p.key) projects
 
 -- the key of the lecturer whose row is shown, where there is an applicant and no ranking
 abbrev pub waiting_key : Round → Trees → List ProjectRow → Row → Option Key
@@ -51,7 +53,8 @@ waiting_keys round db projects lecturers = filter_map (waiting_key round db proj
 
 -- the keys of the students whose rows are shown, who take part and have no list
 abbrev pub unlisted : Round → Trees → List Row → List Key
-unlisted round db students = map first_cell (filter (λ c. is_none (placement_before round c) && is_empty (choice_shown round db c)) students)
+unlisted round db students =
+    map first_cell (filter (λ c. is_none (placement_before round c) && is_empty (choice_shown round db c)) students)
 
 -- what the office sees, of shown rolls, with the catalogue
 abbrev pub office_sees_with : Round → Trees → Phase → Key → List Listing → List Row → List Row → List Row → OfficeSees
@@ -65,10 +68,12 @@ office_sees_with round db phase code offers lecturers projects students =
       students = map shown_student students;
       catalogue = offers;
       without_list = unlisted round db students;
-      still_to_rank = if is_from_ranking phase then waiting_keys round db (map shown_project projects) lecturers else [];
+      still_to_rank =
+          if is_from_ranking phase then waiting_keys round db (map shown_project projects) lecturers else [];
       pairs = filter_map (pair_shown round (Some phase) db) students;
     }
 
 -- of the rolls in the tables
 abbrev pub office_shown : Round → Trees → Phase → Key → List Listing → OfficeSees
-office_shown round db phase code offers = office_sees_with round db phase code offers (lecturers_shown db) (projects_shown db) (students_shown db)
+office_shown round db phase code offers =
+    office_sees_with round db phase code offers (lecturers_shown db) (projects_shown db) (students_shown db)

@@ -24,7 +24,8 @@ pub record AreProjectGroups (i : Spa) (m : List (Option ℕ)) (groups : List Gro
 -- the students of each lecturer
 pub record AreLecturerGroups (i : Spa) (m : List (Option ℕ)) (groups : List Group) : Type 0 where
   pub size : length groups ≡ length i.rankings
-  pub each : (l : ℕ) (d : Group) → l < length groups → IsGroup (ranking_of i l) (IsWith i m l) (at_lecturer i m l) (slice_index_or groups l d)
+  pub each : (l : ℕ) (d : Group) → l < length groups
+      → IsGroup (ranking_of i l) (IsWith i m l) (at_lecturer i m l) (slice_index_or groups l d)
 
 -- the student t and the project q come before s and p
 abbrev pub IsPassed : ℕ → ℕ → ℕ → ℕ → Type 0
@@ -33,7 +34,8 @@ IsPassed s p t q = (t < s) ⊎ ((t ≡ s) × (q < p))
 -- every pair before s and p that blocks, and no other, in order
 pub record AreBlocksBefore (i : Spa) (m : List (Option ℕ)) (s p : ℕ) (blocks : List Block) : Type 0 where
   pub sound : All (λ b. Blocks i m b.student b.project b.letter) blocks
-  pub complete : (t q : ℕ) (x : Letter) → IsPassed s p t q → Blocks i m t q x → Contains blocks (record { student = t; project = q; letter = x })
+  pub complete : (t q : ℕ) (x : Letter) → IsPassed s p t q → Blocks i m t q x
+      → Contains blocks (record { student = t; project = q; letter = x })
   pub sorted : AllPairs IsEarlier blocks
   pub passed : All (λ b. IsPassed s p b.student b.project) blocks
 

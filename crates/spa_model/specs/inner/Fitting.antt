@@ -10,6 +10,8 @@ AreAcceptable i m = (s p : ℕ) → project_of m s ≡ Some p → IsAcceptable i
 -- else has one
 pub record AreAssigned (n : ℕ) (students projects : List ℕ) (m : List (Option ℕ)) : Type 0 where
   pub count : length m ≡ n
-  pub each : (j : ℕ) → j < length students → project_of m (slice_index_or students j 0) ≡ Some (slice_index_or projects j 0)
-  pub no_other : (s p : ℕ) → project_of m s ≡ Some p → (j : ℕ) × (j < length students) × (slice_index_or students j 0 ≡ s) × (slice_index_or projects j 0 ≡ p)
+  pub each : (j : ℕ) → j < length students
+      → project_of m (slice_index_or students j 0) ≡ Some (slice_index_or projects j 0)
+  pub no_other : (s p : ℕ) → project_of m s ≡ Some p
+      → (j : ℕ) × (j < length students) × (slice_index_or students j 0 ≡ s) × (slice_index_or projects j 0 ≡ p)
   pub counted : (test : Option ℕ → Bool) → test None ≡ false → count_by test m ≡ count_by (λ p. test (Some p)) projects

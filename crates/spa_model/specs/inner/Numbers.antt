@@ -76,7 +76,8 @@ Finds projects choices l = Any (λ p. lecturer_at projects p ≡ l) choices
 
 -- the text is the key of a student with such a choice
 abbrev pub IsApplicantOf : List Lines.Student → List Student → List Project → ℕ → Text → Type 0
-IsApplicantOf lines students projects l text = (s : ℕ) × HasKey (student_keys lines) s text × Finds projects (choices_at students s) l
+IsApplicantOf lines students projects l text =
+    (s : ℕ) × HasKey (student_keys lines) s text × Finds projects (choices_at students s) l
 
 -- the number is that of a student with such a choice
 abbrev pub IsApplicantNumber : List Student → List Project → ℕ → ℕ → Type 0
@@ -101,4 +102,5 @@ Misses lines lecturers projects choices s r =
 
 -- such a choice of one of the first n students
 abbrev pub MissesBelow : List Lines.Lecturer → List Lecturer → List Project → List Student → ℕ → ℕ → Type 0
-MissesBelow lines lecturers projects students n r = (s : ℕ) × (s < n) × Misses lines lecturers projects (choices_at students s) s r
+MissesBelow lines lecturers projects students n r =
+    (s : ℕ) × (s < n) × Misses lines lecturers projects (choices_at students s) s r

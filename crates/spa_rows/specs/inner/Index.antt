@@ -31,7 +31,8 @@ pub record HasNumber {X : Type 0} (lines : List X) (key : X → Text) (text : Te
 abbrev pub HaveNumbers : {X : Type 0} → List X → (X → Text) → List Text → List ℕ → Type 0
 HaveNumbers lines key texts numbers = AllZip (HasNumber lines key) texts numbers
 
-abbrev pub AreListNumbers : {X L : Type 0} → List X → (X → Text) → (L → List Text) → List L → List (Vec ℕ Global) → Type 0
+abbrev pub AreListNumbers : {X L : Type 0} → List X → (X → Text) → (L → List Text) → List L → List (Vec ℕ Global)
+    → Type 0
 AreListNumbers lines key list owners numbers = AllZip (λ x own. HaveNumbers lines key (list x) own.items) owners numbers
 
 -- no number stands at two places

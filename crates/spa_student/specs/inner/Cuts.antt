@@ -38,7 +38,8 @@ pub record AreMarks (i : Spa) (q : Progress) : Type 0 where
   pub project_cuts : (p : ℕ) → slice_index q.project_cuts.items p ≤ length (ranking_of i (lecturer_of i p))
   pub lecturer_cuts : (l : ℕ) → slice_index q.lecturer_cuts.items l ≤ length (ranking_of i l)
   pub passed : (s p : ℕ) → place (choices_of i s) p < slice_index q.cursors.items s → IsPastCut i q s p
-  pub at_cursor : (s p : ℕ) → project_of q.projects.items s ≡ Some p → place (choices_of i s) p ≡ slice_index q.cursors.items s
+  pub at_cursor : (s p : ℕ) → project_of q.projects.items s ≡ Some p
+      → place (choices_of i s) p ≡ slice_index q.cursors.items s
 
 -- the marks are right, and the counts
 pub record IsTallied (i : Spa) (q : Progress) : Type 0 where

@@ -10,7 +10,8 @@ returns-in_default-found-clause-follows g c =
     follows _ _ _ _ c.loop-found.ended c.in-Ok.found c.loop-found.invariant.reads (rw c.as_slice.ensures.value at c.in-Ok.ensures.framed) c.in_default-found.not-Need
     (within _ _ (rw c.as_slice.ensures.value at c.in-Ok.ensures.limits))
 
-smaller : (old new : ℕ) (before after : Bool) → old < request_limit → before ≡ false → old + (if after then 0 else 1) ≤ new
+smaller : (old new : ℕ) (before after : Bool) → old < request_limit → before ≡ false
+    → old + (if after then 0 else 1) ≤ new
     → request_limit - new + (if after then 0 else 1) < request_limit - old + (if before then 0 else 1)
 smaller old new true after short on more = absurd (cc)
 smaller old new false true short on more = omega (arith, short, more)

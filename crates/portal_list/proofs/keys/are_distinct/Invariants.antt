@@ -5,5 +5,6 @@ use Rattle.portal_list.proofs.keys.are_distinct.Given as goal
 abbrev pub invariant-loop-text : goal.invariant-loop-text
 invariant-loop-text l = record {
   seen : IsInTree l.texts (λ text. text.now) l.seen l.text-index;
-  distinct : (j : ℕ) (text : Bor Text) → j < l.text-index → get_or l.texts j text ≡ text → IsEarlierKey l.texts (λ t. t.now) j text.now → ⊥;
+  distinct : (j : ℕ) (text : Bor Text) → j < l.text-index → get_or l.texts j text ≡ text
+      → IsEarlierKey l.texts (λ t. t.now) j text.now → ⊥;
 }

@@ -9,13 +9,17 @@ use Rattle.portal_rules.proofs.Members.{there, has_it}
 use Rattle.portal_list.proofs.keys.is_known.Goals as goal
 
 -- Rows whose keys rise, and the search among them.
-known_at : {X : Type 0} (key : X → Key) (rows : List X) (k : Key) (n : ℕ) → n < length rows → ((d : X) → slice_cmp nat_cmp (key (get_or rows n d)) k ≡ Equal) → true ≡ has (map key rows) k
+known_at : {X : Type 0} (key : X → Key) (rows : List X) (k : Key) (n : ℕ) → n < length rows
+    → ((d : X) → slice_cmp nat_cmp (key (get_or rows n d)) k ≡ Equal) → true ≡ has (map key rows) k
 known_at key rows k n low equal =
     let x = at_place rows n low in
     let same : key x.0 ≡ k = exact_bytes (key x.0) k (rw x.1 at (equal x.0)) in
     sym (has_it (map key rows) k (any_map (λ y. y ≡ k) key rows n x.0 low (sym x.1) same))
 
-known_nowhere : {X : Type 0} (key : X → Key) (rows : List X) (k : Key) (n : ℕ) → ((i : ℕ) (d : X) → i < n → slice_cmp nat_cmp (key (get_or rows i d)) k ≡ Less) → ((i : ℕ) (d : X) → n ≤ i → i < length rows → slice_cmp nat_cmp (key (get_or rows i d)) k ≡ Greater) → false ≡ has (map key rows) k
+known_nowhere : {X : Type 0} (key : X → Key) (rows : List X) (k : Key) (n : ℕ)
+    → ((i : ℕ) (d : X) → i < n → slice_cmp nat_cmp (key (get_or rows i d)) k ≡ Less)
+    → ((i : ℕ) (d : X) → n ≤ i → i < length rows → slice_cmp nat_cmp (key (get_or rows i d)) k ≡ Greater)
+    → false ≡ has (map key rows) k
 known_nowhere {X} key rows k n below above = at (has (map key rows) k) refl
   where
     at : (b : Bool) → has (map key rows) k ≡ b → false ≡ b

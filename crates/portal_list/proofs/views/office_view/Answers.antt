@@ -5,7 +5,8 @@ use Rattle.portal_list.proofs.Plays.{part_and}
 use Rattle.portal_list.proofs.Waiting.{waiting_lecturers}
 use Rattle.portal_list.proofs.views.office_view.Goals as goal
 
-waiting : (w : World) (b : Bool) (ls : List Lecturer) (ps : List ProjectRow) (ss : List Student) → b ≡ is_from_ranking w.phase → ls ≡ w.lecturers → ps ≡ w.projects → ss ≡ w.students
+waiting : (w : World) (b : Bool) (ls : List Lecturer) (ps : List ProjectRow) (ss : List Student)
+    → b ≡ is_from_ranking w.phase → ls ≡ w.lecturers → ps ≡ w.projects → ss ≡ w.students
     → cond b (map (λ (l : Lecturer). l.row.key) (filter (is_waiting ss ps) ls)) [] ≡ cond (is_from_ranking w.phase) (map (λ l. l.row.key) (filter (is_still_to_rank w) w.lecturers)) []
 waiting w b ls ps ss eb el ep es = search (rules, waiting_lecturers)
 

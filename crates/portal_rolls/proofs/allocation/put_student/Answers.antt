@@ -8,7 +8,8 @@ placed : (v : OfficeSees) (s : StudentRow) (p : ProjectRow) (key name project ti
     → key ∷ name ∷ project ∷ title ∷ lecturer ∷ [] ≡ student_fields v s
 placed v s p key name project title lecturer k n q t l e = search rules
 
-unplaced : (v : OfficeSees) (s : StudentRow) (key name : List ℕ) → key ≡ s.key → name ≡ s.name → None ≡ project_given v s
+unplaced : (v : OfficeSees) (s : StudentRow) (key name : List ℕ) → key ≡ s.key → name ≡ s.name
+    → None ≡ project_given v s
     → key ∷ name ∷ [] ∷ [] ∷ [] ∷ [] ≡ student_fields v s
 unplaced v s key name k n e = (λ i. k i ∷ n i ∷ [] ∷ [] ∷ [] ∷ []) ∙ ap (λ o. s.key ∷ s.name ∷ project_fields o) e
 

@@ -4,7 +4,9 @@ use Rattle.portal_rules.proofs.AllLaws.{any_map}
 use Rattle.portal_rules.proofs.room.lecturer_left.Goals as goal
 
 -- the pairs with one of these keys
-counted : (keys : List (Bor Key)) (own : List Key) (pairs : List (Key × Key)) (given : ℕ) → given ≡ count_by (λ (x : Key × Key). list_any (λ k. equals x.1 k.now) keys) pairs → map (λ k. k.now) keys ≡ own → given ≡ pairs_among pairs own
+counted : (keys : List (Bor Key)) (own : List Key) (pairs : List (Key × Key)) (given : ℕ)
+    → given ≡ count_by (λ (x : Key × Key). list_any (λ k. equals x.1 k.now) keys) pairs → map (λ k. k.now) keys ≡ own
+    → given ≡ pairs_among pairs own
 counted keys own pairs given is own_keys = is ∙ (λ i. count_by (λ (x : Key × Key). sym (any_map (equals x.1) (λ (k : Bor Key). k.now) keys) i) pairs) ∙ ap (pairs_among pairs) own_keys
 
 pub returns : goal.returns

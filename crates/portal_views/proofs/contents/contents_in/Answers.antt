@@ -8,7 +8,8 @@ use Rattle.portal_views.proofs.Owners.{choices_owned, rankings_owned}
 use Rattle.portal_views.proofs.contents.contents_in.Goals as goal
 
 -- what the reading of the tables asks, of the rolls that were read
-fine_rows : (round : Round) (db : Database) (rolls : Rolls) → HasRound round db.schema → IsDatabase db → AreRolls db.trees rolls → HasFineRolls round db.trees
+fine_rows : (round : Round) (db : Database) (rolls : Rolls) → HasRound round db.schema → IsDatabase db
+    → AreRolls db.trees rolls → HasFineRolls round db.trees
     → HasFineRows round db.trees rolls.lecturers.items rolls.projects.items rolls.students.items
 fine_rows round db rolls own sound are fine = subst₃ (HasFineRows round db.trees) (sym are.lecturers_are) (sym are.projects_are) (sym are.students_are)
     (record { choices = choices_owned round db own sound fine.rise.students_rise; rankings = rankings_owned round db own sound fine.rise.lecturers_rise; fine = fine.fine })

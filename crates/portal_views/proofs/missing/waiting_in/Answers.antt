@@ -7,7 +7,8 @@ use Rattle.portal_views.proofs.missing.waiting_in.Goals as goal
 
 -- a ranking decides, and else whether there is an applicant
 module _ (round : Round) (db : Trees) (projects : List ProjectRow) (row : Row) where
-  pub decided : (b : Bool) → b ≡ has_list (ranking_table round) db row → cond b None (if is_wanted_shown round db projects (first_cell row) then Some (first_cell row) else None) ≡ waiting_key round db projects row
+  pub decided : (b : Bool) → b ≡ has_list (ranking_table round) db row
+      → cond b None (if is_wanted_shown round db projects (first_cell row) then Some (first_cell row) else None) ≡ waiting_key round db projects row
   decided b is = ap (λ b. cond b None (if is_wanted_shown round db projects (first_cell row) then Some (first_cell row) else None)) is
 
 pub returns-in_err-has_list_in-clause-reads : goal.returns-in_err-has_list_in-clause-reads

@@ -12,7 +12,8 @@ use Rattle.portal_views.proofs.OneKey.{roll_keys_rise}
 use Rattle.portal_views.proofs.office.office_view.Goals as goal
 
 -- what the reading of the tables asks, of the rolls that were read
-readable : (round : Round) (db : Database) (rolls : Rolls) → AreRolls db.trees rolls → IsReadableByOffice round db → AreReadable round rolls.lecturers.items rolls.projects.items rolls.students.items db
+readable : (round : Round) (db : Database) (rolls : Rolls) → AreRolls db.trees rolls → IsReadableByOffice round db
+    → AreReadable round rolls.lecturers.items rolls.projects.items rolls.students.items db
 readable round db rolls are fine = subst₃ (λ ls ps ss. AreReadable round ls ps ss db) (sym are.lecturers_are) (sym are.projects_are) (sym are.students_are) fine
 
 pub returns-in_err-rolls : goal.returns-in_err-rolls

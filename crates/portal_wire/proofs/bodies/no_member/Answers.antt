@@ -2,7 +2,8 @@ use Rattle.portal_wire.proofs.Base.{rules, ◌≡◌, ℕ, List, [], ◌∷◌, 
 use Rattle.portal_wire.proofs.Base.{view, members_view, Value, the_lemmas, empty_object}
 use Rattle.portal_wire.proofs.bodies.no_member.Goals as goal
 
-some_member : (ms : List (String Global × Value)) (n : ℕ) → n ≡ length ms → (n ≡ 0 → ⊥) → empty_object (object (members_view ms)) ≡ None
+some_member : (ms : List (String Global × Value)) (n : ℕ) → n ≡ length ms → (n ≡ 0 → ⊥)
+    → empty_object (object (members_view ms)) ≡ None
 some_member [] n e never = absurd (never e)
 some_member (m ∷ ms) n e never = refl
 

@@ -15,7 +15,8 @@ of_word Published = refl
 differs : (word other : List ℕ) → (other ≡ word → ⊥) → bytes_eq word other ≡ false
 differs word other not = false_from_ne_true (bytes_eq word other) (λ e. not (sym ((bytes_decides word other).0 e)))
 
-of_parse : (r : Option Phase) (word : List ℕ) → IfSome r (λ p. phase_word p ≡ word) → IfNone r ((p : Phase) → phase_word p ≡ word → ⊥) → r ≡ phase_of word
+of_parse : (r : Option Phase) (word : List ℕ) → IfSome r (λ p. phase_word p ≡ word)
+    → IfNone r ((p : Phase) → phase_word p ≡ word → ⊥) → r ≡ phase_of word
 of_parse (Some p) word some none = of_word p ∙ ap phase_of some
 of_parse None word some none =
     rw (

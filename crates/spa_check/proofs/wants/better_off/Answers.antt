@@ -4,7 +4,8 @@ use Rattle.std.proofs.Math.ListN.{get_or-eq_default}
 use Rattle.std.proofs.lemmas.Iterator.{first_from_Range}
 use Rattle.spa_check.proofs.wants.better_off.Goals as goal
 
-first : (i : Spa) (m other : List (Option ℕ)) (n : ℕ) → length other ≡ n → (found : Option ℕ) → MatchOption found ((k : ℕ) → 0 ≤ k → k < n → IsBetterOff i m other k → ⊥) (λ s. (0 ≤ s) × (s < n) × IsBetterOff i m other s × ((k : ℕ) → 0 ≤ k → k < s → IsBetterOff i m other k → ⊥))
+first : (i : Spa) (m other : List (Option ℕ)) (n : ℕ) → length other ≡ n → (found : Option ℕ)
+    → MatchOption found ((k : ℕ) → 0 ≤ k → k < n → IsBetterOff i m other k → ⊥) (λ s. (0 ≤ s) × (s < n) × IsBetterOff i m other s × ((k : ℕ) → 0 ≤ k → k < s → IsBetterOff i m other k → ⊥))
     → MatchOption found ((s : ℕ) → IsBetterOff i m other s → ⊥) (IsFirstBetterOff i m other)
 first i m other n long None none = λ s b. elim (cases_lt s n) [
   | inl low ↦ none s (omega arith) low b

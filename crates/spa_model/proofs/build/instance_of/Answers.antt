@@ -30,7 +30,8 @@ students c = c.in_ok-student_rows.student_rows.items
 abbrev projects : After-deref-2 → List Project
 projects c = c.in_ok-project_rows.project_rows.items
 
-choices_numbered : (c : Start) → AllZip (λ x own. AreNumbers (project_keys c.args.projects.now) x.list own.items) c.args.students.now c.args.choices.now
+choices_numbered : (c : Start)
+    → AllZip (λ x own. AreNumbers (project_keys c.args.projects.now) x.list own.items) c.args.students.now c.args.choices.now
 choices_numbered c = Stages.numbers_listed (λ x. x.key) c.args.projects.now (λ x. x.list) c.args.students.now c.args.choices.now c.requires.choices (good c).known_projects
 
 so : (c : After-deref-2) → AreNumbered (rows (start c)) (students c) (projects c)
@@ -47,7 +48,8 @@ none_other c =
     refuse_ok all NotApplicant ApplicantMissing c.not_applicant.result (Ok c.in_ok-refuse.field-0) refl c.in_ok-refuse.ensures c.requires.faultless least
 
 -- rankings by number
-rankings_numbered : (c : In_ok-refuse) → AllZip (λ x own. AreNumbers (student_keys c.args.students.now) x.list own.items) c.args.lecturers.now c.args.rankings.now
+rankings_numbered : (c : In_ok-refuse)
+    → AllZip (λ x own. AreNumbers (student_keys c.args.students.now) x.list own.items) c.args.lecturers.now c.args.rankings.now
 rankings_numbered c = Stages.numbers_listed (λ x. x.key) c.args.students.now (λ x. x.list) c.args.lecturers.now c.args.rankings.now c.requires.rankings (Stages.lists_known _ _ _ (so (numbers c)) (none_other c))
 
 pub number_students-requires-clause-form : goal.number_students-requires-clause-form

@@ -6,5 +6,6 @@ use Rattle.spa_rows.proofs.least.repeats.Given as goal
 abbrev pub invariant-loop-text : goal.invariant-loop-text
 invariant-loop-text l = record {
   seen : IsInTree (map (λ text. text.items) l.list) (λ text. text) l.seen l.text-index;
-  distinct : (j : ℕ) (text : Text) → j < l.text-index → get_or (map (λ text. text.items) l.list) j text ≡ text → IsEarlierKey (map (λ text. text.items) l.list) (λ text. text) j text → ⊥;
+  distinct : (j : ℕ) (text : Text) → j < l.text-index → get_or (map (λ text. text.items) l.list) j text ≡ text
+      → IsEarlierKey (map (λ text. text.items) l.list) (λ text. text) j text → ⊥;
 }

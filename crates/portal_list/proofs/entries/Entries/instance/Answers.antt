@@ -10,9 +10,11 @@ record AsAlone (e : AllEntries) (w v : World) : Type 0 where
   has : HasEntries e v
   sound : Sound v
   same : instance v ≡ instance w
-  ranked : AllByRecursion (λ l. is_still_to_rank w l ≡ false) w.lecturers → AllByRecursion (λ l. is_still_to_rank v l ≡ false) v.lecturers
+  ranked : AllByRecursion (λ l. is_still_to_rank w l ≡ false) w.lecturers
+      → AllByRecursion (λ l. is_still_to_rank v l ≡ false) v.lecturers
 
-as_alone : (a e : AllEntries) (w : World) → a.round ≡ Second → e ≡ all_played a → HasEntries a w → Sound w → AsAlone e w (alone (left_of w))
+as_alone : (a e : AllEntries) (w : World) → a.round ≡ Second → e ≡ all_played a → HasEntries a w → Sound w
+    → AsAlone e w (alone (left_of w))
 as_alone a e w second are has sound =
     let is_second : w.round ≡ Second = ap (λ x. x.round) has.there ∙ second in
     record {

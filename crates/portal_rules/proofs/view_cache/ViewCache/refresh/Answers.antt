@@ -14,11 +14,13 @@ seen_after w change (Some after) seen was same tells right = tells w (subst (λ 
 seen_after w change None seen was same tells right = tt
 
 -- the catalogue is the same afterwards
-offers_after : (cache : ViewCache) (v w : World) → catalogue w ≡ catalogue v → IsCacheOf cache v → IfSome cache.catalogue (λ shared. shared.value.items ≡ catalogue w)
+offers_after : (cache : ViewCache) (v w : World) → catalogue w ≡ catalogue v → IsCacheOf cache v
+    → IfSome cache.catalogue (λ shared. shared.value.items ≡ catalogue w)
 offers_after cache v w same right = subst (λ offers. IfSome cache.catalogue (λ shared. shared.value.items ≡ offers)) (sym same) right.offers
 
 -- a change that leaves the catalogue
-kept : (cache : ViewCache) (w : World) (made change : Change) → made ≡ change → catalogue (changed w change) ≡ catalogue w → IsCacheOf cache w
+kept : (cache : ViewCache) (w : World) (made change : Change) → made ≡ change
+    → catalogue (changed w change) ≡ catalogue w → IsCacheOf cache w
     → IfSome cache.catalogue (λ shared. shared.value.items ≡ catalogue (changed w made))
 kept cache w made change is same right =
     subst (λ c. IfSome cache.catalogue (λ shared. shared.value.items ≡ catalogue (changed w c))) (sym is) (offers_after cache w (changed w change) same right)
