@@ -7,7 +7,6 @@ mod server;
 mod timeouts;
 
 pub use listening::{serve_on, serve_stream};
-pub use portal_desk::pipe;
 pub use reporting::report;
 pub use server::{Connections, Ended, Hall, Outcome, Service, serve_each};
 pub use timeouts::TimedStream;
