@@ -10,7 +10,7 @@ from selenium.webdriver.common.by import By
 from selenium.webdriver.common.keys import Keys
 from selenium.webdriver.support.select import Select
 
-WAIT = 20
+WAIT = 60
 # The menu is shut, and has something of this name.
 IN_MENU = """document.querySelector('.menu')?.offsetParent && !document.querySelector('.rest').matches(':popover-open')
     && [...document.querySelectorAll('.rest button, .rest label > span')].some((e) => e.textContent === arguments[0])"""
