@@ -9,7 +9,7 @@ mod refusals;
 mod solves;
 mod words;
 
-use portal_fixtures::{cut, unescaped};
+use portal_fixtures::{cut, without_escapes};
 use portal_run::run;
 use std::alloc::{AllocError, Global};
 use std::process::Abort;
@@ -62,7 +62,7 @@ fn outcome(alloc: Global, status: u8, output: &[u8]) -> Result<String, AllocErro
 /// Runs a command on `before` and the records of a row. Returns what was found.
 fn found(rt: &HostRuntime, command: &str, before: &str, row: &str) -> Result<String, AllocError> {
     let (_, own) = cut(cut(row, "  ").1, "  ");
-    let own = unescaped(rt.alloc(), own.trim_start())?;
+    let own = without_escapes(rt.alloc(), own.trim_start())?;
     let records = [before, own.as_str()].concat(rt.alloc())?;
     let (status, output) = told(rt, command, HEADER, records.as_bytes())?;
     outcome(rt.alloc(), status, &output)

@@ -6,7 +6,8 @@ pub use Rattle.std.proofs.lemmas.List.{take_more, append-nil, take_all, ext_get_
 pub use Rattle.std.specs.Fmt.{decimal}
 pub use Rattle.std.specs.List.{count_by, flat_map, zip}
 pub use Rattle.std.specs.String.{string_bytes}
-pub use Rattle.portal_answer.specs.Answer.{IfLonger, IsAnswer, OfPairs, OfRead, Tells, refused_instance, Text, Told}
+pub use Rattle.portal_answer.specs.Answer.{IfLonger, IsAnswer, OfPairs, OfRead, OfMatching, refused_instance, Text}
+pub use Rattle.portal_answer.specs.Answer.{Output}
 pub use Rattle.portal_answer.specs.Answer.{assign_line, refused_file, refused_matching, blocking, assignment, OfFile}
 pub use Rattle.portal_answer.specs.Answer.{file_rows, limit, block_line, refusal}
 pub use Rattle.portal_answer.specs.declared.answer.Task.{Task}

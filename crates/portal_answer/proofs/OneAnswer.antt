@@ -1,7 +1,8 @@
 -- To the bytes of a file one text alone is told.
 use Rattle.portal_answer.proofs.Base.{◌≡◌, ◌∙◌, inl, inr, ℕ, ◌<◌, ◌≤◌, Bool, true, false, Result, Ok, Err, List, []}
 use Rattle.portal_answer.proofs.Base.{length, get_or, Option, Some, None, refl, sym, subst, ap, arith, Pair}
-use Rattle.portal_answer.proofs.Base.{InstanceFault, File, rows, RollFault, Spa, Text, Told, refused_instance, Tells}
+use Rattle.portal_answer.proofs.Base.{InstanceFault, File, rows, RollFault, Spa, Text, Output, refused_instance}
+use Rattle.portal_answer.proofs.Base.{OfMatching}
 use Rattle.portal_answer.proofs.Base.{OfPairs, OfRead, IfLonger, IsAnswer, Task, Check, Solve, ◌⊎◌, zero, suc, ◌∷◌}
 use Rattle.portal_answer.proofs.Base.{ext_get_or, Rows, Blocks, project_of, refused_matching, blocking, assignment}
 use Rattle.portal_answer.proofs.Base.{OfFile, file_rows, limit}
@@ -102,7 +103,7 @@ matching_one i pairs m n a b = ext_get_or None m n (a.students ∙ sym b.student
 
 -- ---- the first fault is one, of pairs as of rows
 
-module _ {F : Type 0} (number : F → ℕ) (same : (f g : F) → number f ≡ number g → f ≡ g) (Has : F → ℕ → Type 0) (refusal : F → ℕ → Told) where
+module _ {F : Type 0} (number : F → ℕ) (same : (f g : F) → number f ≡ number g → f ≡ g) (Has : F → ℕ → Type 0) (refusal : F → ℕ → Output) where
   abbrev IsFirst : F → ℕ → Type 0
   IsFirst f r = Has f r × ((q : ℕ) → Has f q → r ≤ q) × ((e : F) → number e < number f → (q : ℕ) → Has e q → ⊥)
 
@@ -124,14 +125,16 @@ same_pair_fault f g e = sym (fault_of-number f) ∙ ap fault_of e ∙ fault_of-n
 
 -- ---- what is told
 
-tells_one : (task : Task) (i : Spa) (m n : List (Option ℕ)) (t u : Told) → m ≡ n → Tells task i m t → Tells task i n u
+tells_one : (task : Task) (i : Spa) (m n : List (Option ℕ)) (t u : Output) → m ≡ n → OfMatching task i m t
+    → OfMatching task i n u
     → t ≡ u
 tells_one Check i m n t u e a b =
     let moved : AreAllBlocks i n a.0 = subst (λ (x : List (Option ℕ)). AreAllBlocks i x a.0) e a.1 in
     a.2 ∙ ap (blocking i) (blocks_one i n a.0 b.0 moved b.1) ∙ sym b.2
 tells_one Solve i m n t u e a b = a.2 ∙ ap (assignment i) (best_is_one i a.0 b.0 a.1 b.1) ∙ sym b.2
 
-told_is_one : (task : Task) (i : Spa) (pairs : List Pair) (t u : Told) → OfPairs task i pairs t → OfPairs task i pairs u
+told_is_one : (task : Task) (i : Spa) (pairs : List Pair) (t u : Output) → OfPairs task i pairs t
+    → OfPairs task i pairs u
     → t ≡ u
 told_is_one task i pairs t u a b = elim a [
   | inl bad ↦ elim b [
@@ -153,7 +156,7 @@ told_first rows f r a none = none f (omega arith) r a.here
 
 -- ---- what is told of a file
 
-file_is_one : (task : Task) (f : File) (t u : Told) → OfFile task f t → OfFile task f u → t ≡ u
+file_is_one : (task : Task) (f : File) (t u : Output) → OfFile task f t → OfFile task f u → t ≡ u
 file_is_one task f t u a b = elim a [
   | inl bad ↦ elim b [
     | inl worse ↦ bad.3 ∙ first_one number_of same_number (HasFault (file_rows f)) refused_instance bad.0 worse.0 bad.1 worse.1 (bad.2.here, bad.2.least, bad.2.none_before) (worse.2.here, worse.2.least, worse.2.none_before) ∙ sym worse.3
@@ -170,15 +173,15 @@ file_is_one task f t u a b = elim a [
   ]
 ]
 
-read_is_one : (task : Task) (read : Result File RollFault) (t u : Told) → OfRead task read t → OfRead task read u
+read_is_one : (task : Task) (read : Result File RollFault) (t u : Output) → OfRead task read t → OfRead task read u
     → t ≡ u
 read_is_one task (Err fault) t u a b = a ∙ sym b
 read_is_one task (Ok f) t u a b = file_is_one task f t u a b
 
-longer_is_one : (task : Task) (longer : Bool) (bytes : Text) (t u : Told) → IfLonger task longer bytes t
+longer_is_one : (task : Task) (longer : Bool) (bytes : Text) (t u : Output) → IfLonger task longer bytes t
     → IfLonger task longer bytes u → t ≡ u
 longer_is_one task true bytes t u a b = a ∙ sym b
 longer_is_one task false bytes t u a b = read_is_one task (rows bytes) t u a b
 
-pub answer_is_one : (task : Task) (bytes : Text) (t u : Told) → IsAnswer task bytes t → IsAnswer task bytes u → t ≡ u
+pub answer_is_one : (task : Task) (bytes : Text) (t u : Output) → IsAnswer task bytes t → IsAnswer task bytes u → t ≡ u
 answer_is_one task bytes t u a b = longer_is_one task (nat_lt limit (length bytes)) bytes t u a b

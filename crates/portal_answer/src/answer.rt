@@ -2,11 +2,11 @@
 
 ghost use Rattle.std.specs.Prelude.{IfOk};
 ghost use Rattle.spa_model.specs.Spa.{IsMatching};
-ghost use Rattle.portal_answer.specs.Answer.{IsAnswer, OfPairs, Tells};
+ghost use Rattle.portal_answer.specs.Answer.{IsAnswer, OfPairs, OfMatching};
 
-use crate::blocking::checked;
+use crate::blocking::check_answer;
 use crate::refusal::{plain, refused_file, refused_instance, refused_matching};
-use crate::solution::solved;
+use crate::solution::solve_answer;
 use portal_rolls::read_instance;
 use spa_model::{Instance, Matching, PairLine};
 use std::alloc::{AllocError, Global};
@@ -23,15 +23,15 @@ pub enum Task {
 
 /// An output text with its exit status.
 #[derive(Drop)]
-pub struct Told {
+pub struct Output {
     pub text: Vec<u8>,
     pub status: u8,
 }
 
-impl Model for Told {
+impl Model for Output {
     ghost use Rattle.portal_answer.specs.Answer as spec;
 
-    ghost Value = { spec.Told };
+    ghost Value = { spec.Output };
 
     ghost view = { λ t. record { text = t.text.items; status = t.status } };
 }
@@ -45,13 +45,13 @@ fn of_matching(
     task: Task,
     instance: &Instance,
     matching: &Matching,
-) -> Result<Told, AllocError>
+) -> Result<Output, AllocError>
     requires { IsMatching instance.now matching.now }
-    ensures { IfOk result (λ t. Tells task instance.now matching.now t) }
+    ensures { IfOk result (λ t. OfMatching task instance.now matching.now t) }
 {
     match task {
-        Task::Check => checked(alloc, instance, matching),
-        Task::Solve => solved(alloc, instance),
+        Task::Check => check_answer(alloc, instance, matching),
+        Task::Solve => solve_answer(alloc, instance),
     }
 }
 
@@ -61,7 +61,7 @@ fn of_pairs(
     task: Task,
     instance: &Instance,
     pairs: Vec<PairLine>,
-) -> Result<Told, AllocError>
+) -> Result<Output, AllocError>
     ensures { IfOk result (λ t. OfPairs task instance.now pairs.items t) }
 {
     match Matching::build(alloc, instance, pairs) {
@@ -72,7 +72,7 @@ fn of_pairs(
 
 /// Computes the answer of `check` or `solve` for the bytes of an instance file. An error means that
 /// memory ran out.
-pub fn answer_to(alloc: Global, task: Task, bytes: &[u8]) -> Result<Told, AllocError>
+pub fn answer_to(alloc: Global, task: Task, bytes: &[u8]) -> Result<Output, AllocError>
     ensures { IfOk result (λ t. IsAnswer task bytes.now t) }
 {
     if bytes.len() > LIMIT {

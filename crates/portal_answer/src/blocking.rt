@@ -4,7 +4,7 @@ ghost use Rattle.std.specs.Prelude.{◌≡◌, ◌<◌, ◌++◌, All, OnOk, IfO
 ghost use Rattle.spa_model.specs.Spa.{IsMatching};
 ghost use Rattle.portal_answer.specs.Answer.{block_line, blocking, TellsBlocks};
 
-use crate::answer::Told;
+use crate::answer::Output;
 use spa_check::{Block, blocking_pairs};
 use spa_model::{Instance, Matching};
 use std::alloc::{AllocError, Global};
@@ -32,7 +32,7 @@ fn put_block(
 }
 
 /// Writes a line for each blocking pair, then their number. The status is 0 without pairs, else 1.
-fn lines(alloc: Global, instance: &Instance, blocks: &[Block]) -> Result<Told, AllocError>
+fn lines(alloc: Global, instance: &Instance, blocks: &[Block]) -> Result<Output, AllocError>
     requires { All (λ b. (b.student < length instance.now.choices)
         × (b.project < length instance.now.lecturers)) blocks.now }
     ensures { IfOk result (λ t. t ≡ blocking instance.now blocks.now) }
@@ -45,15 +45,15 @@ fn lines(alloc: Global, instance: &Instance, blocks: &[Block]) -> Result<Told, A
     let last = format!(in alloc; "blocking {count}\n")?;
     text.extend_from_slice(last.as_bytes())?;
     let status = if count == 0 { 0 } else { 1 };
-    Ok(Told { text, status })
+    Ok(Output { text, status })
 }
 
 /// Computes the answer of `check`: the pairs that block the matching.
-pub(crate) fn checked(
+pub(crate) fn check_answer(
     alloc: Global,
     instance: &Instance,
     matching: &Matching,
-) -> Result<Told, AllocError>
+) -> Result<Output, AllocError>
     requires { IsMatching instance.now matching.now }
     ensures { IfOk result (λ t. TellsBlocks instance.now matching.now t) }
 {

@@ -7,4 +7,4 @@ pub mod laws;
 mod refusal;
 mod solution;
 
-pub use answer::{LIMIT, Task, Told, answer_to};
+pub use answer::{LIMIT, Output, Task, answer_to};

@@ -4,37 +4,37 @@ ghost use Rattle.std.specs.Prelude.{◌≡◌, IfOk, IsErr};
 ghost use Rattle.portal_answer.specs.Answer.{refused_plain, refused_row};
 ghost use Rattle.portal_answer.specs.Answer as spec;
 
-use crate::answer::Told;
+use crate::answer::Output;
 use portal_rolls::RollFault;
 use spa_model::{BadInstance, BadMatching, InstanceFault, MatchingFault};
 use std::alloc::{AllocError, Global};
 
 /// Writes the text of a refusal that names no row.
-pub(crate) fn plain(alloc: Global, word: &str) -> Result<Told, AllocError>
+pub(crate) fn plain(alloc: Global, word: &str) -> Result<Output, AllocError>
     ensures { IfOk result (λ t. t ≡ refused_plain word.now) }
 {
     let text = format!(in alloc; "refused {word}\n")?.into_bytes();
-    Ok(Told { text, status: 2 })
+    Ok(Output { text, status: 2 })
 }
 
 /// Writes the text of a refusal that names a row.
-fn at_row(alloc: Global, word: &str, row: u32) -> Result<Told, AllocError>
+fn at_row(alloc: Global, word: &str, row: u32) -> Result<Output, AllocError>
     ensures { IfOk result (λ t. t ≡ refused_row word.now row) }
 {
     let text = format!(in alloc; "refused {word} row {row}\n")?.into_bytes();
-    Ok(Told { text, status: 2 })
+    Ok(Output { text, status: 2 })
 }
 
 /// Writes the text that refuses a malformed field of a file.
-fn bad_field(alloc: Global, row: u32, column: u32) -> Result<Told, AllocError>
+fn bad_field(alloc: Global, row: u32, column: u32) -> Result<Output, AllocError>
     ensures { IfOk result (λ t. t ≡ spec.refused_file (RollFault.BadField row column)) }
 {
     let text = format!(in alloc; "refused bad_field row {row} column {column}\n")?.into_bytes();
-    Ok(Told { text, status: 2 })
+    Ok(Output { text, status: 2 })
 }
 
 /// Writes the text that refuses a file that cannot be read. An error means that memory ran out.
-pub(crate) fn refused_file(alloc: Global, fault: RollFault) -> Result<Told, AllocError>
+pub(crate) fn refused_file(alloc: Global, fault: RollFault) -> Result<Output, AllocError>
     ensures told { IfOk result (λ t. t ≡ spec.refused_file fault) }
     ensures memory { fault ≡ RollFault.Memory → IsErr result }
 {
@@ -84,7 +84,7 @@ fn matching_word(fault: MatchingFault) -> &'static str
 }
 
 /// Writes the text that refuses rows that are no instance. An error means that memory ran out.
-pub(crate) fn refused_instance(alloc: Global, bad: BadInstance) -> Result<Told, AllocError>
+pub(crate) fn refused_instance(alloc: Global, bad: BadInstance) -> Result<Output, AllocError>
     ensures told { IfOk result (λ t. t ≡ spec.refused_instance bad.fault bad.row) }
     ensures memory { bad.fault ≡ InstanceFault.Memory → IsErr result }
 {
@@ -96,7 +96,7 @@ pub(crate) fn refused_instance(alloc: Global, bad: BadInstance) -> Result<Told, 
 }
 
 /// Writes the text that refuses pairs that are no matching. An error means that memory ran out.
-pub(crate) fn refused_matching(alloc: Global, bad: BadMatching) -> Result<Told, AllocError>
+pub(crate) fn refused_matching(alloc: Global, bad: BadMatching) -> Result<Output, AllocError>
     ensures told { IfOk result (λ t. t ≡ spec.refused_matching bad.fault bad.row) }
     ensures memory { bad.fault ≡ MatchingFault.Memory → IsErr result }
 {

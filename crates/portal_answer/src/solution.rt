@@ -4,7 +4,7 @@ ghost use Rattle.std.specs.Prelude.{◌≡◌, ◌<◌, ◌++◌, IfOk, IfSome, 
 ghost use Rattle.spa_model.specs.Spa.{IsMatching};
 ghost use Rattle.portal_answer.specs.Answer.{assign_line, assignment, TellsBest};
 
-use crate::answer::Told;
+use crate::answer::Output;
 use spa_model::{Instance, Matching};
 use spa_student::solve;
 use std::alloc::{AllocError, Global};
@@ -39,7 +39,7 @@ fn put_student(
 }
 
 /// Writes a line for each student, then how many have a project and how many do not, for `solve`.
-fn lines(alloc: Global, instance: &Instance, matching: &Matching) -> Result<Told, AllocError>
+fn lines(alloc: Global, instance: &Instance, matching: &Matching) -> Result<Output, AllocError>
     requires { IsMatching instance.now matching.now }
     ensures { IfOk result (λ t. t ≡ assignment instance.now matching.now) }
 {
@@ -53,11 +53,11 @@ fn lines(alloc: Global, instance: &Instance, matching: &Matching) -> Result<Told
     let unassigned = instance.students() - assigned;
     let last = format!(in alloc; "assigned {assigned} unassigned {unassigned}\n")?;
     text.extend_from_slice(last.as_bytes())?;
-    Ok(Told { text, status: 0 })
+    Ok(Output { text, status: 0 })
 }
 
 /// Computes the answer of `solve`: the student-optimal stable matching.
-pub(crate) fn solved(alloc: Global, instance: &Instance) -> Result<Told, AllocError>
+pub(crate) fn solve_answer(alloc: Global, instance: &Instance) -> Result<Output, AllocError>
     ensures { IfOk result (λ t. TellsBest instance.now t) }
 {
     let matching = solve(alloc, instance)?;

@@ -6,7 +6,7 @@ use Rattle.portal_rules.proofs.Base.{Placements, Fill, SecondRound, Choosing, Ra
 use Rattle.portal_rules.proofs.Base.{LecturerCaller, StudentCaller, caller, sight_of, view, office_sees, lecturer_sees}
 use Rattle.portal_rules.proofs.Base.{student_sees, AbstractCall, Answer, Decision, refuses, decision, answer, Good}
 use Rattle.portal_rules.proofs.Base.{Sound, IsBest, instance, instance_of, matching_of, student_keys, project_keys}
-use Rattle.portal_rules.proofs.Base.{StepLeaves, Step, HasForm, Wish, Calls, Refused, Request, Answers, Serves, Run}
+use Rattle.portal_rules.proofs.Base.{StepLeaves, Step, HasForm, Wish, Calls, NoCall, Request, Answers, Serves, Run}
 use Rattle.portal_rules.proofs.Base.{AllAnswered, unavailable, Sight, pairs_by}
 use Rattle.portal_core.specs.Replies.{HasReply}
 use Rattle.spa_honest.proofs.Exists.{best_of}
@@ -82,7 +82,7 @@ replied : (w : World) (r : Request) (x : Wish) → Good w → HasReply x
 replied w r (Calls ask) g form =
     let one = step_there w g r.code ask form in
     (answer (view w r.code) ask, one.0, one.1, told_else (view w r.code) ask, step_good w one.0 r.code ask (answer (view w r.code) ask) g one.1)
-replied w r (Refused refusal) g other = (refusal, w, (refl, refl), other, g)
+replied w r (NoCall refusal) g other = (refusal, w, (refl, refl), other, g)
 
 -- A RUN WITHOUT A 503
 pub run_there : (w : World) (asked : List Request) → Good w → AllByRecursion (λ r. HasReply r.wish) asked
@@ -96,7 +96,7 @@ run_there w (r ∷ rs) g all =
 -- and only they have one
 has_reply : (w v : World) (r : Request) (x : Wish) (a : Answer) → Answers w r x a v → a ≢ unavailable → HasReply x
 has_reply w v r (Calls ask) a step other = step.form
-has_reply w v r (Refused refusal) a told other = λ e. other (told.0 ∙ e)
+has_reply w v r (NoCall refusal) a told other = λ e. other (told.0 ∙ e)
 
 pub run_only : (w : World) (asked : List Request) (told : List Answer) (after : List World) → Run w asked told after
     → AllAnswered told → AllByRecursion (λ r. HasReply r.wish) asked

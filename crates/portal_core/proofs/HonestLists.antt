@@ -184,12 +184,12 @@ module _ (w : World) (sound : Sound w) (one : w.round ≡ First) (published : is
   given s d h = get_or-map (λ (x : Student). option_map (number_in (project_keys w)) x.placed) w.students s d None h
 
 -- the student of this number on the roll
-pub record IsStudent (w : World) (s : ℕ) (x : Student) : Type 0 where
+pub record IsStudentNumber (w : World) (s : ℕ) (x : Student) : Type 0 where
   pub in_range : s < length w.students
   pub is : get_or w.students s x ≡ x
 
 -- from numbers to keys
-module _ (w : World) (sound : Sound w) (one : w.round ≡ First) (published : is_published w.phase ≡ true) (s : ℕ) (x : Student) (is_x : IsStudent w s x) where
+module _ (w : World) (sound : Sound w) (one : w.round ≡ First) (published : is_published w.phase ≡ true) (s : ℕ) (x : Student) (is_x : IsStudentNumber w s x) where
   x_choices : choices_of (instance_of w) s ≡ map (number_in (project_keys w)) x.choice
   x_choices = subst (λ (y : Student). choices_of (instance_of w) s ≡ map (number_in (project_keys w)) y.choice) is_x.is (choices w sound one published s x is_x.in_range)
 
@@ -332,7 +332,7 @@ pub record IsStableRound (w : World) : Type 0 where
   pub stable : IsStable (instance_of w) (places_of w)
 
 -- from what is as good by number to what is no worse by key
-pub no_worse_by_number : (w : World) (s : ℕ) (x : Student) → IsBestRound w → IsStudent w s x → (p : Key)
+pub no_worse_by_number : (w : World) (s : ℕ) (x : Student) → IsBestRound w → IsStudentNumber w s x → (p : Key)
     → has x.choice p ≡ true
     → (IsAcceptable (instance_of w) s (number_in (project_keys w) p) → IsAsGood (instance_of w) s (project_of (places_of w) s) (Some (number_in (project_keys w) p)))
     → (q : Key) × (x.placed ≡ Some q) × (has x.choice q ≡ true) × (number_in x.choice q ≤ number_in x.choice p)

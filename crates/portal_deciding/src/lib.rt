@@ -23,7 +23,7 @@ mod student;
 
 use crate::lecturer::decide_lecturer;
 use crate::office::decide_office;
-use crate::replies::{refused, refuses};
+use crate::replies::{refusal_reply, refuses};
 use crate::student::decide_student;
 use portal_rules::{Call, Decision, View};
 use std::alloc::{AllocError, Global};
@@ -36,7 +36,7 @@ pub fn decide(alloc: Global, view: &View, call: &Call) -> Result<Decision, Alloc
     ensures whole { IfOk result (λ d. HasWholeNumbers (meaning.decision_model d).reply.body) }
 {
     match view {
-        View::Nobody => Ok(refuses(refused(alloc, 403, "no_caller")?)),
+        View::Nobody => Ok(refuses(refusal_reply(alloc, 403, "no_caller")?)),
         View::Office(office) => decide_office(alloc, office, call),
         View::Lecturer(lecturer) => decide_lecturer(alloc, lecturer, call),
         View::Student(student) => decide_student(alloc, student, call),

@@ -68,7 +68,7 @@ fn stands_in(keys: &[Key], text: &[u8]) -> bool
 }
 
 /// Finds the key with this text, an entry of a submitted list, in the catalogue.
-fn listed<'a>(catalogue: &'a [Listing], text: &[u8]) -> Option<&'a Key>
+fn key_in_catalogue<'a>(catalogue: &'a [Listing], text: &[u8]) -> Option<&'a Key>
     ensures some { IfSome result
         (λ key. (key.now ≡ text.now) × (in_catalogue catalogue.now text.now ≡ true)) }
     ensures none { IfNone result (in_catalogue catalogue.now text.now ≡ false) }
@@ -95,7 +95,7 @@ fn next_choice<'a>(
     if earlier.len() == LONGEST_CHOICE {
         return Err("too_long");
     }
-    match listed(catalogue, text) {
+    match key_in_catalogue(catalogue, text) {
         None => Err("unknown_project"),
         Some(_) if stands_in(earlier, text) => Err("repeated"),
         Some(key) => Ok(key),
@@ -144,7 +144,7 @@ fn next_rank<'a>(
 
 /// Checks the entries of a submitted ranking, not its completeness. Returns its keys or its first
 /// fault.
-fn ranked(
+fn checked_entries(
     alloc: Global,
     applicants: &Applicants,
     list: &[Vec<u8>],
@@ -179,7 +179,7 @@ pub(crate) fn checked_ranking(
         ≡ ranking_fault (by_project applicants.now) (texts_of list.now)) }
 {
     let by_key = Applicants::of(alloc, applicants)?;
-    let keys = match ranked(alloc, &by_key, list)? {
+    let keys = match checked_entries(alloc, &by_key, list)? {
         Ok(keys) => keys,
         Err(fault) => return Ok(Err(fault)),
     };

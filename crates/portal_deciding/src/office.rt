@@ -16,7 +16,7 @@ ghost use Rattle.portal_rules.specs.Meaning.{call_model, reply_model, act_model,
 use crate::bodies::{array_of, catalogue_body, me_members, object_of, put_text};
 use crate::moves::move_to;
 use crate::new_rows::{Added, take_rows};
-use crate::replies::{json_reply, not_yours, refused, refuses, renders, shows, wrong_phase};
+use crate::replies::{json_reply, not_yours, refusal_reply, refuses, renders, shows, wrong_phase};
 use crate::roll_refusal::RollRefusal;
 use crate::roll_rules::{NewLecturers, NewProjects, NewStudents, RollRules};
 use crate::status::status_body;
@@ -46,7 +46,7 @@ fn row_refusal(alloc: Global, fault: &RollRefusal) -> Result<Reply, AllocError>
         ≡ row_fault fault.now.status fault.now.word fault.now.row) }
 {
     match fault.row {
-        None => refused(alloc, fault.status, fault.word),
+        None => refusal_reply(alloc, fault.status, fault.word),
         Some(row) => {
             let mut body = Map::new(alloc);
             put_text(&mut body, alloc, "error", fault.word)?;

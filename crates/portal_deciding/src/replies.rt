@@ -72,7 +72,7 @@ pub(crate) fn refuses(reply: Reply) -> Decision
 }
 
 /// Makes a reply that refuses a call and whose body is only an error word.
-pub(crate) fn refused(alloc: Global, status: u16, word: &str) -> Result<Reply, AllocError>
+pub(crate) fn refusal_reply(alloc: Global, status: u16, word: &str) -> Result<Reply, AllocError>
     ensures { IfOk result (λ reply. reply_model reply ≡ by_word status word.now) }
 {
     let word = Value::try_from_str(alloc, word)?;
@@ -83,12 +83,12 @@ pub(crate) fn refused(alloc: Global, status: u16, word: &str) -> Result<Reply, A
 pub(crate) fn not_yours(alloc: Global) -> Result<Decision, AllocError>
     ensures { IfOk result (λ decision. decision_model decision ≡ answer.not_yours) }
 {
-    Ok(refuses(refused(alloc, 403, "not_yours")?))
+    Ok(refuses(refusal_reply(alloc, 403, "not_yours")?))
 }
 
 /// Makes the decision that refuses a call that this phase does not allow.
 pub(crate) fn wrong_phase(alloc: Global) -> Result<Decision, AllocError>
     ensures { IfOk result (λ decision. decision_model decision ≡ answer.wrong_phase) }
 {
-    Ok(refuses(refused(alloc, 409, "wrong_phase")?))
+    Ok(refuses(refusal_reply(alloc, 409, "wrong_phase")?))
 }

@@ -13,7 +13,7 @@ ghost use Rattle.portal_rules.specs.Meaning.{call_model, texts_of, decision_mode
 
 use crate::bodies::{ToJson, array_of, catalogue_body, me_members, object_of, put_person};
 use crate::lists::{bad_list, checked_choices};
-use crate::replies::{applies, not_yours, refused, refuses, shows, wrong_phase};
+use crate::replies::{applies, not_yours, refusal_reply, refuses, shows, wrong_phase};
 use portal_rules::{Call, Change, Decision, Phase, StudentView};
 use serde_json::Value;
 use spa_rows::Key;
@@ -77,7 +77,7 @@ fn set_choices(alloc: Global, view: &StudentView, list: &[Vec<u8>]) -> Result<De
     match view.phase {
         Phase::Choosing => match view.result {
             None => take_choices(alloc, view, list),
-            Some(_) => Ok(refuses(refused(alloc, 409, "already_placed")?)),
+            Some(_) => Ok(refuses(refusal_reply(alloc, 409, "already_placed")?)),
         },
         _ => wrong_phase(alloc),
     }

@@ -1,7 +1,8 @@
 -- What a frame of the buffer says of the stream.
 use Rattle.portal_desk.proofs.Base.{◌≡◌, ℕ, ◌<◌, inl, inr, Bool, true, false, List, [], ◌++◌, length, take, drop, refl}
 use Rattle.portal_desk.proofs.Base.{sym, ap, ◌∙◌, subst, append-nil, arith, Option, Some, None, nat_le, if◌then◌else◌}
-use Rattle.portal_desk.proofs.Base.{Frame, Opens, whole, fault, seen, refused, Asked, is_head, ReadsMore, Heads}
+use Rattle.portal_desk.proofs.Base.{Frame, Opens, whole, fault, request_content, refusal_content, RequestContent}
+use Rattle.portal_desk.proofs.Base.{is_head, ReadsMore, Heads}
 use Rattle.portal_desk.proofs.Base.{Follows, NoneWhole, IsTrue, ◌≢◌, Ok, Err, leb-true, not_headless, Framed}
 use Rattle.portal_desk.proofs.Base.{IsWithinLimits, over, item_of, after_lines, asked_of, fields_of, body_length}
 use Rattle.portal_desk.proofs.Base.{bad_length, IsWithin, Cause, Result, IfErr}
@@ -16,9 +17,9 @@ heads stream after rest ended frame.End e last framed not_need =
     let all : after ≡ stream = sym (append-nil after) ∙ (ap (λ r. after ++ r) (sym (last framed.0)) ∙ e) in
     subst (λ s. Opens s over) all framed.1
 heads stream after rest ended (frame.Request request used) e last framed not_need =
-    subst (λ s. Opens s (whole (seen request) (drop used after ++ rest))) e (framed rest)
+    subst (λ s. Opens s (whole (request_content request) (drop used after ++ rest))) e (framed rest)
 heads stream after rest ended (frame.Bad refusal head_only) e last framed not_need =
-    subst (λ s. Opens s (fault (refused refusal) head_only)) e (framed rest last)
+    subst (λ s. Opens s (fault (refusal_content refusal) head_only)) e (framed rest last)
 
 pub follows : (old new : Option (List ℕ)) (before after : List ℕ) (ended : Bool) (f : Frame)
     → ReadsMore old new before after ended
@@ -35,13 +36,14 @@ pub within : (buffer : List ℕ) (f : Frame) → IsWithinLimits buffer f → IsW
 within buffer (frame.Request request used) limits = (limits.1, limits.2)
 within buffer _ limits = tt
 
-too_short : (n : ℕ) (rest : List ℕ) (short : length rest < n) (h : RequestHead) (b : Bool) (a : Asked) (after : List ℕ)
+too_short : (n : ℕ) (rest : List ℕ) (short : length rest < n) (h : RequestHead) (b : Bool) (a : RequestContent) (after : List ℕ)
     → nat_le n (length rest) ≡ b
     → whole a after ≡ (if b then whole (asked_of h (take n rest)) (drop n rest) else fault bad_length (is_head h.method)) → ⊥
 too_short n rest short h true a after le e = omega (arith, short, leb-true n (length rest) le)
 too_short n rest short h false a after le e = absurd (cc)
 
-sized : (h : RequestHead) (n : ℕ) (rest : List ℕ) (r : _) → length rest < n → r ≡ Ok n → (a : Asked) (after : List ℕ)
+sized : (h : RequestHead) (n : ℕ) (rest : List ℕ) (r : _) → length rest < n → r ≡ Ok n
+    → (a : RequestContent) (after : List ℕ)
     → whole a after ≡ after_lines h r rest → ⊥
 sized h n rest (Ok m) short e a after is =
     too_short n rest short h (nat_le n (length rest)) a after refl (subst (λ r. whole a after ≡ after_lines h r rest) e is)

@@ -1,7 +1,7 @@
 -- The bytes of the replies to one caller.
 use Rattle.portal_desk.proofs.Base.{◌≡◌, ℕ, inl, inr, Bool, true, false, List, [], ◌∷◌, ◌++◌, refl, sym, ap, ◌∙◌, subst}
 use Rattle.portal_desk.proofs.Base.{if◌then◌else◌, Key, World, view, Answer, Run, end_of, reply_text, Exchange}
-use Rattle.portal_desk.proofs.Base.{asked_in, told_in, exchange_text, KeeperState, Visit, AreVisits, exchanges_of}
+use Rattle.portal_desk.proofs.Base.{requests_of, replies_of, exchange_text, KeeperState, Visit, AreVisits, exchanges_of}
 use Rattle.portal_desk.proofs.Base.{worlds_of, Session, AreServed, TellsOf, AllZip, equals, Sight, IsVisit, AreAnswered}
 use Rattle.portal_desk.proofs.Base.{Hears, texts_to, replies_in, AlikeTexts}
 use Rattle.portal_rules.specs.Heard.{HeardItem, Asked, Sees, own_item, SeenIf, Heard, replies_to, SameButPlaces}
@@ -39,20 +39,20 @@ one true e seen rest texts answers none same = ap (λ ts. exchange_text e ∷ ts
 one false e seen rest texts answers none same = same ∙ ap (λ ms. texts_by ms answers) (sym none)
 
 texts_heard : (c : Key) (w : World) (es : List Exchange) (worlds : List World) (items : List HeardItem)
-    → Run w (asked_in es) (told_in es) worlds
-    → Heard c w (asked_in es) worlds items → texts_to c es ≡ texts_by (marks items) (replies_to c (asked_in es) (told_in es))
+    → Run w (requests_of es) (replies_of es) worlds
+    → Heard c w (requests_of es) worlds items → texts_to c es ≡ texts_by (marks items) (replies_to c (requests_of es) (replies_of es))
 unfolding marks texts_by
 texts_heard c w [] [] items run heard = ap (λ xs. texts_by (marks xs) []) (sym heard)
 texts_heard c w (e ∷ es) (v ∷ worlds) items run (first, rest, (seen, see, is_first), later, all) =
     let none = unmarked _ (view w c) (view v c) seen rest see in
     let more = texts_heard c v es worlds rest run.1 later in
     let whole : items ≡ (own_item c e.request ++ seen) ++ rest = all ∙ ap (λ f. f ++ rest) is_first in
-    one (equals e.request.code c) e seen rest (texts_to c es) (replies_to c (asked_in es) (told_in es)) none more
-    ∙ ap (λ xs. texts_by (marks xs) (replies_to c (asked_in (e ∷ es)) (told_in (e ∷ es)))) (sym whole)
+    one (equals e.request.code c) e seen rest (texts_to c es) (replies_to c (requests_of es) (replies_of es)) none more
+    ∙ ap (λ xs. texts_by (marks xs) (replies_to c (requests_of (e ∷ es)) (replies_of (e ∷ es)))) (sym whole)
 texts_heard c w _ _ items run heard = absurd run
 
 pub whole_run : (w : World) (vs : List Visit) → AreVisits w vs
-    → Run w (asked_in (exchanges_of vs)) (told_in (exchanges_of vs)) (worlds_of vs)
+    → Run w (requests_of (exchanges_of vs)) (replies_of (exchanges_of vs)) (worlds_of vs)
 whole_run w [] visits = tt
 whole_run w (v ∷ vs) (first, rest) = Run-append w v.exchanges (exchanges_of vs) v.worlds (worlds_of vs) first.run (whole_run (end_of w v.worlds) vs rest)
 
@@ -72,8 +72,8 @@ text_same e f same equals =
     ap (λ a. reply_text a e.request.head e.request.closes) equals
     ∙ (ap (λ h. reply_text f.reply h e.request.closes) same.head ∙ ap (λ x. reply_text f.reply f.request.head x) same.closes)
 
-alike : (es fs : List Exchange) → AllZip SameRequest (asked_in es) (asked_in fs)
-    → AlikeUntilPublished (asked_in es) (told_in es) (told_in fs) → AlikeTexts es fs
+alike : (es fs : List Exchange) → AllZip SameRequest (requests_of es) (requests_of fs)
+    → AlikeUntilPublished (requests_of es) (replies_of es) (replies_of fs) → AlikeTexts es fs
 alike [] fs zip told = tt
 alike (e ∷ es) [] zip told = tt
 alike (e ∷ es) (f ∷ fs) zip told = (
@@ -82,7 +82,7 @@ alike (e ∷ es) (f ∷ fs) zip told = (
 )
 
 pub same_places : (w v : World) (visits others : List Visit) → SameButPlaces w v
-    → AllZip SameRequest (asked_in (exchanges_of visits)) (asked_in (exchanges_of others))
+    → AllZip SameRequest (requests_of (exchanges_of visits)) (requests_of (exchanges_of others))
     → AreVisits w visits → AreAnswered visits → AreVisits v others → AreAnswered others → AlikeTexts (exchanges_of visits) (exchanges_of others)
 same_places w v visits others same zip are all were also =
     alike (exchanges_of visits) (exchanges_of others) zip

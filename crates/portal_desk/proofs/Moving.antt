@@ -1,7 +1,8 @@
 -- What one exchange more does to a keeper, and what a stop may leave after it.
 use Rattle.portal_desk.proofs.Base.{inl, inr, List, [], ◌∷◌, ◌++◌, refl, sym, ap, ◌∙◌, subst, append_assoc, World}
 use Rattle.portal_desk.proofs.Base.{Answer, Wanted, Serves, Exchange, Reaches, KeeperState, Kept, Moves, Worked}
-use Rattle.portal_desk.proofs.Base.{FailsByCount, MayReach, Acted, LastsOrBreaks, LeavesBy, MayLeave, Bool, Asked}
+use Rattle.portal_desk.proofs.Base.{FailsByCount, MayReach, Acted, LastsOrBreaks, LeavesBy, MayLeave, Bool}
+use Rattle.portal_desk.proofs.Base.{RequestContent}
 use Rattle.portal_desk.proofs.Base.{request_of}
 use Rattle.portal_desk.proofs.Failing.{fails_then, fails_none}
 use Rattle.portal_desk.proofs.InTurn.{lasts_then, breaks_then}
@@ -11,7 +12,8 @@ unfoldable pub exchange : Wanted → Answer → Exchange
 exchange r a = record { request = r; reply = a }
 
 -- whether the reply closes does not matter
-pub acted_as : (old new : KeeperState) (b c : Bool) (a : Asked) (reply : Answer) → Acted old new (request_of b a) reply
+pub acted_as : (old new : KeeperState) (b c : Bool) (a : RequestContent) (reply : Answer)
+    → Acted old new (request_of b a) reply
     → Acted old new (request_of c a) reply
 acted_as old new b c a reply h = record {
   clean = h.clean;

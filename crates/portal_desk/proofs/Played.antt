@@ -2,7 +2,8 @@
 use Rattle.portal_desk.proofs.Base.{◌≡◌, List, sym, ◌∙◌, ap, subst, Key, World, pairs_by, AbstractCall, Nothing, Apply}
 use Rattle.portal_desk.proofs.Base.{Decision, decision, Good, Step, view, is_setup, Placements, changed, instance}
 use Rattle.portal_desk.proofs.Base.{matching_of, CanPublish, Act, Publish, Render, HasForm, StepLeaves, CanDo, IsSolved}
-use Rattle.portal_desk.proofs.Base.{Result, Ok, Err, inl, inr, refl, Bool, Answer, Asked, Answers, Calls, Serves}
+use Rattle.portal_desk.proofs.Base.{Result, Ok, Err, inl, inr, refl, Bool, Answer, RequestContent, Answers, Calls}
+use Rattle.portal_desk.proofs.Base.{Serves}
 use Rattle.portal_desk.proofs.Base.{Wanted, request_of, reply_model, unavailable, KeeperState, IsAlive, Uses, Looks}
 use Rattle.portal_desk.proofs.Base.{Changes, MayLeave, Acted}
 use Rattle.std.specs.Prelude.{IfOk, OnOk, OnErr, MatchResult}
@@ -81,7 +82,7 @@ performed d r old mid new code ask e form looks alive decided changes = uses_the
     ))
 
 -- what playing a call for a request does to a keeper
-pub acted : (r : Result Reply KeepFault) (old new : KeeperState) (closes : Bool) (a : Asked) (code : Key) (ask : AbstractCall) (reply : Reply)
+pub acted : (r : Result Reply KeepFault) (old new : KeeperState) (closes : Bool) (a : RequestContent) (code : Key) (ask : AbstractCall) (reply : Reply)
     → code ≡ a.code → wish_of a ≡ Calls ask
     → Uses r old new (λ w. (old.broken → ⊥) × (old.clean → (other : Answer) × Step old.world code ask other w)) → OnOk r (IsAlive new)
     → IfOk r (λ told. new.clean → Step old.world code ask (reply_model told) new.world) → OnErr r (new.clean → new.world ≡ old.world)

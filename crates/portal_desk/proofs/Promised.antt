@@ -1,12 +1,12 @@
 -- The main promise, from what each call of `serve` tells.
 use Rattle.portal_desk.proofs.Base.{AllZip, Some, ◌≡◌, ℕ, ◌+◌, ◌<◌, length, take, map, get_or, add-one, inl, inr, true}
 use Rattle.portal_desk.proofs.Base.{false, List, [], ◌∷◌, ◌++◌, refl, sym, ap, ◌∙◌, subst, both_ways, Key, World, view}
-use Rattle.portal_desk.proofs.Base.{AbstractCall, Answer, Good, Request, Step, Run, Serves, AllAnswered, asked_in}
-use Rattle.portal_desk.proofs.Base.{told_in, KeeperState, Ended, Visit, AreVisits, exchanges_of, worlds_of, Session}
+use Rattle.portal_desk.proofs.Base.{AbstractCall, Answer, Good, Request, Step, Run, Serves, AllAnswered, requests_of}
+use Rattle.portal_desk.proofs.Base.{replies_of, KeeperState, Ended, Visit, AreVisits, exchanges_of, worlds_of, Session}
 use Rattle.portal_desk.proofs.Base.{IsSession, AreServed, TellsOf, ServesEach, take-suc, map-append, AllByRecursion}
-use Rattle.portal_desk.proofs.Base.{is_published, Wish, Calls, Refused, Answers, Last, AreServedOn, left_by}
+use Rattle.portal_desk.proofs.Base.{is_published, Wish, Calls, NoCall, Answers, Last, AreServedOn, left_by}
 use Rattle.portal_desk.proofs.Base.{exchanges_in, IsServed, IsUnseen, AreUnseen, PublishesBest, IsUpheld, MainPromise}
-use Rattle.portal_desk.proofs.Base.{IsEnded, AreOf}
+use Rattle.portal_desk.proofs.Base.{IsEnded, AreSessionsOf}
 use Rattle.portal_core.specs.Honest.{HasBest, ShowsBest}
 use Rattle.portal_rules.proofs.Unseen.{others}
 use Rattle.portal_desk.proofs.Heeding.{are_visits, whole_run, same_bytes}
@@ -15,7 +15,7 @@ use Rattle.portal_desk.proofs.Telling.{SomeSession}
 
 -- what the last disk returned keeps each keeper clean
 pub stays_served : {K : Type 0} (state : K → KeeperState) (k : K) (ss : List (Session K)) → AreServedOn state k ss
-    → AllAnswered (told_in (exchanges_in ss))
+    → AllAnswered (replies_of (exchanges_in ss))
     → (state (left_by k ss)).disk → (state k).disk × ((state k).clean → AreServed state k ss)
 stays_served state k [] served all last = (last, λ on. tt)
 stays_served state k (s ∷ ss) (resumes, serves, later) all last =
@@ -40,7 +40,7 @@ same_exchanges state _ _ tell = absurd tell
 answered_unseen : (c : Key) (w v : World) (r : Request) (wish : Wish) (a : Answer) → Good w → Answers w r wish a v
     → IsUnseen c w r v
 answered_unseen c w v r (Calls ask) a good step = λ member other office. others w v c r.code ask a good step member other office
-answered_unseen c w v r (Refused refusal) a good step = λ member other office. ap (λ u. view u c) step.1
+answered_unseen c w v r (NoCall refusal) a good step = λ member other office. ap (λ u. view u c) step.1
 
 one_unseen : (c : Key) (w v : World) (r : Request) (a : Answer) → Good w → Serves w r a v → IsUnseen c w r v
 one_unseen c w v r a good (inl step) = answered_unseen c w v r r.wish a good step
@@ -64,7 +64,7 @@ not_published w v same off on = absurd (both_ways (is_published w.phase) off (ap
 answered_best : StepsBest → (w v : World) (r : Request) (wish : Wish) (a : Answer) → Good w → Answers w r wish a v
     → is_published w.phase ≡ false → is_published v.phase ≡ true → HasBest v
 answered_best step_best w v r (Calls ask) a good step off on = step_best w v r.code ask a good off step on
-answered_best step_best w v r (Refused refusal) a good step off on = not_published w v step.1 off on
+answered_best step_best w v r (NoCall refusal) a good step off on = not_published w v step.1 off on
 
 one_best : StepsBest → (w v : World) (r : Request) (a : Answer) → Good w → Serves w r a v
     → is_published w.phase ≡ false → is_published v.phase ≡ true → HasBest v
@@ -94,7 +94,7 @@ pub upheld : RunsGood → StepsBest → RunsBest → (w : World) (visits : List 
     → IsUpheld w visits
 upheld run_good step_best run_best w visits good are =
     let run = whole_run w visits are in
-    let all = run_good w (asked_in (exchanges_of visits)) (told_in (exchanges_of visits)) (worlds_of visits) good run in
+    let all = run_good w (requests_of (exchanges_of visits)) (replies_of (exchanges_of visits)) (worlds_of visits) good run in
     record {
       are = are;
       good = all;
@@ -109,8 +109,8 @@ pub headline : RunsGood → StepsBest → RunsBest
 headline run_good step_best run_best state states k l ss ts one other =
     let a = are_visits state k ss ((stays_served state k ss one.served one.answered one.disk).1 one.clean) in
     let b = are_visits states l ts ((stays_served states l ts other.served other.answered other.disk).1 other.clean) in
-    let all = subst (λ es. AllAnswered (told_in es)) (same_exchanges state ss a.0 a.1) one.answered in
-    let also = subst (λ es. AllAnswered (told_in es)) (same_exchanges states ts b.0 b.1) other.answered in (
+    let all = subst (λ es. AllAnswered (replies_of es)) (same_exchanges state ss a.0 a.1) one.answered in
+    let also = subst (λ es. AllAnswered (replies_of es)) (same_exchanges states ts b.0 b.1) other.answered in (
       a.0,
       b.0,
       a.1,
@@ -132,9 +132,10 @@ left_more : {K : Type 0} (k : K) (ss : List (Session K)) (s : Session K) → lef
 left_more k [] s = refl
 left_more k (x ∷ ss) s = left_more x.new ss s
 
-of_more : {K : Type 0} (ss : List (Session K)) (xs ts : List (List ℕ)) (s : Session K) (t : List ℕ) → AreOf ss xs ts
+of_more : {K : Type 0} (ss : List (Session K)) (xs ts : List (List ℕ)) (s : Session K) (t : List ℕ)
+    → AreSessionsOf ss xs ts
     → s.before ≡ Some [] → s.after ≡ Some t → IsEnded s.finish
-    → AreOf (ss ++ s ∷ []) (xs ++ s.bytes ∷ []) (ts ++ t ∷ [])
+    → AreSessionsOf (ss ++ s ∷ []) (xs ++ s.bytes ∷ []) (ts ++ t ∷ [])
 of_more [] [] [] s t are none all ended = (refl, none, all, ended, tt)
 of_more (r ∷ ss) (x ∷ xs) (u ∷ ts) s t are none all ended = (are.0, are.1, are.2, are.3, of_more ss xs ts s t are.4 none all ended)
 of_more _ _ _ s t are none all ended = absurd are

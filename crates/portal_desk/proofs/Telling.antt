@@ -1,11 +1,14 @@
 -- What is known at each exit of the serving loop.
 use Rattle.portal_desk.proofs.Base.{◌≡◌, ℕ, ◌+◌, ◌-◌, ◌<◌, inl, inr, Bool, true, false, List, [], ◌∷◌, ◌++◌, length}
 use Rattle.portal_desk.proofs.Base.{drop, take, refl, sym, ap, ◌∙◌, subst, arith, append-nil, Option, Some, None}
-use Rattle.portal_desk.proofs.Base.{nat_le, ◌||◌, Appends, length-append, both_ways, Answer, Frame, Asked, Opens, whole}
-use Rattle.portal_desk.proofs.Base.{is_head, seen, refused, Cause, reply_text, Heads, Follows, request_of, closes_at}
-use Rattle.portal_desk.proofs.Base.{Rest, more, shut, Leads, Exchange, asked_in, text, exchange_text, Partly, Broke}
+use Rattle.portal_desk.proofs.Base.{nat_le, ◌||◌, Appends, length-append, both_ways, Answer, Frame, RequestContent}
+use Rattle.portal_desk.proofs.Base.{Opens, whole}
+use Rattle.portal_desk.proofs.Base.{is_head, request_content, refusal_content, Cause, reply_text, Heads, Follows}
+use Rattle.portal_desk.proofs.Base.{request_of, closes_at}
+use Rattle.portal_desk.proofs.Base.{Rest, more, shut, Leads, Exchange, requests_of, text, exchange_text, Partly, Broke}
 use Rattle.portal_desk.proofs.Base.{unavailable, KeeperState, Moves, IfSome, leb-false, shut_ends, Kept, Acted, Replied}
-use Rattle.portal_desk.proofs.Base.{KeepsStream, NoneWhole, ◌⊎◌, IsSession, Finish, Ended, Stopped, Tells, fault}
+use Rattle.portal_desk.proofs.Base.{KeepsStream, NoneWhole, ◌⊎◌, IsSession, Finish, Ended, Stopped, TellsExchanges}
+use Rattle.portal_desk.proofs.Base.{fault}
 use Rattle.portal_desk.proofs.Base.{connection_limit}
 use Rattle.portal_frame.specs.declared.types.Frame.TheVariants as frame
 use Rattle.portal_frame.specs.declared.types.Refusal.{Refusal}
@@ -21,7 +24,7 @@ use Rattle.portal_desk.proofs.Steps.{text-snoc, after_one, Leads-snoc}
 
 -- these are the first requests of the bytes, and this is what they did to the keeper
 pub record Deals (old new : KeeperState) (bytes : List ℕ) (count : ℕ) (es : List Exchange) (rest : Rest) : Type 0 where
-  pub leads : Leads connection_limit bytes (asked_in es) rest
+  pub leads : Leads connection_limit bytes (requests_of es) rest
   pub moves : Moves old new es
   pub counted : count ≡ length es
 
@@ -73,11 +76,11 @@ turn state (Some bytes) rem known old mid before w front buffer count found P so
     then bytes (front ++ x.0) f.0 x.2 f.1 f.3
 
 -- what one answer did
-abbrev pub Did : KeeperState → KeeperState → Asked → Bool → Option (List ℕ) → Option (List ℕ) → Type 0
+abbrev pub Did : KeeperState → KeeperState → RequestContent → Bool → Option (List ℕ) → Option (List ℕ) → Type 0
 Did mid new a closes w now =
     Replied mid new (request_of closes a) (λ reply. Appends w now (reply_text reply (is_head a.method) closes))
 
-Deals-snoc : (old mid new : KeeperState) (bytes left after : List ℕ) (count : ℕ) (es : List Exchange) (a : Asked) (closes : Bool) (reply : Answer)
+Deals-snoc : (old mid new : KeeperState) (bytes left after : List ℕ) (count : ℕ) (es : List Exchange) (a : RequestContent) (closes : Bool) (reply : Answer)
     → Deals old mid bytes count es (more left) → Opens left (whole a after) → closes ≡ closes_at (connection_limit - count) a
     → Acted mid new (request_of closes a) reply
     → Deals old new bytes (count + 1) (es ++ exchange (request_of closes a) reply ∷ []) (after_one closes a after)
@@ -85,13 +88,13 @@ unfolding exchange
 Deals-snoc old mid new bytes left after count es a closes reply deals opens at acted =
     let e : Exchange = exchange (request_of closes a) reply in
     record {
-      leads = subst (λ b. Leads connection_limit bytes (asked_in (es ++ e ∷ [])) (after_one b a after)) (sym at)
+      leads = subst (λ b. Leads connection_limit bytes (requests_of (es ++ e ∷ [])) (after_one b a after)) (sym at)
           (Leads-snoc connection_limit (connection_limit - count) bytes es left e a after deals.leads opens (ap (λ n. connection_limit - n) deals.counted) (ap (λ b. request_of b a) at));
       moves = Moves-snoc old mid new es (request_of closes a) reply deals.moves acted;
       counted = rw (length-append es (e ∷ [])) (omega (arith, deals.counted));
     }
 
-Dealt-snoc : (old mid new : KeeperState) (before w now : Option (List ℕ)) (bytes left after : List ℕ) (count : ℕ) (a : Asked) (closes : Bool)
+Dealt-snoc : (old mid new : KeeperState) (before w now : Option (List ℕ)) (bytes left after : List ℕ) (count : ℕ) (a : RequestContent) (closes : Bool)
     → Dealt old mid before w bytes count (more left) → Opens left (whole a after) → closes ≡ closes_at (connection_limit - count) a
     → Did mid new a closes w now → Dealt old new before now bytes (count + 1) (after_one closes a after)
 unfolding exchange
@@ -106,7 +109,7 @@ Dealt-snoc old mid new before w now bytes left after count a closes d opens at (
 module _ {K : Type 0} {state : K → KeeperState} {src rem : Option (List ℕ)} {old mid : K} {before w : Option (List ℕ)} {front : List ℕ} {count : ℕ} (so : SoFar state src rem old mid before w front count) where
   made : (new : K) (after : Option (List ℕ)) (n : ℕ) (finish : Finish) {bytes : List ℕ} {es : List Exchange} {rest : Rest} (written : List ℕ)
       → Deals (state old) (state new) bytes n es rest
-      → Appends before after written → Tells finish bytes es written → SomeSession state old new before after n finish bytes
+      → Appends before after written → TellsExchanges finish bytes es written → SomeSession state old new before after n finish bytes
   made new after n finish {es = es} written deals adds tells =
       (es, record { moves = deals.moves; counted = deals.counted; written = written; adds = adds; tells = tells })
 
@@ -134,14 +137,14 @@ module _ {K : Type 0} {state : K → KeeperState} {src rem : Option (List ℕ)} 
 
   module _ (known now : Option (List ℕ)) (buffer : List ℕ) (refusal : Refusal) (head_only : Bool) (follows : Follows rem known front buffer (frame.Bad refusal head_only)) where
     abbrev closing : List ℕ
-    closing = reply_text (answer_to (refused refusal)) head_only true
+    closing = reply_text (answer_to (refusal_content refusal)) head_only true
 
     pub bad_known : Appends w now closing
         → IfSome src (SomeSession state old mid before now count (Ended (talk.Refused refusal.word.now)))
     bad_known adds =
         turn state src rem known old mid before w front buffer count (frame.Bad refusal head_only) (SomeSession state old mid before now count (Ended (talk.Refused refusal.word.now))) so follows
         (λ bytes stream rest d is opens. made mid now count _ (text d.es ++ closing) d.deals (Appends-append before w now (text d.es) closing d.adds adds)
-        (closing, (more stream, d.deals.leads, (refused refusal, head_only, opens, refl, refl)), refl))
+        (closing, (more stream, d.deals.leads, (refusal_content refusal, head_only, opens, refl, refl)), refl))
 
     pub cut_known : (why : Cause) (failed : Bool) (left : Option (List ℕ)) → Partly why w now closing
         → IfSome src (SomeSession state old mid before now count (Stopped why failed left))
@@ -150,28 +153,29 @@ module _ {K : Type 0} {state : K → KeeperState} {src rem : Option (List ℕ)} 
         (λ bytes stream rest d is opens. go bytes stream d opens why part)
       where
         go : (bytes stream : List ℕ) → Dealt (state old) (state mid) before w bytes count (more stream)
-            → Opens stream (fault (refused refusal) head_only) → (why : Cause)
+            → Opens stream (fault (refusal_content refusal) head_only) → (why : Cause)
             → Partly why w now closing → SomeSession state old mid before now count (Stopped why failed left) bytes
         go bytes stream d opens cause.Write (k, adds) =
             made mid now count _ (text d.es ++ take k closing) d.deals (Appends-append before w now (text d.es) (take k closing) d.adds adds)
-            (more stream, d.deals.leads, inr (talk.Refused refusal.word.now, closing, k, (refused refusal, head_only, opens, refl, refl), refl))
+            (more stream, d.deals.leads, inr (talk.Refused refusal.word.now, closing, k, (refusal_content refusal, head_only, opens, refl, refl), refl))
         go bytes stream d opens cause.Memory adds =
             made mid now count _ (text d.es ++ []) d.deals (Appends-append before w now (text d.es) [] d.adds adds) (more stream, d.deals.leads, inr (append-nil (text d.es)))
         go bytes stream d opens _ part = absurd part
 
   module _ (known now : Option (List ℕ)) (buffer : List ℕ) (new : K) (request : Request) (used : ℕ) (closes : Bool) (follows : Follows rem known front buffer (frame.Request request used))
-      (at : closes ≡ closes_at (connection_limit - count) (seen request)) where
-    pub closes_known : Did (state mid) (state new) (seen request) closes w now → closes ≡ true
+      (at : closes ≡ closes_at (connection_limit - count) (request_content request)) where
+    pub closes_known : Did (state mid) (state new) (request_content request) closes w now → closes ≡ true
         → IfSome src (SomeSession state old new before now (count + 1) (Ended (last_for request.close)))
     closes_known did shuts =
         turn state src rem known old mid before w front buffer count (frame.Request request used) (SomeSession state old new before now (count + 1) (Ended (last_for request.close))) so follows
         (λ bytes stream rest d is opens.
         let after = drop used buffer ++ rest in
-        let t = subst (λ b. Dealt (state old) (state new) before now bytes (count + 1) (after_one b (seen request) after)) shuts
-        (Dealt-snoc (state old) (state mid) (state new) before w now bytes stream after count (seen request) closes d opens at did) in
+        let t = subst (λ b. Dealt (state old) (state new) before now bytes (count + 1) (after_one b (request_content request) after)) shuts
+        (Dealt-snoc (state old) (state mid) (state new) before w now bytes stream after count (request_content request) closes d opens at did) in
         made new now (count + 1) _ (text t.es) t.deals t.adds ([], (shut request.close, t.deals.leads, shut_ends request.close), sym (append-nil (text t.es))))
 
-    pub more_known : (kept : List ℕ) → Did (state mid) (state new) (seen request) closes w now → closes ≡ false
+    pub more_known : (kept : List ℕ) → Did (state mid) (state new) (request_content request) closes w now
+        → closes ≡ false
         → kept ≡ drop used buffer
         → SoFar state src known old new before now kept (count + 1)
     more_known kept did stays e = record {
@@ -181,25 +185,25 @@ module _ {K : Type 0} {state : K → KeeperState} {src rem : Option (List ℕ)} 
             rest,
             is,
             subst (λ k. Dealt (state old) (state new) before now bytes (count + 1) (more (k ++ rest))) (sym e)
-                (subst (λ b. Dealt (state old) (state new) before now bytes (count + 1) (after_one b (seen request) (drop used buffer ++ rest))) stays
-                (Dealt-snoc (state old) (state mid) (state new) before w now bytes stream (drop used buffer ++ rest) count (seen request) closes d opens at did)),
+                (subst (λ b. Dealt (state old) (state new) before now bytes (count + 1) (after_one b (request_content request) (drop used buffer ++ rest))) stays
+                (Dealt-snoc (state old) (state mid) (state new) before w now bytes stream (drop used buffer ++ rest) count (request_content request) closes d opens at did)),
           ));
     }
 
     pub broke_known : (why : Cause) (failed : Bool) (left : Option (List ℕ))
-        → Replied (state mid) (state new) (request_of closes (seen request)) (λ reply. Broke why failed reply (is_head request.method.items) closes w now)
+        → Replied (state mid) (state new) (request_of closes (request_content request)) (λ reply. Broke why failed reply (is_head request.method.items) closes w now)
         → IfSome src (SomeSession state old new before now (count + 1) (Stopped why failed left))
     unfolding exchange
     broke_known why failed left (reply, acted, broke) =
         turn state src rem known old mid before w front buffer count (frame.Request request used) (SomeSession state old new before now (count + 1) (Stopped why failed left)) so follows
         (λ bytes stream rest d is opens. go bytes stream rest d
-        (Deals-snoc (state old) (state mid) (state new) bytes stream (drop used buffer ++ rest) count d.es (seen request) closes reply d.deals opens at acted) why broke)
+        (Deals-snoc (state old) (state mid) (state new) bytes stream (drop used buffer ++ rest) count d.es (request_content request) closes reply d.deals opens at acted) why broke)
       where
         e : Exchange
-        e = record { request = request_of closes (seen request); reply = reply }
+        e = record { request = request_of closes (request_content request); reply = reply }
 
         after : List ℕ → Rest
-        after rest = after_one closes (seen request) (drop used buffer ++ rest)
+        after rest = after_one closes (request_content request) (drop used buffer ++ rest)
 
         go : (bytes stream rest : List ℕ) (d : Dealt (state old) (state mid) before w bytes count (more stream))
             → Deals (state old) (state new) bytes (count + 1) (d.es ++ e ∷ []) (after rest)
@@ -215,7 +219,7 @@ module _ {K : Type 0} {state : K → KeeperState} {src rem : Option (List ℕ)} 
             made new now (count + 1) _ (text d.es ++ reply_text unavailable (is_head request.method.items) true) deals (Appends-append before w now (text d.es) _ d.adds adds)
             (after rest, deals.leads, (is_failed, d.es, e, refl, same, refl))
 
-pub goes_on : (count : ℕ) (asked : Asked) (closes : Bool) → count < connection_limit → closes ≡ false
+pub goes_on : (count : ℕ) (asked : RequestContent) (closes : Bool) → count < connection_limit → closes ≡ false
     → closes ≡ closes_at (connection_limit - count) asked → count + 1 < connection_limit
 goes_on count asked closes small stays at =
     let many = leb-false (connection_limit - count) 1 (or_parts asked.close (nat_le (connection_limit - count) 1) (sym at ∙ stays)).1 in

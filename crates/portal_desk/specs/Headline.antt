@@ -10,9 +10,9 @@ use Rattle.portal_rules.specs.Good.{Good}
 use Rattle.portal_core.specs.Honest.{HasBest, ShowsBest}
 use Rattle.portal_rules.specs.Run.{Run, AllAnswered, end_of, Request}
 use Rattle.portal_rules.specs.Heard.{HeardItem, Heard, Unless, has_places, moves_to_published, IsMember}
-use Rattle.portal_wire.specs.Conversation.{Exchange, asked_in, told_in, exchange_text}
+use Rattle.portal_wire.specs.Conversation.{Exchange, requests_of, replies_of, exchange_text}
 use Rattle.portal_rules.specs.Keeping.{KeeperState}
-use Rattle.portal_desk.specs.Session.{Finish, Tells, Session, IsSession}
+use Rattle.portal_desk.specs.Session.{Finish, TellsExchanges, Session, IsSession}
 
 -- a stream, what is written for it, how serving it ends, its exchanges, and the world after each
 pub record Visit : Type 0 where
@@ -24,8 +24,8 @@ pub record Visit : Type 0 where
 
 -- the visit is what a desk does for the stream in world w
 pub record IsVisit (w : World) (v : Visit) : Type 0 where
-  pub tells : Tells v.finish v.bytes v.exchanges v.written
-  pub run : Run w (asked_in v.exchanges) (told_in v.exchanges) v.worlds
+  pub tells : TellsExchanges v.finish v.bytes v.exchanges v.written
+  pub run : Run w (requests_of v.exchanges) (replies_of v.exchanges) v.worlds
 
 -- one visit after another, each from the world that the one before leaves
 abbrev pub AreVisits : World → List Visit → Type 0
@@ -40,11 +40,11 @@ worlds_of vs = flat_map (λ v. v.worlds) vs
 
 -- no reply is 503
 abbrev pub AreAnswered : List Visit → Type 0
-AreAnswered vs = AllAnswered (told_in (exchanges_of vs))
+AreAnswered vs = AllAnswered (replies_of (exchanges_of vs))
 
 -- what one caller hears of the visits, in order
 abbrev pub Hears : Key → World → List Visit → List HeardItem → Type 0
-Hears c w vs items = Heard c w (asked_in (exchanges_of vs)) (worlds_of vs) items
+Hears c w vs items = Heard c w (requests_of (exchanges_of vs)) (worlds_of vs) items
 
 -- the texts of the replies to one caller, in order
 abbrev pub texts_to : Key → List Exchange → List (List ℕ)
@@ -91,7 +91,7 @@ pub record IsServed {K : Type 0} (state : K → KeeperState) (k : K) (sessions :
   pub served : AreServedOn state k sessions
   pub clean : (state k).clean
   pub good : Good (state k).world
-  pub answered : AllAnswered (told_in (exchanges_in sessions))
+  pub answered : AllAnswered (replies_of (exchanges_in sessions))
   pub disk : (state (left_by k sessions)).disk
 
 -- a request of a student or a lecturer changes no view but the own one and the office's
@@ -112,7 +112,7 @@ PublishesBest w (v ∷ vs) = (is_published w.phase ≡ false → is_published v.
 pub record IsUpheld (w : World) (visits : List Visit) : Type 0 where
   pub are : AreVisits w visits
   pub good : AllByRecursion Good (worlds_of visits)
-  pub unseen : (c : Key) → AreUnseen c w (asked_in (exchanges_of visits)) (worlds_of visits)
+  pub unseen : (c : Key) → AreUnseen c w (requests_of (exchanges_of visits)) (worlds_of visits)
   pub published : PublishesBest w (worlds_of visits)
   pub best : ShowsBest w → AllByRecursion ShowsBest (worlds_of visits)
 

@@ -6,7 +6,7 @@ use Rattle.portal_rules.specs.World.{World}
 use Rattle.portal_rules.specs.Answer.{Answer}
 use Rattle.portal_rules.specs.Keeping.{KeeperState, IsSettled, StaysClean, LastsOrBreaks, LeavesBy}
 use Rattle.portal_rules.specs.Run.{AllAnswered, Request, Serves, unavailable}
-use Rattle.portal_wire.specs.Conversation.{Exchange, told_in, Reaches}
+use Rattle.portal_wire.specs.Conversation.{Exchange, replies_of, Reaches}
 use Rattle.portal_desk.specs.declared.served.Cause.{Cause}
 use Rattle.portal_desk.specs.declared.served.Cause.TheVariants as cause
 
@@ -80,7 +80,7 @@ pub record Moves (old new : KeeperState) (es : List Exchange) : Type 0 where
   -- a clean keeper has their world
   pub reaches : new.clean → Reaches old.world es new.world
   -- it is clean still if no reply is 503, on a clean disk
-  pub lasts : AllAnswered (told_in es) → StaysClean old new
+  pub lasts : AllAnswered (replies_of es) → StaysClean old new
   -- in any case it is clean or broken
   pub breaks : LastsOrBreaks old new
   -- a stop leaves only its world, if it did before

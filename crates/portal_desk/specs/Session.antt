@@ -3,9 +3,9 @@ use Rattle.std.specs.Prelude.{ℕ, Bool, ◌≡◌, ◌⊎◌, ◌||◌, true, L
 use Rattle.std.specs.Prelude.{Result, Ok, Err}
 use Rattle.std.specs.Io.KnownBytes.{Appends}
 use Rattle.portal_rules.specs.Run.{unavailable}
-use Rattle.portal_frame.specs.Stream.{Asked, Opens, whole}
+use Rattle.portal_frame.specs.Stream.{RequestContent, Opens, whole}
 use Rattle.portal_wire.specs.Conversation.{connection_limit, reply_text, Rest, more, Leads, Last, last, Ends, Requests}
-use Rattle.portal_wire.specs.Conversation.{Exchange, asked_in, text}
+use Rattle.portal_wire.specs.Conversation.{Exchange, requests_of, text}
 use Rattle.portal_desk.specs.declared.served.Cause.{Cause}
 use Rattle.portal_desk.specs.declared.served.Cause.TheVariants as cause
 use Rattle.portal_desk.specs.declared.served.Served.{Served}
@@ -47,7 +47,7 @@ CutsClosing es rest written =
 abbrev pub AllSeen : Rest → Option (List ℕ) → Type 0
 AllSeen rest left =
     (held unread : List ℕ) × (rest ≡ more (held ++ unread)) × (left ≡ Some unread)
-    × ((a : Asked) → (after : List ℕ) → ¬ (Opens held (whole a after)))
+    × ((a : RequestContent) → (after : List ℕ) → ¬ (Opens held (whole a after)))
 
 -- what is written, by the cause of the fault
 abbrev pub Wrote : Cause → Bool → List Exchange → Rest → Option (List ℕ) → List ℕ → Type 0
@@ -59,11 +59,11 @@ Wrote cause.Store failed es rest left written =
     × (written ≡ text front ++ reply_text unavailable e.request.head true)
 
 -- the requests are the stream's; the text is all replies, or what the cause of a fault leaves
-abbrev pub Tells : Finish → List ℕ → List Exchange → List ℕ → Type 0
-Tells (Ended ending) bytes es written =
-    (closing : List ℕ) × Requests bytes (asked_in es) ending closing × (written ≡ text es ++ closing)
-Tells (Stopped why failed left) bytes es written =
-    (rest : Rest) × Leads connection_limit bytes (asked_in es) rest × Wrote why failed es rest left written
+abbrev pub TellsExchanges : Finish → List ℕ → List Exchange → List ℕ → Type 0
+TellsExchanges (Ended ending) bytes es written =
+    (closing : List ℕ) × Requests bytes (requests_of es) ending closing × (written ≡ text es ++ closing)
+TellsExchanges (Stopped why failed left) bytes es written =
+    (rest : Rest) × Leads connection_limit bytes (requests_of es) rest × Wrote why failed es rest left written
 
 -- a call of `serve`: the keeper before and after it, the stream, what the sink holds before and
 -- after it, if that is known, the count of requests, how the call ends, and its exchanges
@@ -84,7 +84,7 @@ pub record IsSession {K : Type 0} (state : K → KeeperState) (s : Session K) : 
   pub counted : s.count ≡ length s.exchanges
   pub written : List ℕ
   pub adds : Appends s.before s.after written
-  pub tells : Tells s.finish s.bytes s.exchanges written
+  pub tells : TellsExchanges s.finish s.bytes s.exchanges written
 
 -- how many requests a desk that had failed takes: the first one ends the call
 abbrev pub TakesFirst : Result Served ServeFault → Type 0

@@ -1,14 +1,14 @@
 //! The desk: acts on requests, over any keeper.
 
 ghost use Rattle.std.specs.Prelude.{◌≡◌, ◌≢◌, ◌||◌, true, false, MatchResult};
-ghost use Rattle.portal_frame.specs.Stream.{seen};
+ghost use Rattle.portal_frame.specs.Stream.{request_content};
 ghost use Rattle.portal_rules.specs.Meaning.{reply_model, body_model};
 ghost use Rattle.portal_rules.specs.Keeping.{KeepsGood};
 ghost use Rattle.portal_rules.specs.Run.{unavailable};
 ghost use Rattle.portal_rules.specs.Answer.{HasWholeNumbers};
 ghost use Rattle.portal_wire.specs.Conversation.{request_of};
 ghost use Rattle.portal_desk.specs.Kept.{Acted, FailsByCount};
-ghost use Rattle.portal_desk.specs.inner.Turns.{is_store, TurnsAway};
+ghost use Rattle.portal_desk.specs.inner.Turns.{has_store_failed, TurnsAway};
 
 use crate::playing::play;
 use portal_core::{KeepFault, Keeper, Reply};
@@ -68,7 +68,7 @@ impl<K: Keeper> Desk<K> {
     /// Returns the reply for the outcome of a call; a fault of the store makes the desk fail.
     fn record_outcome(&mut self, outcome: Result<Reply, KeepFault>) -> Reply
         ensures keeper { self.new.keeper ≡ self.old.keeper }
-        ensures failed { self.new.failed ≡ (self.old.failed || is_store outcome) }
+        ensures failed { self.new.failed ≡ (self.old.failed || has_store_failed outcome) }
         ensures reply { MatchResult outcome (λ reply. result ≡ reply)
             (λ _. reply_model result ≡ unavailable) }
     {
@@ -94,7 +94,7 @@ impl<K: Keeper> Desk<K> {
     /// but its keeper may have broken.
     pub fn respond(&mut self, alloc: Global, request: &Request) -> Reply
         ensures acted { Acted (K.state self.old.keeper) (K.state self.new.keeper)
-            (request_of request.now.close (seen request.now)) (reply_model result) }
+            (request_of request.now.close (request_content request.now)) (reply_model result) }
         ensures good { KeepsGood (K.state self.new.keeper) }
         ensures same { (K.state self.new.keeper).clean → reply_model result ≡ unavailable
             → (K.state self.new.keeper).world ≡ (K.state self.old.keeper).world }

@@ -7,7 +7,7 @@ ghost use Rattle.portal_rules.specs.World.{World};
 ghost use Rattle.portal_rules.specs.View.{view};
 ghost use Rattle.portal_rules.specs.Run.{end_of};
 ghost use Rattle.portal_rules.specs.Heard.{HeardItem, SameButPlaces, SameRequest};
-ghost use Rattle.portal_wire.specs.Conversation.{asked_in};
+ghost use Rattle.portal_wire.specs.Conversation.{requests_of};
 ghost use Rattle.portal_desk.specs.Headline.{IsServed, MainPromise, Visit, AreVisits, AreAnswered};
 ghost use Rattle.portal_desk.specs.Headline.{exchanges_of, worlds_of, Hears, replies_in};
 ghost use Rattle.portal_desk.specs.Headline.{AlikeTexts, TellsOf};
@@ -32,7 +32,7 @@ pub fn same_bytes()
         × (view (end_of w (worlds_of visits)) c ≡ view (end_of v (worlds_of others)) c) }
     ensures places { (w v : World) (visits others : List Visit)
         → SameButPlaces w v
-        → AllZip SameRequest (asked_in (exchanges_of visits)) (asked_in (exchanges_of others))
+        → AllZip SameRequest (requests_of (exchanges_of visits)) (requests_of (exchanges_of others))
         → AreVisits w visits → AreAnswered visits → AreVisits v others → AreAnswered others
         → AlikeTexts (exchanges_of visits) (exchanges_of others) }
 {}

@@ -11,7 +11,7 @@ ghost use Rattle.portal_rules.specs.Good.{Good, CanPublish};
 ghost use Rattle.portal_rules.specs.inner.Room.{pairs_by};
 ghost use Rattle.portal_rules.specs.Run.{HasForm, StepLeaves, Step};
 ghost use Rattle.portal_rules.specs.View as seen;
-ghost use Rattle.portal_desk.specs.inner.Play.{CanDo, IsSolved, IsTold, sheet_text, with_sheet};
+ghost use Rattle.portal_desk.specs.inner.Play.{CanDo, IsSolved, IsAnsweredBody, sheet_text, with_sheet};
 
 use portal_core::{
     Act, Body, Call, Change, Decision, KeepFault, Keeper, OfficeView, Reply, Sheet, View, decide,
@@ -33,7 +33,12 @@ fn sheet_body(alloc: Global, view: &OfficeView, sheet: Sheet) -> Result<Body, Al
 }
 
 /// Replaces the body of the office's reply by the sheet if the act asks for one.
-fn written(alloc: Global, view: &View, act: &Act, reply: Reply) -> Result<Reply, AllocError>
+fn reply_with_sheet(
+    alloc: Global,
+    view: &View,
+    act: &Act,
+    reply: Reply,
+) -> Result<Reply, AllocError>
     requires { HasWholeNumbers (body_model reply.body) }
     ensures told { IfOk result (λ whole. reply_model whole
         ≡ with_sheet view.now (act_model act.now) (reply_model reply)) }
@@ -57,13 +62,13 @@ fn written(alloc: Global, view: &View, act: &Act, reply: Reply) -> Result<Reply,
 fn decide_whole(alloc: Global, view: &View, call: &Call) -> Result<Decision, KeepFault>
     ensures decided { IfOk result (λ d. decision_model d
         ≡ answer.decision view.now (call_model call.now)) }
-    ensures whole { IfOk result (λ d. IsTold (decision_model d).reply.body) }
+    ensures whole { IfOk result (λ d. IsAnsweredBody (decision_model d).reply.body) }
     ensures memory { IfErr result (λ fault. fault ≡ KeepFault.Memory) }
 {
     let Ok(Decision { reply, act }) = decide(alloc, view, call) else {
         return Err(KeepFault::Memory);
     };
-    let Ok(reply) = written(alloc, view, &act, reply) else {
+    let Ok(reply) = reply_with_sheet(alloc, view, &act, reply) else {
         return Err(KeepFault::Memory);
     };
     Ok(Decision { reply, act })
@@ -82,7 +87,7 @@ fn ask<K: Keeper>(
     ensures decided { IfOk result (λ d. (K.state keeper.new).clean
         → Good (K.state keeper.old).world → decision_model d
         ≡ answer.decision (seen.view (K.state keeper.old).world code.now) (call_model call.now)) }
-    ensures whole { IfOk result (λ d. IsTold (decision_model d).reply.body) }
+    ensures whole { IfOk result (λ d. IsAnsweredBody (decision_model d).reply.body) }
 {
     let view = keeper.view(alloc, code)?;
     decide_whole(alloc, &view, call)
@@ -110,7 +115,7 @@ fn pairs_of(
 }
 
 /// Solves the instance for a publication. Returns the pairs of the best matching.
-fn solved(alloc: Global, instance: &Instance) -> Result<Vec<(Key, Key)>, AllocError>
+fn best_pairs(alloc: Global, instance: &Instance) -> Result<Vec<(Key, Key)>, AllocError>
     ensures { IfOk result (λ pairs. IsSolved instance.now pairs.items) }
 {
     let matching = solve(alloc, instance)?;
@@ -125,14 +130,14 @@ fn publish<K: Keeper>(alloc: Global, keeper: &mut K) -> Result<(), KeepFault>
         (StepLeaves (K.state keeper.old).world Publish) }
 {
     let instance = keeper.instance(alloc)?;
-    match solved(alloc, &instance) {
+    match best_pairs(alloc, &instance) {
         Ok(pairs) => keeper.apply(alloc, &Change::Result(pairs)),
         Err(_) => Err(KeepFault::Memory),
     }
 }
 
 /// Performs a decision's act on the keeper.
-fn perform<K: Keeper>(alloc: Global, keeper: &mut K, act: Act) -> Result<(), KeepFault>
+fn perform_act<K: Keeper>(alloc: Global, keeper: &mut K, act: Act) -> Result<(), KeepFault>
     requires good { KeepsGood (K.state keeper.old) }
     requires can { (K.state keeper.old).clean → CanDo (K.state keeper.old).world (act_model act) }
     requires alive { IsAlive (K.state keeper.old) }
@@ -172,9 +177,9 @@ pub fn play<K: Keeper>(
         → (K.state keeper.new).world ≡ (K.state keeper.old).world) }
     ensures counts { CountsFaults result (K.state keeper.old).faults (K.state keeper.new).faults }
     ensures good { KeepsGood (K.state keeper.new) }
-    ensures whole { IfOk result (λ r. IsTold (body_model r.body)) }
+    ensures whole { IfOk result (λ r. IsAnsweredBody (body_model r.body)) }
 {
     let Decision { reply, act } = ask(alloc, keeper, code, call)?;
-    perform(alloc, keeper, act)?;
+    perform_act(alloc, keeper, act)?;
     Ok(reply)
 }

@@ -3,7 +3,7 @@
 ghost use Rattle.std.specs.Prelude.{◌≡◌, true};
 ghost use Rattle.portal_rules.specs.Answer.{HasWholeNumbers};
 ghost use Rattle.portal_rules.specs.Meaning.{reply_model, body_model};
-ghost use Rattle.portal_frame.specs.Stream.{refused};
+ghost use Rattle.portal_frame.specs.Stream.{refusal_content};
 ghost use Rattle.portal_wire.specs.Wish.{answer_to};
 ghost use Rattle.portal_wire.specs.Conversation.{reply_text};
 ghost use Rattle.portal_desk.specs.inner.Turns.{CountsFor, Writes};
@@ -56,7 +56,7 @@ pub(crate) fn send_refusal<W: Sink>(
     sink: &mut W,
 ) -> Result<(), Cause>
     ensures writes { Writes result (W.contents sink.old) (W.contents sink.new)
-        (reply_text (answer_to (refused refusal.now)) head_only true) }
+        (reply_text (answer_to (refusal_content refusal.now)) head_only true) }
     ensures failures { CountsFor WriteFailed result (W.failed sink.old) (W.failed sink.new) }
     ensures same_device { W.name sink.new ≡ W.name sink.old }
 {

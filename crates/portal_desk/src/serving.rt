@@ -2,7 +2,7 @@
 
 ghost use Rattle.std.specs.Prelude.{◌≡◌, ◌≢◌, ◌-◌, ◌<◌, true, false, map, IfSome, OnOk, IfErr};
 ghost use Rattle.std.specs.Io.KnownBytes.{Appends};
-ghost use Rattle.portal_frame.specs.Stream.{seen, is_head};
+ghost use Rattle.portal_frame.specs.Stream.{request_content, is_head};
 ghost use Rattle.portal_wire.specs.Conversation.{connection_limit, request_of, closes_at, last};
 ghost use Rattle.portal_wire.specs.Conversation.{reply_text};
 ghost use Rattle.portal_wire.specs.inner.Calls.{last_for};
@@ -34,12 +34,12 @@ impl<K: Keeper> Desk<K> {
         sink: &mut W,
     ) -> Result<(), Cause>
         ensures ok { OnOk result (Replied (K.state self.old.keeper) (K.state self.new.keeper)
-            (request_of closes (seen request.now)) (λ reply. (self.new.failed ≡ false)
+            (request_of closes (request_content request.now)) (λ reply. (self.new.failed ≡ false)
             × Appends (W.contents sink.old) (W.contents sink.new)
             (reply_text reply (is_head request.now.method.items) closes))) }
         ensures err { IfErr result (λ cause.
             Replied (K.state self.old.keeper) (K.state self.new.keeper)
-            (request_of closes (seen request.now))
+            (request_of closes (request_content request.now))
             (λ reply. Broke cause self.new.failed reply (is_head request.now.method.items) closes
             (W.contents sink.old) (W.contents sink.new))) }
         ensures stays { self.old.failed ≡ true → self.new ≡ self.old }
@@ -101,27 +101,27 @@ impl<K: Keeper> Desk<K> {
         loop {
             let found = match next_frame(alloc, source, &mut buffer) {
                 Ok(found) => found,
-                Err(cause) => return Err(stopped(cause, done)),
+                Err(cause) => return Err(serve_fault(cause, done)),
             };
             match found {
                 Frame::Need => unreachable!(),
-                Frame::End => return Ok(served(done, Ending::End)),
+                Frame::End => return Ok(served_result(done, Ending::End)),
                 Frame::Bad { refusal, head_only } => {
                     match send_refusal(alloc, &refusal, head_only, sink) {
                         Ok(()) => {}
-                        Err(cause) => return Err(stopped(cause, done)),
+                        Err(cause) => return Err(serve_fault(cause, done)),
                     }
-                    return Ok(served(done, Ending::Refused(refusal.word)));
+                    return Ok(served_result(done, Ending::Refused(refusal.word)));
                 }
                 Frame::Request(request, used) => {
                     let closes = closes_now(&request, done);
                     match self.answer(alloc, &request, closes, sink) {
                         Ok(()) => {}
-                        Err(cause) => return Err(stopped(cause, done + 1)),
+                        Err(cause) => return Err(serve_fault(cause, done + 1)),
                     }
                     done += 1;
                     if closes {
-                        return Ok(served(done, ending_of(request.close)));
+                        return Ok(served_result(done, ending_of(request.close)));
                     }
                     cut_front(&mut buffer, used);
                 }
@@ -141,7 +141,7 @@ fn asks_head(request: &Request) -> bool
 /// answered. `done` requests came before it.
 fn closes_now(request: &Request, done: u32) -> bool
     requires { done < connection_limit }
-    ensures { result ≡ closes_at (connection_limit - done) (seen request.now) }
+    ensures { result ≡ closes_at (connection_limit - done) (request_content request.now) }
 {
     request.close || MOST_REQUESTS - done <= 1
 }
@@ -155,7 +155,7 @@ fn ending_of(close: bool) -> Ending
 }
 
 /// Makes the desk's result for a stream that it served to its end.
-fn served(requests: u32, ending: Ending) -> Served
+fn served_result(requests: u32, ending: Ending) -> Served
     ensures requests { result.requests ≡ requests }
     ensures ending { result.ending ≡ ending }
 {
@@ -163,7 +163,7 @@ fn served(requests: u32, ending: Ending) -> Served
 }
 
 /// Makes the desk's fault for a stream that it served in part.
-fn stopped(cause: Cause, requests: u32) -> ServeFault
+fn serve_fault(cause: Cause, requests: u32) -> ServeFault
     ensures cause { result.cause ≡ cause }
     ensures requests { result.requests ≡ requests }
 {

@@ -6,7 +6,7 @@ use Rattle.sqlite_wal.specs.Recovery.{Image}
 use Rattle.portal_rules.specs.World.{World}
 use Rattle.portal_rules.specs.Good.{Good}
 use Rattle.portal_rules.specs.Run.{AllAnswered, Run, end_of}
-use Rattle.portal_wire.specs.Conversation.{Exchange, Reaches, asked_in, told_in}
+use Rattle.portal_wire.specs.Conversation.{Exchange, Reaches, requests_of, replies_of}
 use Rattle.portal_desk.specs.Kept.{MayReach}
 use Rattle.portal_desk.specs.Headline.{Visit, AreVisits, IsVisit, exchanges_of, worlds_of}
 use Rattle.portal_desk.proofs.Steps.{answered_apart}
@@ -28,7 +28,7 @@ never there = cc
 
 visit_of : (p : Process) (s : Option Stream) → IsSome s → p.stream ≡ s → IsProcess p → (worlds : List World)
     → (v : Visit) × (p.stream ≡ Some (record { bytes = v.bytes; written = v.written; finish = v.finish })) × (v.exchanges ≡ p.exchanges) × (v.worlds ≡ worlds)
-    × ((w : World) → Run w (asked_in p.exchanges) (told_in p.exchanges) worlds → IsVisit w v)
+    × ((w : World) → Run w (requests_of p.exchanges) (replies_of p.exchanges) worlds → IsVisit w v)
 visit_of p (Some s) there is process worlds = (
   record { bytes = s.bytes; written = s.written; finish = s.finish; exchanges = p.exchanges; worlds = worlds },
   is,
@@ -49,8 +49,8 @@ stays w (u ∷ worlds) run = absurd run
 
 quiet : (w : World) (p : Process) → IsProcess p → HoldsWorld p.found w → p.exchanges ≡ [] → HoldsWorld p.left w
 quiet w p process holds none =
-    let turn = process.turns w holds (subst (λ es. AllAnswered (told_in es)) (sym none) tt) in
-    subst (HoldsWorld p.left) (stays w turn.0 (subst (λ es. Run w (asked_in es) (told_in es) turn.0) none turn.1))
+    let turn = process.turns w holds (subst (λ es. AllAnswered (replies_of es)) (sym none) tt) in
+    subst (HoldsWorld p.left) (stays w turn.0 (subst (λ es. Run w (requests_of es) (replies_of es) turn.0) none turn.1))
     (holds_one p.left _ turn.2)
 
 abbrev AreTold : World → Image → List Process → Type 0
@@ -58,7 +58,7 @@ AreTold w image ps = (vs : List Visit) × AllTellOfProcesses ps vs × AreVisits 
 
 -- a process that has requests is a visit, and then the others are
 one_more : (w : World) (image : Image) (p : Process) (ps : List Process) → IsProcess p → HoldsWorld p.found w
-    → IsSome p.stream → AllAnswered (told_in p.exchanges)
+    → IsSome p.stream → AllAnswered (replies_of p.exchanges)
     → ((v : World) → HoldsWorld p.left v → AreTold v p.left ps) → AreTold w image (p ∷ ps)
 one_more w image p ps process holds known answered others =
     let turn = process.turns w holds answered in
@@ -80,7 +80,7 @@ no_more w image p ps process holds none others =
 
 are_visits : (w : World) (image : Image) (ps : List Process) → HoldsWorld image w → AreProcesses image ps
     → AllByRecursion IsKnown ps
-    → AllAnswered (told_in (exchanges_by ps)) → AreTold w image ps
+    → AllAnswered (replies_of (exchanges_by ps)) → AreTold w image ps
 are_visits w image [] holds are known all = ([], refl, tt, holds)
 are_visits w image (p ∷ ps) holds (is, process, later) known all =
     let apart = answered_apart p.exchanges (exchanges_by ps) all in
@@ -100,7 +100,7 @@ same_exchanges (p ∷ ps) vs (inr (v, rest, is, tell, tells)) =
 pub promised : RunsGood → StepsBest → RunsBest → PromisedOverFiles
 promised run_good step_best run_best w image ps good holds are known all =
     let a = are_visits w image ps holds are known all in
-    let said = subst (λ es. AllAnswered (told_in es)) (same_exchanges ps a.0 a.1) all in (
+    let said = subst (λ es. AllAnswered (replies_of es)) (same_exchanges ps a.0 a.1) all in (
       a.0,
       a.1,
       a.2,
@@ -134,8 +134,8 @@ reached w v es (inr (front, back, e, other, is, untold, run)) =
       run,
     )
 
-run_both : (w : World) (es fs : List Exchange) (us vs : List World) → Run w (asked_in es) (told_in es) us
-    → Run (end_of w us) (asked_in fs) (told_in fs) vs → Run w (asked_in (es ++ fs)) (told_in (es ++ fs)) (us ++ vs)
+run_both : (w : World) (es fs : List Exchange) (us vs : List World) → Run w (requests_of es) (replies_of es) us
+    → Run (end_of w us) (requests_of fs) (replies_of fs) vs → Run w (requests_of (es ++ fs)) (replies_of (es ++ fs)) (us ++ vs)
 run_both w [] fs [] vs run next = next
 run_both w [] fs (u ∷ us) vs run next = absurd run
 run_both w (e ∷ es) fs [] vs run next = absurd run
@@ -144,7 +144,7 @@ run_both w (e ∷ es) fs (u ∷ us) vs run next = (run.0, run_both u es fs us vs
 -- the requests of all processes are a run to a world that the files hold
 abbrev RunsOver : World → Image → List Process → Type 0
 RunsOver w image ps =
-    (es : List Exchange) × MayStandFor (exchanges_by ps) es × (worlds : List World) × Run w (asked_in es) (told_in es) worlds
+    (es : List Exchange) × MayStandFor (exchanges_by ps) es × (worlds : List World) × Run w (requests_of es) (replies_of es) worlds
     × HoldsWorld (left_after image ps) (end_of w worlds)
 
 runs_over : (w : World) (image : Image) (ps : List Process) → HoldsWorld image w → AreProcesses image ps
@@ -154,7 +154,7 @@ runs_over w image (p ∷ ps) holds (is, process, later) =
     ∥∥₁_elim (process.stops w (subst (λ i. HoldsWorld i w) (sym is) holds)) squash₁ (λ t.
     let one = reached w t.0 p.exchanges t.1 in
     ∥∥₁_map (runs_over t.0 p.left ps t.2 later) (λ more.
-    let next = subst (λ u. Run u (asked_in more.0) (told_in more.0) more.2) one.2.2 more.3 in
+    let next = subst (λ u. Run u (requests_of more.0) (replies_of more.0) more.2) one.2.2 more.3 in
     let holds_last = subst (HoldsWorld (left_after p.left ps)) (ap (λ u. end_of u more.2) one.2.2 ∙ end_more w one.2.0 more.2) more.4 in
     let r : RunsOver w image (p ∷ ps) = (
       one.0 ++ more.0,
@@ -167,9 +167,9 @@ runs_over w image (p ∷ ps) holds (is, process, later) =
 -- a run
 
 kept_run : RunsGood → StepsBest → RunsBest → (w : World) (es : List Exchange) (worlds : List World) → Good w
-    → Run w (asked_in es) (told_in es) worlds → IsKeptRun w es worlds
+    → Run w (requests_of es) (replies_of es) worlds → IsKeptRun w es worlds
 kept_run run_good step_best run_best w es worlds good run =
-    let all = run_good w (asked_in es) (told_in es) worlds good run in
+    let all = run_good w (requests_of es) (replies_of es) worlds good run in
     record {
       run = run;
       good = all;

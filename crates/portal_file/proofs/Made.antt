@@ -20,7 +20,7 @@ use Rattle.portal_store.specs.Calls.{CreatesStore, UpgradesStore}
 use Rattle.portal_store.proofs.Upgraded.{named_as}
 use Rattle.sqlite.specs.Schema.{Schema}
 use Rattle.sqlite.specs.Effect.{Database}
-use Rattle.portal_file.specs.Tables.{AllStand, AreOf, ClosesAs, Shows, Stands, First, Current, Either}
+use Rattle.portal_file.specs.Tables.{AllStand, TreesStand, ClosesAs, Shows, Stands, First, Current, Either}
 use Rattle.portal_file.proofs.Served.{closed_world, no_proof}
 
 -- tables of version 1 that were upgraded
@@ -88,7 +88,7 @@ current_taken g old w free shows =
 pub upgrade_leaves : (old new : State) → Survives old new (LeavesUpgraded old)
     → (IsFirstSchema old.now.schema → Survives old new (IsUpgradedFrom old.now.trees))
     → HasCleanDisk new → (w : World) → Stands Either old.now w → (db : Trees) → new.may_leave db
-    → old.may_leave db ⊎ AreOf Either db w
+    → old.may_leave db ⊎ TreesStand Either db w
 upgrade_leaves old new upgrades left clean w (inl current) db may = elim (upgrades.crash clean db may) [
   | inl was ↦ inl was
   | inr made ↦ absurd (both_ways _ made.0 (named_as OfSecond old.now.schema portal_schema current.consistent.1.current ∙ current_named OfSecond))

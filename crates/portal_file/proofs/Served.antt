@@ -12,13 +12,13 @@ use Rattle.portal_rules.specs.Keeping.{KeeperState, IsSettled, LastsOrBreaks, Us
 use Rattle.std.specs.Prelude.{Result}
 use Rattle.portal_rules.specs.View.{office_sees}
 use Rattle.portal_rules.specs.Run.{AllAnswered, Run, end_of}
-use Rattle.portal_wire.specs.Conversation.{Exchange, Reaches, asked_in, told_in}
+use Rattle.portal_wire.specs.Conversation.{Exchange, Reaches, requests_of, replies_of}
 use Rattle.portal_desk.specs.Kept.{IsMoved, MayReach, Moves}
 use Rattle.portal_desk.specs.Session.{IsSession, count_of, finish_of}
 use Rattle.portal_desk.specs.declared.served.Served.{Served}
 use Rattle.portal_desk.specs.declared.served.ServeFault.{ServeFault}
 use Rattle.portal_desk.proofs.Promised.{RunsGood}
-use Rattle.portal_serve.specs.Hall.{told_of}
+use Rattle.portal_serve.specs.Hall.{office_report}
 use Rattle.sqlite.specs.Tree.{Trees}
 use Rattle.sqlite.specs.Effect.{Database}
 use Rattle.sqlite.specs.Store.{Ghosts}
@@ -35,7 +35,7 @@ use Rattle.portal_store.specs.declared.store.UpgradeFault.TheVariants as upgradi
 use Rattle.portal_store.proofs.Again.{holds_again, none_but_store}
 use Rattle.portal_store.proofs.Upgraded.{first_own}
 use Rattle.portal_tables.proofs.InTurn.{clean_before}
-use Rattle.portal_file.specs.Tables.{AllStand, AreOf, ClosesAs, IsTurn, Shows, Stands, StandsCurrent, StandsFirst}
+use Rattle.portal_file.specs.Tables.{AllStand, TreesStand, ClosesAs, IsTurn, Shows, Stands, StandsCurrent, StandsFirst}
 use Rattle.portal_file.specs.Tables.{Stream, TellsIn}
 use Rattle.portal_file.specs.Tables.{First, Current, Either}
 use Rattle.portal_file.specs.Jobs.{IsOfStore, ReportsStream}
@@ -46,7 +46,7 @@ good_end w [] good all = good
 good_end w (v ∷ worlds) good all = good_end v worlds all.0 all.1
 
 good_run : RunsGood → (w v : World) (es : List Exchange) → Good w → Reaches w es v → Good v
-good_run run_good w v es good (worlds, run, same) = subst Good (sym same) (good_end w worlds good (run_good w (asked_in es) (told_in es) worlds good run))
+good_run run_good w v es good (worlds, run, same) = subst Good (sym same) (good_end w worlds good (run_good w (requests_of es) (replies_of es) worlds good run))
 
 pub good_reach : RunsGood → (w v : World) (es : List Exchange) → Good w → MayReach w es v → Good v
 good_reach run_good w v es good (inl run) = good_run run_good w v es good run
@@ -97,16 +97,16 @@ none_served old new stops = record {
 -- whatever world was shown, a stop leaves what one before it left, or trees that stand for this world
 pub unserved : (old new : State) → (IsTrue old.is_open → old.now ≡ old.committed)
     → ((db : Trees) → IsTrue old.is_open → old.may_leave db → db ≡ old.committed.trees)
-    → ((w : World) → Stands Either old.now w → (db : Trees) → new.may_leave db → old.may_leave db ⊎ AreOf Either db w)
+    → ((w : World) → Stands Either old.now w → (db : Trees) → new.may_leave db → old.may_leave db ⊎ TreesStand Either db w)
     → IsTurnOf old new [] None
 unserved old new settled law leaves =
     none_served old new (λ w shows db may.
     ∥∥₁_map shows.stands (λ stands.
-    let are : AreOf Either db w = elim (leaves w stands db may) [
+    let are : TreesStand Either db w = elim (leaves w stands db may) [
       | inl was ↦ (old.now, ap (λ (d : Database). d.trees) (settled shows.is_open) ∙ sym (law db shows.is_open was), stands)
       | inr are ↦ are
     ] in
-    let is : (v : World) × MayReach w [] v × AreOf Either db v = (w, none_reached w w refl, are) in is))
+    let is : (v : World) × MayReach w [] v × TreesStand Either db v = (w, none_reached w w refl, are) in is))
 
 -- what stands so as tables of version 2 stands for the world
 all_stand : (Finds : Trees → Type 0) (Kind : World → Type 0) → AllStand Current Finds Kind → AllStand Either Finds Kind
@@ -124,7 +124,7 @@ closed_world g s new closes on w same good db may =
       world = ap (λ h. world_of (state g h).now.trees) closes.same ∙ same;
     } in
     let is : (v : World) × (v ≡ w)
-    × AreOf Current db v = (w, refl, ((state g new).now, sym (closes.only live db may), stands)) in
+    × TreesStand Current db v = (w, refl, ((state g new).now, sym (closes.only live db may), stands)) in
     ∣ is ∣₁
 
 module _ {S : Type 0} (g : Ghosts S) (old new : Held S) (opened served : Seen S) (run_good : RunsGood) (opens : OpensStore g old opened) (closes : ClosesAs g served new) where
@@ -172,21 +172,21 @@ module _ {S : Type 0} (g : Ghosts S) (old new : Held S) (opened served : Seen S)
         world = ap world_of (sym d.1);
       } in
       let is : (v : World) × MayReach w es v
-      × AreOf Either db v =
+      × TreesStand Either db v =
       (world_of db, subst (λ u. MayReach u es (world_of db)) first.1 reach, (d.0, sym d.1, inl stands)) in
       ∣ is ∣₁
 
   turned : (es : List Exchange) → Moves (keeper opened) (keeper served) es → (w : World) → HasCleanDisk (state g new)
-      → AllAnswered (told_in es) → Shows Either (state g old) w
-      → (worlds : List World) × Run w (asked_in es) (told_in es) worlds
+      → AllAnswered (replies_of es) → Shows Either (state g old) w
+      → (worlds : List World) × Run w (requests_of es) (replies_of es) worlds
       × AllStand Either (state g new).may_leave (λ v. v ≡ end_of w worlds)
   turned es moves w clean all shows =
       let lasts = moves.lasts all (disk_at clean) in
       let first = at_first w shows lasts.0 in
       let last : IsCleanStore g served = lasts.1 first.0 in
       let r = moves.reaches last in
-      let run = subst (λ u. Run u (asked_in es) (told_in es) r.0) first.1 r.1 in
-      let good : Good (end_of w r.0) = let start = subst Good first.1 (opens.makes.good first.0) in good_end w r.0 start (run_good w (asked_in es) (told_in es) r.0 start run) in
+      let run = subst (λ u. Run u (requests_of es) (replies_of es) r.0) first.1 r.1 in
+      let good : Good (end_of w r.0) = let start = subst Good first.1 (opens.makes.good first.0) in good_end w r.0 start (run_good w (requests_of es) (replies_of es) r.0 start run) in
       let world : kept_world g served ≡ end_of w r.0 = r.2 ∙ ap (λ u. end_of u r.0) first.1 in
       (r.0, run, all_stand (state g new).may_leave (λ v. v ≡ end_of w r.0) (closed_world g served new closes last (end_of w r.0) world good))
 
@@ -214,12 +214,12 @@ module _ {S : Type 0} (g : Ghosts S) (old new : Held S) (opened served : Seen S)
 
   -- the report is of the world that the connection showed
   pub reported : KeepsClean g opened served → (text : List ℕ)
-      → (IsCleanStore g served → Good (kept_world g opened) → text ≡ told_of (office_sees (kept_world g opened)))
-      → HasCleanDisk (state g new) → (w : World) → Shows Either (state g old) w → text ≡ told_of (office_sees w)
+      → (IsCleanStore g served → Good (kept_world g opened) → text ≡ office_report (office_sees (kept_world g opened)))
+      → HasCleanDisk (state g new) → (w : World) → Shows Either (state g old) w → text ≡ office_report (office_sees w)
   reported lasts text is clean w shows =
       let kept = lasts (disk_at clean) in
       let first = at_first w shows kept.0 in
-      is (kept.1 first.0) (opens.makes.good first.0) ∙ ap (λ u. told_of (office_sees u)) first.1
+      is (kept.1 first.0) (opens.makes.good first.0) ∙ ap (λ u. office_report (office_sees u)) first.1
 
   -- what a call of `pipe` did, however it ended
   pub serves_stream : (r : Result Served ServeFault) (failed : Bool) (remaining left before after : Option (List ℕ))

@@ -12,7 +12,7 @@ use Rattle.portal_rules.specs.World.{World}
 use Rattle.portal_rules.specs.Good.{Good}
 use Rattle.portal_core.specs.Honest.{ShowsBest}
 use Rattle.portal_rules.specs.Run.{Run, AllAnswered, end_of, unavailable}
-use Rattle.portal_wire.specs.Conversation.{Exchange, asked_in, told_in}
+use Rattle.portal_wire.specs.Conversation.{Exchange, requests_of, replies_of}
 use Rattle.portal_desk.specs.Headline.{Visit, AreVisits, worlds_of, AreUnseen, HasPromise, PublishesBest}
 use Rattle.portal_file.specs.Tables.{IsTurn, Stream, Work, Either}
 use Rattle.portal_file.specs.Files.{Holds, HoldsSome, HoldsWorld}
@@ -53,9 +53,9 @@ MayStandFor _ _ = ⊥
 
 -- a run, and what holds of it: good worlds, requests unseen by others, and the best results
 pub record IsKeptRun (w : World) (es : List Exchange) (worlds : List World) : Type 0 where
-  pub run : Run w (asked_in es) (told_in es) worlds
+  pub run : Run w (requests_of es) (replies_of es) worlds
   pub good : AllByRecursion Good worlds
-  pub unseen : (c : Key) → AreUnseen c w (asked_in es) worlds
+  pub unseen : (c : Key) → AreUnseen c w (requests_of es) worlds
   pub published : PublishesBest w worlds
   pub best : ShowsBest w → AllByRecursion ShowsBest worlds
 
@@ -89,7 +89,7 @@ IsKnown p = IsSome p.stream ⊎ (p.exchanges ≡ [])
 abbrev pub PromisedOverFiles : Type 0
 PromisedOverFiles =
     (w : World) (image : Image) (ps : List Process) → Good w → HoldsWorld image w → AreProcesses image ps
-    → AllByRecursion IsKnown ps → AllAnswered (told_in (exchanges_by ps))
+    → AllByRecursion IsKnown ps → AllAnswered (replies_of (exchanges_by ps))
     → (visits : List Visit) × AllTellOfProcesses ps visits × AreVisits w visits × HasPromise w visits
     × HoldsWorld (left_after image ps) (end_of w (worlds_of visits))
 

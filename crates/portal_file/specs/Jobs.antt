@@ -11,7 +11,7 @@ use Rattle.portal_wire.specs.Conversation.{Exchange}
 use Rattle.portal_desk.specs.Session.{count_of, finish_of}
 use Rattle.portal_desk.specs.declared.served.Served.{Served}
 use Rattle.portal_desk.specs.declared.served.ServeFault.{ServeFault}
-use Rattle.portal_serve.specs.Hall.{told_of}
+use Rattle.portal_serve.specs.Hall.{office_report}
 use Rattle.portal_store.specs.World.{first_world}
 use Rattle.portal_store.specs.declared.store.CreateFault.{CreateFault}
 use Rattle.portal_store.specs.declared.store.CreateFault.TheVariants as creating
@@ -58,7 +58,7 @@ pub record ReportsWorld (r : Result (Result (Vec ℕ Global) KeepFault) OpenFaul
   pub serves : work.serves [] None
   -- the text is the report on the world that was found
   pub text : IfOk r (λ told. IfOk told (λ text. (w : World) → work.finds Either w
-      → text.items ≡ told_of (office_sees w)))
+      → text.items ≡ office_report (office_sees w)))
   -- a refusal of tables with a good world of version 2
   pub refused : Denies r work
 

@@ -9,9 +9,9 @@ use Rattle.portal_rules.specs.World.{World}
 use Rattle.portal_rules.specs.Good.{Good}
 use Rattle.portal_rules.specs.Run.{Run, AllAnswered, end_of}
 use Rattle.portal_rules.specs.declared.phase.Round.TheVariants as round
-use Rattle.portal_wire.specs.Conversation.{Exchange, asked_in, told_in}
+use Rattle.portal_wire.specs.Conversation.{Exchange, requests_of, replies_of}
 use Rattle.portal_desk.specs.Kept.{MayReach}
-use Rattle.portal_desk.specs.Session.{Finish, Tells}
+use Rattle.portal_desk.specs.Session.{Finish, TellsExchanges}
 use Rattle.portal_tables.specs.Tables.{IsFirstSchema, first_version, no_schema}
 use Rattle.portal_tables.specs.Steps.{LeavesOnly}
 use Rattle.portal_store.specs.Kept.{HasGoodFirst, IsConsistent, Seen, IsCleanStore, LeavesConsistent}
@@ -43,8 +43,8 @@ Stands Current db w = StandsCurrent db w
 Stands Either db w = StandsCurrent db w ⊎ StandsFirst db w
 
 -- the trees are those of a database that stands so for the world
-abbrev pub AreOf : Version → Trees → World → Type 0
-AreOf version db w = (d : Database) × (d.trees ≡ db) × Stands version d w
+abbrev pub TreesStand : Version → Trees → World → Type 0
+TreesStand version db w = (d : Database) × (d.trees ≡ db) × Stands version d w
 
 -- the connection is open and shows a database that stands so for the world
 pub record Shows (version : Version) (s : State) (w : World) : Type 0 where
@@ -53,7 +53,7 @@ pub record Shows (version : Version) (s : State) (w : World) : Type 0 where
 
 -- each of these trees stands so for a world of this kind
 abbrev pub AllStand : Version → (Trees → Type 0) → (World → Type 0) → Type 0
-AllStand version Finds Kind = (db : Trees) → Finds db → ∥ ((w : World) × Kind w × AreOf version db w) ∥₁
+AllStand version Finds Kind = (db : Trees) → Finds db → ∥ ((w : World) × Kind w × TreesStand version db w) ∥₁
 
 -- what a store promises of the connection that it gives back
 pub record ClosesAs {S : Type 0} (g : Ghosts S) (s : Seen S) (new : Held S) : Type 0 where
@@ -70,7 +70,7 @@ pub record Stream : Type 0 where
 
 -- what is written tells the requests, if the bytes are known
 abbrev pub TellsIn : Option Stream → List Exchange → Type 0
-TellsIn stream es = IfSome stream (λ s. Tells s.finish s.bytes es s.written)
+TellsIn stream es = IfSome stream (λ s. TellsExchanges s.finish s.bytes es s.written)
 
 -- from a world that is found, these requests with their replies lead to what is left
 pub record IsTurn (Finds : World → Type 0) (Leaves : (World → Type 0) → Type 0) (es : List Exchange)
@@ -78,8 +78,8 @@ pub record IsTurn (Finds : World → Type 0) (Leaves : (World → Type 0) → Ty
   -- a world is left that the requests may reach
   pub stops : (w : World) → Finds w → Leaves (MayReach w es)
   -- if no reply is 503, they are a run, and its last world is left
-  pub turns : (w : World) → Finds w → AllAnswered (told_in es)
-      → (worlds : List World) × Run w (asked_in es) (told_in es) worlds × Leaves (λ v. v ≡ end_of w worlds)
+  pub turns : (w : World) → Finds w → AllAnswered (replies_of es)
+      → (worlds : List World) × Run w (requests_of es) (replies_of es) worlds × Leaves (λ v. v ≡ end_of w worlds)
   -- what is written tells the requests
   pub tells : TellsIn stream es
 

@@ -37,7 +37,7 @@ fn close_store<D: Disk + Drop>(mut store: FileStore<D>, copies: bool) -> Result<
 
 /// Gives the store of a connection to files back, as it is if the process ends or the machine stops
 /// before the files are closed.
-pub fn rest<D: Disk + Drop>(conn: Connection<FileStore<D>>) -> FileStore<D>
+pub fn release_store<D: Disk + Drop>(conn: Connection<FileStore<D>>) -> FileStore<D>
     ensures numbered { IsClean (view result) → IsTrue (view result).is_numbered }
     ensures sound { IsClean (view result) → AreDatabases (recovers result) }
     ensures quiet { (db : Trees) → recovers result db → (file_state conn).may_leave db }
@@ -56,5 +56,5 @@ pub fn close_files<D: Disk + Drop>(
     ensures comes { IfOk result (λ files. ComesOf (file_state conn)
         (AreClean D.Disk files.log files.db) (outcomes D.Disk files.log files.db)) }
 {
-    close_store(rest(conn), copies)
+    close_store(release_store(conn), copies)
 }

@@ -5,7 +5,7 @@ ghost use Rattle.sqlite_wal.specs.Files.{image_at};
 ghost use Rattle.portal_rules.specs.Good.{Good};
 ghost use Rattle.portal_rules.specs.Keeping.{Uses};
 ghost use Rattle.portal_rules.specs.View.{office_sees};
-ghost use Rattle.portal_serve.specs.Hall.{told_of};
+ghost use Rattle.portal_serve.specs.Hall.{office_report};
 ghost use Rattle.portal_store.specs.Kept.{IsCleanStore, kept_state, kept_world};
 ghost use Rattle.portal_file.specs.Jobs.{ReportsWorld};
 ghost use Rattle.portal_file.specs.Chain.{OverFiles};
@@ -28,7 +28,7 @@ fn report_of<S: Alter>(alloc: Global, store: &mut Store<S>) -> Result<Vec<u8>, K
         → kept_world S.Store store.new ≡ kept_world S.Store store.old }
     ensures text { IfOk result (λ text. IsCleanStore S.Store store.new
         → Good (kept_world S.Store store.old)
-        → text.items ≡ told_of (office_sees (kept_world S.Store store.old))) }
+        → text.items ≡ office_report (office_sees (kept_world S.Store store.old))) }
 {
     match store.office_code(alloc) {
         Ok(office) => report(alloc, store, &office),

@@ -22,7 +22,7 @@ pub fn fresh_lists(alloc: Global) -> Result<Desk<ListKeeper>, AllocError> {
 }
 
 /// Serves one connection with these bytes. Returns the output, whether or not serving fails.
-pub fn written<K: Keeper>(alloc: Global, desk: &mut Desk<K>, bytes: &[u8]) -> Vec<u8> {
+pub fn output_for<K: Keeper>(alloc: Global, desk: &mut Desk<K>, bytes: &[u8]) -> Vec<u8> {
     let mut source = Counted::new(bytes);
     let mut sink = Counted::new(Vec::new(alloc));
     let _served = desk.serve(alloc, &mut source, &mut sink);
@@ -45,12 +45,12 @@ stud-code-5  GET /choices
 "#;
 
 /// Sends the requests of `SEEN` on one connection, and returns the output.
-pub fn seen<K: Keeper>(alloc: Global, desk: &mut Desk<K>) -> Result<Vec<u8>, AllocError> {
+pub fn world_output<K: Keeper>(alloc: Global, desk: &mut Desk<K>) -> Result<Vec<u8>, AllocError> {
     let mut text = String::new(alloc);
     let asked = lines(alloc, SEEN)?;
     for line in &asked {
         let request = line.request(alloc)?;
         text.push_str(request.as_str())?;
     }
-    Ok(written(alloc, desk, text.as_bytes()))
+    Ok(output_for(alloc, desk, text.as_bytes()))
 }

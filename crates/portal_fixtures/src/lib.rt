@@ -16,5 +16,5 @@ pub mod worked;
 pub mod years;
 
 pub use callers::{ANN, CYR, LEE, MOE, OFFICE};
-pub use desks::{SEEN, fresh_lists, office_code, seen, written};
-pub use script::{Line, ask, cut, lines, play, responded, unescaped};
+pub use desks::{SEEN, fresh_lists, office_code, output_for, world_output};
+pub use script::{Line, ask, cut, lines, play, reply_to_line, without_escapes};

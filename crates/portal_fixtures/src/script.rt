@@ -19,7 +19,7 @@
 //! `checks/years` plays the same texts through the program.
 
 use crate::callers::code_of;
-use crate::desks::written;
+use crate::desks::output_for;
 use portal_core::Keeper;
 use portal_desk::{Counted, Desk, Ending, ServeFault, Served};
 use portal_frame::{Frame, frame};
@@ -65,7 +65,7 @@ impl<'a> Line<'a> {
 
     /// Returns the text of the HTTP request.
     pub fn request(&self, alloc: Global) -> Result<String, AllocError> {
-        let body = unescaped(alloc, self.body)?;
+        let body = without_escapes(alloc, self.body)?;
         let length = body.len();
         format!(in alloc;
             "{} {} HTTP/1.1\r\nHost: h\r\nPortal-Code: {}\r\nContent-Length: {}\r\n\r\n{}",
@@ -83,7 +83,7 @@ impl<'a> Line<'a> {
         if self.answer.is_empty() {
             return format!(in alloc; "HTTP/1.1 {} {}\r\n", self.status, reason);
         }
-        let body = unescaped(alloc, self.answer)?;
+        let body = without_escapes(alloc, self.answer)?;
         let length = body.len();
         format!(in alloc;
             "HTTP/1.1 {} {}\r\ncontent-type: {}\r\ncontent-length: {}\r\n\r\n{}",
@@ -117,7 +117,7 @@ impl<'a> Line<'a> {
 }
 
 /// Replaces the escapes of a body by their characters.
-pub fn unescaped(alloc: Global, body: &str) -> Result<String, AllocError> {
+pub fn without_escapes(alloc: Global, body: &str) -> Result<String, AllocError> {
     let text = body.replace(alloc, "\\n", "\n")?;
     let text = text.replace(alloc, "\\r", "\r")?;
     let text = text.replace(alloc, "\\t", "\t")?;
@@ -155,11 +155,11 @@ pub fn ask<K: Keeper>(
     line: &Line,
 ) -> Result<Vec<u8>, AllocError> {
     let request = line.request(alloc)?;
-    Ok(written(alloc, desk, request.as_bytes()))
+    Ok(output_for(alloc, desk, request.as_bytes()))
 }
 
 /// Passes the request of a line to `Desk::respond`, and returns the text of the reply.
-pub fn responded<K: Keeper>(
+pub fn reply_to_line<K: Keeper>(
     alloc: Global,
     desk: &mut Desk<K>,
     line: &Line,

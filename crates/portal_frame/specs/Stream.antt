@@ -123,53 +123,53 @@ abbrev pub is_overlong : List ℕ → Bool
 is_overlong bytes = nat_le 34 (length (header_lines bytes))
 
 -- the content of a request, without its place in memory
-pub record Asked : Type 0 where
+pub record RequestContent : Type 0 where
   pub method : List ℕ
   pub path : List ℕ
   pub code : List ℕ
   pub close : Bool
   pub body : List ℕ
 
-abbrev pub seen : Request → Asked
-seen r =
+abbrev pub request_content : Request → RequestContent
+request_content r =
     record { method = r.method.items; path = r.path.items; code = r.code.items; close = r.close; body = r.body.items }
 
 -- the content of a refusal; `allow` lists the methods of the path for a wrong method
-pub record Refuses : Type 0 where
+pub record RefusalContent : Type 0 where
   pub status : ℕ
   pub word : List ℕ
   pub allow : List ℕ
   pub row : Option ℕ
 
-abbrev pub refused : Refusal → Refuses
-refused r = record { status = r.status; word = r.word.now; allow = r.allow.now; row = r.row }
+abbrev pub refusal_content : Refusal → RefusalContent
+refusal_content r = record { status = r.status; word = r.word.now; allow = r.allow.now; row = r.row }
 
 -- a refusal with only a status and an error word
-abbrev pub plain : ℕ → List ℕ → Refuses
-plain status word = record { status = status; word = word; allow = []; row = None }
+abbrev pub plain_refusal : ℕ → List ℕ → RefusalContent
+plain_refusal status word = record { status = status; word = word; allow = []; row = None }
 
 -- the five refusals of framing
-unfoldable pub bad_head : Refuses
-bad_head = plain 400 (codes "bad_head")
+unfoldable pub bad_head : RefusalContent
+bad_head = plain_refusal 400 (codes "bad_head")
 
-unfoldable pub bad_host : Refuses
-bad_host = plain 400 (codes "bad_host")
+unfoldable pub bad_host : RefusalContent
+bad_host = plain_refusal 400 (codes "bad_host")
 
-unfoldable pub coded_body : Refuses
-coded_body = plain 501 (codes "coded_body")
+unfoldable pub coded_body : RefusalContent
+coded_body = plain_refusal 501 (codes "coded_body")
 
-unfoldable pub bad_length : Refuses
-bad_length = plain 400 (codes "bad_length")
+unfoldable pub bad_length : RefusalContent
+bad_length = plain_refusal 400 (codes "bad_length")
 
-unfoldable pub too_large : Refuses
-too_large = plain 413 (codes "too_large")
+unfoldable pub too_large : RefusalContent
+too_large = plain_refusal 413 (codes "too_large")
 
-abbrev pub told : Fault → Refuses
-told BadHead = bad_head
-told BadHost = bad_host
-told CodedBody = coded_body
-told BadLength = bad_length
-told TooLarge = too_large
+abbrev pub refusal_of_fault : Fault → RefusalContent
+refusal_of_fault BadHead = bad_head
+refusal_of_fault BadHost = bad_host
+refusal_of_fault CodedBody = coded_body
+refusal_of_fault BadLength = bad_length
+refusal_of_fault TooLarge = too_large
 
 -- the body length by the values of Content-Length, at most 1,048,576 bytes
 abbrev pub length_of : List (List ℕ) → Result ℕ Fault
@@ -198,8 +198,8 @@ HasNoHead bytes = (h : RequestHead) (rest : List ℕ) → ¬ (Takes bytes h rest
 
 -- the front of a stream: a request and the bytes after it, a fault (true for HEAD), or the end
 pub data Item : Type 0 where
-  whole : Asked → List ℕ → Item
-  fault : Refuses → Bool → Item
+  whole : RequestContent → List ℕ → Item
+  fault : RefusalContent → Bool → Item
   over : Item
 
 abbrev pub fields_of : RequestHead → List (List ℕ × List ℕ)
@@ -212,7 +212,7 @@ is_head method = bytes_eq method (codes "HEAD")
 abbrev pub closes_after : ℕ → List (List ℕ × List ℕ) → Bool
 closes_after minor lines = minor == 0 || asks_close (values_of (codes "connection") lines)
 
-abbrev pub asked_of : RequestHead → List ℕ → Asked
+abbrev pub asked_of : RequestHead → List ℕ → RequestContent
 asked_of h body = record {
   method = h.method;
   path = path_of h.target;
@@ -223,7 +223,7 @@ asked_of h body = record {
 
 -- the item for a head, its body length or fault, and all the bytes after the head
 abbrev pub after_lines : RequestHead → Result ℕ Fault → List ℕ → Item
-after_lines h (Err why) rest = fault (told why) (is_head h.method)
+after_lines h (Err why) rest = fault (refusal_of_fault why) (is_head h.method)
 after_lines h (Ok n) rest =
     if nat_le n (length rest) then whole (asked_of h (take n rest)) (drop n rest)
     else fault bad_length (is_head h.method)
@@ -265,9 +265,9 @@ abbrev pub Framed : List ℕ → Bool → Frame → Type 0
 Framed bytes ended frame.Need = IsFalse ended × (WaitsForHead bytes ⊎ WaitsForBody bytes)
 Framed bytes ended frame.End = IsTrue ended × Opens bytes over
 Framed bytes ended (frame.Request request used) =
-    (more : List ℕ) → Opens (bytes ++ more) (whole (seen request) (drop used bytes ++ more))
+    (more : List ℕ) → Opens (bytes ++ more) (whole (request_content request) (drop used bytes ++ more))
 Framed bytes ended (frame.Bad refusal head_only) =
-    (more : List ℕ) → (IsTrue ended → more ≡ []) → Opens (bytes ++ more) (fault (refused refusal) head_only)
+    (more : List ℕ) → (IsTrue ended → more ≡ []) → Opens (bytes ++ more) (fault (refusal_content refusal) head_only)
 
 -- a refusal comes only after its cause: a head, the end, a limit, or that no head can come
 abbrev pub IsDue : List ℕ → Bool → Frame → Type 0

@@ -1,8 +1,8 @@
 //! Counts a request head's lines, to detect a head with too many lines.
 
 ghost use Rattle.std.specs.Prelude.{◌≡◌, ◌≤◌};
-ghost use Rattle.portal_frame.specs.inner.Counting.{lines_from, step as step_of, stops as stops_at};
-ghost use Rattle.portal_frame.specs.inner.Counting.{counts as counted};
+ghost use Rattle.portal_frame.specs.inner.Counting.{lines_from, step, stops};
+ghost use Rattle.portal_frame.specs.inner.Counting.{counts};
 ghost use Rattle.portal_frame.specs.Stream.{is_overlong};
 
 /// A position in the lines of a head.
@@ -21,8 +21,8 @@ pub(crate) enum At {
 }
 
 /// Returns the position in the lines of a head after one more byte.
-fn step(at: At, byte: u8) -> At
-    ensures { result ≡ step_of at byte }
+fn position_after(at: At, byte: u8) -> At
+    ensures { result ≡ step at byte }
 {
     match (at, byte) {
         (At::Leading, b'\n') | (At::LeadingCr, b'\n') => At::Leading,
@@ -34,15 +34,15 @@ fn step(at: At, byte: u8) -> At
 }
 
 /// Returns whether the byte ends an empty line after a non-empty one; counting stops there.
-fn stops(at: At, byte: u8) -> bool
-    ensures { result ≡ stops_at at byte }
+fn ends_head(at: At, byte: u8) -> bool
+    ensures { result ≡ stops at byte }
 {
     matches!(at, At::Fresh | At::FreshCr) && byte == b'\n'
 }
 
 /// Returns how many non-empty lines of a head the byte ends: 0 or 1.
-fn counts(at: At, byte: u8) -> usize
-    ensures exact { result ≡ counted at byte }
+fn lines_ended(at: At, byte: u8) -> usize
+    ensures exact { result ≡ counts at byte }
     ensures few { result ≤ 1 }
 {
     usize::from(at == At::Inside && byte == b'\n')
@@ -55,11 +55,11 @@ fn lines_in(bytes: &[u8]) -> usize
     let mut at = At::Leading;
     let mut lines = 0usize;
     for byte in bytes {
-        if stops(at, *byte) {
+        if ends_head(at, *byte) {
             return lines;
         }
-        lines += counts(at, *byte);
-        at = step(at, *byte);
+        lines += lines_ended(at, *byte);
+        at = position_after(at, *byte);
     }
     lines
 }

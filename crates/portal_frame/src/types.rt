@@ -1,7 +1,7 @@
 //! The types and limits of frames, requests, refusals and framing faults.
 
 ghost use Rattle.std.specs.Prelude.{◌≡◌};
-ghost use Rattle.portal_frame.specs.Stream.{refused, told, plain};
+ghost use Rattle.portal_frame.specs.Stream.{refusal_content, refusal_of_fault, plain_refusal};
 
 /// The most bytes of a request's head, with the empty lines before it.
 pub const LONGEST_HEAD: usize = 16_384;
@@ -38,7 +38,7 @@ pub struct Refusal {
 impl Refusal {
     /// Makes a refusal that has only a status and an error word.
     pub fn by_word(status: u16, word: &'static str) -> Refusal
-        ensures { refused result ≡ plain status word.now }
+        ensures { refusal_content result ≡ plain_refusal status word.now }
     {
         Refusal {
             status,
@@ -76,7 +76,7 @@ impl Fault {
     /// Returns the refusal for this fault of framing.
     #[tactic(auto, unfolding(crate::specs::Stream::bad_head, crate::specs::Stream::bad_host, crate::specs::Stream::coded_body, crate::specs::Stream::bad_length, crate::specs::Stream::too_large))]
     pub(crate) fn refusal(self) -> Refusal
-        ensures { refused result ≡ told self }
+        ensures { refusal_content result ≡ refusal_of_fault self }
     {
         match self {
             Fault::BadHead => Refusal::by_word(400, "bad_head"),

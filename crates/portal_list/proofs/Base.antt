@@ -52,7 +52,7 @@ pub use Rattle.portal_rules.specs.declared.rows.ProjectRow.{ProjectRow}
 pub use Rattle.portal_rules.specs.Alone.{alone_lecturer, alone_student, alone}
 pub use Rattle.portal_list.specs.inner.Rows.{AllEntries, HasEntries, entries_in, choices_in, earlier_choices_in}
 pub use Rattle.portal_list.specs.inner.Rows.{rankings_with, RowsOfWorld, world_rows}
-pub use Rattle.portal_list.specs.inner.ApplicantIndex.{IsIndexOf, is_among, is_noted, is_noted_in, passes_at}
+pub use Rattle.portal_list.specs.inner.ApplicantIndex.{IsApplicantIndex, is_among, is_noted, is_noted_in, passes_at}
 pub use Rattle.portal_list.specs.inner.Fill.{filled, missing, with_missing, unless_empty, fill_missing}
 pub use Rattle.portal_list.specs.inner.Fit.{IsFitted, lecturers_fitting, students_fitting, next_for, rest_for}
 pub use Rattle.portal_list.specs.inner.Fit.{earlier_for, earlier_rest, with_lists}
@@ -74,7 +74,7 @@ pub use Rattle.spa_rows.proofs.Lists.{at_place, map_at}
 pub use Rattle.spa_rows.proofs.Seen.{IsInTree, tree_more, tree_before}
 pub use Rattle.spa_rows.specs.Faults.{HasNoneBefore, IsEarlierKey, IsKeyOf, Repeats, BadAt, IsRefusal, IsBadCapacity}
 pub use Rattle.spa_rows.specs.Faults.{NamesNone, FindsOne, IsApplicant, MissesOne}
-pub use Rattle.spa_rows.specs.Lines.{Rows, Text, is_key, Project}
+pub use Rattle.spa_rows.specs.Lines.{Rows, Text, is_key, ProjectWithLecturer}
 pub use Rattle.spa_rows.specs.declared.faults.InstanceFault.TheVariants.{Memory, TooMany, BadKey, KeyTwice, BadCapacity}
 pub use Rattle.spa_rows.specs.declared.faults.InstanceFault.TheVariants.{NoSuchLecturer, NoSuchProject, RepeatInList}
 pub use Rattle.spa_rows.specs.declared.faults.InstanceFault.TheVariants.{ListTooLong, NotApplicant, ApplicantMissing}

@@ -9,8 +9,8 @@ use Rattle.portal_list.proofs.Standing.{spa_of_rows, only_instance}
 use Rattle.portal_list.proofs.Faultless.{faultless}
 
 keys_rise : {X L : Type 0} (f : X → L) (key : L → Key) (xs : List X) → Rise (map (λ x. key (f x)) xs)
-    → spa.Rise (map key (map f xs))
-keys_rise f key xs rise = subst spa.Rise (sym (map_map key f xs)) (pairs_rise (map (λ x. key (f x)) xs) rise)
+    → spa.TextsRise (map key (map f xs))
+keys_rise f key xs rise = subst spa.TextsRise (sym (map_map key f xs)) (pairs_rise (map (λ x. key (f x)) xs) rise)
 
 -- the instance of the lines is that of the entries
 same_instance : (w : World) → spa_of_rows (instance_rows (entries_in w)) ≡ instance_of w

@@ -3,7 +3,7 @@ use Rattle.portal_list.proofs.Base.{◌≡◌, ℕ, zero, suc, ◌+◌, ◌<◌,
 use Rattle.portal_list.proofs.Base.{take, length, get_or, Bor, Vec, Global, Option, Some, None, refl, sym, ◌∙◌, ap}
 use Rattle.portal_list.proofs.Base.{arith, ◌==◌, ◌||◌, ◌&&◌, slice_set, unwrap_or, list_any, or-true, or-false}
 use Rattle.portal_list.proofs.Base.{length-take, map_push, text_eq, Key, equals, has, Student, is_same, passes_at}
-use Rattle.portal_list.proofs.Base.{is_among, is_noted_in, is_noted, IsIndexOf, rules, replicate, eq-eqb, ne_eqb}
+use Rattle.portal_list.proofs.Base.{is_among, is_noted_in, is_noted, IsApplicantIndex, rules, replicate, eq-eqb, ne_eqb}
 use Rattle.portal_list.proofs.Base.{or_assoc, and-true, and-false, get_or-set_same, get_or-set_other, list_any_more}
 use Rattle.portal_list.proofs.Base.{list_any-append, is_sym}
 use Rattle.std.specs.HashMap as hash
@@ -112,7 +112,7 @@ marks_more places j k i first old now was is_now low at =
 
 -- once the places of one more project are marked: q has the text of the project x
 pub wanted_more : {S : Type 0} (students : List Student) (table : HashMap (Bor Key) (Vec ℕ Global) S)
-    → IsIndexOf students table
+    → IsApplicantIndex students table
     → (projects : List (Bor Key)) (j : ℕ) (x q : Bor Key) → j < length projects → get_or projects j x ≡ x → q.now ≡ x.now
     → (i : ℕ) (old now : Bool) → old ≡ passes_at (λ s. list_any (λ p. has s.choice p) (map (λ k. k.now) (take j projects))) students i → now ≡ (old || is_noted table q i)
     → now ≡ passes_at (λ s. list_any (λ p. has s.choice p) (map (λ k. k.now) (take (j + 1) projects))) students i

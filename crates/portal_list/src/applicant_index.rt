@@ -26,13 +26,13 @@ pub(crate) struct ApplicantIndex<'a> {
 impl<'a> Model for ApplicantIndex<'a> {
     ghost use Rattle.std.specs.Prelude.{List};
     ghost use Rattle.portal_rules.specs.World.{Student};
-    ghost use Rattle.portal_list.specs.inner.ApplicantIndex.{IsIndexOf};
+    ghost use Rattle.portal_list.specs.inner.ApplicantIndex.{IsApplicantIndex};
 
     ghost Value = { List Student };
 
     ghost view = { λ w. w.students.now };
 
-    ghost invariant = { λ w. IsIndexOf w.students.now w.places };
+    ghost invariant = { λ w. IsApplicantIndex w.students.now w.places };
 }
 
 /// Adds a student's position in the roll to a project's entry in the hash table.

@@ -101,7 +101,7 @@ fn check_rolls(alloc: Global, rows: &WorldRows) -> Result<(), RowsFault>
 
 /// Joins rows into the entries of the world that has them. Returns `NotGood` only if no sound world
 /// has them.
-fn fitted(alloc: Global, rows: WorldRows) -> Result<Entries, RowsFault>
+fn entries_of_rows(alloc: Global, rows: WorldRows) -> Result<Entries, RowsFault>
     ensures fitted { IfOk result (λ e. IsFitted rows (world_with rows.phase rows.office e)) }
     ensures refused { result ≡ Err RowsFault.NotGood → (w : World) → rows ≡ world_rows w → Sound w
         → ⊥ }
@@ -137,7 +137,7 @@ fn fitted(alloc: Global, rows: WorldRows) -> Result<Entries, RowsFault>
 
 /// Joins rows into a keeper, and checks only its rolls. Returns `NotGood` only if no sound world has
 /// the rows.
-fn joined(alloc: Global, rows: WorldRows) -> Result<ListKeeper, RowsFault>
+fn keeper_of_rows(alloc: Global, rows: WorldRows) -> Result<ListKeeper, RowsFault>
     ensures fitted { IfOk result (λ keeper. IsFitted rows keeper) }
     ensures rolls { IfOk result (λ keeper. RollsOf keeper) }
     ensures refused { result ≡ Err RowsFault.NotGood → (w : World) → rows ≡ world_rows w → Sound w
@@ -146,7 +146,7 @@ fn joined(alloc: Global, rows: WorldRows) -> Result<ListKeeper, RowsFault>
     check_rolls(alloc, &rows)?;
     let phase = rows.phase;
     let office = rows.office.copy(alloc)?;
-    let entries = fitted(alloc, rows)?;
+    let entries = entries_of_rows(alloc, rows)?;
     Ok(ListKeeper {
         phase,
         office,
@@ -167,7 +167,7 @@ impl ListKeeper {
             → HasSoundFirst w
             → ⊥ }
     {
-        let keeper = joined(alloc, rows)?;
+        let keeper = keeper_of_rows(alloc, rows)?;
         if !keeper.is_sound(alloc)? {
             return Err(RowsFault::NotGood);
         }
@@ -196,6 +196,6 @@ impl Entries {
             → Sound w
             → ⊥ }
     {
-        fitted(alloc, rows)
+        entries_of_rows(alloc, rows)
     }
 }

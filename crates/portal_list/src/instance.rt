@@ -12,7 +12,7 @@ ghost use Rattle.portal_list.specs.inner.Lines.{instance_student, instance_rows}
 
 use crate::entries::{Entries, LecturerEntry, StudentEntry};
 use crate::from_rows::RowsFault;
-use crate::second_round::played;
+use crate::second_round::entries_in_play;
 use portal_rules::{ProjectRow, Round, try_map};
 use spa_model::{Instance, InstanceFault, InstanceRows, LecturerLine, ProjectLine, StudentLine};
 use spa_rows::Key;
@@ -132,7 +132,7 @@ impl Entries {
         match self.round {
             Round::First => instance_among(alloc, self),
             Round::Second => {
-                let left = played(alloc, self)?;
+                let left = entries_in_play(alloc, self)?;
                 instance_among(alloc, &left)
             }
         }

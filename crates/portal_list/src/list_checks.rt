@@ -12,7 +12,7 @@ ghost use Rattle.portal_list.specs.inner.Parts.{applicant_keys, ListsFit};
 use crate::applicant_index::ApplicantIndex;
 use crate::entries::{Entries, LecturerEntry, StudentEntry};
 use crate::keys::{is_known, keys_are_distinct};
-use crate::second_round::played;
+use crate::second_round::entries_in_play;
 use portal_rules::{Keyed, Phase, ProjectRow, Round, own_keys};
 use spa_rows::Key;
 use spa_rows::limits::LONGEST_CHOICE;
@@ -125,7 +125,7 @@ fn choices_in_play_fit(alloc: Global, entries: &Entries) -> Result<bool, AllocEr
     match entries.round {
         Round::First => choices_fit(alloc, &entries.projects, &entries.students),
         Round::Second => {
-            let left = played(alloc, entries)?;
+            let left = entries_in_play(alloc, entries)?;
             choices_fit(alloc, &left.projects, &entries.students)
         }
     }

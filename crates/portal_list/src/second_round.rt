@@ -124,7 +124,7 @@ fn students_played(
 }
 
 /// Returns the entries that take part in the second round, with the remaining room.
-pub(crate) fn played(alloc: Global, entries: &Entries) -> Result<Entries, AllocError>
+pub(crate) fn entries_in_play(alloc: Global, entries: &Entries) -> Result<Entries, AllocError>
     ensures { IfOk result (λ e. e ≡ all_played entries.now) }
 {
     let pairs = earlier_pairs(alloc, &entries.students)?;

@@ -15,7 +15,7 @@ use crate::entries::{LecturerEntry, StudentEntry};
 use crate::keeper::ListKeeper;
 use by_project::{applicants_by_project, placed_by_project};
 pub(crate) use catalogue::catalogue_of;
-pub(crate) use office::waiting;
+pub(crate) use office::lecturers_to_rank;
 use office::{lecturer_rows, still_to_rank, student_rows, without_list};
 use placements::{pairs_of, placement_shown};
 use portal_rules::{LecturerView, OfficeView, StudentView, copy_keys};

@@ -3,7 +3,7 @@ use Rattle.std.specs.Prelude.{◌+◌, ◌*◌, ◌-◌, ◌==◌, ◌&&◌, ℕ
 use Rattle.std.specs.Prelude.{Result, Ok, Err, nat_le, if◌then◌else◌, fold, codes}
 use Rattle.std.specs.Char.{is_ascii_digit}
 use Rattle.std.specs.List.{list_all, position_from, filter_map}
-use Rattle.spa_rows.specs.Lines.{Text, Lecturer, Project, Student, Pair, is_key}
+use Rattle.spa_rows.specs.Lines.{Text, LecturerWithList, ProjectWithLecturer, StudentWithList, Pair, is_key}
 use Rattle.portal_rolls.specs.declared.fault.RollFault.{RollFault}
 use Rattle.portal_rolls.specs.declared.fault.RollFault.TheVariants as fault
 use Rattle.portal_rolls.specs.Reading.{Record, records_of, Format, unless, lines_of}
@@ -82,15 +82,15 @@ instance_file = record {
 
 -- the lines of each kind
 
-abbrev pub as_lecturer : Line → Option Lecturer
+abbrev pub as_lecturer : Line → Option LecturerWithList
 as_lecturer (variant.Lecturer x) = Some x
 as_lecturer _ = None
 
-abbrev pub as_project : Line → Option Project
+abbrev pub as_project : Line → Option ProjectWithLecturer
 as_project (variant.Project x) = Some x
 as_project _ = None
 
-abbrev pub as_student : Line → Option Student
+abbrev pub as_student : Line → Option StudentWithList
 as_student (variant.Student x) = Some x
 as_student _ = None
 
@@ -100,9 +100,9 @@ as_pair _ = None
 
 -- the lines of a file by kind, each kind in the order of the file
 pub record File : Type 0 where
-  pub lecturers : List Lecturer
-  pub projects : List Project
-  pub students : List Student
+  pub lecturers : List LecturerWithList
+  pub projects : List ProjectWithLecturer
+  pub students : List StudentWithList
   pub pairs : List Pair
 
 abbrev pub file_of : List Line → File

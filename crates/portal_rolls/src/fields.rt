@@ -103,7 +103,7 @@ pub(crate) fn capacity_of(field: &[u8]) -> Option<u32>
 }
 
 /// Parses a capacity of 1 to 200 in a column of a record.
-pub(crate) fn limited(row: u32, column: u32, field: &[u8]) -> Result<u32, RollFault>
+pub(crate) fn capacity_at(row: u32, column: u32, field: &[u8]) -> Result<u32, RollFault>
     ensures { result ≡ form.limited row column field.now }
 {
     match capacity_of(field) {

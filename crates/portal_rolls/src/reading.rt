@@ -3,7 +3,7 @@
 ghost use Rattle.std.specs.Prelude.{◌≡◌, ◌<◌, List, length, map, OnOk, IfOk, IfErr};
 ghost use Rattle.csv.specs.Records.{fields_of};
 ghost use Rattle.portal_rolls.specs.Views.{Gives};
-ghost use Rattle.portal_rolls.specs.Reading.{Format, same_record, line_of as line_in, lines_of};
+ghost use Rattle.portal_rolls.specs.Reading.{Format, same_record, line_of, lines_of};
 ghost use Rattle.portal_rolls.specs.Reading.{Record, records_of};
 ghost use Rattle.portal_rolls.specs.inner.Records.{Has, IsSetUp, TakesRecord};
 ghost use Rattle.portal_rolls.specs.Views as view;
@@ -39,8 +39,8 @@ pub(crate) trait Kind {
 }
 
 /// Checks that a record has the right number of fields, all UTF-8, then parses it.
-fn line_of<K: Kind>(alloc: Global, number: u32, row: &ByteRecord) -> Result<K::Line, RollFault>
-    ensures { Gives form.same result (line_in K.format number (fields_of row.now)) }
+fn parse_line<K: Kind>(alloc: Global, number: u32, row: &ByteRecord) -> Result<K::Line, RollFault>
+    ensures { Gives form.same result (line_of K.format number (fields_of row.now)) }
 {
     if row.len() != K::names().len() {
         return Err(RollFault::FieldCount(number));
@@ -100,7 +100,7 @@ fn read_lines<K: Kind>(
         if !take_record(rdr, row)? {
             return Ok(lines);
         }
-        lines.push(line_of::<K>(alloc, number, row)?)?;
+        lines.push(parse_line::<K>(alloc, number, row)?)?;
     }
     if take_record(rdr, row)? {
         return Err(RollFault::TooMany);

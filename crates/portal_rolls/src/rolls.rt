@@ -9,7 +9,7 @@ ghost use Rattle.portal_rolls.specs.Lines as spec;
 ghost use Rattle.portal_rolls.specs.Views as view;
 
 use crate::fault::RollFault;
-use crate::fields::{code_at, four, key_at, limited, name_at, three};
+use crate::fields::{capacity_at, code_at, four, key_at, name_at, three};
 use crate::reading::{Kind, read_text};
 use csv::ByteRecord;
 use portal_rules::{LecturerRow, ProjectRow, StudentRow};
@@ -38,7 +38,7 @@ impl Kind for LecturerRoll {
             key: key_at(alloc, number, 1, key)?,
             name: name_at(alloc, number, 2, name)?,
             code: code_at(alloc, number, 3, code)?,
-            capacity: limited(number, 4, capacity)?,
+            capacity: capacity_at(number, 4, capacity)?,
         })
     }
 }
@@ -65,7 +65,7 @@ impl Kind for ProjectRoll {
             key: key_at(alloc, number, 1, key)?,
             lecturer: key_at(alloc, number, 2, lecturer)?,
             title: name_at(alloc, number, 3, title)?,
-            capacity: limited(number, 4, capacity)?,
+            capacity: capacity_at(number, 4, capacity)?,
         })
     }
 }

@@ -49,7 +49,7 @@ pub use Rattle.portal_rules.specs.Heard.{Reordered, SameButPlaces, own_item, may
 pub use Rattle.portal_rules.specs.Heard.{IsMember, IsIdle, none, front, turn, chain, SameWish, equal, sets, SameRequest}
 pub use Rattle.portal_rules.specs.Heard.{has_places, moves_to_published, Unless, AlikeUntilPublished}
 pub use Rattle.portal_rules.specs.Meaning.{texts_of, change_model, call_model, decision_model}
-pub use Rattle.portal_rules.specs.Run.{OpensSecond, AllAnswered, Answers, Calls, HasForm, Refused, Request, Run, Serves}
+pub use Rattle.portal_rules.specs.Run.{OpensSecond, AllAnswered, Answers, Calls, HasForm, NoCall, Request, Run, Serves}
 pub use Rattle.portal_rules.specs.Run.{Step, StepLeaves, Wish, end_of, unavailable, OpensOnce}
 pub use Rattle.portal_rules.specs.Sight.{AbstractCall, LecturerSees, OfficeSees, StudentSees}
 pub use Rattle.portal_rules.specs.View.{Caller, LecturerCaller, NoCaller, OfficeCaller, StudentCaller, caller}

@@ -4,7 +4,7 @@ use Rattle.portal_rules.proofs.Base.{Option, Some, None, is_none, AllZip, Data, 
 use Rattle.portal_rules.proofs.Base.{changed, Listing, StudentSees, Student, view, AbstractCall, projects_body}
 use Rattle.portal_rules.proofs.Base.{ListFault, choice_fault, Answer, Act, Decision, Nothing, Apply, Publish, Render}
 use Rattle.portal_rules.proofs.Base.{open_where, unless_faulty, applies, already_placed, decision, answer, to_student}
-use Rattle.portal_rules.proofs.Base.{StepLeaves, Step, Wish, Calls, Refused, Request, Answers, Run, AllAnswered}
+use Rattle.portal_rules.proofs.Base.{StepLeaves, Step, Wish, Calls, NoCall, Request, Answers, Run, AllAnswered}
 use Rattle.portal_rules.proofs.Base.{Reordered, SameButPlaces, arith, Sight, SameWish, equal, sets, SameRequest}
 use Rattle.portal_rules.proofs.Base.{has_places, moves_to_published, Unless, AlikeUntilPublished}
 use Rattle.portal_rules.proofs.Hearing.{really}
@@ -99,7 +99,7 @@ one_goes v w v' w' q r s code _ _ (equal (Calls ask)) a b l m =
     let n : Step w q.code ask b w' = subst (λ c. Step w c ask b w') (sym code) m in
     let d : Decides (view v q.code) (view w q.code) ask = same_ask _ _ (same_view v w s q.code) ask in
     (unless_map _ _ _ (λ e. l.told ∙ e ∙ sym n.told) d.0, goes_on v w v' w' q.code ask ask a b s l n d.1)
-one_goes v w v' w' q r s code _ _ (equal (Refused refusal)) a b l m =
+one_goes v w v' w' q r s code _ _ (equal (NoCall refusal)) a b l m =
     (l.0 ∙ sym m.0, inl (subst (λ x. SameButPlaces x w') (sym l.1) (subst (λ x. SameButPlaces v x) (sym m.1) s)))
 one_goes v w v' w' q r s code _ _ (sets {ks} {ls} o) a b l m =
     let n : Step w q.code (AbstractCall.SetChoices ls) b w' = subst (λ c. Step w c (AbstractCall.SetChoices ls) b w') (sym code) m in

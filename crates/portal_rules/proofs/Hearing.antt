@@ -1,7 +1,7 @@
 -- What a caller is told is a function of the first view and of what is heard.
 use Rattle.portal_rules.proofs.Base.{◌≡◌, ◌≢◌, Bool, true, false, cond, List, [], ◌∷◌, ◌++◌, refl, sym, ◌∙◌, ap, subst}
 use Rattle.portal_rules.proofs.Base.{inl, inr, not, ◌||◌, Key, equals, World, view, Answer, answer, Wish, Calls}
-use Rattle.portal_rules.proofs.Base.{Refused, Request, Answers, Serves, Run, end_of, AllAnswered, HeardItem, Sees}
+use Rattle.portal_rules.proofs.Base.{NoCall, Request, Answers, Serves, Run, end_of, AllAnswered, HeardItem, Sees}
 use Rattle.portal_rules.proofs.Base.{is_move_or_add, ChangeSeen, SeenIf, Heard, replies_to, arith, Sight, own}
 use Rattle.portal_rules.proofs.Base.{unavailable, Asked, HeardOf}
 use Rattle.portal_rules.proofs.Keys.{is_same}
@@ -10,11 +10,11 @@ use Rattle.portal_rules.proofs.Acts.{own_kept, own_move}
 -- what is answered to a wish, and what is seen then
 abbrev pub says : Sight → Wish → Answer
 says v (Calls ask) = answer v ask
-says v (Refused refusal) = refusal
+says v (NoCall refusal) = refusal
 
 abbrev pub then_sees : Sight → Wish → Sight
 then_sees v (Calls ask) = own v ask
-then_sees v (Refused refusal) = v
+then_sees v (NoCall refusal) = v
 
 abbrev pub told : Sight → List HeardItem → List Answer
 told v [] = []
@@ -52,7 +52,7 @@ answered_by w w' r wish a s = grind arith
 kept : (w w' : World) (r : Request) (wish : Wish) (a : Answer) → Answers w r wish a w' → is_move_or_add wish ≡ false
     → view w' r.code ≡ then_sees (view w r.code) wish
 kept w w' r (Calls ask) a s calm = own_kept w w' r.code _ refl ask calm s.left
-kept w w' r (Refused refusal) a s calm = ap (λ u. view u r.code) s.1
+kept w w' r (NoCall refusal) a s calm = ap (λ u. view u r.code) s.1
 
 moved : (v : Sight) (wish : Wish) → is_move_or_add wish ≡ true → then_sees v wish ≡ v
 moved v wish e = grind (arith, own_move v)

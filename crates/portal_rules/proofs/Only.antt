@@ -6,7 +6,7 @@ use Rattle.portal_rules.proofs.Base.{project_of, is_project, at_project, number_
 use Rattle.portal_rules.proofs.Base.{equals, has, World, in_play, project_key, is_left, students_in, Round, First}
 use Rattle.portal_rules.proofs.Base.{Second, Placements, placement_in, with_place, changed, instance, matching_of}
 use Rattle.portal_rules.proofs.Base.{places_of, project_keys, view, AbstractCall, Answer, Act, Nothing, Apply, Publish}
-use Rattle.portal_rules.proofs.Base.{Render, decision, ProjectRow, IsChoice, StepLeaves, Step, Wish, Calls, Refused}
+use Rattle.portal_rules.proofs.Base.{Render, decision, ProjectRow, IsChoice, StepLeaves, Step, Wish, Calls, NoCall}
 use Rattle.portal_rules.proofs.Base.{Request, Answers, Run, AllAnswered, Any-from_list_any}
 use Rattle.spa_model.proofs.Counts.{one_if, count_by-cons}
 use Rattle.spa_model.proofs.OneOnly.{best_is_one}
@@ -115,7 +115,7 @@ step_once w v u code ask a b s t = (s.told ∙ sym t.told, one_end w v u (decisi
 answered_once : (w v u : World) (r : Request) (wish : Wish) (a b : Answer) → Answers w r wish a v → Answers w r wish b u
     → (a ≡ b) × (v ≡ u)
 answered_once w v u r (Calls ask) a b s t = step_once w v u r.code ask a b s t
-answered_once w v u r (Refused refusal) a b s t = (s.0 ∙ sym t.0, s.1 ∙ sym t.1)
+answered_once w v u r (NoCall refusal) a b s t = (s.0 ∙ sym t.0, s.1 ∙ sym t.1)
 
 pub one_run : (w : World) (asked : List Request) (told said : List Answer) (after later : List World)
     → Run w asked told after → AllAnswered told → Run w asked said later → AllAnswered said → (told ≡ said) × (after ≡ later)

@@ -9,7 +9,7 @@ use Rattle.portal_rules.specs.declared.view.View.TheVariants as sees
 use Rattle.portal_rules.specs.View.{view}
 use Rattle.portal_rules.specs.Sight.{AbstractCall}
 use Rattle.portal_rules.specs.Answer.{Answer, Act, Nothing, Render, decision}
-use Rattle.portal_rules.specs.Run.{Wish, Calls, Refused, Request}
+use Rattle.portal_rules.specs.Run.{Wish, Calls, NoCall, Request}
 
 -- the caller's own request (its `head`, `closes` and `wish`), or the caller's new view
 pub data HeardItem : Type 0 where
@@ -69,7 +69,7 @@ IsIdleAct _ = ⊥
 
 abbrev pub IsIdleWish : World → Key → Wish → Type 0
 IsIdleWish w code (Calls ask) = IsIdleAct (decision (view w code) ask).act
-IsIdleWish w code (Refused refusal) = Unit {0}
+IsIdleWish w code (NoCall refusal) = Unit {0}
 
 -- a request without effect: it shows, is refused, or asks for what holds already
 abbrev pub IsIdle : World → Request → Type 0

@@ -34,7 +34,7 @@ pub record Step (old : World) (code : Key) (ask : AbstractCall) (reply : Answer)
 -- what a request wants: a call, or this refusal of its route, method or body
 pub data Wish : Type 0 where
   Calls : AbstractCall → Wish
-  Refused : Answer → Wish
+  NoCall : Answer → Wish
 
 -- a request; `head` says that its method is HEAD, `closes` that its reply closes the connection
 pub record Request : Type 0 where
@@ -49,7 +49,7 @@ unavailable = record { status = 503; allow = []; body = Unavailable }
 -- a reply without a fault of memory or the store
 abbrev pub Answers : World → Request → Wish → Answer → World → Type 0
 Answers old r (Calls ask) reply new = Step old r.code ask reply new
-Answers old r (Refused refusal) reply new = (reply ≡ refusal) × (new ≡ old)
+Answers old r (NoCall refusal) reply new = (reply ≡ refusal) × (new ≡ old)
 
 -- a request has such a reply, or 503, which leaves the world as it was
 abbrev pub Serves : World → Request → Answer → World → Type 0

@@ -1,16 +1,16 @@
 -- What is known of an input that is longer than a file may be, and of one that is not.
 use Rattle.portal_run.proofs.Base.{◌≡◌, ◌≢◌, ◌⊎◌, ◌<◌, ◌≤◌, ℕ, Bool, true, length, Option, Some, None, take, subst, inl}
-use Rattle.portal_run.proofs.Base.{inr, arith, IfSome, Appends, cases_lt, lt-ltb, length-take, take_all, Text, Told}
+use Rattle.portal_run.proofs.Base.{inr, arith, IfSome, Appends, cases_lt, lt-ltb, length-take, take_all, Text, Output}
 use Rattle.portal_run.proofs.Base.{IfLonger, IsAnswer, WritesAnswer, AnswersSome}
 use Rattle.portal_answer.specs.declared.answer.Task.{Task}
 
 -- of a longer file nothing is read
-longer : (task : Task) (a b : Bool) (xs ys : Text) (t : Told) → a ≡ true → b ≡ true → IfLonger task a xs t
+longer : (task : Task) (a b : Bool) (xs ys : Text) (t : Output) → a ≡ true → b ≡ true → IfLonger task a xs t
     → IfLonger task b ys t
 longer task a b xs ys t e f h = rw f (rw e at h)
 
 -- a byte more than a file may have tells as much as all of them
-cut_answer : (task : Task) (b : Text) (t : Told) → IsAnswer task (take 4194305 b) t → IsAnswer task b t
+cut_answer : (task : Task) (b : Text) (t : Output) → IsAnswer task (take 4194305 b) t → IsAnswer task b t
 cut_answer task b t h = elim (cases_lt 4194304 (length b)) [
   | inl lt ↦
       let long : 4194304 < length (take 4194305 b) = omega (arith, length-take 4194305 b) in
@@ -26,11 +26,11 @@ pub said_status : (a n : ℕ) → (a ≡ n) ⊎ (a ≡ 3) → a < 3 → a ≡ n
 said_status a n h small = elim h [ inl e ↦ e | inr e ↦ absurd (omega (arith, e)) ]
 
 -- a text that was said with its status, or the status 3
-abbrev pub IsSaid : ℕ → Option Text → Option Text → Told → Type 0
+abbrev pub IsSaid : ℕ → Option Text → Option Text → Output → Type 0
 IsSaid status old new t = ((status ≡ t.status) ⊎ (status ≡ 3)) × (status ≢ 3 → Appends old new t.text)
 
 -- what was said is what is answered to the whole input
-pub said : (task : Task) (k : Option Text) (bytes : Text) (old new : Option Text) (status : ℕ) (t : Told)
+pub said : (task : Task) (k : Option Text) (bytes : Text) (old new : Option Text) (status : ℕ) (t : Output)
     → IfSome k (λ b. bytes ≡ take 4194305 b) → IsAnswer task bytes t
     → IsSaid status old new t → status < 3 → WritesAnswer task k status old new
 said task None bytes old new status t cut is done small = tt
@@ -38,6 +38,6 @@ said task (Some b) bytes old new status t cut is done small =
     (t, cut_answer task b t (subst (λ (xs : Text). IsAnswer task xs t) cut is), said_status status t.status done.0 small, done.1 (omega arith))
 
 -- what was said is an answer to these bytes
-pub said_some : (task : Task) (bytes : Text) (old new : Option Text) (status : ℕ) (t : Told) → IsAnswer task bytes t
+pub said_some : (task : Task) (bytes : Text) (old new : Option Text) (status : ℕ) (t : Output) → IsAnswer task bytes t
     → IsSaid status old new t → status < 3 → AnswersSome task status old new
 said_some task bytes old new status t is done small = (bytes, t, is, said_status status t.status done.0 small, done.1 (omega arith))

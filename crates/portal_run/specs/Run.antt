@@ -1,7 +1,7 @@
 -- What one run of the program does, with known input and output, and what an upgrade prints.
 use Rattle.std.specs.Prelude.{◌≤◌, ℕ, Option, length, ◌≡◌, Some, None, IfSome, ◌⊎◌, codes}
 use Rattle.std.specs.Io.KnownBytes.{Consumes, Appends}
-use Rattle.portal_answer.specs.Answer.{Text, Told, IsAnswer}
+use Rattle.portal_answer.specs.Answer.{Text, Output, IsAnswer}
 use Rattle.portal_answer.specs.declared.answer.Task.{Task}
 use Rattle.portal_answer.specs.declared.answer.Task.TheVariants as task
 use Rattle.portal_words.specs.declared.command.Command.{Command}
@@ -16,12 +16,12 @@ ConsumesAtMost most old new = (taken : Text) × (length taken ≤ most) × Consu
 
 -- the answer to the whole input is written, and `status` is its exit status
 abbrev pub WritesAnswer : Task → Option Text → ℕ → Option Text → Option Text → Type 0
-WritesAnswer task input status old new = IfSome input (λ bytes. (told : Told) × IsAnswer task bytes told × (status ≡ told.status) × Appends old new told.text)
+WritesAnswer task input status old new = IfSome input (λ bytes. (told : Output) × IsAnswer task bytes told × (status ≡ told.status) × Appends old new told.text)
 
 -- the same for some bytes, since those of a named file are not known here
 abbrev pub AnswersSome : Task → ℕ → Option Text → Option Text → Type 0
 AnswersSome task status old new =
-    (bytes : Text) × (told : Told) × IsAnswer task bytes told × (status ≡ told.status) × Appends old new told.text
+    (bytes : Text) × (told : Output) × IsAnswer task bytes told × (status ≡ told.status) × Appends old new told.text
 
 -- the task of a command that reads an instance file, from a name or the standard input
 abbrev pub task_of : Command → Option Task

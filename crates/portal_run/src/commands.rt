@@ -94,7 +94,7 @@ fn answer_file<R: Read, W: Write>(
 /// prints what its function of `portal_file` returns, or does nothing else to files: this is read
 /// in this crate, and tested.
 #[tactic(auto, using(crate::proofs::Taken::few_taken, crate::proofs::Taken::same_left))]
-pub fn perform<R: Read, W: Write>(
+pub fn run_command<R: Read, W: Write>(
     rt: &HostRuntime,
     command: Command<'_>,
     reader: &mut R,
@@ -165,7 +165,7 @@ pub fn run<S: AsStr, R: Read, W: Write>(
         (W.contents writer.new) }
 {
     match command_of(rt.alloc(), words) {
-        Ok(Asked::Do(command)) => perform(rt, command, reader, writer),
+        Ok(Asked::Do(command)) => run_command(rt, command, reader, writer),
         Ok(Asked::Show { text, status }) => say(writer, text.as_bytes(), status.min(MOST)),
         Err(_) => say_memory(writer),
     }

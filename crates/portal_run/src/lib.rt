@@ -9,5 +9,5 @@ mod output;
 mod place;
 mod serve;
 
-pub use commands::{perform, run};
+pub use commands::{run, run_command};
 pub use output::say;

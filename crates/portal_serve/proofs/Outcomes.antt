@@ -1,8 +1,9 @@
 -- What is told of connections, one after another.
 use Rattle.portal_serve.proofs.Base.{◌≡◌, ◌∙◌, ◌+◌, ◌≤◌, Bool, true, false, if◌then◌else◌, ℕ, List, [], ◌∷◌, ◌++◌}
 use Rattle.portal_serve.proofs.Base.{length, length-append, Option, Some, None, Result, Ok, Err, refl, sym, ap, subst}
-use Rattle.portal_serve.proofs.Base.{arith, is_own_fault, is_store, is_store_fault, Adds, Settles, SettlesBy, EndsBy}
-use Rattle.portal_serve.proofs.Base.{Stands, Tells, is_faulty}
+use Rattle.portal_serve.proofs.Base.{arith, is_own_fault, is_store_cause, is_store_fault, Adds, Settles, SettlesBy}
+use Rattle.portal_serve.proofs.Base.{EndsBy}
+use Rattle.portal_serve.proofs.Base.{StillWorks, CountsOutcomes, is_faulty}
 use Rattle.std.specs.Prelude.{All, count_by}
 use Rattle.std.proofs.lemmas.List.{append_assoc}
 use Rattle.std.proofs.lemmas.List.Elements.{All-push}
@@ -22,7 +23,7 @@ pub record Passed (old new : Option (List Outcome)) (accepted faults : ℕ) : Ty
   pub adds : Adds old new es
   pub long : accepted ≡ length es
   pub counted : faults ≡ count_by is_faulty es
-  pub stand : All Stands es
+  pub stand : All StillWorks es
 
 pub adds_more : (a b c : Option (List Outcome)) (xs ys : List Outcome) → Adds a b xs → Adds b c ys → Adds a c (xs ++ ys)
 adds_more None b c xs ys p q = tt
@@ -40,11 +41,12 @@ pub counted_more : (es : List Outcome) (o : Outcome) (accepted faults : ℕ) →
 counted_more es o accepted faults long counted =
     (omega (arith, long, length-append es (o ∷ [])), ap (λ n. n + (if is_own_fault o.ended then 1 else 0)) counted ∙ sym (sum_by_push (λ x. if is_faulty x then 1 else 0) es o))
 
-stands_after : (o : Outcome) (old new : Bool) → Settles o.ended old new → o.failed ≡ new → o.failed ≡ false → Stands o
+stands_after : (o : Outcome) (old new : Bool) → Settles o.ended old new → o.failed ≡ new → o.failed ≡ false
+    → StillWorks o
 stands_after o old new settles is calm =
     record { working = calm; sound = go o.ended (subst (λ (b : Bool). Settles o.ended old b) (sym is ∙ calm) settles) }
   where
-    by_cause : (cause : Cause) → SettlesBy cause old false → is_store cause ≡ false
+    by_cause : (cause : Cause) → SettlesBy cause old false → is_store_cause cause ≡ false
     by_cause Read h = refl
     by_cause Write h = refl
     by_cause Memory h = refl
@@ -65,14 +67,14 @@ passed_more a b c o old new accepted faults p more settles is calm =
       adds = adds_more a b c p.es (o ∷ []) p.adds more;
       long = n.0;
       counted = n.1;
-      stand = All-push Stands p.es o p.stand (stands_after o old new settles is calm);
+      stand = All-push StillWorks p.es o p.stand (stands_after o old new settles is calm);
     }
 
 -- one more connection, after which the desk has failed
 pub told_failed : (a b c : Option (List Outcome)) (o : Outcome) (accepted faults : ℕ) → Passed a b accepted faults
     → Adds b c (o ∷ []) → o.failed ≡ true
     → (hall : Hall) → hall.accepted ≡ accepted + 1 → hall.faults ≡ faults + (if is_own_fault o.ended then 1 else 0) → hall.ended ≡ StoreFault
-    → (es : List Outcome) × Adds a c es × Tells hall es
+    → (es : List Outcome) × Adds a c es × CountsOutcomes hall es
 told_failed a b c o accepted faults p more failed hall e f g =
     let n = counted_more p.es o accepted faults p.long p.counted in (
       p.es ++ o ∷ [],

@@ -23,18 +23,18 @@ use Rattle.portal_desk.specs.Kept.{Kept, Moves, Worked}
 abbrev pub IsMovedBy : (List Exchange → Type 0) → KeeperState → KeeperState → Type 0
 IsMovedBy Told old new = (es : List Exchange) × Moves old new es × Told es
 
-abbrev pub is_store : Cause → Bool
-is_store Store = true
-is_store _ = false
+abbrev pub is_store_cause : Cause → Bool
+is_store_cause Store = true
+is_store_cause _ = false
 
 -- the cause is a fault of the connection or of memory, not of the store
 abbrev pub is_own_fault : Result Served ServeFault → Bool
 is_own_fault (Ok served) = false
-is_own_fault (Err fault) = not (is_store fault.cause)
+is_own_fault (Err fault) = not (is_store_cause fault.cause)
 
 abbrev pub is_store_fault : Result Served ServeFault → Bool
 is_store_fault (Ok served) = false
-is_store_fault (Err fault) = is_store fault.cause
+is_store_fault (Err fault) = is_store_cause fault.cause
 
 -- if the outcomes are recorded, these are appended
 abbrev pub Adds : Option (List Outcome) → Option (List Outcome) → List Outcome → Type 0
@@ -45,18 +45,18 @@ abbrev pub is_faulty : Outcome → Bool
 is_faulty outcome = is_own_fault outcome.ended
 
 -- the desk has not failed by the end of the connection
-pub record Stands (outcome : Outcome) : Type 0 where
+pub record StillWorks (outcome : Outcome) : Type 0 where
   pub working : outcome.failed ≡ false
   pub sound : is_store_fault outcome.ended ≡ false
 
 -- after a fault of the store the desk has failed at the last outcome alone, otherwise at none
 abbrev pub EndsBy : Ended → List Outcome → Type 0
 EndsBy StoreFault outcomes =
-    (before : List Outcome) × (last : Outcome) × (outcomes ≡ before ++ last ∷ []) × All Stands before × (last.failed ≡ true)
-EndsBy _ outcomes = All Stands outcomes
+    (before : List Outcome) × (last : Outcome) × (outcomes ≡ before ++ last ∷ []) × All StillWorks before × (last.failed ≡ true)
+EndsBy _ outcomes = All StillWorks outcomes
 
 -- the hall counts one outcome for each accepted connection, and those with a fault of their own
-pub record Tells (hall : Hall) (outcomes : List Outcome) : Type 0 where
+pub record CountsOutcomes (hall : Hall) (outcomes : List Outcome) : Type 0 where
   pub accepted : hall.accepted ≡ length outcomes
   pub faults : hall.faults ≡ count_by is_faulty outcomes
   pub ends : EndsBy hall.ended outcomes
@@ -78,13 +78,13 @@ pub record ServesHall {K : Type 0} (state : K → KeeperState) (hall : Hall) (mo
   pub shut : hall.ended ≢ StoreFault → new.failed ≡ true → hall.accepted ≡ 0
 
 -- the report: the state of the round and, once there is a result, an empty line and the result
-abbrev pub told_of : OfficeSees → List ℕ
-told_of v = status_text v ++ (if has_result v.round v.phase then line_feed ++ report_text v else [])
+abbrev pub office_report : OfficeSees → List ℕ
+office_report v = status_text v ++ (if has_result v.round v.phase then line_feed ++ report_text v else [])
 
 -- the office sees this, and the text is its report
 abbrev pub IsOfficeReport : Sight → List ℕ → Type 0
 IsOfficeReport Nobody text = ⊥
-IsOfficeReport (Office v) text = text ≡ told_of v
+IsOfficeReport (Office v) text = text ≡ office_report v
 IsOfficeReport (Lecturer v) text = ⊥
 IsOfficeReport (Student v) text = ⊥
 

@@ -3,7 +3,7 @@
 ghost use Rattle.std.specs.Prelude.{◌≡◌, true, List};
 ghost use Rattle.portal_desk.specs.Kept.{Worked};
 ghost use Rattle.portal_desk.specs.Session.{Settles, TakesFirst};
-ghost use Rattle.portal_serve.specs.Hall.{ServesHall, Tells};
+ghost use Rattle.portal_serve.specs.Hall.{ServesHall, CountsOutcomes};
 ghost use Rattle.portal_serve.specs.declared.server.Outcome.{Outcome};
 
 use crate::server::{Connections, Hall, Outcome, has_own_fault, serve_each};
@@ -74,7 +74,7 @@ pub fn serve_on<T: Clock + AllocGlobal, K: Keeper>(
     connections: u32,
     desk: &mut Desk<K>,
 ) -> Hall
-    ensures told { (outcomes : List Outcome) × Tells result outcomes }
+    ensures told { (outcomes : List Outcome) × CountsOutcomes result outcomes }
     ensures serves { ServesHall K.state result connections desk.old desk.new }
 {
     let mut listening = Listening { rt, listener };

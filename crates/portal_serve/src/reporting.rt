@@ -4,7 +4,7 @@ ghost use Rattle.std.specs.Prelude.{◌≡◌, ◌+◌, Err, IfOk, OnOk};
 ghost use Rattle.portal_rules.specs.Good.{Good};
 ghost use Rattle.portal_rules.specs.Keeping.{IsAlive, Uses};
 ghost use Rattle.portal_rules.specs.View.{office_sees};
-ghost use Rattle.portal_serve.specs.Hall.{told_of, IsOfficeReport, IsOther};
+ghost use Rattle.portal_serve.specs.Hall.{office_report, IsOfficeReport, IsOther};
 
 use portal_core::{Code, KeepFault, Keeper, OfficeView, View};
 use portal_reports::{allocation_text, status_text};
@@ -12,7 +12,7 @@ use std::alloc::{AllocError, Global};
 
 /// Writes the report: the status of the round, then an empty line and the result if there is one.
 fn text_of(alloc: Global, view: &OfficeView) -> Result<Vec<u8>, AllocError>
-    ensures { IfOk result (λ text. text.items ≡ told_of view.now) }
+    ensures { IfOk result (λ text. text.items ≡ office_report view.now) }
 {
     let mut text = status_text(alloc, view)?;
     if !view.round.has_result(view.phase) {
@@ -25,7 +25,7 @@ fn text_of(alloc: Global, view: &OfficeView) -> Result<Vec<u8>, AllocError>
 }
 
 /// Returns the office's report if the view is the office's.
-fn told(alloc: Global, view: &View) -> Result<Vec<u8>, KeepFault>
+fn report_for(alloc: Global, view: &View) -> Result<Vec<u8>, KeepFault>
     ensures text { IfOk result (λ text. IsOfficeReport view.now text.items) }
     ensures other { result ≡ Err KeepFault.Store → IsOther view.now }
 {
@@ -47,11 +47,11 @@ pub fn report<K: Keeper>(alloc: Global, keeper: &mut K, office: &Code) -> Result
         → (K.state keeper.new).world ≡ (K.state keeper.old).world }
     ensures text { IfOk result (λ text. (K.state keeper.new).clean
         → Good (K.state keeper.old).world
-        → text.items ≡ told_of (office_sees (K.state keeper.old).world)) }
+        → text.items ≡ office_report (office_sees (K.state keeper.old).world)) }
     ensures store { result ≡ Err KeepFault.Store → (K.state keeper.new).clean
         → Good (K.state keeper.old).world → (K.state keeper.old).world.office ≡ office.now
         → (K.state keeper.new).faults ≡ (K.state keeper.old).faults + 1 }
 {
     let view = keeper.view(alloc, office.as_bytes())?;
-    told(alloc, &view)
+    report_for(alloc, &view)
 }

@@ -6,7 +6,7 @@ ghost use Rattle.std.specs.Option.{option_to_list};
 ghost use Rattle.portal_wire.specs.Conversation.{Exchange};
 ghost use Rattle.portal_desk.specs.Kept.{Worked};
 ghost use Rattle.portal_desk.specs.Session.{Settles};
-ghost use Rattle.portal_serve.specs.Hall.{is_own_fault, Adds, IsMovedBy, ServesHall, Tells};
+ghost use Rattle.portal_serve.specs.Hall.{is_own_fault, Adds, IsMovedBy, ServesHall, CountsOutcomes};
 ghost use Rattle.portal_serve.specs.declared.server.Outcome.{Outcome};
 
 use portal_core::Keeper;
@@ -108,25 +108,25 @@ pub fn serve_each<C: Connections, K: Keeper>(
 ) -> Hall
     ensures told { (outcomes : List Outcome)
         × Adds (C.outcomes connections.old) (C.outcomes connections.new) outcomes
-        × Tells result outcomes }
+        × CountsOutcomes result outcomes }
     ensures serves { ServesHall K.state result most desk.old desk.new }
     ensures listen { result.ended ≡ Ended.ListenFault → C.over connections.new }
 {
     let mut faults = 0u32;
     for accepted in 0..most {
         let Some(outcome) = connections.serve_next(desk) else {
-            return closed(accepted, faults, Ended::ListenFault);
+            return hall_of(accepted, faults, Ended::ListenFault);
         };
         faults = faults_with(faults, &outcome.ended);
         if outcome.failed {
-            return closed(accepted + 1, faults, Ended::StoreFault);
+            return hall_of(accepted + 1, faults, Ended::StoreFault);
         }
     }
-    closed(most, faults, Ended::Full)
+    hall_of(most, faults, Ended::Full)
 }
 
 /// Makes the server loop's result: the numbers of connections and faults, and why serving ended.
-fn closed(accepted: u32, faults: u32, ended: Ended) -> Hall
+fn hall_of(accepted: u32, faults: u32, ended: Ended) -> Hall
     ensures accepted { result.accepted ≡ accepted }
     ensures faults { result.faults ≡ faults }
     ensures ended { result.ended ≡ ended }

@@ -103,7 +103,7 @@ impl<'a, T: Clock, S: TimedStream> Connection<'a, T, S> {
     }
 
     /// Returns what is left of `seconds` since `began`, or all of them if `began` is `None`.
-    fn left(&self, began: Option<Instant>, seconds: u64) -> io::Result<Duration> {
+    fn time_left(&self, began: Option<Instant>, seconds: u64) -> io::Result<Duration> {
         let Some(began) = began else {
             return Ok(Duration::from_secs(seconds));
         };
@@ -120,8 +120,8 @@ impl<'a, T: Clock, S: TimedStream> Connection<'a, T, S> {
         if self.began.get().is_none() {
             self.began.set(Some(Instant::now(self.clock)?));
         }
-        let whole = self.left(self.asked.get(), WHOLE)?;
-        let longest = self.left(self.began.get(), LONGEST)?;
+        let whole = self.time_left(self.asked.get(), WHOLE)?;
+        let longest = self.time_left(self.began.get(), LONGEST)?;
         Ok(whole.min(longest).min(Duration::from_secs(SILENCE)))
     }
 
@@ -151,8 +151,8 @@ impl<'a, T: Clock, S: TimedStream> Connection<'a, T, S> {
 
     /// Returns how long the next read of dropped bytes may wait; dropping started at `began`.
     fn closing_patience(&self, began: Option<Instant>) -> io::Result<Duration> {
-        let whole = self.left(began, WHOLE)?;
-        let longest = self.left(self.began.get(), LONGEST)?;
+        let whole = self.time_left(began, WHOLE)?;
+        let longest = self.time_left(self.began.get(), LONGEST)?;
         Ok(whole.min(longest).min(Duration::from_secs(CLOSING_SILENCE)))
     }
 
@@ -222,7 +222,7 @@ impl<'a, T: Clock, S: TimedStream> Write for ConnectionWriter<'a, T, S> {
     fn write(&mut self, buf: &[u8]) -> io::Result<usize> {
         let connection = self.connection;
         connection.note_told()?;
-        let timeout = connection.left(connection.told.get(), WHOLE)?;
+        let timeout = connection.time_left(connection.told.get(), WHOLE)?;
         connection.stream.write_within(buf, timeout)
     }
 

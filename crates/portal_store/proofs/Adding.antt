@@ -17,7 +17,7 @@ use Rattle.portal_tables.specs.declared.list_table.Lists.TheVariants as which
 use Rattle.portal_tables.proofs.Writes.{unnumbered}
 use Rattle.portal_store.specs.declared.add_rows.NewRows.TheVariants as come
 use Rattle.portal_store.proofs.Still.{holds_after, world_after}
-use Rattle.portal_store.proofs.FirstRows.{has_ranking, lecturer_of, student_of}
+use Rattle.portal_store.proofs.FirstRows.{has_ranking, lecturer_of_cells, student_of}
 
 -- a row without its number
 abbrev pub bare : Row → Row
@@ -65,7 +65,7 @@ ranked_bare : (r : Row) → has_ranking (bare r) ≡ has_ranking r
 ranked_bare [] = refl
 ranked_bare (v ∷ r) = refl
 
-lecturer_bare : (rankings : List Row) (r : Row) → lecturer_of rankings (bare r) ≡ lecturer_of rankings r
+lecturer_bare : (rankings : List Row) (r : Row) → lecturer_of_cells rankings (bare r) ≡ lecturer_of_cells rankings r
 lecturer_bare rankings [] = refl
 lecturer_bare rankings (v ∷ r) = refl
 
@@ -147,7 +147,7 @@ module _ (rows : List LecturerRow) (old new : Database) (was : IsConsistentIn Fi
 
   unranked_yet : AllByRecursion (λ r. of_key r.key lists ≡ []) rows
   unfolding world_in
-  unranked_yet = none_yet _ lecturer_key new_lecturer (lecturer_of lists) rows (old.trees lecturer_tree) lists (sym (map_twice lecturer_key (lecturer_of lists) (old.trees lecturer_tree)))
+  unranked_yet = none_yet _ lecturer_key new_lecturer (lecturer_of_cells lists) rows (old.trees lecturer_tree) lists (sym (map_twice lecturer_key (lecturer_of_cells lists) (old.trees lecturer_tree)))
       (place_parents old which.Rankings was.own was.sound was.apart.1.1.1.1.1.0) better.sound.lecturers_rise
 
   lecturers_turned : HasChangedIn First (Lecturers rows) old new
@@ -162,7 +162,7 @@ module _ (rows : List LecturerRow) (old new : Database) (was : IsConsistentIn Fi
           (all_map (λ c. has_ranking (unnumbered c) ≡ false → of_key (row_key (unnumbered c)) lists ≡ []) lecturer_new rows (all_weaker (λ (r : LecturerRow). of_key r.key lists ≡ []) (λ r. has_ranking (unnumbered (lecturer_new r)) ≡ false → of_key r.key lists ≡ []) (λ r none e. none) rows unranked_yet)) was.whole.ranked;
     });
     world = world_after First lecturer_tree old new a.others
-        ∙ ap (λ l. record (world_in First old.trees) { lecturers = l }) (roll_added lecturer_key lecturer_new (lecturer_of lists) rows (map new_lecturer rows) lecturer_tree old new (lecturer_bare lists) refl a better.sound.lecturers_rise);
+        ∙ ap (λ l. record (world_in First old.trees) { lecturers = l }) (roll_added lecturer_key lecturer_new (lecturer_of_cells lists) rows (map new_lecturer rows) lecturer_tree old new (lecturer_bare lists) refl a better.sound.lecturers_rise);
   }
 
 pub lecturers_turn : (rows : List LecturerRow) (old new : Database) → Adds lecturer_tree (map lecturer_new rows) old new

@@ -12,8 +12,8 @@ use Rattle.portal_store.proofs.Base.{roll_columns, world_in, student_stored, pro
 use Rattle.portal_store.proofs.Base.{lecturer_from, distinct_permuted, map_alike, permutes_more, put_all_map}
 use Rattle.portal_store.proofs.Base.{rise_distinct, and-false, or-false, projects_of, applicants_to, placed_at, is_at}
 use Rattle.portal_store.proofs.Base.{persons, lecturer_sees, shown_line, applicant_lines, person_key, lines_shown}
-use Rattle.portal_store.proofs.Base.{persons_at, persons_before, placed_among, placed_at_shown, applicants_told}
-use Rattle.portal_store.proofs.Base.{placed_told, own_keys_shown, one_rise, rise_put_all, arith}
+use Rattle.portal_store.proofs.Base.{persons_at, persons_before, placed_among, placed_at_shown, applicants_of_projects}
+use Rattle.portal_store.proofs.Base.{placed_of_projects, own_keys_shown, one_rise, rise_put_all, arith}
 use Rattle.portal_rules.specs.declared.rows.Person.{Person}
 use Rattle.portal_rules.proofs.Fills.{rise_kept}
 use Rattle.portal_views.specs.declared.lines.ApplicantLine.{ApplicantLine}
@@ -193,10 +193,10 @@ lecturer_told round db second good row phase offers at_phase all =
     let shown : List ApplicantLine → List ApplicantLine = λ ls. if is_from_ranking w.phase then ls else [] in
     let placed_of : (k : Key) → placed_at_shown round db w.phase k (shown (map line_of (applicants_to w k))) ≡ persons (placed_at w k) =
     λ k. (λ i. put_all person_key (now_told w good k i) (before_told round db second good k i)) ∙ placed_all w good k in
-    let applicants = ap (applicants_told round db w.phase) listed ∙ map-map (λ k. (k, map (λ (l : ApplicantLine). l.person) (lines_shown round db w.phase k))) project_key own
+    let applicants = ap (applicants_of_projects round db w.phase) listed ∙ map-map (λ k. (k, map (λ (l : ApplicantLine). l.person) (lines_shown round db w.phase k))) project_key own
     ∙ (λ i. map (λ (p : ProjectRow). (p.key, map (λ (l : ApplicantLine). l.person) (shown (lines_told round db p.key i)))) own)
     ∙ (λ i. map (λ (p : ProjectRow). (p.key, persons_shown w p.key i)) own) in
-    let placed = ap (placed_told round db w.phase) listed ∙ map-map (λ k. (k, placed_at_shown round db w.phase k (lines_shown round db w.phase k))) project_key own
+    let placed = ap (placed_of_projects round db w.phase) listed ∙ map-map (λ k. (k, placed_at_shown round db w.phase k (lines_shown round db w.phase k))) project_key own
     ∙ (λ i. map (λ (p : ProjectRow). (p.key, placed_at_shown round db w.phase p.key (shown (lines_told round db p.key i)))) own)
     ∙ (λ i. map (λ (p : ProjectRow). (p.key, placed_of p.key i)) own) in
     let from = lecturer_shown round db w.phase row (catalogue w) in

@@ -6,9 +6,9 @@ use Rattle.portal_store.proofs.Base.{state, Round, First, Second, portal_tree, s
 use Rattle.portal_store.proofs.Base.{ranking2_tree, assigned2_tree, first_trees, own_trees, version, IsCurrentSchema}
 use Rattle.portal_store.proofs.Base.{RowNumbersDiffer, portal_row, second_row, ListsBy, every, columns, HasOffice}
 use Rattle.portal_store.proofs.Base.{number_of_phase, is_empty, AllNumbersDiffer, HasSecond, IsUnopened, IsConsistent}
-use Rattle.portal_store.proofs.Base.{IsConsistentIn, later_trees, IsKept, early_trees, apart_one, current_own, Denies}
+use Rattle.portal_store.proofs.Base.{IsConsistentIn, later_trees, IsKept, early_trees, apart_one, current_own, SaysNot}
 use Rattle.portal_store.proofs.Base.{AdmitsAs, Admits, TableFault, OpenFault, IfErr, IsLive, apart_none, HasVersion}
-use Rattle.portal_store.proofs.Base.{RefusalSays, NumbersDiffer, SaysNothing, Reading, Anyhow, IsSettled, OnlyLooks}
+use Rattle.portal_store.proofs.Base.{RefusalSays, NumbersDiffer, SaysNothing, Reading, Anyhow, IsCommitted, OnlyLooks}
 use Rattle.portal_store.proofs.Base.{OnOk, HasFirstSchema, clean_before, HasRound, IsErrAnd, reads_as, all_append}
 use Rattle.portal_store.proofs.Base.{filter_all, nil_from_length, parts_of, second_trees}
 use Rattle.sqlite.proofs.Callers.{one_permutation}
@@ -20,14 +20,14 @@ use Rattle.portal_store.specs.inner.Keeping.{IsReady}
 use Rattle.portal_store.proofs.Absent.{as_many}
 use Rattle.portal_store.proofs.Keeps.{leaves_shown}
 use Rattle.portal_tables.specs.inner.Decoding.{FindsAny}
-use Rattle.portal_tables.specs.inner.Queries.{selection, Shows, query_text}
+use Rattle.portal_tables.specs.inner.Queries.{selection, QueryShows, query_text}
 use Rattle.portal_tables.specs.declared.select.Query.{Query}
 use Rattle.portal_tables.specs.declared.fault.TableFault.TheVariants as told
 use Rattle.portal_store.specs.declared.store.OpenFault.TheVariants.{NotPortal, OtherVersion, Damaged, Store, Memory}
 
 -- refusals
 
-pub denies_more : (fault : OpenFault) (A B : Type 0) → (B → A) → Denies fault A → Denies fault B
+pub denies_more : (fault : OpenFault) (A B : Type 0) → (B → A) → SaysNot fault A → SaysNot fault B
 denies_more NotPortal A B back h = h
 denies_more OtherVersion A B back h = h
 denies_more Damaged A B back h = λ b. h (back b)
@@ -35,13 +35,13 @@ denies_more Store A B back h = tt
 denies_more Memory A B back h = tt
 
 -- who says nothing denies anything
-pub denies_any : (fault : OpenFault) (A : Type 0) → SaysNothing fault → Denies fault A
+pub denies_any : (fault : OpenFault) (A : Type 0) → SaysNothing fault → SaysNot fault A
 denies_any fault A = denies_more fault (Unit {0}) A (λ _. tt)
 
 -- as a fault of the tables' rows
 pub denied_of : (fault : OpenFault) (why : TableFault) (A : Type 0) → (why ≡ told.Damaged → fault ≡ Damaged)
-    → ((why ≡ told.Damaged → ⊥) → SaysNothing fault) → (why ≡ told.Damaged → A → ⊥) → Denies fault A
-denied_of fault told.Damaged A damaged nothing h = subst (λ f. Denies f A) (sym (damaged refl)) (h refl)
+    → ((why ≡ told.Damaged → ⊥) → SaysNothing fault) → (why ≡ told.Damaged → A → ⊥) → SaysNot fault A
+denied_of fault told.Damaged A damaged nothing h = subst (λ f. SaysNot f A) (sym (damaged refl)) (h refl)
 denied_of fault told.Store A damaged nothing h = denies_any fault A (nothing (λ e. absurd (cc)))
 denied_of fault told.Memory A damaged nothing h = denies_any fault A (nothing (λ e. absurd (cc)))
 
@@ -61,7 +61,7 @@ blames_more Store of A B db back h = tt
 blames_more Memory of A B db back h = tt
 
 -- of tables of this version
-pub blamed : (fault : OpenFault) (of : ℕ) (A : Type 0) (db : Trees) → HasVersion of db → Denies fault A
+pub blamed : (fault : OpenFault) (of : ℕ) (A : Type 0) (db : Trees) → HasVersion of db → SaysNot fault A
     → RefusalSays fault of A db
 blamed NotPortal of A db of_version h = absurd h
 blamed OtherVersion of A db of_version h = absurd h
@@ -118,7 +118,8 @@ office_refuted of A db shown (Err Memory) h none there other judged = tt
 
 -- a table of which a query shows whether there is a row
 
-pub found_none : (q : Query) (db : Trees) (found : Bool) → (selection q).passes ≡ every → FindsAny (Shows q db) found
+pub found_none : (q : Query) (db : Trees) (found : Bool) → (selection q).passes ≡ every
+    → FindsAny (QueryShows q db) found
     → found ≡ false → db (selection q).tree ≡ []
 found_none q db found all h none =
     let s = selection q in
@@ -128,7 +129,8 @@ found_none q db found all h none =
     empty_if [] e = refl
     empty_if (r ∷ rs) e = absurd (cc)
 
-pub found_some : (q : Query) (db : Trees) (found : Bool) → (selection q).passes ≡ every → FindsAny (Shows q db) found
+pub found_some : (q : Query) (db : Trees) (found : Bool) → (selection q).passes ≡ every
+    → FindsAny (QueryShows q db) found
     → found ≡ true → db (selection q).tree ≡ [] → ⊥
 found_some q db found all h some none =
     let s = selection q in
@@ -220,7 +222,7 @@ version_still of a b same h = record {
 
 -- what a read tells of the tables that a look before it found
 pub told_before : {V E : Type 0} {Right : Database → Type 0} {Told : Database → Result V E → Type 0} (r : Result V E) (a b c : State) (P : Database → Type 0)
-    → IsSettled a → OnlyLooks a b
+    → IsCommitted a → OnlyLooks a b
     → Reading First Anyhow Right Told r b c → HasCleanDisk c → HasFirstSchema a.now.schema → (IsTrue a.is_open → Right a.now) → ((v : V) → Told a.now (Ok v) → P a.now) → OnOk r (P a.now)
 told_before {Right = Right} {Told = Told} (Ok v) a b c P settled looks reads clean first right told =
     let stays = looks.stays settled (clean_before b c _ reads.crash clean) (reads.same clean tt).0.was_open in

@@ -70,16 +70,16 @@ pub use Rattle.portal_store.specs.World.{ranking_in, choice_in, placement_in_rou
 pub use Rattle.portal_store.specs.declared.add_rows.NewRows.{NewRows}
 pub use Rattle.portal_store.specs.declared.store.OpenFault.{OpenFault}
 pub use Rattle.portal_store.specs.inner.Adding.{with_rows_added}
-pub use Rattle.portal_store.specs.inner.Asked.{Admits, AdmitsAs, Denies, NumbersDiffer, SaysNothing, IsJudged}
+pub use Rattle.portal_store.specs.inner.Asked.{Admits, AdmitsAs, SaysNot, NumbersDiffer, SaysNothing, IsJudged}
 pub use Rattle.portal_store.specs.inner.Ending.{CommitsChange, LeavesMade}
 pub use Rattle.portal_store.specs.inner.Keeping.{AreEntries, HasChangedIn, IsKept, IsTransitionFrom, IsTransitionIn}
 pub use Rattle.portal_store.specs.inner.Keeping.{early_trees, HasChangedFrom}
-pub use Rattle.portal_store.specs.inner.Loads.{LoadsIn, Loads, after_first, joined, HasNothingBefore}
+pub use Rattle.portal_store.specs.inner.Loads.{LoadsIn, Loads, after_first, rows_with_earlier, HasNothingBefore}
 pub use Rattle.portal_store.specs.inner.Opening.{OpensSecondRound, is_opening}
 pub use Rattle.portal_store.specs.inner.Placing.{ShowsRoll, TurnsLeft, TurnsShown, assigned_of, pair_left}
 pub use Rattle.portal_store.specs.inner.Putting.{TurnsAll, TurnsThere, with_rankings}
 pub use Rattle.portal_store.specs.inner.Queried.{lecturer_from, student_from}
-pub use Rattle.portal_store.specs.inner.Reading.{IsNow, IsToldAs, KeepsEntries, IsSoundIfOpen, RemembersIn}
+pub use Rattle.portal_store.specs.inner.Reading.{IsNow, IsSameUpToFault, KeepsEntries, IsSoundIfOpen, RemembersIn}
 pub use Rattle.portal_tables.proofs.Asking.{commits_asked, commits_none}
 pub use Rattle.portal_tables.proofs.InTurn.{both, clean_before, if_answered, looks_by, looks_never, looks_then}
 pub use Rattle.portal_tables.proofs.InTurn.{settled_still, stays_left, stays_then, reads_as, reads_both, reads_handed}
@@ -104,7 +104,8 @@ pub use Rattle.portal_tables.specs.Making.{is_named_view}
 pub use Rattle.portal_tables.specs.Rows.{IsWhole, chosen, list_in_order, of_key, HasOffice, number_of_phase}
 pub use Rattle.portal_tables.specs.Rows.{RowNumbersDiffer, has_text, portal_row, row_key, second_row, text_or_none}
 pub use Rattle.portal_tables.specs.Rows.{phase_numbered}
-pub use Rattle.portal_tables.specs.Steps.{Anyhow, Reading, Commits, IsAfter, IsSettled, IsUnchangedOrUndone, OnlyLooks}
+pub use Rattle.portal_tables.specs.Steps.{Anyhow, Reading, Commits, IsAfter, IsCommitted, IsUnchangedOrUndone}
+pub use Rattle.portal_tables.specs.Steps.{OnlyLooks}
 pub use Rattle.portal_tables.specs.Steps.{Stays, LeavesOnly, Reads}
 pub use Rattle.portal_tables.specs.Tables.{tree_of, assigned2_tree, choice2_tree, choice_tree, first_trees}
 pub use Rattle.portal_tables.specs.Tables.{first_version, lecturer_tree, own_trees, portal_tree, project_tree}
@@ -117,22 +118,23 @@ pub use Rattle.portal_tables.specs.declared.office.Office.{Office}
 pub use Rattle.portal_tables.specs.inner.Changes.{Keeps, ListsBy, columns, every, with_rows, Becomes, InsertsRows}
 pub use Rattle.portal_tables.specs.inner.Changes.{AreNew, Sets}
 pub use Rattle.portal_tables.specs.inner.Owners.{choice_shown, has_list, IsFine, entry, IsRead}
-pub use Rattle.portal_tables.specs.inner.Placements.{pair_shown, HasPlacement, first_pairs, pair_told}
+pub use Rattle.portal_tables.specs.inner.Placements.{pair_shown, HasPlacement, first_pairs, first_pair}
 pub use Rattle.portal_tables.specs.inner.Putting.{HasPut, PutsList, RanksSecond, HasPlacements, PutsPlacements}
 pub use Rattle.portal_tables.specs.inner.Putting.{HasRanked}
-pub use Rattle.portal_tables.specs.inner.Reads.{Answers}
+pub use Rattle.portal_tables.specs.inner.Reads.{GivesOrFails}
 pub use Rattle.portal_tables.specs.inner.Rolls.{RollsRise, by_key, lecturer_columns, lecturers_shown, projects_shown}
 pub use Rattle.portal_tables.specs.inner.Rolls.{roll_columns, students_shown}
 pub use Rattle.portal_tables.specs.inner.RowChanges.{Assigns, MovesSecond, MovesTo, pair_new, assigned_by}
-pub use Rattle.portal_tables.specs.inner.RowChanges.{with_assigned, student_columns, text_cell, Adds, lecturer_new}
+pub use Rattle.portal_tables.specs.inner.RowChanges.{with_assigned, student_columns, text_or_null_cell, Adds}
+pub use Rattle.portal_tables.specs.inner.RowChanges.{lecturer_new}
 pub use Rattle.portal_tables.specs.inner.RowChanges.{project_new, student_new, lecturer_cells}
 pub use Rattle.portal_tables.specs.inner.Running.{Does, GoesOn, Made}
 pub use Rattle.portal_tables.specs.inner.Shown.{first_cell, shown_lecturer, shown_project, shown_student, as_list}
 pub use Rattle.portal_tables.specs.inner.Shown.{lecturer_row, project_row, student_row}
 pub use Rattle.portal_views.proofs.Turns.{reads_any, reads_first}
 pub use Rattle.portal_views.specs.inner.Callers.{lecturer_shown, student_shown, person_key, lines_shown, persons_at}
-pub use Rattle.portal_views.specs.inner.Callers.{persons_before, placed_among, placed_at_shown, applicants_told}
-pub use Rattle.portal_views.specs.inner.Callers.{placed_told, own_keys_shown}
+pub use Rattle.portal_views.specs.inner.Callers.{persons_before, placed_among, placed_at_shown, applicants_of_projects}
+pub use Rattle.portal_views.specs.inner.Callers.{placed_of_projects, own_keys_shown}
 pub use Rattle.portal_views.specs.inner.Catalogue.{catalogue_shown, IsCatalogue}
 pub use Rattle.portal_views.specs.inner.Contents.{AllRows, AreFine, AreRead, HasRead, rows_from, rows_held}
 pub use Rattle.portal_views.specs.inner.Lines.{HasTables, shown_line, applicant_lines}

@@ -2,10 +2,10 @@
 use Rattle.portal_store.proofs.Base.{◌≡◌, ◌≢◌, ◌↔◌, ◌∙◌, Bool, IsTrue, false, refl, sym, subst, Trees, Database}
 use Rattle.portal_store.proofs.Base.{HasCleanDisk, IsUnchanged, IsLive, Survives, Ghosts, Held, state, Key, is_code}
 use Rattle.portal_store.proofs.Base.{Good, HasFirstSchema, IsCurrentSchema, IsFirstSchema, first_version, no_schema}
-use Rattle.portal_store.proofs.Base.{version, Creates, IsFresh, has_names, Commits, IsAfter, LeavesOnly, IsSettled}
+use Rattle.portal_store.proofs.Base.{version, Creates, IsFresh, has_names, Commits, IsAfter, LeavesOnly, IsCommitted}
 use Rattle.portal_store.proofs.Base.{OnlyLooks, HasGoodFirst, HasGoodWorld, IsCleanStore, Seen, world_of, OpenFault}
 use Rattle.portal_store.proofs.Base.{HasVersion, IsUpgradedFrom, LeavesUpgraded, RefusalSays, Refutes, IsKept, Admits}
-use Rattle.portal_store.proofs.Base.{survives_weaker, Ok, Second, Reads, Answers, HasEntries, IsSoundIfOpen}
+use Rattle.portal_store.proofs.Base.{survives_weaker, Ok, Second, Reads, GivesOrFails, HasEntries, IsSoundIfOpen}
 use Rattle.portal_list.specs.inner.Rows.{AllEntries}
 use Rattle.portal_tables.proofs.Runs.{survives_same}
 use Rattle.portal_tables.specs.declared.names.Names.TheVariants.{All}
@@ -17,7 +17,7 @@ use Rattle.portal_store.specs.declared.store.CreateFault.TheVariants as creating
 use Rattle.portal_store.specs.declared.store.OpenFault.TheVariants as opening
 use Rattle.portal_store.specs.declared.store.UpgradeFault.{UpgradeFault}
 use Rattle.portal_store.specs.declared.store.UpgradeFault.TheVariants as upgrading
-use Rattle.portal_store.specs.inner.Upgrading.{UpgradesTables}
+use Rattle.portal_store.specs.inner.Upgrading.{UpgradesWithEntries}
 use Rattle.portal_store.proofs.Asked.{opened_kept}
 use Rattle.portal_store.proofs.First.{first_is, first_is_good, first_kept}
 use Rattle.portal_store.proofs.Keeps.{not_both, rests_by}
@@ -33,7 +33,7 @@ module _ {S : Type 0} (g : Ghosts S) (After : Trees → Type 0) where
     crash = survives_weaker (state g conn) (state g conn) _ After (λ clean db no. absurd no) (survives_same (state g conn));
   }
 
-  pub looked_at : (old new : Held S) → IsSettled (state g old) → old.in_transaction ≡ false
+  pub looked_at : (old new : Held S) → IsCommitted (state g old) → old.in_transaction ≡ false
       → OnlyLooks (state g old) (state g new)
       → HandsBack g After old new
   looked_at old new settled idle looks = record {
@@ -85,13 +85,13 @@ module _
   -- of tables that were looked at, and admitted with these entries
   module _
       (is_own : IsTrue own ↔ IsCurrentSchema old.schema)
-      (rest : IsSettled (state g old))
+      (rest : IsCommitted (state g old))
       (live : IsLive (state g old))
       (idle : old.in_transaction ≡ false)
       (looks : OnlyLooks (state g old) (state g new))
       (entries : AllEntries)
       (reads : IsTrue own → Reads Second g (IsSoundIfOpen g old)
-      (Answers (λ db e. Admits db.trees × HasEntries e (world_of db.trees)) (λ db (fault : OpenFault). Refutes fault db.trees))
+      (GivesOrFails (λ db e. Admits db.trees × HasEntries e (world_of db.trees)) (λ db (fault : OpenFault). Refutes fault db.trees))
       (Ok entries) old new) where
     found : IsTrue own → HasCleanDisk (state g new)
         → IsUnchanged (state g old) (state g new) × Admits (state g old).now.trees
@@ -125,7 +125,8 @@ module _
     }
 
   -- of tables that were upgraded
-  pub upgraded : (entries : AllEntries) → (IsTrue own ↔ IsFirstSchema old.schema) → UpgradesTables g entries old new
+  pub upgraded : (entries : AllEntries) → (IsTrue own ↔ IsFirstSchema old.schema)
+      → UpgradesWithEntries g entries old new
       → UpgradesStore g old made
   upgraded entries is_first up = record {
     makes = makes_by _ _ is_first (upgraded_kept g own entries old new is_first.0 up shut)

@@ -6,7 +6,7 @@ use Rattle.portal_store.proofs.Base.{has, World, Lecturer, Student, lecturer_key
 use Rattle.portal_store.proofs.Base.{first_plays, student_tree, columns, by_key, AllRows, world_in, student_stored}
 use Rattle.portal_store.proofs.Base.{nat_lt, ◌-◌, or_parts, given_with, lowered_lecturer, lowered_project}
 use Rattle.portal_store.proofs.Base.{lecturers_left, projects_left, name_in, listing_with, listings, offered}
-use Rattle.portal_store.proofs.Base.{first_pairs, pair_told, catalogue_shown}
+use Rattle.portal_store.proofs.Base.{first_pairs, first_pair, catalogue_shown}
 use Rattle.portal_rules.specs.inner.Room.{lecturer_left, project_left}
 use Rattle.portal_rules.proofs.Rooms.{project_left_is, lecturer_left_is, each_left}
 use Rattle.portal_list.proofs.Listings.{row_of, offered_rows}
@@ -66,7 +66,7 @@ module _ (ls : List Lecturer) (ps : List ProjectRow) (ss : List Student) where
 pairs_told : (db : Trees) → first_pairs db ≡ pairs_with (λ s. s.earlier_placement) (world_in Second db).students
 unfolding world_in
 pairs_told db =
-    found_alike pair_told (λ (s : Student). option_map (λ p. (s.row.key, p)) s.earlier_placement) (columns (1 ∷ 4 ∷ [])) (student_stored Second db) (by_key (db student_tree)) _ _ refl (students_by_key Second db) (λ r. refl)
+    found_alike first_pair (λ (s : Student). option_map (λ p. (s.row.key, p)) s.earlier_placement) (columns (1 ∷ 4 ∷ [])) (student_stored Second db) (by_key (db student_tree)) _ _ refl (students_by_key Second db) (λ r. refl)
 
 left_told : (db : Trees) → catalogue_shown Second db ≡ catalogue (world_in Second db)
 unfolding world_in

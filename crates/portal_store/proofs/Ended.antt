@@ -3,8 +3,8 @@ use Rattle.portal_store.proofs.Base.{◌∙◌, ◌≡◌, Anyhow, Commits, Comm
 use Rattle.portal_store.proofs.Base.{IsCurrentSchema, IsErr, IsTrue, IsUnchanged, IsUnchangedOrUndone, Ok, OnErr, OnOk}
 use Rattle.portal_store.proofs.Base.{Reading, Result, Round, State, Stays, Survives, Trees, ap, clean_before}
 use Rattle.portal_store.proofs.Base.{commits_asked, false, inl, on_err_weaker, on_ok_weaker, stays_left, subst}
-use Rattle.portal_store.proofs.Base.{survives_then, survives_weaker, sym, LeavesOnly, IsSettled, commits_none}
-use Rattle.portal_store.proofs.Base.{LeavesMade, IsToldAs, IfOk}
+use Rattle.portal_store.proofs.Base.{survives_then, survives_weaker, sym, LeavesOnly, IsCommitted, commits_none}
+use Rattle.portal_store.proofs.Base.{LeavesMade, IsSameUpToFault, IfOk}
 
 -- the tables are read, and then the change is made, or not
 pub ends_then : {round : Round} {Right : Database → Type 0} {U F V E : Type 0} {Told : Database → Result U F → Type 0} {C D : Database → Database → Type 0} {u : U} {r : Result V E} {old mid new : State}
@@ -78,7 +78,7 @@ module _
 
 -- the tables are read, and that or what comes of it is refused
 pub ends_refused : {round : Round} {Right : Database → Type 0} {U F V E : Type 0} {Told : Database → Result U F → Type 0} {D : Database → Database → Type 0} {x : Result U F} {r : Result V E} {old new : State}
-    → IsErr r → IsSettled old → Reading round Anyhow Right Told x old new → CommitsChange D r old new
+    → IsErr r → IsCommitted old → Reading round Anyhow Right Told x old new → CommitsChange D r old new
 ends_refused {r = Ok v} is settled reads = absurd (cc)
 ends_refused {U = U} {F} {x = x} {r = Err e} {old} {new} is settled reads = record {
   ok = λ own clean. tt;
@@ -95,7 +95,7 @@ ends_refused {U = U} {F} {x = x} {r = Err e} {old} {new} is settled reads = reco
 
 -- the tables are read, and there is nothing to do: what is open leaves what is committed alone
 pub ends_none : {round : Round} {Right : Database → Type 0} {U F V E : Type 0} {Told : Database → Result U F → Type 0} {D : Database → Database → Type 0} {u : U} {v : V} {old new : State}
-    → IsSettled old → ((db : Trees) → IsTrue new.is_open → new.may_leave db → db ≡ new.committed.trees)
+    → IsCommitted old → ((db : Trees) → IsTrue new.is_open → new.may_leave db → db ≡ new.committed.trees)
     → Reading round Anyhow Right Told (Ok u) old new → (IsCurrentSchema old.now.schema → HasCleanDisk new → D old.now old.now) → CommitsChange {V = V} {E = E} D (Ok v) old new
 ends_none {D = D} {old = old} {new} settled law reads done = record {
   ok = λ own clean. commits_none old new D settled (reads.same clean tt) (done own clean);
@@ -109,13 +109,14 @@ ends_none {D = D} {old = old} {new} settled law reads done = record {
 
 -- the same, with another fault for a fault
 pub ends_told : {V E F : Type 0} {D : Database → Database → Type 0} {x : Result V E} {r : Result V F} {old new : State}
-    → IsToldAs x r → CommitsChange D x old new → CommitsChange D r old new
+    → IsSameUpToFault x r → CommitsChange D x old new → CommitsChange D r old new
 ends_told {D = D} {x = Ok v} {old = old} {new} is h = subst (λ r. CommitsChange D r old new) (sym is) (record { ok = h.ok; err = h.err; mode = h.mode; durable = h.durable; crash = h.crash })
 ends_told {x = Err e} {r = Ok v} is h = absurd is
 ends_told {x = Err e} {r = Err f} is h = record { ok = λ own clean. tt; err = h.err; mode = h.mode; durable = λ own clean. tt; crash = h.crash }
 
 -- what is said of an answer
-pub told_if : {V E F : Type 0} (P : V → Type 0) (x : Result V E) (r : Result V F) → IsToldAs x r → IfOk x P → IfOk r P
+pub told_if : {V E F : Type 0} (P : V → Type 0) (x : Result V E) (r : Result V F) → IsSameUpToFault x r → IfOk x P
+    → IfOk r P
 told_if P (Ok v) r is h = subst (λ r. IfOk r P) (sym is) h
 told_if P (Err e) (Ok v) is h = absurd is
 told_if P (Err e) (Err f) is h = tt

@@ -8,7 +8,7 @@ use Rattle.portal_store.proofs.Base.{project_row, IsConsistent, IsConsistentIn, 
 use Rattle.portal_store.proofs.Base.{no_schema, Creates, own_made, first_world, HasCleanDisk, LeavesOnly}
 use Rattle.portal_tables.proofs.Fresh.{fresh_apart}
 use Rattle.portal_list.proofs.Fresh.{fresh_good}
-use Rattle.portal_store.proofs.FirstRows.{lecturer_of, student_of}
+use Rattle.portal_store.proofs.FirstRows.{lecturer_of_cells, student_of}
 use Rattle.portal_store.proofs.Rounds.{world_told}
 
 none : (P : Row → Type 0) (rows : List Row) → rows ≡ [] → AllByRecursion P rows
@@ -47,7 +47,7 @@ module _ (office : Key) (db : Database) (f : IsFresh office db) where
     round = First;
     phase = phase_numbered (number_in (column (slice_index_or (f.row i) 0 []) 3));
     office = bytes (column (slice_index_or (f.row i) 0 []) 4);
-    lecturers = put_all lecturer_key (map (lecturer_of (db.trees 12)) (firsts.0 i)) [];
+    lecturers = put_all lecturer_key (map (lecturer_of_cells (db.trees 12)) (firsts.0 i)) [];
     projects = put_all project_key (map project_row (firsts.1.0 i)) [];
     students = put_all student_key (map (student_of (db.trees 9)) (firsts.1.1.0 i)) [];
   }

@@ -5,7 +5,7 @@ use Rattle.portal_store.proofs.Base.{IsUnchanged, Survives, Trees, Ghosts, Held,
 use Rattle.portal_store.proofs.Base.{Good, Sound, IsCurrentSchema, clean_if_open, looks_by, Reading, Anyhow, Commits}
 use Rattle.portal_store.proofs.Base.{Stays, IsAfter, world_of, IsConsistent, HasChanged, IsTransition, Seen}
 use Rattle.portal_store.proofs.Base.{IsCleanStore, kept_world, kept_state, IsKept, CommitsChange, DiskInMemory}
-use Rattle.portal_store.proofs.Base.{KeepsClean, Lasts, LastsInMemory, IsLeft, IsToldAs, ◌⊎◌, IsBrokenStore}
+use Rattle.portal_store.proofs.Base.{KeepsClean, Lasts, LastsInMemory, IsLeft, IsSameUpToFault, ◌⊎◌, IsBrokenStore}
 use Rattle.portal_store.proofs.Base.{UnbrokenInMemory, AreConsistent, LeavesMade}
 use Rattle.std.specs.Prelude.{◌≤◌}
 use Rattle.portal_rules.specs.Keeping.{IsAlive, IsSettled, Uses}
@@ -235,7 +235,7 @@ pub record ReadBy {S V E : Type 0} (g : Ghosts S) (old new : Held S) (own : Bool
       → IsCleanStore g (record { conn = new; own = own; faults = few }) → Told (state g old).now x
   pub call : (many : ℕ)
       → ((db : Trees) → IsTrue (state g new).is_open → (state g new).may_leave db → db ≡ (state g new).committed.trees)
-      → (r : Result V KeepFault) → IsToldAs x r
+      → (r : Result V KeepFault) → IsSameUpToFault x r
       → Call g r (λ s w. ⊥) (record { conn = new; own = own; faults = many }) before
 
 module _

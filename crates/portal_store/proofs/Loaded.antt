@@ -13,7 +13,7 @@ use Rattle.portal_store.proofs.Base.{roll_columns, row_key, rows_from, second_ro
 use Rattle.portal_store.proofs.Base.{shown_project, shown_student, slice_index_or, student_key, student_stored}
 use Rattle.portal_store.proofs.Base.{student_tree, students_shown, subst, sym, tree_of, true, version, world_in}
 use Rattle.portal_store.proofs.Base.{world_rows, ℕ, alone_lecturer, choices_in, rankings_with, second_phase, Loads}
-use Rattle.portal_store.proofs.Base.{after_first, joined, entry, IsRead, HasNothingBefore}
+use Rattle.portal_store.proofs.Base.{after_first, rows_with_earlier, entry, IsRead, HasNothingBefore}
 use Rattle.portal_store.proofs.Rounds.{phase_back}
 use Rattle.portal_store.proofs.RowsOnce.{nothing_before}
 
@@ -179,7 +179,7 @@ module _ (db : Trees) where
 
   pub rows_are : (of : ℕ) (phase : Phase) (code : Key)
       → db portal_tree ≡ portal_row (pos of) (pos (number_of_phase phase)) code ∷ []
-      → joined First phase code (rows_from First db (lecturers_shown db) (projects_shown db) (students_shown db)) [] [] [] ≡ world_rows (world_in First db)
+      → rows_with_earlier First phase code (rows_from First db (lecturers_shown db) (projects_shown db) (students_shown db)) [] [] [] ≡ world_rows (world_in First db)
   unfolding world_in
   rows_are of phase code office =
       let phase_is : phase ≡ phase_numbered (number_in (column (slice_index_or (db portal_tree) 0 []) 3)) = sym (ap (λ rows. phase_numbered (number_in (column (slice_index_or rows 0 []) 3))) office ∙ phase_back phase) in
@@ -188,15 +188,15 @@ module _ (db : Trees) where
       ap (filter_map earlier_entry) (lecturers_by_key First db) ∙ some_mapped earlier_entry (lecturer_stored First db) by_lecturer ∙ none_some (λ r. earlier_entry (lecturer_stored First db r)) by_lecturer (λ r. refl) in
       let earlier_pairs : filter_map earlier_pair (put_all student_key (map (student_stored First db) (db student_tree)) []) ≡ [] =
       ap (filter_map earlier_pair) (students_by_key First db) ∙ some_mapped earlier_pair (student_stored First db) by_student ∙ none_some (λ r. earlier_pair (student_stored First db r)) by_student (λ r. refl) in
-      λ i. joined First (phase_is i) (code_is i) (round_rows First db i) [] (sym earlier_rankings i) (sym earlier_pairs i)
+      λ i. rows_with_earlier First (phase_is i) (code_is i) (round_rows First db i) [] (sym earlier_rankings i) (sym earlier_pairs i)
 
   pub loads : (of : ℕ) (phase : Phase) (code : Key)
       → db portal_tree ≡ portal_row (pos of) (pos (number_of_phase phase)) code ∷ [] → (rows : AllRows)
-      → HasRead First rows db → Loads of First db (joined First phase code rows [] [] [])
+      → HasRead First rows db → Loads of First db (rows_with_earlier First phase code rows [] [] [])
   loads of phase code office rows read = record {
     office = record { phase = phase; office = code; is = office };
     whole = whole_is First db read.1;
-    rows_are = ap (λ (all : AllRows). joined First phase code all [] [] []) read.0 ∙ rows_are of phase code office;
+    rows_are = ap (λ (all : AllRows). rows_with_earlier First phase code all [] [] []) read.0 ∙ rows_are of phase code office;
   }
 
   -- after the rows of the first round, those of the second
@@ -209,7 +209,7 @@ module _ (db : Trees) where
       let choices = ap (λ (r : RowsOfWorld). r.choices) is ∙ each_alike chosen_pair earlier_choice_pair (student_stored First db) (student_stored Second db) by_student _ _ (students_by_key First db) (students_by_key Second db) (λ r. refl) in
       let rankings = ap (λ (r : RowsOfWorld). r.rankings) is ∙ found_alike ranking_entry earlier_entry (lecturer_stored First db) (lecturer_stored Second db) by_lecturer _ _ (lecturers_by_key First db) (lecturers_by_key Second db) (λ r. refl) in
       let pairs = ap (λ (r : RowsOfWorld). r.pairs) is ∙ found_alike placed_pair earlier_pair (student_stored First db) (student_stored Second db) by_student _ _ (students_by_key First db) (students_by_key Second db) (λ r. refl) in
-      λ i. joined Second (phase_is i) (is i).office (round_rows Second db i) (choices i) (rankings i) (pairs i)
+      λ i. rows_with_earlier Second (phase_is i) (is i).office (round_rows Second db i) (choices i) (rankings i) (pairs i)
 
   pub loads_after : (first : RowsOfWorld) (phase : Phase) → Loads version First db first
       → db second_tree ≡ second_row (pos (number_of_phase phase)) ∷ [] → (rows : AllRows) → HasRead Second rows db

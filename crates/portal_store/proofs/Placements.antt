@@ -9,13 +9,13 @@ use Rattle.portal_store.proofs.Base.{MovesTo, Assigns, IsConsistentIn, of_key, I
 use Rattle.portal_store.proofs.Base.{assigned_of, ShowsRoll, TurnsShown, filter_all, all_permuted, put_same}
 use Rattle.portal_store.proofs.Base.{put_all_map, map_twice, map_alike, map_alike_on, at, IsStudentRow}
 use Rattle.portal_store.proofs.Base.{student_rows_formed, goes_then, assigned_by, with_assigned, student_columns}
-use Rattle.portal_store.proofs.Base.{text_cell, all_has, has_of, student_test}
+use Rattle.portal_store.proofs.Base.{text_or_null_cell, all_has, has_of, student_test}
 use Rattle.sqlite.specs.declared.types.Value.{Value}
 use Rattle.portal_store.proofs.Still.{holds_after, world_after}
 use Rattle.portal_store.proofs.FirstRows.{student_of}
 use Rattle.portal_store.proofs.Holding.{phase_turned}
 
-text_back : (o : Option Key) → text_or_none (text_cell o) ≡ o
+text_back : (o : Option Key) → text_or_none (text_or_null_cell o) ≡ o
 text_back None = refl
 text_back (Some t) = refl
 
@@ -25,19 +25,19 @@ module _ (pairs : List (Key × Key)) (r : Row) (f : IsStudentRow r) where
   place = placement_in pairs (row_key r)
 
   abbrev put : Row → Value → Value
-  put x v = cond (has_text 1 (first_cell x) r) (text_cell (placement_in pairs (first_cell x))) v
+  put x v = cond (has_text 1 (first_cell x) r) (text_or_null_cell (placement_in pairs (first_cell x))) v
 
   own_put : (x : Row) (v : Value) → has_text 1 (first_cell x) r ≡ true → text_or_none (put x v) ≡ place
   own_put x v hit =
       let key : row_key r ≡ first_cell x = is_same (row_key r) (first_cell x) (sym (student_test (first_cell x) r f) ∙ hit) in
-      ap (λ b. text_or_none (cond b (text_cell (placement_in pairs (first_cell x))) v)) hit ∙ text_back (placement_in pairs (first_cell x)) ∙ sym (ap (placement_in pairs) key)
+      ap (λ b. text_or_none (cond b (text_or_null_cell (placement_in pairs (first_cell x))) v)) hit ∙ text_back (placement_in pairs (first_cell x)) ∙ sym (ap (placement_in pairs) key)
 
   stays_put : (shown : List Row) (v : Value) → text_or_none v ≡ place
       → text_or_none (assigned_by (map (assigned_of pairs) shown) (column r 1) v) ≡ place
   stays_put [] v equals = equals
   stays_put (x ∷ shown) v equals = stays_put shown (put x v) (elim (cases_Bool (has_text 1 (first_cell x) r)) [
     | inl hit ↦ own_put x v hit
-    | inr other ↦ ap (λ b. text_or_none (cond b (text_cell (placement_in pairs (first_cell x))) v)) other ∙ equals
+    | inr other ↦ ap (λ b. text_or_none (cond b (text_or_null_cell (placement_in pairs (first_cell x))) v)) other ∙ equals
   ])
 
   assigned_is : (shown : List Row) → has (map first_cell shown) (row_key r) ≡ true → (v : Value)

@@ -14,7 +14,7 @@ use Rattle.portal_store.proofs.Base.{lecturer_rows_formed, has_text_of, ℤ, Set
 use Rattle.portal_store.proofs.Base.{filter_none, not_true, sifted}
 use Rattle.portal_tables.specs.inner.RowChanges as rows
 use Rattle.portal_store.proofs.Still.{but_two, two_changed, world_same, whole_same, kept_at, apart_kept, second_kept}
-use Rattle.portal_store.proofs.FirstRows.{lecturer_of, has_ranking}
+use Rattle.portal_store.proofs.FirstRows.{lecturer_of_cells, has_ranking}
 use Rattle.portal_store.proofs.ChoiceTurns.{chosen_is, whole_at}
 
 -- whether the row of a lecturer has the key
@@ -96,39 +96,39 @@ module _ (k : Key) (list : List Key) (first mid now : Database) (put : HasPut ra
       subst (λ l. IsPermutation (after ∷ l) (now.trees 1)) from (subst (IsPermutation (after ∷ (split.0 ++ split.1))) (sym (set.rows ∙ split.3)) (IsPermutation-sym _ _ back))
 
   other_row : (r : Row) → equals (row_key r) k ≡ false
-      → lecturer_of (mid.trees 12) r ≡ with_ranking k list (lecturer_of (first.trees 12) r)
+      → lecturer_of_cells (mid.trees 12) r ≡ with_ranking k list (lecturer_of_cells (first.trees 12) r)
   other_row r other =
       let same : chosen (mid.trees 12) (row_key r) ≡ chosen (first.trees 12) (row_key r) =
       chosen_is ranking_tree k list first mid put (row_key r) ∙ rw other refl in
-      (λ i. record { row = lecturer_row r; ranking = cond (has_ranking r) (Some (same i)) None; earlier_ranking = None }) ∙ sym (ranking_elsewhere k list (lecturer_of (first.trees 12) r) other)
+      (λ i. record { row = lecturer_row r; ranking = cond (has_ranking r) (Some (same i)) None; earlier_ranking = None }) ∙ sym (ranking_elsewhere k list (lecturer_of_cells (first.trees 12) r) other)
 
-  this_row : lecturer_of (mid.trees 12) after ≡ with_ranking k list (lecturer_of (first.trees 12) before)
+  this_row : lecturer_of_cells (mid.trees 12) after ≡ with_ranking k list (lecturer_of_cells (first.trees 12) before)
   this_row =
       let same : chosen (mid.trees 12) k ≡ list = chosen_is ranking_tree k list first mid put k ∙ rw (is_own k) refl in
-      (λ i. record { row = lecturer_row before; ranking = Some (same i); earlier_ranking = None }) ∙ ranking_here k list (lecturer_of (first.trees 12) before) (is_own k)
+      (λ i. record { row = lecturer_row before; ranking = Some (same i); earlier_ranking = None }) ∙ ranking_here k list (lecturer_of_cells (first.trees 12) before) (is_own k)
 
   apart_rest : AllByRecursion (λ r. equals (row_key r) k ≡ false) rest
   apart_rest = others_apart k (first.trees 1) formed
 
-  all_rows : map (lecturer_of (mid.trees 12)) (after ∷ rest) ≡ map (with_ranking k list) (map (lecturer_of (first.trees 12)) (before ∷ rest))
+  all_rows : map (lecturer_of_cells (mid.trees 12)) (after ∷ rest) ≡ map (with_ranking k list) (map (lecturer_of_cells (first.trees 12)) (before ∷ rest))
   all_rows =
-      let others : map (lecturer_of (mid.trees 12)) rest ≡ map (with_ranking k list) (map (lecturer_of (first.trees 12)) rest) =
-      all_map_on (λ r. equals (row_key r) k ≡ false) _ _ rest apart_rest other_row ∙ map_twice (with_ranking k list) (lecturer_of (first.trees 12)) rest in
+      let others : map (lecturer_of_cells (mid.trees 12)) rest ≡ map (with_ranking k list) (map (lecturer_of_cells (first.trees 12)) rest) =
+      all_map_on (λ r. equals (row_key r) k ≡ false) _ _ rest apart_rest other_row ∙ map_twice (with_ranking k list) (lecturer_of_cells (first.trees 12)) rest in
       λ i. this_row i ∷ others i
 
-  roll_is : Rise (map lecturer_key (put_all lecturer_key (map (lecturer_of (first.trees 12)) (first.trees 1)) []))
-      → put_all lecturer_key (map (lecturer_of (mid.trees 12)) (now.trees 1)) [] ≡ map (with_ranking k list) (put_all lecturer_key (map (lecturer_of (first.trees 12)) (first.trees 1)) [])
+  roll_is : Rise (map lecturer_key (put_all lecturer_key (map (lecturer_of_cells (first.trees 12)) (first.trees 1)) []))
+      → put_all lecturer_key (map (lecturer_of_cells (mid.trees 12)) (now.trees 1)) [] ≡ map (with_ranking k list) (put_all lecturer_key (map (lecturer_of_cells (first.trees 12)) (first.trees 1)) [])
   roll_is up =
-      let show : Row → Lecturer = lecturer_of (first.trees 12) in
+      let show : Row → Lecturer = lecturer_of_cells (first.trees 12) in
       let turn : Lecturer → Lecturer = with_ranking k list in
       let olds = put_all lecturer_key (map show (first.trees 1)) [] in
       let front : put_all lecturer_key (map show (before ∷ rest)) [] ≡ olds =
       put_same lecturer_key (map show (first.trees 1)) (map show (before ∷ rest)) (IsPermutation-map show _ _ old_rows) up in
-      let turned : put_all lecturer_key (map (lecturer_of (mid.trees 12)) (after ∷ rest)) [] ≡ map turn olds =
+      let turned : put_all lecturer_key (map (lecturer_of_cells (mid.trees 12)) (after ∷ rest)) [] ≡ map turn olds =
       ap (λ l. put_all lecturer_key l []) all_rows ∙ put_all_map lecturer_key lecturer_key turn (same_key k list) (map show (before ∷ rest)) [] ∙ ap (map turn) front in
-      let still : Rise (map lecturer_key (put_all lecturer_key (map (lecturer_of (mid.trees 12)) (after ∷ rest)) [])) =
+      let still : Rise (map lecturer_key (put_all lecturer_key (map (lecturer_of_cells (mid.trees 12)) (after ∷ rest)) [])) =
       subst Rise (sym (ap (map lecturer_key) turned ∙ map_same lecturer_key turn (same_key k list) olds)) up in
-      put_same lecturer_key (map (lecturer_of (mid.trees 12)) (after ∷ rest)) (map (lecturer_of (mid.trees 12)) (now.trees 1)) (IsPermutation-map (lecturer_of (mid.trees 12)) _ _ new_rows) still
+      put_same lecturer_key (map (lecturer_of_cells (mid.trees 12)) (after ∷ rest)) (map (lecturer_of_cells (mid.trees 12)) (now.trees 1)) (IsPermutation-map (lecturer_of_cells (mid.trees 12)) _ _ new_rows) still
       ∙ turned
 
   -- the tables at the start, with the new rankings and lecturers
@@ -173,11 +173,11 @@ pub keys_distinct : (db : Database) → Rise (map lecturer_key (world_in First d
     → IsDistinct equals (map row_key (db.trees lecturer_tree))
 unfolding world_in
 keys_distinct db up =
-    subst (IsDistinct equals) (sym (map_twice lecturer_key (lecturer_of (db.trees ranking_tree)) (db.trees lecturer_tree)))
-    (distinct_if_rise lecturer_key (map (lecturer_of (db.trees ranking_tree)) (db.trees lecturer_tree)) up)
+    subst (IsDistinct equals) (sym (map_twice lecturer_key (lecturer_of_cells (db.trees ranking_tree)) (db.trees lecturer_tree)))
+    (distinct_if_rise lecturer_key (map (lecturer_of_cells (db.trees ranking_tree)) (db.trees lecturer_tree)) up)
 
 pub rank_turns : (k : Key) (list : List Key) (first mid now : Database) → PutsList ranking_tree k list first mid
-    → rows.Ranks k mid now
+    → rows.MarksRanked k mid now
     → TurnsThere First k list first now
 rank_turns k list first mid now puts ranks there holds up =
     let put = puts holds.current holds.apart.1.1.1.1.1.0 in
@@ -197,6 +197,6 @@ rank_turns k list first mid now puts ranks there holds up =
     }
 
 pub rank_made : (k : Key) (list : List Key) (old mid new : State) → GoesOn (PutsList ranking_tree k list) old mid
-    → Made (rows.Ranks k) mid new
+    → Made (rows.MarksRanked k) mid new
     → GoesOn (TurnsThere First k list) old new
 rank_made k list old mid new p q = goes_then _ _ _ old mid new p q (rank_turns k list old.now mid.now new.now)

@@ -16,7 +16,7 @@ use Rattle.sqlite_tied.specs.Compute.{everything}
 use Rattle.portal_tables.specs.Tables.{SameSchema}
 use Rattle.portal_tables.specs.declared.names.Names.{Names}
 use Rattle.portal_list.specs.inner.Rows.{AllEntries}
-use Rattle.portal_store.specs.inner.Upgrading.{UpgradesTables}
+use Rattle.portal_store.specs.inner.Upgrading.{UpgradesWithEntries}
 use Rattle.portal_store.proofs.Asked.{apart_all}
 use Rattle.portal_store.proofs.Rounds.{world_told}
 use Rattle.portal_store.proofs.Still.{apart_among, one_among, whole_first, world_first}
@@ -137,7 +137,7 @@ module _
     (entries : AllEntries)
     (old new : Held S)
     (is_first : IsTrue own → IsFirstSchema old.schema)
-    (up : UpgradesTables g entries old new) where
+    (up : UpgradesWithEntries g entries old new) where
   made : (mine : IsTrue own) (clean : HasCleanDisk (state g new))
       → Upgraded (pos (number_of_phase (up.admitted (is_first mine) clean).stands.office.phase))
       (up.admitted (is_first mine) clean).stands.office.office (state g old).now (state g new).now

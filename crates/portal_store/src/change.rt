@@ -26,7 +26,7 @@ use std::alloc::Global;
 
 /// Commits a change of any kind, given the round, or leaves the tables unchanged. `entries` still
 /// match the world before it. `Damaged` means that the rows it read represent no good world.
-fn take_step<S: Alter>(
+fn commit_in_round<S: Alter>(
     alloc: Global,
     conn: &mut Connection<S>,
     entries: &mut Option<Entries>,
@@ -69,7 +69,7 @@ fn take_step<S: Alter>(
 
 /// Reads the round and commits a change of any kind, or leaves the tables unchanged. `entries`
 /// still match the world before it. `Damaged` means that the rows it read represent no good world.
-pub(crate) fn take<S: Alter>(
+pub(crate) fn commit_change<S: Alter>(
     alloc: Global,
     conn: &mut Connection<S>,
     entries: &mut Option<Entries>,
@@ -85,5 +85,5 @@ pub(crate) fn take<S: Alter>(
 {
     settled(conn);
     let round = round_in(alloc, conn)?;
-    take_step(alloc, conn, entries, round, change)
+    commit_in_round(alloc, conn, entries, round, change)
 }

@@ -13,15 +13,15 @@ ghost use Rattle.portal_rules.specs.declared.phase.Round.TheVariants.{First};
 ghost use Rattle.portal_tables.specs.Tables.{HasFirstSchema};
 ghost use Rattle.portal_tables.specs.Rows.{RowNumbersDiffer};
 ghost use Rattle.portal_tables.specs.inner.Queries.{table_tree, table_round};
-ghost use Rattle.portal_tables.specs.Steps.{Reads, Gives, IsSettled, OnlyLooks};
-ghost use Rattle.portal_tables.specs.inner.Reads.{Always, Answers};
+ghost use Rattle.portal_tables.specs.Steps.{Reads, Gives, IsCommitted, OnlyLooks};
+ghost use Rattle.portal_tables.specs.inner.Reads.{Always, GivesOrFails};
 ghost use Rattle.portal_list.specs.inner.Rows.{HasEntries, world_rows};
 ghost use Rattle.portal_store.specs.Kept.{AllNumbersDiffer, HasGoodFirst};
 ghost use Rattle.portal_store.specs.inner.Keeping.{early_trees};
 ghost use Rattle.portal_store.specs.inner.Loads.{HasNothingBefore};
 ghost use Rattle.portal_store.specs.World.{world_in};
 ghost use Rattle.portal_store.specs.Crash.{HasVersion, RefusalSays, ShowsVersion};
-ghost use Rattle.portal_store.specs.inner.Asked.{Denies, SaysNothing, AdmitsAs};
+ghost use Rattle.portal_store.specs.inner.Asked.{SaysNot, SaysNothing, AdmitsAs};
 ghost use Rattle.portal_store.specs.inner.Reading.{IsSoundIfOpen};
 
 use crate::fault::table_fault_of;
@@ -82,7 +82,7 @@ fn judge_office(rows: &[Row], version: u32) -> Result<(), OpenFault>
 /// Checks that `portal` has a row, and that it has this version.
 fn see_office<S: Alter>(conn: &mut Connection<S>, version: u32) -> Result<(), OpenFault>
     ensures reads { Reads First S.Store Always
-        (Answers (λ db _. HasVersion version db.trees)
+        (GivesOrFails (λ db _. HasVersion version db.trees)
         (λ db fault. RefusalSays fault version (Unit {0}) db.trees))
         result conn.old conn.new }
     ensures shows { HasCleanDisk (state S.Store conn.new)
@@ -102,11 +102,11 @@ pub(crate) fn see_first<S: Alter>(
     ensures looks { OnlyLooks (state S.Store conn.old) (state S.Store conn.new) }
     ensures shows { HasCleanDisk (state S.Store conn.new)
         → OnOk result (ShowsVersion version (state S.Store conn.new)) }
-    ensures version { IsSettled (state S.Store conn.old) → HasFirstSchema conn.old.schema
+    ensures version { IsCommitted (state S.Store conn.old) → HasFirstSchema conn.old.schema
         → HasCleanDisk (state S.Store conn.new)
         → OnOk result (HasVersion version (state S.Store conn.old).now.trees) }
     ensures reads { IsTrue own → Reads First S.Store Always
-        (Answers (λ db _. HasVersion version db.trees)
+        (GivesOrFails (λ db _. HasVersion version db.trees)
         (λ db fault. RefusalSays fault version (Unit {0}) db.trees))
         result conn.old conn.new }
 {
@@ -143,7 +143,7 @@ pub(crate) fn see_row_numbers<S: Alter>(
 pub(crate) fn judge_rows(alloc: Global, rows: WorldRows) -> Result<Entries, OpenFault>
     ensures good { (w : World) → rows ≡ world_rows w
         → (is_second w.round ≡ false → HasNothingBefore w)
-        → MatchResult result (λ e. Good w × HasEntries e w) (λ fault. Denies fault (Good w)) }
+        → MatchResult result (λ e. Good w × HasEntries e w) (λ fault. SaysNot fault (Good w)) }
     ensures judged { IfErr result (λ fault. (fault ≡ OpenFault.Damaged)
         ⊎ (fault ≡ OpenFault.Memory)) }
 {
@@ -166,8 +166,9 @@ fn see_first_world<S: Alter>(
     version: u32,
 ) -> Result<Entries, OpenFault>
     ensures { Reads First S.Store IsDatabase
-        (Answers (λ db e. HasGoodFirst version db.trees × HasEntries e (world_in First db.trees))
-        (λ db fault. Denies fault (HasGoodFirst version db.trees)))
+        (GivesOrFails (λ db e. HasGoodFirst version db.trees
+        × HasEntries e (world_in First db.trees))
+        (λ db fault. SaysNot fault (HasGoodFirst version db.trees)))
         result conn.old conn.new }
 {
     let rows = load_first(alloc, conn, version)?;
@@ -195,8 +196,8 @@ pub(crate) fn judge_first<S: Alter>(
     version: u32,
 ) -> Result<Entries, OpenFault>
     ensures { Reads First S.Store (IsSoundIfOpen S.Store conn.old)
-        (Answers (λ db e. AdmitsAs version db.trees × HasEntries e (world_in First db.trees))
-        (λ db fault. Denies fault (HasGoodFirst version db.trees)))
+        (GivesOrFails (λ db e. AdmitsAs version db.trees × HasEntries e (world_in First db.trees))
+        (λ db fault. SaysNot fault (HasGoodFirst version db.trees)))
         result conn.old conn.new }
 {
     see_first_numbers(conn)?;

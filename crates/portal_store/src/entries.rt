@@ -44,7 +44,7 @@ pub(crate) fn instance_in<S: Alter>(
 }
 
 /// Returns the cached entries after the change, or `None` if they do not follow it.
-fn after(alloc: Global, mut entries: Entries, change: &Change) -> Option<Entries>
+fn entries_after(alloc: Global, mut entries: Entries, change: &Change) -> Option<Entries>
     ensures { (w : World) → Sound w → HasEntries entries w
         → AreEntries result (changed w (change_model change.now)) }
 {
@@ -69,7 +69,7 @@ pub(crate) fn follow(
 {
     if made.is_ok() {
         *entries = match entries.take() {
-            Some(read) => after(alloc, read, change),
+            Some(read) => entries_after(alloc, read, change),
             None => None,
         };
     }

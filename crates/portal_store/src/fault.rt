@@ -10,7 +10,7 @@ ghost use Rattle.portal_store.specs.Crash.{as_upgrading};
 ghost use Rattle.portal_store.specs.declared.store.OpenFault.TheVariants as opening;
 ghost use Rattle.portal_rules.specs.Keeping.{CountsFaults};
 ghost use Rattle.portal_store.specs.inner.Asked.{SaysNothing};
-ghost use Rattle.portal_store.specs.inner.Reading.{IsToldAs};
+ghost use Rattle.portal_store.specs.inner.Reading.{IsSameUpToFault};
 
 use crate::store::{CreateFault, OpenFault, UpgradeFault};
 use portal_list::RowsFault;
@@ -111,7 +111,7 @@ pub(crate) fn upgrade_fault_of(fault: OpenFault) -> UpgradeFault
 
 /// Converts a fault into the keeper's, and counts it if that is `Store`. At the greatest count,
 /// which no run reaches, every fault becomes `Memory`.
-pub(crate) fn told(faults: &mut u64, fault: TableFault) -> KeepFault
+pub(crate) fn count_fault(faults: &mut u64, fault: TableFault) -> KeepFault
     ensures memory { result ≡ KeepFault.Memory → faults.new ≡ faults.old }
     ensures store { result ≡ KeepFault.Store → faults.new ≡ faults.old + 1 }
     ensures kind { faults.old ≢ 2 ^ 64 - 1
@@ -130,14 +130,17 @@ pub(crate) fn told(faults: &mut u64, fault: TableFault) -> KeepFault
 }
 
 /// Converts the outcome of a call into the keeper's, and counts a fault of the store.
-pub(crate) fn counted<T>(faults: &mut u64, outcome: Result<T, TableFault>) -> Result<T, KeepFault>
-    ensures same { IsToldAs outcome result }
+pub(crate) fn count_outcome<T>(
+    faults: &mut u64,
+    outcome: Result<T, TableFault>,
+) -> Result<T, KeepFault>
+    ensures same { IsSameUpToFault outcome result }
     ensures counts { CountsFaults result faults.old faults.new }
     ensures kind { faults.old ≢ 2 ^ 64 - 1
         → (result ≡ Err KeepFault.Memory) ↔ (outcome ≡ Err TableFault.Memory) }
 {
     match outcome {
         Ok(value) => Ok(value),
-        Err(fault) => Err(told(faults, fault)),
+        Err(fault) => Err(count_fault(faults, fault)),
     }
 }

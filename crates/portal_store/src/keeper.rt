@@ -11,9 +11,9 @@ ghost use Rattle.portal_tables.specs.Tables.{IsCurrentSchema};
 ghost use Rattle.portal_store.specs.Calls.{ChangesTables, StaysStore};
 ghost use Rattle.portal_store.specs.Kept.{IsCleanStore, kept_state, kept_world};
 
-use crate::change::take;
+use crate::change::commit_change;
 use crate::entries::{follow, instance_in, instance_of};
-use crate::fault::{counted, told};
+use crate::fault::{count_fault, count_outcome};
 use crate::queries::show;
 use crate::round::office_code;
 use crate::store::Store;
@@ -45,10 +45,10 @@ impl<S: Alter> Store<S> {
         ensures store { StaysStore S.Store self.old self.new }
     {
         if let Err(fault) = self.check_own() {
-            return Err(told(&mut self.faults, fault));
+            return Err(count_fault(&mut self.faults, fault));
         }
         let code = office_code(alloc, &mut self.conn);
-        counted(&mut self.faults, code)
+        count_outcome(&mut self.faults, code)
     }
 }
 
@@ -65,10 +65,10 @@ impl<S: Alter> Keeper for Store<S> {
         ensures store { StaysStore S.Store self.old self.new }
     {
         if let Err(fault) = self.check_own() {
-            return Err(told(&mut self.faults, fault));
+            return Err(count_fault(&mut self.faults, fault));
         }
         let shown = show(alloc, &mut self.conn, &mut self.cache, code);
-        counted(&mut self.faults, shown)
+        count_outcome(&mut self.faults, shown)
     }
 
     /// Builds the instance of the current round, from the cached entries or else from the tables.
@@ -80,11 +80,11 @@ impl<S: Alter> Keeper for Store<S> {
         ensures store { StaysStore S.Store self.old self.new }
     {
         if let Err(fault) = self.check_own() {
-            return Err(told(&mut self.faults, fault));
+            return Err(count_fault(&mut self.faults, fault));
         }
         match &self.entries {
-            Some(entries) => counted(&mut self.faults, instance_of(alloc, entries)),
-            None => counted(&mut self.faults, instance_in(alloc, &mut self.conn)),
+            Some(entries) => count_outcome(&mut self.faults, instance_of(alloc, entries)),
+            None => count_outcome(&mut self.faults, instance_in(alloc, &mut self.conn)),
         }
     }
 
@@ -102,10 +102,10 @@ impl<S: Alter> Keeper for Store<S> {
         ensures tables { ChangesTables S.Store (change_model change.now) result self.old self.new }
     {
         if let Err(fault) = self.check_own() {
-            return Err(told(&mut self.faults, fault));
+            return Err(count_fault(&mut self.faults, fault));
         }
-        let taken = take(alloc, &mut self.conn, &mut self.entries, change);
-        let made = counted(&mut self.faults, taken);
+        let taken = commit_change(alloc, &mut self.conn, &mut self.entries, change);
+        let made = count_outcome(&mut self.faults, taken);
         self.cache.follow(change, &made);
         follow(alloc, &mut self.entries, change, &made);
         made

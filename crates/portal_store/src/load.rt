@@ -7,7 +7,7 @@ ghost use Rattle.portal_rules.specs.declared.phase.Round.TheVariants.{Second, Fi
 ghost use Rattle.portal_list.specs.inner.Rows.{HasEntries};
 ghost use Rattle.portal_views.specs.inner.Contents.{rows_held};
 ghost use Rattle.portal_tables.specs.Steps.{Reads, Gives};
-ghost use Rattle.portal_tables.specs.inner.Reads.{Answers, Blames};
+ghost use Rattle.portal_tables.specs.inner.Reads.{GivesOrFails, Blames};
 ghost use Rattle.portal_store.specs.inner.Asked.{NumbersDiffer};
 ghost use Rattle.portal_store.specs.Kept.{HasGoodWorld, HasGoodFirst, HasGoodWorldIn};
 ghost use Rattle.portal_store.specs.inner.Loads as meant_by;
@@ -30,7 +30,7 @@ pub(crate) fn load_first<S: Alter>(
     version: u32,
 ) -> Result<WorldRows, TableFault>
     ensures { Reads First S.Store IsDatabase
-        (Answers (λ db. Loads version First db.trees)
+        (GivesOrFails (λ db. Loads version First db.trees)
         (λ db fault. Blames fault (HasGoodFirst version db.trees)))
         result conn.old conn.new }
 {
@@ -75,7 +75,7 @@ fn after_first(first: WorldRows, phase: Phase, contents: Contents) -> WorldRows
 /// Loads the rows of the second round's world.
 fn load_second<S: Alter>(alloc: Global, conn: &mut Connection<S>) -> Result<WorldRows, TableFault>
     ensures { Reads Second S.Store IsDatabase
-        (Answers (λ db. LoadsIn Second db.trees)
+        (GivesOrFails (λ db. LoadsIn Second db.trees)
         (λ db fault. NumbersDiffer db.trees → Blames fault (HasGoodWorldIn Second db.trees)))
         result conn.old conn.new }
 {
@@ -91,7 +91,7 @@ pub(crate) fn load<S: Alter>(
     conn: &mut Connection<S>,
 ) -> Result<WorldRows, TableFault>
     ensures { Reads Second S.Store IsDatabase
-        (Answers (λ db. LoadsIn (round_in db.trees) db.trees)
+        (GivesOrFails (λ db. LoadsIn (round_in db.trees) db.trees)
         (λ db fault. NumbersDiffer db.trees → Blames fault (HasGoodWorld db.trees)))
         result conn.old conn.new }
 {

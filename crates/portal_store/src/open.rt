@@ -9,14 +9,14 @@ ghost use Rattle.portal_rules.specs.declared.phase.Round.TheVariants.{First, Sec
 ghost use Rattle.portal_rules.specs.declared.phase.Phase.TheVariants.{Published};
 ghost use Rattle.portal_tables.specs.Tables.{HasFirstSchema, version};
 ghost use Rattle.portal_tables.specs.inner.Queries.{round_asked};
-ghost use Rattle.portal_tables.specs.Steps.{Reads, Gives, IsSettled, OnlyLooks};
-ghost use Rattle.portal_tables.specs.inner.Reads.{Always, Answers};
+ghost use Rattle.portal_tables.specs.Steps.{Reads, Gives, IsCommitted, OnlyLooks};
+ghost use Rattle.portal_tables.specs.inner.Reads.{Always, GivesOrFails};
 ghost use Rattle.portal_list.specs.inner.Rows.{HasEntries};
 ghost use Rattle.portal_store.specs.Kept.{AreEmpty, HasSecond, HasGoodWorld, HasGoodWorldIn};
 ghost use Rattle.portal_store.specs.World.{phase_in, round_in, world_of};
 ghost use Rattle.portal_store.specs.Calls.{OpensStore, RefusesToOpen};
 ghost use Rattle.portal_store.specs.Crash.{HasVersion, Refutes, ShowsVersion};
-ghost use Rattle.portal_store.specs.inner.Asked.{NumbersDiffer, Denies, IsJudged, SaysNothing};
+ghost use Rattle.portal_store.specs.inner.Asked.{NumbersDiffer, SaysNot, IsJudged, SaysNothing};
 ghost use Rattle.portal_store.specs.inner.Asked.{Admits};
 ghost use Rattle.portal_store.specs.inner.Reading.{ReadsAll, IsSoundIfOpen, queried_rows};
 
@@ -35,8 +35,8 @@ use std::alloc::Global;
 /// Checks that a table of the second round is empty: a query of it returns no row.
 fn see_none<S: Alter>(conn: &mut Connection<S>, query: Query<'_>) -> Result<(), OpenFault>
     ensures { Reads (round_asked query.entry) S.Store (λ _. ReadsAll query.entry)
-        (Answers (λ db _. queried_rows query.entry db.trees ≡ [])
-        (λ db fault. Denies fault (queried_rows query.entry db.trees ≡ [])))
+        (GivesOrFails (λ db _. queried_rows query.entry db.trees ≡ [])
+        (λ db fault. SaysNot fault (queried_rows query.entry db.trees ≡ [])))
         result conn.old conn.new }
 {
     let found = finds_any(conn, query)?;
@@ -50,7 +50,7 @@ fn see_none<S: Alter>(conn: &mut Connection<S>, query: Query<'_>) -> Result<(), 
 /// Checks that a second round that is not open has no lists, rankings or placements.
 fn see_nothing<S: Alter>(conn: &mut Connection<S>) -> Result<(), OpenFault>
     ensures { Reads Second S.Store Always
-        (Answers (λ db _. AreEmpty db.trees) (λ db fault. Denies fault (AreEmpty db.trees)))
+        (GivesOrFails (λ db _. AreEmpty db.trees) (λ db fault. SaysNot fault (AreEmpty db.trees)))
         result conn.old conn.new }
 {
     see_none(conn, Query::AllLists(Lists::SecondChoices))?;
@@ -62,8 +62,8 @@ fn see_nothing<S: Alter>(conn: &mut Connection<S>) -> Result<(), OpenFault>
 /// Checks that the first round is published, as an open second round requires.
 fn see_published<S: Alter>(alloc: Global, conn: &mut Connection<S>) -> Result<(), OpenFault>
     ensures { Reads First S.Store IsDatabase
-        (Answers (λ db _. phase_in First db.trees ≡ Published)
-        (λ db fault. Denies fault (HasGoodWorldIn Second db.trees)))
+        (GivesOrFails (λ db _. phase_in First db.trees ≡ Published)
+        (λ db fault. SaysNot fault (HasGoodWorldIn Second db.trees)))
         result conn.old conn.new }
 {
     match first_phase(alloc, conn)? {
@@ -76,8 +76,8 @@ fn see_published<S: Alter>(alloc: Global, conn: &mut Connection<S>) -> Result<()
 /// is published.
 fn see_second<S: Alter>(alloc: Global, conn: &mut Connection<S>) -> Result<(), OpenFault>
     ensures { Reads Second S.Store IsDatabase
-        (Answers (λ db _. HasSecond (round_in db.trees) db.trees)
-        (λ db fault. Denies fault (HasGoodWorld db.trees)))
+        (GivesOrFails (λ db _. HasSecond (round_in db.trees) db.trees)
+        (λ db fault. SaysNot fault (HasGoodWorld db.trees)))
         result conn.old conn.new }
 {
     if second_in(alloc, conn)?.is_setup() {
@@ -103,8 +103,8 @@ fn see_numbers<S: Alter>(conn: &mut Connection<S>) -> Result<(), OpenFault>
 /// Loads the world of both rounds, checks that it is good, and returns its entries.
 fn see_world<S: Alter>(alloc: Global, conn: &mut Connection<S>) -> Result<Entries, OpenFault>
     ensures { Reads Second S.Store IsDatabase
-        (Answers (λ db e. IsJudged db.trees × HasEntries e (world_of db.trees))
-        (λ db fault. NumbersDiffer db.trees → Denies fault (HasGoodWorld db.trees)))
+        (GivesOrFails (λ db e. IsJudged db.trees × HasEntries e (world_of db.trees))
+        (λ db fault. NumbersDiffer db.trees → SaysNot fault (HasGoodWorld db.trees)))
         result conn.old conn.new }
 {
     let rows = load(alloc, conn)?;
@@ -115,8 +115,8 @@ fn see_world<S: Alter>(alloc: Global, conn: &mut Connection<S>) -> Result<Entrie
 /// entries.
 fn judge_both<S: Alter>(alloc: Global, conn: &mut Connection<S>) -> Result<Entries, OpenFault>
     ensures { Reads Second S.Store (IsSoundIfOpen S.Store conn.old)
-        (Answers (λ db e. Admits db.trees × HasEntries e (world_of db.trees))
-        (λ db fault. Denies fault (HasGoodWorld db.trees)))
+        (GivesOrFails (λ db e. Admits db.trees × HasEntries e (world_of db.trees))
+        (λ db fault. SaysNot fault (HasGoodWorld db.trees)))
         result conn.old conn.new }
 {
     see_numbers(conn)?;
@@ -133,13 +133,13 @@ fn examine<S: Alter>(
     own: bool,
 ) -> Result<Entries, OpenFault>
     ensures looks { OnlyLooks (state S.Store conn.old) (state S.Store conn.new) }
-    ensures shows { IsSettled (state S.Store conn.old) → HasCleanDisk (state S.Store conn.new)
+    ensures shows { IsCommitted (state S.Store conn.old) → HasCleanDisk (state S.Store conn.new)
         → OnOk result (ShowsVersion version (state S.Store conn.new)) }
-    ensures version { IsSettled (state S.Store conn.old) → HasFirstSchema conn.old.schema
+    ensures version { IsCommitted (state S.Store conn.old) → HasFirstSchema conn.old.schema
         → HasCleanDisk (state S.Store conn.new)
         → OnOk result (HasVersion version (state S.Store conn.old).now.trees) }
     ensures reads { IsTrue own → Reads Second S.Store (IsSoundIfOpen S.Store conn.old)
-        (Answers (λ db e. Admits db.trees × HasEntries e (world_of db.trees))
+        (GivesOrFails (λ db e. Admits db.trees × HasEntries e (world_of db.trees))
         (λ db fault. Refutes fault db.trees))
         result conn.old conn.new }
 {

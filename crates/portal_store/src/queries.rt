@@ -13,7 +13,7 @@ ghost use Rattle.portal_tables.specs.inner.Reads.{Always, MayRead};
 ghost use Rattle.portal_tables.specs.inner.Shown.{as_list};
 ghost use Rattle.portal_store.specs.World.{world_in, world_of};
 ghost use Rattle.portal_store.specs.Kept.{IsConsistent};
-ghost use Rattle.portal_store.specs.inner.Reading.{IsNow, Remembers, RemembersIn, Shows, ShowsIn};
+ghost use Rattle.portal_store.specs.inner.Reading.{IsNow, Remembers, RemembersIn, ShowsWorld, ShowsWorldIn};
 
 use crate::round::current_round;
 use portal_rules::{KeepFault, Listing, Phase, Round, View, ViewCache};
@@ -32,7 +32,7 @@ fn only_row<S: Alter>(
     query: Query<'_>,
 ) -> Result<Option<Row>, TableFault>
     ensures { Reads (asked.round_asked query.entry) S.Store Always
-        (Gives (λ db row. asked.Shows query.entry db.trees (as_list row)))
+        (Gives (λ db row. asked.QueryShows query.entry db.trees (as_list row)))
         result conn.old conn.new }
 {
     let rows = read_rows(alloc, conn, query)?;
@@ -47,7 +47,7 @@ fn shared_catalogue<S: Alter>(
     cache: &mut ViewCache,
 ) -> Result<Rc<Vec<Listing>>, TableFault>
     ensures { MayRead round S.Store (RemembersIn round cache.old)
-        (ShowsIn round cache.new (λ w shared. shared.value.items ≡ seen.catalogue w))
+        (ShowsWorldIn round cache.new (λ w shared. shared.value.items ≡ seen.catalogue w))
         result conn.old conn.new }
 {
     if let Some(shared) = &cache.catalogue {
@@ -68,7 +68,7 @@ fn show_office<S: Alter>(
 ) -> Result<View, TableFault>
     ensures { MayRead round S.Store
         (λ db. RemembersIn round cache.old db × IsNow (world_in round db.trees) round office)
-        (ShowsIn round cache.new (λ w view. view ≡ sight_of w OfficeCaller))
+        (ShowsWorldIn round cache.new (λ w view. view ≡ sight_of w OfficeCaller))
         result conn.old conn.new }
 {
     if let Some(view) = &cache.office {
@@ -90,7 +90,7 @@ fn show_student<S: Alter>(
     code: &[u8],
 ) -> Result<View, TableFault>
     ensures { Reads round S.Store (RemembersIn round cache.old)
-        (ShowsIn round cache.new (λ w view. phase ≡ w.phase
+        (ShowsWorldIn round cache.new (λ w view. phase ≡ w.phase
         → view ≡ sight_of w (caller_among None (student_with w code.now))))
         result conn.old conn.new }
 {
@@ -111,7 +111,7 @@ fn show_person<S: Alter>(
     code: &[u8],
 ) -> Result<View, TableFault>
     ensures { Reads round S.Store (RemembersIn round cache.old)
-        (ShowsIn round cache.new (λ w view. phase ≡ w.phase → equals w.office code.now ≡ false
+        (ShowsWorldIn round cache.new (λ w view. phase ≡ w.phase → equals w.office code.now ≡ false
         → Good w → view ≡ seen.view w code.now))
         result conn.old conn.new }
 {
@@ -130,7 +130,7 @@ pub(crate) fn show<S: Alter>(
     code: &[u8],
 ) -> Result<View, TableFault>
     ensures { Reads Second S.Store (Remembers cache.old)
-        (Shows cache.new (λ w view. Good w → view ≡ seen.view w code.now))
+        (ShowsWorld cache.new (λ w view. Good w → view ≡ seen.view w code.now))
         result conn.old conn.new }
 {
     let (round, office) = current_round(alloc, conn)?;

@@ -6,7 +6,7 @@ ghost use Rattle.portal_rules.specs.declared.phase.Round.{Round as ThatRound};
 ghost use Rattle.portal_rules.specs.declared.phase.Round.TheVariants.{First, Second};
 ghost use Rattle.portal_rules.specs.World.{is_setup};
 ghost use Rattle.portal_tables.specs.Steps.{Reads, Gives};
-ghost use Rattle.portal_tables.specs.inner.Reads.{Answers, Blames};
+ghost use Rattle.portal_tables.specs.inner.Reads.{GivesOrFails, Blames};
 ghost use Rattle.portal_store.specs.World as meant_by;
 ghost use Rattle.portal_store.specs.inner.Reading.{IsNow};
 ghost use Rattle.portal_store.specs.Kept.{HasSecond, HasGoodWorldIn};
@@ -22,7 +22,7 @@ pub(crate) fn round_in<S: Alter>(
     conn: &mut Connection<S>,
 ) -> Result<Round, TableFault>
     ensures { Reads Second S.Store IsDatabase
-        (Answers (λ db round. meant_by.round_in db.trees ≡ round)
+        (GivesOrFails (λ db round. meant_by.round_in db.trees ≡ round)
         (λ db fault. (round : ThatRound) → Blames fault (HasSecond round db.trees)))
         result conn.old conn.new }
 {
@@ -72,7 +72,7 @@ pub(crate) fn first_phase<S: Alter>(
     conn: &mut Connection<S>,
 ) -> Result<Phase, TableFault>
     ensures { Reads First S.Store IsDatabase
-        (Answers (λ db phase. meant_by.phase_in First db.trees ≡ phase)
+        (GivesOrFails (λ db phase. meant_by.phase_in First db.trees ≡ phase)
         (λ db fault. (round : ThatRound) → Blames fault (HasGoodWorldIn round db.trees)))
         result conn.old conn.new }
 {

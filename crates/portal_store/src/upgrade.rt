@@ -7,8 +7,8 @@ ghost use Rattle.portal_rules.specs.declared.phase.Round.TheVariants.{First};
 ghost use Rattle.portal_tables.specs.Tables.{first_version, IsFirstSchema};
 ghost use Rattle.portal_tables.specs.Making.{has_names};
 ghost use Rattle.portal_tables.specs.declared.names.Names.TheVariants.{OfSecond};
-ghost use Rattle.portal_tables.specs.Steps.{Reads, IsSettled, OnlyLooks};
-ghost use Rattle.portal_tables.specs.inner.Reads.{Answers};
+ghost use Rattle.portal_tables.specs.Steps.{Reads, IsCommitted, OnlyLooks};
+ghost use Rattle.portal_tables.specs.inner.Reads.{GivesOrFails};
 ghost use Rattle.portal_list.specs.inner.Rows.{HasEntries};
 ghost use Rattle.portal_store.specs.Calls.{RefusesToUpgrade, UpgradesStore};
 ghost use Rattle.portal_store.specs.Kept.{HasGoodFirst};
@@ -16,7 +16,7 @@ ghost use Rattle.portal_store.specs.World.{world_in};
 ghost use Rattle.portal_store.specs.Crash.{RefusalSays, ShowsVersion};
 ghost use Rattle.portal_store.specs.inner.Asked.{AdmitsAs};
 ghost use Rattle.portal_store.specs.inner.Reading.{IsSoundIfOpen, OverLive};
-ghost use Rattle.portal_store.specs.inner.Upgrading.{UpgradesTables};
+ghost use Rattle.portal_store.specs.inner.Upgrading.{UpgradesWithEntries};
 
 use crate::checks::{judge_first, see_first};
 use crate::fault::upgrade_fault_of;
@@ -38,10 +38,10 @@ fn examine_first<S: Alter>(
     ensures looks { OnlyLooks (state S.Store conn.old) (state S.Store conn.new) }
     ensures shows { HasCleanDisk (state S.Store conn.new)
         → OnOk result (ShowsVersion first_version (state S.Store conn.new)) }
-    ensures judged { IsSettled (state S.Store conn.old) → OverLive First S.Store conn.old conn.new
+    ensures judged { IsCommitted (state S.Store conn.old) → OverLive First S.Store conn.old conn.new
         (OnOk result (HasGoodFirst first_version (state S.Store conn.old).now.trees)) }
     ensures reads { IsTrue own → Reads First S.Store (IsSoundIfOpen S.Store conn.old)
-        (Answers (λ db e. AdmitsAs first_version db.trees
+        (GivesOrFails (λ db e. AdmitsAs first_version db.trees
         × HasEntries e (world_in First db.trees))
         (λ db fault. RefusalSays fault first_version
         (HasGoodFirst first_version db.trees) db.trees))
@@ -52,7 +52,7 @@ fn examine_first<S: Alter>(
 }
 
 /// Upgrades the tables if they pass and no name is taken, and returns the entries of their world.
-fn upgraded<S: Alter>(
+fn upgrade_with_entries<S: Alter>(
     alloc: Global,
     conn: &mut Connection<S>,
     own: bool,
@@ -62,7 +62,7 @@ fn upgraded<S: Alter>(
     requires first { IsTrue own ↔ IsFirstSchema conn.old.schema }
     requires taken { is_taken ≡ has_names OfSecond conn.old.schema }
     ensures upgrades { IfOk result (λ entries.
-        UpgradesTables S.Store entries conn.old conn.new) }
+        UpgradesWithEntries S.Store entries conn.old conn.new) }
     ensures refuses { IfErr result (λ fault.
         RefusesToUpgrade S.Store fault conn.old conn.new) }
 {
@@ -118,7 +118,7 @@ impl<S: Alter> Store<S> {
         };
         let own = pattern.fits_first(&conn);
         let is_taken = is_there(conn.schema(), Names::OfSecond);
-        let entries = match upgraded(alloc, &mut conn, own, is_taken) {
+        let entries = match upgrade_with_entries(alloc, &mut conn, own, is_taken) {
             Ok(entries) => entries,
             Err(fault) => {
                 return Err(NotOpened {

@@ -1,5 +1,5 @@
 -- A query before a change: what the change is, begun where the query began.
-use Rattle.portal_tables.proofs.Base.{sym, subst, ◌∙◌, Database, State, HasCleanDisk, IsUnchanged, Commits, IsSettled}
+use Rattle.portal_tables.proofs.Base.{sym, subst, ◌∙◌, Database, State, HasCleanDisk, IsUnchanged, Commits, IsCommitted}
 
 -- nothing was done
 module _ (old mid new : State) (C D : Database → Database → Type 0) (more : HasCleanDisk mid → (after : Database) → C old.now after → D old.now after) where
@@ -12,7 +12,7 @@ module _ (old mid new : State) (C D : Database → Database → Type 0) (more : 
   }
 
 -- nothing is to be done
-pub commits_none : (old new : State) (D : Database → Database → Type 0) → IsSettled old → IsUnchanged old new
+pub commits_none : (old new : State) (D : Database → Database → Type 0) → IsCommitted old → IsUnchanged old new
     → D old.now old.now → Commits D old new
 commits_none old new D settled same did = record {
   was_open = same.0.was_open;

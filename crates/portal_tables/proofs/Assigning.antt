@@ -5,7 +5,8 @@ use Rattle.portal_tables.proofs.Base.{subst₂, ◌∙◌, AllByRecursion, IsPer
 use Rattle.portal_tables.proofs.Base.{IsPermutation-map, IsPermutation-filter_both, Value, Int, Text, Row, column}
 use Rattle.portal_tables.proofs.Base.{cast_row, Term, col, State, Database, everything, understood, bound_value}
 use Rattle.portal_tables.proofs.Base.{all-filter, all_map, all_weaker, student_schema, student_tree, has_text, Second}
-use Rattle.portal_tables.proofs.Base.{IsCurrentSchema, Assigned, text_cell, student_columns, assigned_by, with_assigned}
+use Rattle.portal_tables.proofs.Base.{IsCurrentSchema, Assigned, text_or_null_cell, student_columns, assigned_by}
+use Rattle.portal_tables.proofs.Base.{with_assigned}
 use Rattle.portal_tables.proofs.Base.{Assigns, Ran, Made}
 use Rattle.portal_tables.proofs.InTurn.{next_item}
 use Rattle.portal_tables.proofs.Keeping.{keeps_then}
@@ -27,13 +28,13 @@ abbrev with_last : List Term
 with_last = col 1 0 ∷ col 1 1 ∷ col 1 2 ∷ col 1 3 ∷ param 1 ∷ []
 
 -- as it is bound
-pub assigned_bound : (project : Option (List ℕ)) → bound_value (text_cell project) ≡ text_cell project
+pub assigned_bound : (project : Option (List ℕ)) → bound_value (text_or_null_cell project) ≡ text_or_null_cell project
 assigned_bound None = refl
 assigned_bound (Some t) = refl
 
 module _ (key : List ℕ) (project : Option (List ℕ)) where
   abbrev params : Row
-  params = Text key ∷ text_cell project ∷ []
+  params = Text key ∷ text_or_null_cell project ∷ []
 
   abbrev is_hit : Row → Bool
   is_hit = has_text 1 key
@@ -52,22 +53,22 @@ module _ (key : List ℕ) (project : Option (List ℕ)) where
   but r v = column r 0 ∷ column r 1 ∷ column r 2 ∷ column r 3 ∷ v ∷ []
 
   row_cast : (o : Option (List ℕ)) (n : ℤ) (k name code : List ℕ)
-      → cast_row (student_schema 6) (Int n ∷ Text k ∷ Text name ∷ Text code ∷ text_cell o ∷ []) ≡ Int n ∷ Text k ∷ Text name ∷ Text code ∷ text_cell o ∷ []
+      → cast_row (student_schema 6) (Int n ∷ Text k ∷ Text name ∷ Text code ∷ text_or_null_cell o ∷ []) ≡ Int n ∷ Text k ∷ Text name ∷ Text code ∷ text_or_null_cell o ∷ []
   row_cast None n k name code = rw (cast_int n) refl
   row_cast (Some t) n k name code = rw (cast_int n) refl
 
-  row_is : (r : Row) → IsStudentRow r → written r ≡ but r (text_cell project)
-  row_is r f = subst (λ y. cast_row (student_schema 6) (but y (text_cell project)) ≡ but y (text_cell project)) (sym f.is) (row_cast project f.number f.key f.name f.code)
+  row_is : (r : Row) → IsStudentRow r → written r ≡ but r (text_or_null_cell project)
+  row_is r f = subst (λ y. cast_row (student_schema 6) (but y (text_or_null_cell project)) ≡ but y (text_or_null_cell project)) (sym f.is) (row_cast project f.number f.key f.name f.code)
 
   numbered : (r : Row) → IsStudentRow r → HasNumber (written r)
   numbered r f = subst HasNumber (sym (row_is r f)) (subst (λ y. HasNumber (column y 0 ∷ [])) (sym f.is) refl)
 
   -- what is made of a row is what is written in its place, or what it was
   hit : (r : Row) → IsStudentRow r × (is_hit r ≡ true) → made r ≡ student_columns (written r)
-  hit r f = ap (λ b. but r (cond b (text_cell project) (column r 4))) f.1 ∙ sym (ap student_columns (row_is r f.0))
+  hit r f = ap (λ b. but r (cond b (text_or_null_cell project) (column r 4))) f.1 ∙ sym (ap student_columns (row_is r f.0))
 
   missed : (r : Row) → IsStudentRow r × (is_missed r ≡ true) → made r ≡ student_columns r
-  missed r f = ap (λ b. but r (cond b (text_cell project) (column r 4))) (not_true (is_hit r) f.1)
+  missed r f = ap (λ b. but r (cond b (text_or_null_cell project) (column r 4))) (not_true (is_hit r) f.1)
 
   halves : (rows : List Row) → AllByRecursion IsStudentRow rows
       → map made (filter is_hit rows ++ filter is_missed rows) ≡ map student_columns (map written (filter is_hit rows) ++ filter is_missed rows)
@@ -90,7 +91,7 @@ module _ (key : List ℕ) (project : Option (List ℕ)) where
         let formed = student_rows_formed old.now (current_own old.now.schema own) sound apart in
         let p = passes (has_key 1) params in
         let numbers = all_map HasNumber written (filter p rows) (all_weaker IsStudentRow (λ r. HasNumber (written r)) numbered (filter p rows) (all-filter IsStudentRow p rows formed)) in
-        let a = subst (λ q. AltersIn s 6 q written old.now new.now) (same_key_of 1 key (text_cell project ∷ []))
+        let a = subst (λ q. AltersIn s 6 q written old.now new.now) (same_key_of 1 key (text_or_null_cell project ∷ []))
         (altered s update_one 3 _ 6 _ _ _ _ _ _ _ _ refl (has_key 1) with_last refl (refl, refl) (no_acts w.o.checks w.o.terms student_tree)
         params old new h.count w.is apart numbers h.runs) in
         record {

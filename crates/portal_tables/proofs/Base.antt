@@ -45,7 +45,7 @@ pub use Rattle.portal_tables.specs.Rows.{RowNumbersDiffer, has_text, row_key, As
 pub use Rattle.portal_tables.specs.Rows.{second_cells, second_row, CountUp, IsWhole, by_place, chosen, list_in_order}
 pub use Rattle.portal_tables.specs.Rows.{named_by, of_key, place_key, place_of, placed_project, second_placement}
 pub use Rattle.portal_tables.specs.Rows.{HasOffice, number_of_phase}
-pub use Rattle.portal_tables.specs.Steps.{Commits, IsAfter, IsSettled, IsUnchangedOrUndone, OnlyLooks, Stays, Reading}
+pub use Rattle.portal_tables.specs.Steps.{Commits, IsAfter, IsCommitted, IsUnchangedOrUndone, OnlyLooks, Stays, Reading}
 pub use Rattle.portal_tables.specs.Steps.{Anyhow, Gives}
 pub use Rattle.portal_tables.specs.Tables.{tree_of, HasRound, IsCurrentSchema, IsFirstSchema, HasFirstSchema, SameTable}
 pub use Rattle.portal_tables.specs.Tables.{assigned2, assigned2_tree, choice, choice2, choice2_names, choice2_tree}
@@ -86,7 +86,7 @@ pub use Rattle.portal_tables.specs.inner.Decoding.{FindsAny, FindsRow, IsPlainIf
 pub use Rattle.portal_tables.specs.inner.Decoding.{Refuses}
 pub use Rattle.portal_tables.specs.inner.MakingSteps.{Grown, Grows, Makes, MakesFirst, MakesSecond, with_second}
 pub use Rattle.portal_tables.specs.inner.Owners.{IsRead, entry, with_list, AreEntriesOf, IsFine, IsListOf}
-pub use Rattle.portal_tables.specs.inner.Placements.{pair_shown, pair_told, HasKeys, HasPlacementAsked}
+pub use Rattle.portal_tables.specs.inner.Placements.{pair_shown, first_pair, HasPairKeys, HasPlacementAsked}
 pub use Rattle.portal_tables.specs.inner.Putting.{PutsList, PutsPlacements, RanksSecond, list_cells, numbered, placed}
 pub use Rattle.portal_tables.specs.inner.Queries.{columns_of, given, roll_tree, round_asked, selection, table_round}
 pub use Rattle.portal_tables.specs.inner.Queries.{table_tree, query_text}
@@ -94,10 +94,10 @@ pub use Rattle.portal_tables.specs.inner.Reads.{IfOpen, Always, Blames}
 pub use Rattle.portal_tables.specs.inner.Rising.{is_above, rises}
 pub use Rattle.portal_tables.specs.inner.Rolls.{by_key}
 pub use Rattle.portal_tables.specs.inner.RowChanges.{IsOffice, IsSecond, Adds, AddsBy, Assigns, Clears, IsOfVersion}
-pub use Rattle.portal_tables.specs.inner.RowChanges.{MovesSecond, MovesTo, Ranks, assigned_by, lecturer_cells}
+pub use Rattle.portal_tables.specs.inner.RowChanges.{MovesSecond, MovesTo, MarksRanked, assigned_by, lecturer_cells}
 pub use Rattle.portal_tables.specs.inner.RowChanges.{lecturer_new, lecturer_values, pair_new, place_cells, place_new}
 pub use Rattle.portal_tables.specs.inner.RowChanges.{project_new, student_new, student_columns, student_values}
-pub use Rattle.portal_tables.specs.inner.RowChanges.{text_cell, with_assigned}
+pub use Rattle.portal_tables.specs.inner.RowChanges.{text_or_null_cell, with_assigned}
 pub use Rattle.portal_tables.specs.inner.Running.{Does, GoesOn, Made, Ran}
 pub use Rattle.portal_tables.specs.inner.Shown.{as_list, first_cell, shown_name, shown_rank, shown_student}
 pub use Rattle.portal_tables.specs.inner.Texts.{add_eight_text, add_text, clear_text, names, place_among, round_of}

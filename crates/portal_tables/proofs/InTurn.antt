@@ -4,7 +4,7 @@ use Rattle.portal_tables.proofs.Base.{None, Some, AllByRecursion, all-get_or, ta
 use Rattle.portal_tables.proofs.Base.{filter_map, filter_map-append, IsErr, List, IfOk, inl, inr, Ok, Err, Result, refl}
 use Rattle.portal_tables.proofs.Base.{sym, ap, ap₂, subst, ◌∙◌, Database, State, HasCleanDisk, IsUnchanged, Survives}
 use Rattle.portal_tables.proofs.Base.{survives_then, unchanged, unchanged_then, rolled_back_since, Round, First, Second}
-use Rattle.portal_tables.proofs.Base.{HasRound, IsTrue, OnOk, OnErr, IsSettled, OnlyLooks, Stays, IsUnchangedOrUndone}
+use Rattle.portal_tables.proofs.Base.{HasRound, IsTrue, OnOk, OnErr, IsCommitted, OnlyLooks, Stays, IsUnchangedOrUndone}
 use Rattle.portal_tables.proofs.Base.{on_ok_weaker, on_err_weaker, Reading, Anyhow, IfOpen, TableFault, Damaged}
 use Rattle.portal_tables.proofs.Base.{MatchResult, IsErrAnd, Memory, Blames}
 use Rattle.portal_tables.proofs.Owned.{current_own}
@@ -118,7 +118,7 @@ module _ {round : Round} {On : State → Type 0} {Right : Database → Type 0} {
     reads_then p q = reads_then_of (λ own on right told. right) p q
 
 -- what at most undoes a transaction that is not there changes nothing
-pub stays_left : (old new : State) → IsSettled old → IsUnchangedOrUndone old new → IsTrue new.is_open → Stays old new
+pub stays_left : (old new : State) → IsCommitted old → IsUnchangedOrUndone old new → IsTrue new.is_open → Stays old new
 stays_left old new settled (inl same) on = (same.0.was_open, same.0.now_is, same.0.committed_is)
 stays_left old new settled (inr undone) on =
     let first = undone.was_open on in
@@ -150,7 +150,7 @@ looks_never s = record {
 pub stays_then : (a b c : State) → Stays a b → Stays b c → Stays a c
 stays_then a b c p q = (p.0, q.1 ∙ p.1, q.2 ∙ p.2)
 
-pub settled_still : (a b : State) → IsSettled a → Stays a b → b.now ≡ b.committed
+pub settled_still : (a b : State) → IsCommitted a → Stays a b → b.now ≡ b.committed
 settled_still a b settled p = p.1 ∙ settled p.0 ∙ sym p.2
 
 pub looks_then : (a b c : State) → OnlyLooks a b → OnlyLooks b c → OnlyLooks a c

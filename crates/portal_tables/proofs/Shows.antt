@@ -20,7 +20,7 @@ use Rattle.sqlite_resolve.specs.Lowering.{Checked, and_then}
 use Rattle.sqlite_resolve.specs.declared.error.CompileError.{CompileError}
 use Rattle.sqlite_resolve.specs.declared.error.CompileError.TheVariants.{NoSuchTable}
 use Rattle.portal_tables.specs.declared.select.Query.{Query}
-use Rattle.portal_tables.specs.inner.Queries.{Shows}
+use Rattle.portal_tables.specs.inner.Queries.{QueryShows}
 use Rattle.portal_tables.proofs.Weak.{Open, schema_with, own_is}
 use Rattle.portal_tables.proofs.Query.{passes}
 use Rattle.portal_tables.proofs.Tests.{has_key, same_key, is_number, same_number}
@@ -185,7 +185,7 @@ module _ (q : Query) (sql : List ℕ) (params : Row) (text : sql ≡ query_text 
       program_ends c.command (asked q) db full (ap (λ x. program_of (command_of x)) (sym known ∙ ap (understood s) text) ∙ (own_is_understood q s own).0) tt
 
   pub shows : (old new : State) (rows : List Row) → HasRound (round_asked q) old.now.schema
-      → Shown sql params old new rows → Shows q old.now.trees rows
+      → Shown sql params old new rows → QueryShows q old.now.trees rows
   shows old new rows own h =
       let it = own_is_understood q old.now.schema own in
       let here : Shown (query_text q) (given q) old new rows = subst₂ (λ t v. Shown t v old new rows) text values h in

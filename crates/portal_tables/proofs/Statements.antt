@@ -11,7 +11,8 @@ use Rattle.portal_tables.proofs.Base.{assigned2_tree, lecturer_tree, project_tre
 use Rattle.portal_tables.proofs.Base.{tree_of, clear_text, add_text, add_eight_text, RowNumbersDiffer, Drops, Sets}
 use Rattle.portal_tables.proofs.Base.{Becomes, every, IsCurrentSchema, Ran, Made, portal_cells, lecturer_cells}
 use Rattle.portal_tables.proofs.Base.{lecturer_new, lecturer_values, project_new, student_new, student_values}
-use Rattle.portal_tables.proofs.Base.{place_new, pair_new, AddsBy, Clears, MovesTo, IsOfVersion, MovesSecond, Ranks}
+use Rattle.portal_tables.proofs.Base.{place_new, pair_new, AddsBy, Clears, MovesTo, IsOfVersion, MovesSecond}
+use Rattle.portal_tables.proofs.Base.{MarksRanked}
 use Rattle.portal_tables.proofs.Base.{portal_row, second_cells, second_row}
 use Rattle.portal_tables.proofs.Weak.{portal_with, with_checks, own_is}
 use Rattle.portal_tables.proofs.Query.{one_table, passes, shown_as}
@@ -48,12 +49,12 @@ abbrev StandsAt : ℕ → Table → Type 0
 StandsAt at t = (checks more : ℕ → List Term) → slice_get (portal_with checks more).tables at ≡ Some (with_checks checks more t)
 
 -- the values of so many rows, in the place of the terms, are their cells
-pub record Gives {R : Type 0} (values cells : R → Row) (count width : ℕ) (terms : List Term) : Type 0 where
+pub record GivesTo {R : Type 0} (values cells : R → Row) (count width : ℕ) (terms : List Term) : Type 0 where
   pub is : (rows : List R) → length rows ≡ count → (more : Row)
       → value_rows (flat_map values rows ++ more) width (length terms / width) terms ≡ map unnumbered (map cells rows)
 
 pub by_one : {R : Type 0} {values cells : R → Row} {width : ℕ} {terms : List Term}
-    → ((a : R) (more : Row) → value_rows (flat_map values (a ∷ []) ++ more) width (length terms / width) terms ≡ map unnumbered (map cells (a ∷ []))) → Gives values cells 1 width terms
+    → ((a : R) (more : Row) → value_rows (flat_map values (a ∷ []) ++ more) width (length terms / width) terms ≡ map unnumbered (map cells (a ∷ []))) → GivesTo values cells 1 width terms
 by_one {R} {values} {cells} {width} {terms} given = record { is = go }
   where
     go : (rows : List R) → length rows ≡ 1 → (more : Row)
@@ -63,7 +64,7 @@ by_one {R} {values} {cells} {width} {terms} given = record { is = go }
 
 pub by_eight : {R : Type 0} {values cells : R → Row} {width : ℕ} {terms : List Term}
     → ((a b c d e f g h : R) (more : Row) → value_rows (flat_map values (a ∷ b ∷ c ∷ d ∷ e ∷ f ∷ g ∷ h ∷ []) ++ more) width (length terms / width) terms ≡ map unnumbered (map cells (a ∷ b ∷ c ∷ d ∷ e ∷ f ∷ g ∷ h ∷ [])))
-    → Gives values cells 8 width terms
+    → GivesTo values cells 8 width terms
 by_eight {R} {values} {cells} {width} {terms} given = record { is = go }
   where
     go : (rows : List R) → length rows ≡ 8 → (more : Row)
@@ -86,7 +87,7 @@ module _ (at : ℕ) (name : List ℕ) (tree : ℕ) (columns : List Column) (key 
 
   rows_added : {S R : Type 0} (g : Ghosts S) (values cells : R → Row)
       → ((checks more : ℕ → List Term) (r : R) → Fits checks more (unnumbered (cells r)) (unnumbered (cells r)))
-      → (count : ℕ) (sql : List ℕ) (terms : List Term) (width : ℕ) → Inserts sql at terms width → Gives values cells count width terms → AddsBy g sql count tree values cells
+      → (count : ℕ) (sql : List ℕ) (terms : List Term) (width : ℕ) → Inserts sql at terms width → GivesTo values cells count width terms → AddsBy g sql count tree values cells
   rows_added g values cells fit count sql terms width inserts given rows are old new ran = record {
     shown = ran.shown;
     changed = λ own.
@@ -149,7 +150,7 @@ unfolding understood everything
 lecturer_eight = record { command = λ checks more. refl; plain = λ checks more. (refl, refl) }
 
 pub lecturers_added : {S : Type 0} (g : Ghosts S) (count : ℕ) (sql : List ℕ) (terms : List Term) → Inserts sql 1 terms 6
-    → Gives lecturer_values lecturer_new count 6 terms → AddsBy g sql count lecturer_tree lecturer_values lecturer_new
+    → GivesTo lecturer_values lecturer_new count 6 terms → AddsBy g sql count lecturer_tree lecturer_values lecturer_new
 lecturers_added g count sql terms = rows_added 1 _ 1 _ _ _ _ _ _ (λ checks more. refl) g lecturer_values lecturer_new (λ checks more r. rw (cast_null, cast_int (pos r.capacity), cast_int (pos 0)) refl) count sql terms 6
 
 abbrev project_terms : ℕ → List Term
@@ -164,7 +165,7 @@ unfolding understood everything
 project_eight = record { command = λ checks more. refl; plain = λ checks more. (refl, refl) }
 
 pub projects_added : {S : Type 0} (g : Ghosts S) (count : ℕ) (sql : List ℕ) (terms : List Term) → Inserts sql 2 terms 5
-    → Gives project_new project_new count 5 terms → AddsBy g sql count project_tree project_new project_new
+    → GivesTo project_new project_new count 5 terms → AddsBy g sql count project_tree project_new project_new
 projects_added g count sql terms = rows_added 2 _ 4 _ _ _ _ _ _ (λ checks more. refl) g project_new project_new (λ checks more r. rw (cast_null, cast_int (pos r.capacity)) refl) count sql terms 5
 
 abbrev student_terms : ℕ → List Term
@@ -179,7 +180,7 @@ unfolding understood everything
 student_eight = record { command = λ checks more. refl; plain = λ checks more. (refl, refl) }
 
 pub students_added : {S : Type 0} (g : Ghosts S) (count : ℕ) (sql : List ℕ) (terms : List Term) → Inserts sql 3 terms 5
-    → Gives student_values student_new count 5 terms → AddsBy g sql count student_tree student_values student_new
+    → GivesTo student_values student_new count 5 terms → AddsBy g sql count student_tree student_values student_new
 students_added g count sql terms = rows_added 3 _ 6 _ _ _ _ _ _ (λ checks more. refl) g student_values student_new (λ checks more r. rw (cast_null) refl) count sql terms 5
 
 -- the tables of lists, whichever it is
@@ -202,7 +203,7 @@ add_eight_is Choices = record { command = λ checks more. refl; plain = λ check
 add_eight_is _ = record { command = λ checks more. refl; plain = λ checks more. (refl, refl) }
 
 pub places_added : (l : Lists) {S : Type 0} (g : Ghosts S) (count : ℕ) (sql : List ℕ) (terms : List Term)
-    → Inserts sql (place_among l) terms 4 → Gives place_new place_new count 4 terms
+    → Inserts sql (place_among l) terms 4 → GivesTo place_new place_new count 4 terms
     → AddsBy g sql count (tree_of l) place_new place_new
 places_added l g count sql terms = rows_added (place_among l) _ (tree_of l) _ _ _ _ _ _ (stands l) g place_new place_new (λ checks more r. rw (cast_null, cast_int (pos r.place)) refl) count sql terms 4
 
@@ -245,14 +246,14 @@ unfolding understood everything
 pair_eight = record { command = λ checks more. refl; plain = λ checks more. (refl, refl) }
 
 pub pairs_added : {S : Type 0} (g : Ghosts S) (count : ℕ) (sql : List ℕ) (terms : List Term) → Inserts sql 10 terms 3
-    → Gives pair_new pair_new count 3 terms → AddsBy g sql count assigned2_tree pair_new pair_new
+    → GivesTo pair_new pair_new count 3 terms → AddsBy g sql count assigned2_tree pair_new pair_new
 pairs_added g count sql terms = rows_added 10 _ 24 _ _ _ _ _ _ (λ checks more. refl) g pair_new pair_new (λ checks more p. rw (cast_null) refl) count sql terms 3
 
 abbrev pub update_ranked : List ℕ
 update_ranked = codes "UPDATE lecturer SET ranked = 1 WHERE key = ?1"
 
 pub lecturer_ranked : (old new : State) (key : List ℕ) → Ran update_ranked (Text key ∷ []) old new
-    → Made (Ranks key) old new
+    → Made (MarksRanked key) old new
 unfolding understood everything
 lecturer_ranked old new key h = record {
   shown = h.shown;

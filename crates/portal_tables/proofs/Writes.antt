@@ -67,10 +67,10 @@ rows_new table (c ∷ cells) h =
     (not_true (is_taken table row) two.0, rows_new (put_row row table) cells two.1)
 
 -- what a query of one table shows, in some order
-pub answered : (tree : ℕ) (tests project : List Term) (db : Trees) (params : Row) (rows : List Row)
+pub query_answered : (tree : ℕ) (tests project : List Term) (db : Trees) (params : Row) (rows : List Row)
     → IsProgramAnswer [] (one_table tree tests project) db params rows
     → IsPermutation (map (shown_as project params) (filter (passes tests params) (db tree))) rows
-answered tree tests project db params rows h = permuted [] (passes tests params) (shown_as project params) (db tree) rows (listed tree [] tests project db params rows h)
+query_answered tree tests project db params rows h = permuted [] (passes tests params) (shown_as project params) (db tree) rows (listed tree [] tests project db params rows h)
 
 -- the rows that are left where those that pass go by their numbers
 pub left_is : (p : Row → Bool) (rest : Row → Row) (rows shown : List Row) → RowNumbersDiffer rows
@@ -152,7 +152,7 @@ module _ (schema : Schema) (sql : List ℕ) (at : ℕ) (name : List ℕ) (tree :
         let edit : Edit = record { table = table; gone = ids_of queried.0; news = [] } in
         let wrote = one_step schema Enforced db written.0 edit (idle (taken_by db edit)) written.1 in
         let after : new.now.trees ≡ written.0 = ap (λ (d : Database). d.trees) now ∙ trees in
-        let shown : IsPermutation (map (λ r. rowid r ∷ []) (filter (passes tests params) (db tree))) queried.0 = answered tree tests (col 1 0 ∷ []) db params queried.0 (queried.1.answer) in
+        let shown : IsPermutation (map (λ r. rowid r ∷ []) (filter (passes tests params) (db tree))) queried.0 = query_answered tree tests (col 1 0 ∷ []) db params queried.0 (queried.1.answer) in
         record {
           schema_is = ap (λ (d : Database). d.schema) now ∙ sym has;
           rows = ap (λ (t : Trees). t tree) after ∙ wrote.rows ∙ left_is (passes tests params) (λ _. []) (db tree) queried.0 apart shown;
@@ -176,7 +176,7 @@ module _ (schema : Schema) (sql : List ℕ) (at : ℕ) (name : List ℕ) (tree :
         let queried = went done.1 in
         let written = went queried.2 in
         let trees : done.0.trees ≡ written.0 = ap (λ (it : Written). it.trees) (same_value written.2) in
-        let shown : IsPermutation (map (shown_as (col 1 0 ∷ project) params) (filter (passes tests params) (db tree))) queried.0 = answered tree tests (col 1 0 ∷ project) db params queried.0 (queried.1.answer) in
+        let shown : IsPermutation (map (shown_as (col 1 0 ∷ project) params) (filter (passes tests params) (db tree))) queried.0 = query_answered tree tests (col 1 0 ∷ project) db params queried.0 (queried.1.answer) in
         let first = shown_as (col 1 0 ∷ project) params r in
         let rows : queried.0 ≡ first ∷ [] = one_permutation first queried.0 (subst (λ l. IsPermutation (map (shown_as (col 1 0 ∷ project) params) l) queried.0) one shown) in
         let fresh = cast_row table (shown_as project params r) in
@@ -212,7 +212,7 @@ module _ (schema : Schema) (sql : List ℕ) (at : ℕ) (name : List ℕ) (tree :
         let queried = went done.1 in
         let written = went queried.2 in
         let trees : done.0.trees ≡ written.0 = ap (λ (it : Written). it.trees) (same_value written.2) in
-        let shown : IsPermutation (map (shown_as (col 1 0 ∷ project) params) (filter p (db tree))) queried.0 = answered tree tests (col 1 0 ∷ project) db params queried.0 (queried.1.answer) in
+        let shown : IsPermutation (map (shown_as (col 1 0 ∷ project) params) (filter p (db tree))) queried.0 = query_answered tree tests (col 1 0 ∷ project) db params queried.0 (queried.1.answer) in
         let cut : Row → Row = λ s. cast_row table (drop 1 s) in
         let news = map cut queried.0 in
         let left = filter (λ r. not (p r)) (db tree) in

@@ -38,13 +38,13 @@ pub record Reading (round : Round) (On : State → Type 0) (Right : Database →
   pub told : HasRound round old.now.schema → Right old.now → HasCleanDisk new → Told old.now result
 
 -- all was committed
-abbrev pub IsSettled : State → Type 0
-IsSettled s = IsTrue s.is_open → s.now ≡ s.committed
+abbrev pub IsCommitted : State → Type 0
+IsCommitted s = IsTrue s.is_open → s.now ≡ s.committed
 
 -- What a call leaves that only looks at the tables, whatever the schema and the answer: nothing has
 -- changed outside a transaction, and a crash leaves what it left before.
 pub record OnlyLooks (old new : State) : Type 0 where
-  pub stays : IsSettled old → HasCleanDisk new → IsTrue new.is_open → Stays old new
+  pub stays : IsCommitted old → HasCleanDisk new → IsTrue new.is_open → Stays old new
   pub mode : old.in_transaction ≡ false → new.in_transaction ≡ false
   pub crash : Survives old new (λ _. ⊥)
 

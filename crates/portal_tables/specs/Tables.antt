@@ -40,8 +40,8 @@ schema_of name tree columns key primary uniques orders checks references = recor
 }
 
 -- the checks that a number is n, and that it is from `low` to `high`
-abbrev pub is_at : ℕ → ℕ → Term
-is_at place n = op2 (Compare Eq Binary) (col 1 place) (lit (Int (pos n)))
+abbrev pub is_number_at : ℕ → ℕ → Term
+is_number_at place n = op2 (Compare Eq Binary) (col 1 place) (lit (Int (pos n)))
 
 abbrev pub is_from : ℕ → ℕ → ℕ → Term
 is_from low high place = op2 And (op2 (Compare Ge Binary) (col 1 place) (lit (Int (pos low)))) (op2 (Compare Le Binary) (col 1 place) (lit (Int (pos high))))
@@ -50,13 +50,13 @@ abbrev pub portal : ℕ → Table
 portal tree = schema_of (codes "portal") tree
     (column_of (codes "id") Integer true ∷ column_of (codes "version") Integer true ∷ column_of (codes "phase") Integer true ∷
     column_of (codes "office") Text true ∷ [])
-    (Some 0) (0 ∷ []) [] [] (is_at 0 1 ∷ []) []
+    (Some 0) (0 ∷ []) [] [] (is_number_at 0 1 ∷ []) []
 
 abbrev pub lecturer_schema : ℕ → Table
 lecturer_schema tree = schema_of (codes "lecturer") tree
     (column_of (codes "key") Text true ∷ column_of (codes "name") Text true ∷ column_of (codes "code") Text true ∷
     column_of (codes "capacity") Integer true ∷ column_of (codes "ranked") Integer true ∷ [])
-    None (1 ∷ []) ((1 ∷ []) ∷ (3 ∷ []) ∷ []) (plain ∷ plain ∷ []) (is_from 1 200 4 ∷ op2 Or (is_at 5 0) (is_at 5 1) ∷ []) []
+    None (1 ∷ []) ((1 ∷ []) ∷ (3 ∷ []) ∷ []) (plain ∷ plain ∷ []) (is_from 1 200 4 ∷ op2 Or (is_number_at 5 0) (is_number_at 5 1) ∷ []) []
 
 abbrev pub project_schema : ℕ → Table
 project_schema tree = schema_of (codes "project") tree
@@ -109,7 +109,7 @@ ranking2 = list_table ranking2_names
 abbrev pub second : ℕ → Table
 second tree = schema_of (codes "second") tree
     (column_of (codes "id") Integer true ∷ column_of (codes "phase") Integer true ∷ [])
-    (Some 0) (0 ∷ []) [] [] (is_at 0 1 ∷ is_from 0 3 2 ∷ []) []
+    (Some 0) (0 ∷ []) [] [] (is_number_at 0 1 ∷ is_from 0 3 2 ∷ []) []
 
 abbrev pub ranked2 : ℕ → Table
 ranked2 tree = schema_of (codes "ranked2") tree (column_of (codes "lecturer") Text true ∷ [])

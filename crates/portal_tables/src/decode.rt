@@ -110,7 +110,7 @@ pub fn push_some<T: Drop>(all: &mut Vec<T>, item: Option<T>) -> Result<(), Alloc
 }
 
 /// Decodes the rows of a query's result in order. Stops at the first fault and returns it.
-pub fn decoded<T: FromCells>(alloc: Global, rows: &[Row]) -> Result<Vec<T>, TableFault>
+pub fn decode_rows<T: FromCells>(alloc: Global, rows: &[Row]) -> Result<Vec<T>, TableFault>
     ensures ok { IfOk result (λ v. v.items ≡ map T.shown rows.now) }
     ensures damaged { result ≡ Err TableFault.Damaged → AllByRecursion T.is_fine rows.now → ⊥ }
 {
@@ -163,5 +163,5 @@ pub(crate) fn list_from(alloc: Global, rows: &[Row]) -> Result<Vec<Key>, TableFa
     if !do_count_up(rows) {
         return Err(TableFault::Damaged);
     }
-    decoded(alloc, rows)
+    decode_rows(alloc, rows)
 }

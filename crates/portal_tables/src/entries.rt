@@ -5,7 +5,7 @@ ghost use Rattle.portal_tables.specs.inner.Base.{[], false, true, Err, IfOk, OnO
 ghost use Rattle.portal_tables.specs.inner.Base.{None, option_map, map, AllByRecursion, ⊤};
 ghost use Rattle.portal_tables.specs.inner.Base.{IsDatabase, has, Rise};
 ghost use Rattle.portal_tables.specs.Steps.{Reads, Gives};
-ghost use Rattle.portal_tables.specs.inner.Reads.{MayRead, Always, Answers, Blames};
+ghost use Rattle.portal_tables.specs.inner.Reads.{MayRead, Always, GivesOrFails, Blames};
 ghost use Rattle.portal_tables.specs.inner.Texts.{round_of};
 ghost use Rattle.portal_tables.specs.Tables.{tree_of};
 ghost use Rattle.portal_tables.specs.inner.Owners.{AreOwned, has_list, entry, with_list, IsRead};
@@ -32,7 +32,7 @@ pub fn list_in<S: Alter>(
     owner: &Key,
 ) -> Result<Vec<Key>, TableFault>
     ensures { Reads (round_of lists) S.Store Always
-        (Answers (λ db v. IsListOf owner.now (db.trees (tree_of lists)) v.items)
+        (GivesOrFails (λ db v. IsListOf owner.now (db.trees (tree_of lists)) v.items)
         (λ db fault. Blames fault (IsFineList owner.now (db.trees (tree_of lists)))))
         result conn.old conn.new }
 {
@@ -88,7 +88,7 @@ pub fn entry_in<S: Alter>(
     owner: &Row,
 ) -> Result<Option<(Key, Vec<Key>)>, TableFault>
     ensures { MayRead (round_of lists) S.Store IsDatabase
-        (Answers (λ db found. (option_map with_list found ≡ entry lists db.trees owner.now)
+        (GivesOrFails (λ db found. (option_map with_list found ≡ entry lists db.trees owner.now)
         × IsRead lists db.trees owner.now)
         (λ db fault. Blames fault (IsFine lists db.trees owner.now))) result conn.old conn.new }
 {
@@ -107,7 +107,7 @@ fn entries_each<S: Alter>(
     owners: &[Row],
 ) -> Result<Vec<(Key, Vec<Key>)>, TableFault>
     ensures { MayRead (round_of lists) S.Store IsDatabase
-        (Answers (λ db v. AreEntriesOf lists db.trees owners.now (map with_list v.items))
+        (GivesOrFails (λ db v. AreEntriesOf lists db.trees owners.now (map with_list v.items))
         (λ db fault. Blames fault (AllByRecursion (IsFine lists db.trees) owners.now)))
         result conn.old conn.new }
 {
@@ -138,7 +138,7 @@ fn see_owners<S: Alter>(
     owners: &[Row],
 ) -> Result<(), TableFault>
     ensures { Reads (round_of lists) S.Store Always
-        (Answers (λ db _. ⊤) (λ db fault. Blames fault (AreOwned lists db.trees owners.now)))
+        (GivesOrFails (λ db _. ⊤) (λ db fault. Blames fault (AreOwned lists db.trees owners.now)))
         result conn.old conn.new }
 {
     let rows = read_rows(alloc, conn, Query::AllLists(lists))?;
@@ -160,7 +160,7 @@ pub fn entries_in<S: Alter>(
     owners: &[Row],
 ) -> Result<Vec<(Key, Vec<Key>)>, TableFault>
     ensures { Reads (round_of lists) S.Store IsDatabase
-        (Answers (λ db v. AreEntriesOf lists db.trees owners.now (map with_list v.items))
+        (GivesOrFails (λ db v. AreEntriesOf lists db.trees owners.now (map with_list v.items))
         (λ db fault. Blames fault (AreOwned lists db.trees owners.now
         × AllByRecursion (IsFine lists db.trees) owners.now))) result conn.old conn.new }
 {

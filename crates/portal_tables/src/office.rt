@@ -6,7 +6,7 @@ ghost use Rattle.portal_tables.specs.inner.Base.{List, ℕ, Int, Cells, column, 
 ghost use Rattle.portal_tables.specs.inner.Base.{ThePhase, First, InSecond, IsDatabase};
 ghost use Rattle.portal_tables.specs.Tables.{portal_tree, second_tree};
 ghost use Rattle.portal_tables.specs.Steps.{Reads};
-ghost use Rattle.portal_tables.specs.inner.Reads.{Always, Answers, Blames};
+ghost use Rattle.portal_tables.specs.inner.Reads.{Always, GivesOrFails, Blames};
 ghost use Rattle.portal_tables.specs.Rows.{portal_row, second_row, number_of_phase, HasOffice};
 ghost use Rattle.portal_tables.specs.inner.RowChanges.{IsOffice, IsSecond};
 
@@ -103,7 +103,7 @@ pub fn office_in<S: Alter>(
     version: u32,
 ) -> Result<Office, TableFault>
     ensures { Reads First S.Store Always
-        (Answers (λ db office. IsDatabase db → db.trees portal_tree
+        (GivesOrFails (λ db office. IsDatabase db → db.trees portal_tree
         ≡ portal_row (pos version) (pos (number_of_phase office.phase)) office.code ∷ [])
         (λ db fault. (office : HasOffice version (db.trees portal_tree))
         → Blames fault (is_code office.office ≡ true))) result conn.old conn.new }
@@ -132,7 +132,7 @@ fn second_from(rows: &[Row]) -> Result<Phase, TableFault>
 /// store reports an error, and with `Memory` if memory runs out.
 pub fn second_in<S: Alter>(alloc: Global, conn: &mut Connection<S>) -> Result<Phase, TableFault>
     ensures { Reads InSecond S.Store Always
-        (Answers (λ db phase. IsDatabase db
+        (GivesOrFails (λ db phase. IsDatabase db
         → db.trees second_tree ≡ second_row (pos (number_of_phase phase)) ∷ [])
         (λ db fault. (phase : ThePhase) → Blames fault
         (db.trees second_tree ≡ second_row (pos (number_of_phase phase)) ∷ [])))

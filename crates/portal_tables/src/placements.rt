@@ -4,14 +4,14 @@ ghost use Rattle.std.specs.Prelude.{◌≡◌, is_none};
 ghost use Rattle.portal_tables.specs.inner.Base.{true, Err, None, IfOk, AllByRecursion, filter_map};
 ghost use Rattle.portal_tables.specs.inner.Base.{IsDatabase, IsStudent, First, InSecond};
 ghost use Rattle.portal_tables.specs.Steps.{Reads};
-ghost use Rattle.portal_tables.specs.inner.Reads.{MayRead, Always, Answers, Blames};
+ghost use Rattle.portal_tables.specs.inner.Reads.{MayRead, Always, GivesOrFails, Blames};
 ghost use Rattle.portal_tables.specs.inner.Shown.{shown_student};
 ghost use Rattle.portal_tables.specs.inner.Placements as meant;
 ghost use Rattle.portal_tables.specs.Rows.{second_placement};
 ghost use Rattle.portal_tables.specs.inner.Placements.{placement_shown, placement_before};
 ghost use Rattle.portal_tables.specs.inner.Placements.{result_shown, pair_shown, HasFirstPlace};
-ghost use Rattle.portal_tables.specs.inner.Placements.{HasPlacement, HasPlacementAsked, HasKeys};
-ghost use Rattle.portal_tables.specs.inner.Placements.{HasSecondPlace, pair_told, places_shown};
+ghost use Rattle.portal_tables.specs.inner.Placements.{HasPlacement, HasPlacementAsked, HasPairKeys};
+ghost use Rattle.portal_tables.specs.inner.Placements.{HasSecondPlace, first_pair, places_shown};
 ghost use Rattle.portal_tables.specs.inner.Placements.{first_pairs};
 ghost use Rattle.portal_tables.specs.inner.Rolls.{RollRises};
 ghost use Rattle.portal_tables.specs.declared.select.RollTable.TheVariants.{Students};
@@ -20,7 +20,7 @@ use crate::cells::{assigned_at, bytes_at, is_null, key_at};
 use crate::decode::{at_most_one, push_some};
 use crate::fault::TableFault;
 use crate::select::{Query, read_each};
-use crate::sorted_rolls::rising;
+use crate::sorted_rolls::read_in_order;
 use portal_rules::{Phase, Round};
 use spa_rows::Key;
 use sqlite::{Alter, Connection, Row};
@@ -33,7 +33,7 @@ pub fn second_placement_in<S: Alter>(
     student: &[u8],
 ) -> Result<Option<Key>, TableFault>
     ensures { Reads InSecond S.Store IsDatabase
-        (Answers (λ db p. p ≡ second_placement db.trees student.now)
+        (GivesOrFails (λ db p. p ≡ second_placement db.trees student.now)
         (λ db fault. Blames fault (HasSecondPlace db.trees student.now)))
         result conn.old conn.new }
 {
@@ -51,7 +51,7 @@ pub(crate) fn placement_in<S: Alter>(
     row: &Row,
 ) -> Result<Option<Key>, TableFault>
     ensures { MayRead round S.Store IsDatabase
-        (Answers (λ db p. p ≡ placement_shown round db.trees row.now)
+        (GivesOrFails (λ db p. p ≡ placement_shown round db.trees row.now)
         (λ db fault. Blames fault (HasPlacement round db.trees row.now)))
         result conn.old conn.new }
 {
@@ -92,7 +92,7 @@ pub fn result_in<S: Alter>(
     row: &Row,
 ) -> Result<Option<Key>, TableFault>
     ensures { MayRead round S.Store IsDatabase
-        (Answers (λ db p. p ≡ result_shown round db.trees phase row.now)
+        (GivesOrFails (λ db p. p ≡ result_shown round db.trees phase row.now)
         (λ db fault. Blames fault (HasFirstPlace row.now × HasPlacement round db.trees row.now)))
         result conn.old conn.new }
 {
@@ -115,7 +115,7 @@ fn placement_asked<S: Alter>(
     row: &Row,
 ) -> Result<Option<Key>, TableFault>
     ensures { MayRead round S.Store IsDatabase
-        (Answers (λ db p. p ≡ meant.placement_asked round phase db.trees row.now)
+        (GivesOrFails (λ db p. p ≡ meant.placement_asked round phase db.trees row.now)
         (λ db fault. Blames fault (HasPlacementAsked round phase db.trees row.now)))
         result conn.old conn.new }
 {
@@ -134,7 +134,7 @@ fn pair_in<S: Alter>(
     row: &Row,
 ) -> Result<Option<(Key, Key)>, TableFault>
     ensures { MayRead round S.Store IsDatabase
-        (Answers (λ db o. o ≡ pair_shown round phase db.trees row.now)
+        (GivesOrFails (λ db o. o ≡ pair_shown round phase db.trees row.now)
         (λ db fault. Blames fault (IsStudent (shown_student row.now)
         × HasPlacementAsked round phase db.trees row.now))) result conn.old conn.new }
 {
@@ -155,7 +155,7 @@ pub fn pairs_in<S: Alter>(
     rows: &[Row],
 ) -> Result<Vec<(Key, Key)>, TableFault>
     ensures { MayRead round S.Store IsDatabase
-        (Answers (λ db v. v.items ≡ filter_map (pair_shown round phase db.trees) rows.now)
+        (GivesOrFails (λ db v. v.items ≡ filter_map (pair_shown round phase db.trees) rows.now)
         (λ db fault. Blames fault (AllByRecursion (λ c. IsStudent (shown_student c)) rows.now
         × AllByRecursion (HasPlacementAsked round phase db.trees) rows.now)))
         result conn.old conn.new }
@@ -170,8 +170,8 @@ pub fn pairs_in<S: Alter>(
 
 /// Decodes a row of key and placement into a pair, or `None` without a placement.
 fn pair_at(alloc: Global, row: &Row) -> Result<Option<(Key, Key)>, TableFault>
-    ensures ok { IfOk result (λ pair. pair ≡ pair_told row.now) }
-    ensures damaged { result ≡ Err TableFault.Damaged → HasKeys row.now → ⊥ }
+    ensures ok { IfOk result (λ pair. pair ≡ first_pair row.now) }
+    ensures damaged { result ≡ Err TableFault.Damaged → HasPairKeys row.now → ⊥ }
 {
     match assigned_at(alloc, row, 1)? {
         Some(project) => Ok(Some((key_at(alloc, row, 0)?, project))),
@@ -181,8 +181,8 @@ fn pair_at(alloc: Global, row: &Row) -> Result<Option<(Key, Key)>, TableFault>
 
 /// Decodes rows of key and placement into pairs, in order, without the unplaced students.
 fn pairs_from(alloc: Global, rows: &[Row]) -> Result<Vec<(Key, Key)>, TableFault>
-    ensures ok { IfOk result (λ v. v.items ≡ filter_map pair_told rows.now) }
-    ensures damaged { result ≡ Err TableFault.Damaged → AllByRecursion HasKeys rows.now → ⊥ }
+    ensures ok { IfOk result (λ v. v.items ≡ filter_map first_pair rows.now) }
+    ensures damaged { result ≡ Err TableFault.Damaged → AllByRecursion HasPairKeys rows.now → ⊥ }
 {
     let mut pairs = Vec::new(alloc);
     for row in rows {
@@ -200,10 +200,10 @@ pub fn first_pairs_in<S: Alter>(
     conn: &mut Connection<S>,
 ) -> Result<Vec<(Key, Key)>, TableFault>
     ensures { Reads First S.Store Always
-        (Answers (λ db v. v.items ≡ first_pairs db.trees)
+        (GivesOrFails (λ db v. v.items ≡ first_pairs db.trees)
         (λ db fault. Blames fault (IsDatabase db × RollRises Students db.trees
-        × AllByRecursion HasKeys (places_shown db.trees)))) result conn.old conn.new }
+        × AllByRecursion HasPairKeys (places_shown db.trees)))) result conn.old conn.new }
 {
-    let rows = rising(alloc, conn, Query::FirstPlacements)?;
+    let rows = read_in_order(alloc, conn, Query::FirstPlacements)?;
     pairs_from(alloc, &rows)
 }

@@ -6,7 +6,7 @@ ghost use Rattle.portal_tables.specs.Tables.{assigned2_tree};
 ghost use Rattle.portal_tables.specs.inner.Putting.{PutsPlacements};
 ghost use Rattle.portal_tables.specs.inner.Running.{Does, Made, GoesOn};
 ghost use Rattle.portal_tables.specs.inner.RowChanges.{Assigns, pair_new};
-ghost use Rattle.portal_tables.specs.inner.RowChanges.{text_cell as text_or_null_of};
+ghost use Rattle.portal_tables.specs.inner.RowChanges.{text_or_null_cell};
 
 use crate::insert::{Target, add_all};
 use crate::run::write;
@@ -34,7 +34,7 @@ impl<'a> Model for Assignment<'a> {
 
 /// Returns the key of an assigned project as an SQL value, or NULL for `None`.
 fn text_or_null(text: Option<&[u8]>) -> ValueRef<'_>
-    ensures { owned result ≡ text_or_null_of (option_map (λ t. t.now) text.entry) }
+    ensures { owned result ≡ text_or_null_cell (option_map (λ t. t.now) text.entry) }
 {
     match text {
         Some(text) => ValueRef::Text(text),

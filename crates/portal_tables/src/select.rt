@@ -4,10 +4,10 @@ ghost use Rattle.std.specs.Prelude.{◌≡◌};
 ghost use Rattle.portal_tables.specs.inner.Base.{Begins, Err, HasCleanDisk, IfOk, List};
 ghost use Rattle.portal_tables.specs.inner.Base.{AllByRecursion, Cells, bound, state};
 ghost use Rattle.portal_tables.specs.inner.Decoding.{ShowsAs, FindsAny};
-ghost use Rattle.portal_tables.specs.inner.Queries.{Shows, round_asked, query_text, given};
+ghost use Rattle.portal_tables.specs.inner.Queries.{QueryShows, round_asked, query_text, given};
 ghost use Rattle.portal_tables.specs.inner.Queries as texts;
 ghost use Rattle.portal_tables.specs.Steps.{Reads, Gives};
-ghost use Rattle.portal_tables.specs.inner.Reads.{Always, Answers, Blames};
+ghost use Rattle.portal_tables.specs.inner.Reads.{Always, GivesOrFails, Blames};
 ghost use Rattle.portal_tables.specs.inner.Shown.{as_list};
 
 use crate::decode::FromCells;
@@ -200,7 +200,7 @@ fn values<'a>(value: &'a Option<ValueRef<'a>>) -> &'a [ValueRef<'a>]
 /// are those of the query's text.
 pub fn read<S: Alter>(conn: &mut Connection<S>, query: Query<'_>) -> Result<Vec<Row>, Error>
     ensures reads { Reads (round_asked query.entry) S.Store Always
-        (Gives (λ db rows. Shows query.entry db.trees rows.items)) result conn.old conn.new }
+        (Gives (λ db rows. QueryShows query.entry db.trees rows.items)) result conn.old conn.new }
     ensures begins { HasCleanDisk (state S.Store conn.new)
         → IfOk result (λ rows. Begins (query_text query.entry) (given query.entry)
         (state S.Store conn.new) rows.items) }
@@ -216,8 +216,8 @@ pub fn read_each<S: Alter, T: FromCells>(
     query: Query<'_>,
 ) -> Result<Vec<T>, TableFault>
     ensures reads { Reads (round_asked query.entry) S.Store Always
-        (Answers (λ db v. ShowsAs T.shown (Shows query.entry db.trees) v.items)
-        (λ db fault. Blames fault ((rows : List Cells) → Shows query.entry db.trees rows
+        (GivesOrFails (λ db v. ShowsAs T.shown (QueryShows query.entry db.trees) v.items)
+        (λ db fault. Blames fault ((rows : List Cells) → QueryShows query.entry db.trees rows
         → AllByRecursion T.is_fine rows))) result conn.old conn.new }
     ensures undamaged { result ≡ Err TableFault.Damaged → ((c : Cells) → T.is_fine c) → ⊥ }
 {
@@ -231,7 +231,7 @@ pub fn read_rows<S: Alter>(
     query: Query<'_>,
 ) -> Result<Vec<Row>, TableFault>
     ensures reads { Reads (round_asked query.entry) S.Store Always
-        (Gives (λ db rows. Shows query.entry db.trees rows.items)) result conn.old conn.new }
+        (Gives (λ db rows. QueryShows query.entry db.trees rows.items)) result conn.old conn.new }
     ensures undamaged { result ≡ Err TableFault.Damaged → ⊥ }
 {
     read_each(alloc, conn, query)
@@ -240,7 +240,7 @@ pub fn read_rows<S: Alter>(
 /// Runs one of the queries and returns whether it finds any row. Reads at most one row.
 pub fn finds_any<S: Alter>(conn: &mut Connection<S>, query: Query<'_>) -> Result<bool, Error>
     ensures { Reads (round_asked query.entry) S.Store Always
-        (Gives (λ db. FindsAny (Shows query.entry db.trees))) result conn.old conn.new }
+        (Gives (λ db. FindsAny (QueryShows query.entry db.trees))) result conn.old conn.new }
 {
     run::query_any(conn, query.text(), values(&query.value()))
 }

@@ -5,15 +5,15 @@ ghost use Rattle.portal_tables.specs.inner.Base.{Err, IfOk, List, Cells, map};
 ghost use Rattle.portal_tables.specs.inner.Base.{AllByRecursion, IsDatabase, IsLecturer, IsProject};
 ghost use Rattle.portal_tables.specs.inner.Base.{IsStudent, Rise, First, has, nat_cmp};
 ghost use Rattle.portal_tables.specs.inner.Base.{slice_cmp};
-ghost use Rattle.portal_tables.specs.inner.Queries.{Shows, round_asked};
+ghost use Rattle.portal_tables.specs.inner.Queries.{QueryShows, round_asked};
 ghost use Rattle.portal_tables.specs.Steps.{Reads};
-ghost use Rattle.portal_tables.specs.inner.Reads.{Always, Answers, Blames};
+ghost use Rattle.portal_tables.specs.inner.Reads.{Always, GivesOrFails, Blames};
 ghost use Rattle.portal_tables.specs.inner.Rolls.{roll_rows, RollRises, AreRolls, RollsRise};
 ghost use Rattle.portal_tables.specs.inner.Shown.{first_cell, shown_lecturer, shown_project};
 ghost use Rattle.portal_tables.specs.inner.Shown.{shown_student};
 
 use crate::cells::bytes_at;
-use crate::decode::{decoded, do_rise};
+use crate::decode::{decode_rows, do_rise};
 use crate::fault::TableFault;
 use crate::select::{Query, RollTable, read_rows};
 use portal_rules::{LecturerRow, ProjectRow, StudentRow};
@@ -24,14 +24,14 @@ use std::cmp::Ordering;
 /// Reads the rows of any query, which must be in key order. Fails with `Damaged` if the keys in
 /// column 0 are not strictly ascending. Fails with `Store` if the store reports an error, and with
 /// `Memory` if memory runs out.
-pub fn rising<S: Alter>(
+pub fn read_in_order<S: Alter>(
     alloc: Global,
     conn: &mut Connection<S>,
     query: Query<'_>,
 ) -> Result<Vec<Row>, TableFault>
     ensures reads { Reads (round_asked query.entry) S.Store Always
-        (Answers (λ db rows. Shows query.entry db.trees rows.items)
-        (λ db fault. Blames fault ((rows : List Cells) → Shows query.entry db.trees rows
+        (GivesOrFails (λ db rows. QueryShows query.entry db.trees rows.items)
+        (λ db fault. Blames fault ((rows : List Cells) → QueryShows query.entry db.trees rows
         → Rise (map first_cell rows)))) result conn.old conn.new }
     ensures rise { IfOk result (λ rows. Rise (map first_cell rows.items)) }
 {
@@ -56,18 +56,18 @@ pub fn is_named(rows: &[Row], key: &[u8]) -> bool
 }
 
 /// Reads a roll, sorted by key. Fails with `Damaged` if the keys are not strictly ascending, and
-/// otherwise like `rising`.
+/// otherwise like `read_in_order`.
 pub fn roll_in<S: Alter>(
     alloc: Global,
     conn: &mut Connection<S>,
     roll: RollTable,
 ) -> Result<Vec<Row>, TableFault>
     ensures { Reads First S.Store Always
-        (Answers (λ db v. v.items ≡ roll_rows roll db.trees)
+        (GivesOrFails (λ db v. v.items ≡ roll_rows roll db.trees)
         (λ db fault. Blames fault (IsDatabase db × RollRises roll db.trees)))
         result conn.old conn.new }
 {
-    rising(alloc, conn, Query::Whole(roll))
+    read_in_order(alloc, conn, Query::Whole(roll))
 }
 
 /// The rows of the rolls, as queries return them, sorted by key.
@@ -84,7 +84,7 @@ pub struct Rolls {
 /// Reads the three rolls, each sorted by key. Stops at the first fault and returns it.
 pub fn rolls_in<S: Alter>(alloc: Global, conn: &mut Connection<S>) -> Result<Rolls, TableFault>
     ensures { Reads First S.Store Always
-        (Answers (λ db. AreRolls db.trees)
+        (GivesOrFails (λ db. AreRolls db.trees)
         (λ db fault. Blames fault (IsDatabase db × RollsRise db.trees)))
         result conn.old conn.new }
 {
@@ -121,8 +121,8 @@ pub fn parts_of(alloc: Global, rolls: &Rolls) -> Result<Parts, TableFault>
         → AllByRecursion (λ c. IsStudent (shown_student c)) rolls.now.students.items → ⊥ }
 {
     Ok(Parts {
-        lecturers: decoded(alloc, &rolls.lecturers)?,
-        projects: decoded(alloc, &rolls.projects)?,
-        students: decoded(alloc, &rolls.students)?,
+        lecturers: decode_rows(alloc, &rolls.lecturers)?,
+        projects: decode_rows(alloc, &rolls.projects)?,
+        students: decode_rows(alloc, &rolls.students)?,
     })
 }

@@ -3,7 +3,7 @@
 ghost use Rattle.std.specs.Prelude.{◌≡◌};
 ghost use Rattle.portal_tables.specs.inner.Base.{false, Err, OnOk, OnErr, IsTrue, HasCleanDisk};
 ghost use Rattle.portal_tables.specs.inner.Base.{Survives, state, Database, IsLive};
-ghost use Rattle.portal_tables.specs.Steps.{Commits, IsAfter, IsSettled, LeavesOnly, Stays};
+ghost use Rattle.portal_tables.specs.Steps.{Commits, IsAfter, IsCommitted, LeavesOnly, Stays};
 ghost use Rattle.portal_tables.specs.inner.Running.{Does, GoesOn};
 
 use crate::fault::TableFault;
@@ -24,7 +24,7 @@ pub trait Step {
 /// connection shows what is committed, and an open one has a sound database.
 pub fn settled<S: Alter>(conn: &Connection<S>)
     requires idle { conn.now.in_transaction ≡ false }
-    ensures settled { IsSettled (state S.Store conn.now) }
+    ensures settled { IsCommitted (state S.Store conn.now) }
     ensures live { IsLive (state S.Store conn.now) }
 {
     let _idle = conn.is_autocommit();

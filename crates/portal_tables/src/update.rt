@@ -2,7 +2,7 @@
 
 ghost use Rattle.portal_tables.specs.Rows.{number_of_phase};
 ghost use Rattle.portal_tables.specs.inner.Running.{Does, Made};
-ghost use Rattle.portal_tables.specs.inner.RowChanges.{IsOfVersion, MovesSecond, MovesTo, Ranks};
+ghost use Rattle.portal_tables.specs.inner.RowChanges.{IsOfVersion, MovesSecond, MovesTo, MarksRanked};
 ghost use Rattle.portal_tables.specs.inner.Putting.{RanksSecond};
 
 use crate::office::phase_number;
@@ -47,7 +47,7 @@ pub(crate) fn set_version<S: Alter>(tx: &mut Transaction<'_, S>, version: u32) -
 
 /// Records that a lecturer has a ranking in the first round, by a flag in the row.
 pub fn set_ranked<S: Alter>(tx: &mut Transaction<'_, S>, lecturer: &[u8]) -> Result<(), Error>
-    ensures { Does S.Store (Made (Ranks lecturer.now)) result tx.old tx.new }
+    ensures { Does S.Store (Made (MarksRanked lecturer.now)) result tx.old tx.new }
 {
     write(
         tx,

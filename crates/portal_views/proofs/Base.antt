@@ -70,13 +70,16 @@ pub use Rattle.portal_views.specs.inner.Base.{LecturerRow, List, Listing, None, 
 pub use Rattle.portal_views.specs.inner.Base.{Second, Some, Trees, Vec, [], bytes, column, false, filter, filter_map}
 pub use Rattle.portal_views.specs.inner.Base.{find, has, equals, is_at, Trees, length, listing_with, map, not}
 pub use Rattle.portal_views.specs.inner.Base.{option_map, put, state, IsLecturer, IsProject, IsStudent, Person}
-pub use Rattle.portal_views.specs.inner.Callers.{AreTold, applicants_told, lecturer_shown, lines_shown, own_keys_shown}
-pub use Rattle.portal_views.specs.inner.Callers.{person_key, persons_at, placed_at_shown, placed_told, HasOwnKeys}
+pub use Rattle.portal_views.specs.inner.Callers.{AreStudentsOf, applicants_of_projects, lecturer_shown, lines_shown}
+pub use Rattle.portal_views.specs.inner.Callers.{own_keys_shown}
+pub use Rattle.portal_views.specs.inner.Callers.{person_key, persons_at, placed_at_shown, placed_of_projects}
+pub use Rattle.portal_views.specs.inner.Callers.{HasOwnKeys}
 pub use Rattle.portal_views.specs.inner.Callers.{student_shown}
 pub use Rattle.portal_views.specs.inner.Catalogue.{catalogue_shown, own_listed, offered_in}
 pub use Rattle.portal_views.specs.inner.Contents.{rows_from, rows_held, HasReadOf, HasFineRows}
 pub use Rattle.portal_views.specs.inner.Lines.{HasTables, applicant_lines, in_round, applicant_at, shown_line}
-pub use Rattle.portal_views.specs.inner.Lines.{told_line, HasKey, HasStudents, IsStudentKey, IsNamed, IsTold}
+pub use Rattle.portal_views.specs.inner.Lines.{placement_line, HasKeyForm, HasStudents, IsStudentKey, IsNamed}
+pub use Rattle.portal_views.specs.inner.Lines.{IsNamedWithPlacement}
 pub use Rattle.portal_views.specs.inner.Office.{HasWholeLists, is_chosen_shown, is_wanted_shown, office_sees_with}
 pub use Rattle.portal_views.specs.inner.Office.{unlisted, waiting_key, waiting_keys, AreReadable}
 pub use Rattle.spa_rows.specs.Lines.{is_key}

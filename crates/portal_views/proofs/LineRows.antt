@@ -6,7 +6,7 @@ use Rattle.portal_views.proofs.Base.{Trees, Database, Round, First, Second, Stud
 use Rattle.portal_views.proofs.Base.{equals, has, is_before, Rise, all_map, all_weaker, before_other, rise_kept}
 use Rattle.portal_views.proofs.Base.{is_same, is_own, all_unmap, row_key, by_key, roll_columns, students_shown}
 use Rattle.portal_views.proofs.Base.{student_tree, ListsBy, columns, has_text, chosen, ShowsAs, first_cell, HasTables}
-use Rattle.portal_views.proofs.Base.{in_round, shown_line, told_line, applicant_at, applicant_lines, ApplicantLine}
+use Rattle.portal_views.proofs.Base.{in_round, shown_line, placement_line, applicant_at, applicant_lines, ApplicantLine}
 use Rattle.portal_views.proofs.Base.{all_of, found, at, has_of, one_order, map_alike_on, map_twice}
 use Rattle.portal_views.proofs.Choosers.{chooser, choosers_known}
 use Rattle.portal_views.proofs.Owners.{keys_shown}
@@ -15,19 +15,19 @@ use Rattle.portal_tables.proofs.Lists.{sifted}
 use Rattle.portal_rules.proofs.Keys.{find_map}
 use Rattle.sqlite_rules.proofs.ListLemmas.{has_filtered, some_has}
 
-only_told : (shown : List Row) (l : ApplicantLine) → map told_line shown ≡ l ∷ []
-    → (c : Row) × (shown ≡ c ∷ []) × (told_line c ≡ l)
+only_told : (shown : List Row) (l : ApplicantLine) → map placement_line shown ≡ l ∷ []
+    → (c : Row) × (shown ≡ c ∷ []) × (placement_line c ≡ l)
 only_told (c ∷ []) l e = (c, refl, cc)
 only_told _ l e = absurd (cc)
 
 -- the only row of a key tells the line of its student
 pub first_told : (db : Database) → HasTables db → (key : Key) (lines : List ApplicantLine)
-    → ShowsAs told_line (ListsBy (1 ∷ []) (has_text 1 key) (columns (1 ∷ 2 ∷ 4 ∷ [])) (db.trees student_tree)) lines
+    → ShowsAs placement_line (ListsBy (1 ∷ []) (has_text 1 key) (columns (1 ∷ 2 ∷ 4 ∷ [])) (db.trees student_tree)) lines
     → (l : ApplicantLine) → lines ≡ l ∷ [] → Some l ≡ applicant_at First db.trees key
 first_told db tables key lines shows l only =
     let one = only_told shows.rows l (sym shows.decoded ∙ only) in
     let table = db.trees student_tree in
-    let told = found (1 ∷ []) (has_text 1 key) (columns (1 ∷ 2 ∷ 4 ∷ [])) (λ r. shown_line First db.trees (roll_columns r)) told_line (λ (x : ApplicantLine). equals x.person.key key) (λ r. refl) table shows.rows
+    let told = found (1 ∷ []) (has_text 1 key) (columns (1 ∷ 2 ∷ 4 ∷ [])) (λ r. shown_line First db.trees (roll_columns r)) placement_line (λ (x : ApplicantLine). equals x.person.key key) (λ r. refl) table shows.rows
     (all_weaker IsStudentRow (λ r. has_text 1 key r ≡ equals (row_key r) key) (student_test key) table (student_rows_formed db tables.own tables.sound tables.apart.1.1.1.0)) shows.shown (Some one.0) (sym one.1) in
     ap Some (sym one.2) ∙ told ∙ ap (find (λ (x : ApplicantLine). equals x.person.key key)) (map_twice (shown_line First db.trees) roll_columns (by_key table)) ∙ find_map (shown_line First db.trees) (λ c. equals (first_cell c) key) (λ (x : ApplicantLine). equals x.person.key key) (λ c. refl) (students_shown db.trees)
 
@@ -40,7 +40,7 @@ by_round Second db None = refl
 by_round Second db (Some c) = refl
 
 pub line_told : (round : Round) (db : Database) → HasTables db → (key : Key) (lines : List ApplicantLine)
-    → ShowsAs told_line (ListsBy (1 ∷ []) (has_text 1 key) (columns (1 ∷ 2 ∷ 4 ∷ [])) (db.trees student_tree)) lines
+    → ShowsAs placement_line (ListsBy (1 ∷ []) (has_text 1 key) (columns (1 ∷ 2 ∷ 4 ∷ [])) (db.trees student_tree)) lines
     → (l : ApplicantLine) → lines ≡ l ∷ [] → Some (in_round round db.trees l) ≡ applicant_at round db.trees key
 line_told round db tables key lines shows l only =
     ap (option_map (in_round round db.trees)) (first_told db tables key lines shows l only) ∙ by_round round db.trees (find (λ c. equals (first_cell c) key) (students_shown db.trees))

@@ -6,8 +6,10 @@ use Rattle.portal_views.proofs.Base.{all-filter, all_map, all_permuted, all_two,
 use Rattle.portal_views.proofs.Base.{any_map, ap, arith, by_key, columns, equals, filter, find, first_cell, has}
 use Rattle.portal_views.proofs.Base.{has_text, is_sym, length, list_any, list_any-IsPermutation, map, of_key}
 use Rattle.portal_views.proofs.Base.{option_map, permuted, permutes, refl, roll_columns, row_key, shown_line}
-use Rattle.portal_views.proofs.Base.{student_rows_formed, student_test, student_tree, students_shown, sym, told_line}
-use Rattle.portal_views.proofs.Base.{true, length-map, length_permutation, IsPermutation-sym, IsNamed, IsTold}
+use Rattle.portal_views.proofs.Base.{student_rows_formed, student_test, student_tree, students_shown, sym}
+use Rattle.portal_views.proofs.Base.{placement_line}
+use Rattle.portal_views.proofs.Base.{true, length-map, length_permutation, IsPermutation-sym, IsNamed}
+use Rattle.portal_views.proofs.Base.{IsNamedWithPlacement}
 use Rattle.sqlite_rules.proofs.ListLemmas.{all_has, contains_had, has_found, has_kept, some_has}
 use Rattle.portal_views.proofs.LineRows.{first_told}
 use Rattle.portal_views.proofs.OneKey.{one_row}
@@ -31,17 +33,17 @@ module _ (db : Database) (key : Key) where
 
   -- each cell that is shown of a student has its form
   pub told_fine : (round : Round) → HasStudents round db → (shown : List Row) → Shown shown
-      → AllByRecursion IsTold shown
+      → AllByRecursion IsNamedWithPlacement shown
   told_fine round students shown lists =
       let IsGood : Row → Type 0 = λ c. IsNamed c × HasFirstPlace c in
       let roll : AllByRecursion IsGood (students_shown db.trees) = all_two IsNamed HasFirstPlace IsGood (λ c n p. (n, p)) (students_shown db.trees) students.persons students.first in
       let rows : AllByRecursion (λ r. IsGood (roll_columns r)) table = all_permuted (λ r. IsGood (roll_columns r)) (by_key table) table (IsPermutation-sym _ _ (permutes row_key table)) (all_unmap IsGood roll_columns (by_key table) roll) in
-      all_permuted IsTold _ shown (permuted _ _ _ table shown lists)
-      (all_map IsTold (columns (1 ∷ 2 ∷ 4 ∷ [])) (filter (has_text 1 key) table) (all-filter (λ r. IsGood (roll_columns r)) (has_text 1 key) table rows))
+      all_permuted IsNamedWithPlacement _ shown (permuted _ _ _ table shown lists)
+      (all_map IsNamedWithPlacement (columns (1 ∷ 2 ∷ 4 ∷ [])) (filter (has_text 1 key) table) (all-filter (λ r. IsGood (roll_columns r)) (has_text 1 key) table rows))
 
   -- of a student on the roll there is one row
   pub lines_once : HasTables db → IsStudentKey db.trees key → (lines : List ApplicantLine)
-      → ShowsAs told_line Shown lines → length lines ≡ 1
+      → ShowsAs placement_line Shown lines → length lines ≡ 1
   lines_once tables on lines shows =
       let roll = by_key table in
       let mine : List Row = of_key key table in
@@ -54,11 +56,12 @@ module _ (db : Database) (key : Key) where
       let high = one_row db Students tables.current tables.sound tables.apart.1.1.1.0 key in
       let shown : length shows.rows ≡ length mine =
       length_permutation (map (columns (1 ∷ 2 ∷ 4 ∷ [])) mine) shows.rows (permuted _ _ _ table shows.rows shows.shown) ∙ length-map mine (columns (1 ∷ 2 ∷ 4 ∷ [])) in
-      let told : length lines ≡ length shows.rows = ap length shows.decoded ∙ length-map shows.rows told_line in
+      let told : length lines ≡ length shows.rows = ap length shows.decoded ∙ length-map shows.rows placement_line in
       omega (arith, low, high, shown, told)
 
   -- which is that of the line
-  pub line_row : (round : Round) → HasStudents round db → (lines : List ApplicantLine) → ShowsAs told_line Shown lines
+  pub line_row : (round : Round) → HasStudents round db → (lines : List ApplicantLine)
+      → ShowsAs placement_line Shown lines
       → (l : ApplicantLine) → lines ≡ l ∷ []
       → (c : Row) × (first_cell c ≡ l.person.key) × HasPlacement round db.trees c
   line_row round students lines shows l only =

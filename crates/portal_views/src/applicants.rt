@@ -6,9 +6,9 @@ ghost use Rattle.portal_views.specs.inner.Base.{is_from_ranking, Contradicts};
 ghost use Rattle.portal_views.specs.inner.Base.{Person as ThatPerson};
 ghost use Rattle.portal_views.specs.inner.Callers.{with_persons, lines_shown, persons_at};
 ghost use Rattle.portal_views.specs.inner.Callers.{persons_before, placed_at_shown};
-ghost use Rattle.portal_views.specs.inner.Callers.{AreTold, person_key};
+ghost use Rattle.portal_views.specs.inner.Callers.{AreStudentsOf, person_key};
 ghost use Rattle.portal_views.specs.inner.Lines.{HasTables, HasStudents};
-ghost use Rattle.portal_tables.specs.inner.Reads.{MayRead, Answers};
+ghost use Rattle.portal_tables.specs.inner.Reads.{MayRead, GivesOrFails};
 
 use crate::lines::{ApplicantLine, lines_to, persons_of};
 use portal_rules::{Person, Phase, Round};
@@ -26,7 +26,7 @@ fn lines_in<S: Alter>(
     project: &Key,
 ) -> Result<Vec<ApplicantLine>, TableFault>
     ensures { MayRead round S.Store HasTables
-        (Answers (λ db v. v.items ≡ lines_shown round db.trees phase project.now)
+        (GivesOrFails (λ db v. v.items ≡ lines_shown round db.trees phase project.now)
         (Contradicts (HasStudents round))) result conn.old conn.new }
 {
     if phase.is_from_ranking() {
@@ -70,7 +70,7 @@ fn before_in<S: Alter>(
     project: &Key,
 ) -> Result<Vec<Person>, TableFault>
     ensures { MayRead round S.Store HasTables
-        (Answers (λ db v. v.items ≡ persons_before round db.trees project.now)
+        (GivesOrFails (λ db v. v.items ≡ persons_before round db.trees project.now)
         (Contradicts (HasStudents round))) result conn.old conn.new }
 {
     match round {
@@ -127,7 +127,7 @@ fn placed_with<S: Alter>(
     lines: &[ApplicantLine],
 ) -> Result<Vec<Person>, TableFault>
     ensures { MayRead round S.Store HasTables
-        (Answers (λ db v. v.items ≡ placed_at_shown round db.trees phase project.now lines.now)
+        (GivesOrFails (λ db v. v.items ≡ placed_at_shown round db.trees phase project.now lines.now)
         (Contradicts (HasStudents round))) result conn.old conn.new }
 {
     let mut placed = before_in(alloc, conn, round, project)?;
@@ -176,7 +176,7 @@ pub(crate) fn project_students<S: Alter>(
     projects: &[Key],
 ) -> Result<ProjectStudents, TableFault>
     ensures { MayRead round S.Store HasTables
-        (Answers (λ db. AreTold round db.trees phase projects.now)
+        (GivesOrFails (λ db. AreStudentsOf round db.trees phase projects.now)
         (Contradicts (HasStudents round))) result conn.old conn.new }
 {
     let mut told = ProjectStudents {

@@ -5,17 +5,17 @@ ghost use Rattle.portal_rules.specs.inner.Room as left_by;
 ghost use Rattle.portal_rules.specs.declared.phase.Round.TheVariants.{First, Second};
 ghost use Rattle.portal_views.specs.inner.Base.{IfOk, filter_map, map, IsDatabase, Contradicts};
 ghost use Rattle.portal_views.specs.inner.Catalogue.{offered_in, catalogue_shown, HasOffers};
-ghost use Rattle.portal_views.specs.inner.Catalogue.{HasPairs};
+ghost use Rattle.portal_views.specs.inner.Catalogue.{HasFirstPairs};
 ghost use Rattle.portal_tables.specs.inner.Placements.{first_pairs};
 ghost use Rattle.portal_tables.specs.Steps.{Reads};
-ghost use Rattle.portal_tables.specs.inner.Reads.{MayRead, Always, Answers, Blames};
+ghost use Rattle.portal_tables.specs.inner.Reads.{MayRead, Always, GivesOrFails, Blames};
 ghost use Rattle.portal_tables.specs.inner.Rolls.{lecturers_shown, projects_shown};
 ghost use Rattle.portal_tables.specs.inner.Shown.{shown_lecturer, shown_project};
 
 use portal_rules::{
     LecturerRow, Listing, ProjectRow, Round, lecturer_left, listings_of, project_left,
 };
-use portal_tables::decode::{decoded, push_some};
+use portal_tables::decode::{decode_rows, push_some};
 use portal_tables::select::RollTable;
 use portal_tables::{TableFault, first_pairs_in, roll_in};
 use spa_rows::Key;
@@ -86,9 +86,9 @@ fn listings_in<S: Alter>(
     projects: &[ProjectRow],
 ) -> Result<Vec<Listing>, TableFault>
     ensures { MayRead First S.Store Always
-        (Answers (λ db v. v.items
+        (GivesOrFails (λ db v. v.items
         ≡ offered_in round lecturers.now projects.now (first_pairs db.trees))
-        (λ db fault. Blames fault (IsDatabase db × HasPairs round db.trees)))
+        (λ db fault. Blames fault (IsDatabase db × HasFirstPairs round db.trees)))
         result conn.old conn.new }
 {
     match round {
@@ -107,13 +107,16 @@ fn offers_in<S: Alter>(
     conn: &mut Connection<S>,
 ) -> Result<(Vec<LecturerRow>, Vec<ProjectRow>), TableFault>
     ensures { Reads First S.Store Always
-        (Answers (λ db rows. (rows.0.items ≡ map shown_lecturer (lecturers_shown db.trees))
+        (GivesOrFails (λ db rows. (rows.0.items ≡ map shown_lecturer (lecturers_shown db.trees))
         × (rows.1.items ≡ map shown_project (projects_shown db.trees)))
         (Contradicts HasOffers)) result conn.old conn.new }
 {
     let lecturers = roll_in(alloc, conn, RollTable::Lecturers)?;
     let projects = roll_in(alloc, conn, RollTable::Projects)?;
-    Ok((decoded(alloc, &lecturers)?, decoded(alloc, &projects)?))
+    Ok((
+        decode_rows(alloc, &lecturers)?,
+        decode_rows(alloc, &projects)?,
+    ))
 }
 
 /// Makes a round's catalogue by queries, sorted by project key. For the second round it also reads
@@ -126,8 +129,8 @@ pub fn catalogue_in<S: Alter>(
     round: Round,
 ) -> Result<Rc<Vec<Listing>>, TableFault>
     ensures { Reads First S.Store Always
-        (Answers (λ db shared. shared.value.items ≡ catalogue_shown round db.trees)
-        (λ db fault. Blames fault (HasOffers db × HasPairs round db.trees)))
+        (GivesOrFails (λ db shared. shared.value.items ≡ catalogue_shown round db.trees)
+        (λ db fault. Blames fault (HasOffers db × HasFirstPairs round db.trees)))
         result conn.old conn.new }
 {
     let offers = offers_in(alloc, conn)?;

@@ -3,7 +3,7 @@
 ghost use Rattle.portal_views.specs.inner.Base.{IsDatabase};
 ghost use Rattle.portal_views.specs.inner.Contents.{rows_held, HasRead, HasFineRolls};
 ghost use Rattle.portal_tables.specs.Steps.{Reads};
-ghost use Rattle.portal_tables.specs.inner.Reads.{Answers, Blames};
+ghost use Rattle.portal_tables.specs.inner.Reads.{GivesOrFails, Blames};
 
 use portal_rules::{LecturerRow, ProjectRow, Round, StudentRow};
 use portal_tables::list_table::Lists;
@@ -37,7 +37,7 @@ pub fn contents_in<S: Alter>(
     round: Round,
 ) -> Result<Contents, TableFault>
     ensures { Reads round S.Store IsDatabase
-        (Answers (λ db rows. HasRead round (rows_held rows) db.trees)
+        (GivesOrFails (λ db rows. HasRead round (rows_held rows) db.trees)
         (λ db fault. Blames fault (HasFineRolls round db.trees))) result conn.old conn.new }
 {
     let rolls = rolls_in(alloc, conn)?;

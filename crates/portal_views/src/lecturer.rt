@@ -5,11 +5,11 @@ ghost use Rattle.portal_views.specs.inner.Base.{Err, IfOk, AllByRecursion, optio
 ghost use Rattle.portal_views.specs.inner.Base.{IsDatabase, Contradicts};
 ghost use Rattle.portal_views.specs.inner.Callers.{own_keys_shown, HasOwnKeys, lecturer_shown};
 ghost use Rattle.portal_views.specs.inner.Callers.{IsReadableByLecturer};
-ghost use Rattle.portal_views.specs.inner.Lines.{HasTables, HasKey};
+ghost use Rattle.portal_views.specs.inner.Lines.{HasTables, HasKeyForm};
 ghost use Rattle.portal_views.specs.inner.Catalogue.{IsCatalogue, own_listed};
 ghost use Rattle.portal_tables.specs.Tables.{ranking_table};
 ghost use Rattle.portal_tables.specs.inner.Owners.{IsFine, with_list, ranking_shown};
-ghost use Rattle.portal_tables.specs.inner.Reads.{MayRead, Answers, Blames};
+ghost use Rattle.portal_tables.specs.inner.Reads.{MayRead, GivesOrFails, Blames};
 ghost use Rattle.portal_tables.specs.inner.Shown.{first_cell};
 
 use crate::applicants::project_students;
@@ -18,7 +18,7 @@ use portal_rules::{LecturerView, Listing, Phase, Round};
 use portal_tables::cells::{bytes_at, capacity_at, key_at};
 use portal_tables::list_table::Lists;
 use portal_tables::select::Query;
-use portal_tables::{TableFault, entry_in, rising};
+use portal_tables::{TableFault, entry_in, read_in_order};
 use spa_rows::Key;
 use sqlite::{Alter, Connection, Row};
 use std::alloc::{AllocError, Global};
@@ -45,7 +45,7 @@ fn keys_listed(
 /// Decodes the keys of the lecturer's projects, in column 0 of the rows.
 fn keys_of(alloc: Global, rows: &[Row]) -> Result<Vec<Key>, TableFault>
     ensures ok { IfOk result (λ v. v.items ≡ map first_cell rows.now) }
-    ensures damaged { result ≡ Err TableFault.Damaged → AllByRecursion HasKey rows.now → ⊥ }
+    ensures damaged { result ≡ Err TableFault.Damaged → AllByRecursion HasKeyForm rows.now → ⊥ }
 {
     let mut keys = Vec::with_capacity(alloc, rows.len())?;
     for row in rows {
@@ -64,14 +64,14 @@ fn own_projects<S: Alter>(
     catalogue: &[Listing],
 ) -> Result<Vec<Key>, TableFault>
     ensures { MayRead round S.Store HasTables
-        (Answers (λ db v. IsCatalogue round db.trees catalogue.now
+        (GivesOrFails (λ db v. IsCatalogue round db.trees catalogue.now
         → v.items ≡ own_keys_shown db.trees lecturer.now)
         (Contradicts (HasOwnKeys lecturer.now))) result conn.old conn.new }
 {
     match round {
         Round::First => Ok(keys_listed(alloc, catalogue, lecturer)?),
         Round::Second => {
-            let rows = rising(alloc, conn, Query::ProjectsOf(lecturer))?;
+            let rows = read_in_order(alloc, conn, Query::ProjectsOf(lecturer))?;
             keys_of(alloc, &rows)
         }
     }
@@ -96,7 +96,7 @@ fn ranking_in<S: Alter>(
     row: &Row,
 ) -> Result<Option<Vec<Key>>, TableFault>
     ensures { MayRead round S.Store IsDatabase
-        (Answers (λ db o. option_map (λ v. v.items) o ≡ ranking_shown round db.trees row.now)
+        (GivesOrFails (λ db o. option_map (λ v. v.items) o ≡ ranking_shown round db.trees row.now)
         (λ db fault. Blames fault (IsFine (ranking_table round) db.trees row.now)))
         result conn.old conn.new }
 {
@@ -117,7 +117,7 @@ pub fn lecturer_view<S: Alter>(
     catalogue: Rc<Vec<Listing>>,
 ) -> Result<LecturerView, TableFault>
     ensures { MayRead round S.Store HasTables
-        (Answers (λ db v. IsCatalogue round db.trees catalogue.value.items
+        (GivesOrFails (λ db v. IsCatalogue round db.trees catalogue.value.items
         → v ≡ lecturer_shown round db.trees phase row.now catalogue.value.items)
         (Contradicts (IsReadableByLecturer round row.now))) result conn.old conn.new }
 {

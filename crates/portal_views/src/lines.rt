@@ -6,17 +6,17 @@ ghost use Rattle.portal_views.specs.inner.Base.{Row as Cells, column, bytes, IsD
 ghost use Rattle.portal_views.specs.inner.Base.{Contradicts};
 ghost use Rattle.portal_tables.specs.inner.Placements.{HasPlacement};
 ghost use Rattle.portal_tables.specs.Steps.{Reads};
-ghost use Rattle.portal_tables.specs.inner.Reads.{MayRead, Answers, Blames};
+ghost use Rattle.portal_tables.specs.inner.Reads.{MayRead, GivesOrFails, Blames};
 ghost use Rattle.portal_tables.specs.inner.Shown.{first_cell};
 ghost use Rattle.portal_views.specs.inner.Lines.{HasTables, HasStudents, IsNamed, IsStudentKey};
-ghost use Rattle.portal_views.specs.inner.Lines.{IsTold, told_line, in_round, applicant_at};
+ghost use Rattle.portal_views.specs.inner.Lines.{IsNamedWithPlacement, placement_line, in_round, applicant_at};
 ghost use Rattle.portal_views.specs.inner.Lines.{applicant_lines};
 
 use portal_rules::{Person, Round};
 use portal_tables::cells::{assigned_at, bytes_at, key_at, name_at};
 use portal_tables::decode::{FromCells, at_most_one};
 use portal_tables::select::{Query, read_each};
-use portal_tables::{TableFault, rising, second_placement_in};
+use portal_tables::{TableFault, read_in_order, second_placement_in};
 use spa_rows::Key;
 use sqlite::{Alter, Connection, Row};
 use std::alloc::{AllocError, Global};
@@ -44,9 +44,9 @@ pub struct ApplicantLine {
 }
 
 impl FromCells for ApplicantLine {
-    ghost shown = { told_line };
+    ghost shown = { placement_line };
 
-    ghost is_fine = { IsTold };
+    ghost is_fine = { IsNamedWithPlacement };
 
     fn from_cells(alloc: Global, row: &Row) -> Result<ApplicantLine, TableFault> {
         Ok(ApplicantLine {
@@ -76,7 +76,7 @@ fn line_of_round<S: Alter>(
     line: ApplicantLine,
 ) -> Result<ApplicantLine, TableFault>
     ensures { MayRead round S.Store IsDatabase
-        (Answers (λ db l. l ≡ in_round round db.trees line)
+        (GivesOrFails (λ db l. l ≡ in_round round db.trees line)
         (λ db fault. (c : Cells) → first_cell c ≡ line.person.key
         → Blames fault (HasPlacement round db.trees c))) result conn.old conn.new }
 {
@@ -100,7 +100,7 @@ fn line_in<S: Alter>(
     key: &[u8],
 ) -> Result<ApplicantLine, TableFault>
     ensures { Reads round S.Store HasTables
-        (Answers (λ db l. Some l ≡ applicant_at round db.trees key.now)
+        (GivesOrFails (λ db l. Some l ≡ applicant_at round db.trees key.now)
         (Contradicts (λ db. HasStudents round db × IsStudentKey db.trees key.now)))
         result conn.old conn.new }
 {
@@ -117,7 +117,7 @@ fn lines_each<S: Alter>(
     rows: &[Row],
 ) -> Result<Vec<ApplicantLine>, TableFault>
     ensures { MayRead round S.Store HasTables
-        (Answers (λ db v. map Some v.items
+        (GivesOrFails (λ db v. map Some v.items
         ≡ map (λ c. applicant_at round db.trees (first_cell c)) rows.now)
         (Contradicts (λ db. HasStudents round db
         × AllByRecursion (λ c. IsStudentKey db.trees (first_cell c)) rows.now)))
@@ -140,10 +140,10 @@ pub(crate) fn lines_to<S: Alter>(
     project: &Key,
 ) -> Result<Vec<ApplicantLine>, TableFault>
     ensures { Reads round S.Store HasTables
-        (Answers (λ db v. v.items ≡ applicant_lines round db.trees project.now)
+        (GivesOrFails (λ db v. v.items ≡ applicant_lines round db.trees project.now)
         (Contradicts (HasStudents round))) result conn.old conn.new }
 {
-    let rows = rising(alloc, conn, Query::Choosers(round, project.as_bytes()))?;
+    let rows = read_in_order(alloc, conn, Query::Choosers(round, project.as_bytes()))?;
     lines_each(alloc, conn, round, &rows)
 }
 

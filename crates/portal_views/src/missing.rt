@@ -6,9 +6,9 @@ ghost use Rattle.portal_views.specs.inner.Base.{[], Some, None, Err, IfOk, AllBy
 ghost use Rattle.portal_views.specs.inner.Base.{not, filter, has, equals, Rise};
 ghost use Rattle.portal_views.specs.inner.Office.{HasWholeLists, is_chosen_shown, is_wanted_shown};
 ghost use Rattle.portal_views.specs.inner.Office.{waiting_key, waiting_keys, unlisted};
-ghost use Rattle.portal_views.specs.inner.Lines.{HasKey};
+ghost use Rattle.portal_views.specs.inner.Lines.{HasKeyForm};
 ghost use Rattle.portal_tables.specs.Steps.{Reads, Gives};
-ghost use Rattle.portal_tables.specs.inner.Reads.{MayRead, Answers, Blames};
+ghost use Rattle.portal_tables.specs.inner.Reads.{MayRead, GivesOrFails, Blames};
 ghost use Rattle.portal_tables.specs.inner.Placements.{placement_before};
 ghost use Rattle.portal_tables.specs.inner.Shown.{first_cell, shown_project};
 
@@ -17,7 +17,7 @@ use portal_tables::cells::{bytes_at, key_at};
 use portal_tables::decode::push_some;
 use portal_tables::list_table::Lists;
 use portal_tables::select::{Query, finds_any};
-use portal_tables::{Rolls, TableFault, has_list_in, is_named, rising, takes_part};
+use portal_tables::{Rolls, TableFault, has_list_in, is_named, read_in_order, takes_part};
 use spa_rows::Key;
 use sqlite::{Alter, Connection, Row};
 use std::alloc::Global;
@@ -35,7 +35,7 @@ fn keys_not_among(
         ≡ map first_cell (filter (λ c. is_none (placement_before round c)
         && not (has (map first_cell others.now) (first_cell c))) students.now)) }
     ensures damaged { result ≡ Err TableFault.Damaged
-        → AllByRecursion HasKey students.now → ⊥ }
+        → AllByRecursion HasKeyForm students.now → ⊥ }
 {
     let mut keys = Vec::new(alloc);
     for row in students {
@@ -54,11 +54,11 @@ pub(crate) fn without_list<S: Alter>(
     students: &[Row],
 ) -> Result<Vec<Key>, TableFault>
     ensures { Reads round S.Store (HasWholeLists round)
-        (Answers (λ db v. v.items ≡ unlisted round db.trees students.now)
-        (λ db fault. Blames fault (AllByRecursion HasKey students.now)))
+        (GivesOrFails (λ db v. v.items ≡ unlisted round db.trees students.now)
+        (λ db fault. Blames fault (AllByRecursion HasKeyForm students.now)))
         result conn.old conn.new }
 {
-    let listed = rising(alloc, conn, Query::Listed(round))?;
+    let listed = read_in_order(alloc, conn, Query::Listed(round))?;
     keys_not_among(alloc, round, students, &listed)
 }
 
@@ -112,7 +112,7 @@ fn wanted_in<S: Alter>(
     projects: &[Row],
     lecturer: &Row,
 ) -> Result<Option<Key>, TableFault>
-    ensures damaged { result ≡ Err TableFault.Damaged → HasKey lecturer.now → ⊥ }
+    ensures damaged { result ≡ Err TableFault.Damaged → HasKeyForm lecturer.now → ⊥ }
     ensures reads { MayRead round S.Store (HasWholeLists round)
         (Gives (λ db key. key
         ≡ (if is_wanted_shown round db.trees (map shown_project projects.now)
@@ -134,7 +134,7 @@ fn waiting_in<S: Alter>(
     projects: &[Row],
     lecturer: &Row,
 ) -> Result<Option<Key>, TableFault>
-    ensures damaged { result ≡ Err TableFault.Damaged → HasKey lecturer.now → ⊥ }
+    ensures damaged { result ≡ Err TableFault.Damaged → HasKeyForm lecturer.now → ⊥ }
     ensures reads { MayRead round S.Store (HasWholeLists round)
         (Gives (λ db key. key
         ≡ waiting_key round db.trees (map shown_project projects.now) lecturer.now))
@@ -156,7 +156,7 @@ pub(crate) fn still_to_rank<S: Alter>(
     rolls: &Rolls,
 ) -> Result<Vec<Key>, TableFault>
     ensures damaged { result ≡ Err TableFault.Damaged
-        → AllByRecursion HasKey rolls.now.lecturers.items → ⊥ }
+        → AllByRecursion HasKeyForm rolls.now.lecturers.items → ⊥ }
     ensures reads { MayRead round S.Store (HasWholeLists round)
         (Gives (λ db v. v.items
         ≡ (if is_from_ranking phase then waiting_keys round db.trees

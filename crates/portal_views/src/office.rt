@@ -5,7 +5,7 @@ ghost use Rattle.portal_views.specs.inner.Base.{Err, IfOk, AllByRecursion, map, 
 ghost use Rattle.portal_views.specs.inner.Base.{IsLecturer, IsProject, IsStudent};
 ghost use Rattle.portal_views.specs.inner.Office.{HasWholeLists, office_shown, IsReadableByOffice};
 ghost use Rattle.portal_tables.specs.Steps.{Reads};
-ghost use Rattle.portal_tables.specs.inner.Reads.{Answers};
+ghost use Rattle.portal_tables.specs.inner.Reads.{GivesOrFails};
 ghost use Rattle.portal_tables.specs.inner.Shown.{shown_lecturer, shown_project, shown_student};
 
 use crate::missing::{still_to_rank, without_list};
@@ -71,7 +71,7 @@ pub fn office_view<S: Alter>(
     catalogue: Rc<Vec<Listing>>,
 ) -> Result<OfficeView, TableFault>
     ensures { Reads round S.Store (HasWholeLists round)
-        (Answers (λ db v. v
+        (GivesOrFails (λ db v. v
         ≡ office_shown round db.trees office.phase office.code catalogue.value.items)
         (Contradicts (IsReadableByOffice round))) result conn.old conn.new }
 {

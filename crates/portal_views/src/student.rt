@@ -3,7 +3,7 @@
 ghost use Rattle.std.specs.Prelude.{◌≡◌};
 ghost use Rattle.portal_views.specs.inner.Base.{IsDatabase};
 ghost use Rattle.portal_views.specs.inner.Callers.{IsReadable, student_shown};
-ghost use Rattle.portal_tables.specs.inner.Reads.{MayRead, Answers, Blames};
+ghost use Rattle.portal_tables.specs.inner.Reads.{MayRead, GivesOrFails, Blames};
 
 use crate::lines::person_at;
 use portal_rules::{Listing, Phase, Round, StudentView};
@@ -28,7 +28,7 @@ pub fn student_view<S: Alter>(
     catalogue: Rc<Vec<Listing>>,
 ) -> Result<StudentView, TableFault>
     ensures { MayRead round S.Store IsDatabase
-        (Answers (λ db v. v ≡ student_shown round db.trees phase row.now catalogue.value.items)
+        (GivesOrFails (λ db v. v ≡ student_shown round db.trees phase row.now catalogue.value.items)
         (λ db fault. Blames fault (IsReadable round db.trees row.now))) result conn.old conn.new }
 {
     let student = key_at(alloc, row, 0)?;

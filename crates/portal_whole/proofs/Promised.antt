@@ -9,10 +9,10 @@ use Rattle.portal_rules.specs.Keeping.{KeeperState}
 use Rattle.std.specs.Io.KnownBytes.{Appends}
 use Rattle.portal_desk.specs.Session.{Finish, Ended, Stopped, Session}
 use Rattle.portal_desk.specs.Headline.{Visit, TellsOf, AreServedOn}
-use Rattle.portal_desk.specs.inner.Served.{AreServed, IsEnded, AreOf, ServesEach}
+use Rattle.portal_desk.specs.inner.Served.{AreServed, IsEnded, AreSessionsOf, ServesEach}
 use Rattle.portal_desk.proofs.Promised.{RunsGood, StepsBest, RunsBest, upheld}
 use Rattle.portal_desk.proofs.Heeding.{are_visits, same_bytes}
-use Rattle.portal_whole.specs.Whole.{IsWhole, KeepsPromise}
+use Rattle.portal_whole.specs.Whole.{IsServedToEnd, KeepsPromise}
 
 ended : (finish : Finish) → IsEnded finish → (ending : Last) × (finish ≡ Ended ending)
 ended (Ended ending) whole = (ending, refl)
@@ -29,8 +29,8 @@ both {X} {x} {y} {xs} {ys} one more = ap (λ z. z ∷ xs) one ∙ ap (λ zs. y �
 -- the visits that describe sessions are of their streams and texts
 module _ {K : Type 0} (state : K → KeeperState) where
   the_visits : (ss : List (Session K)) (vs : List Visit) (xs ts : List (List ℕ)) → AllZip (TellsOf state) ss vs
-      → AreOf ss xs ts
-      → (map (λ (v : Visit). v.bytes) vs ≡ xs) × (map (λ (v : Visit). v.written) vs ≡ ts) × AllByRecursion IsWhole vs
+      → AreSessionsOf ss xs ts
+      → (map (λ (v : Visit). v.bytes) vs ≡ xs) × (map (λ (v : Visit). v.written) vs ≡ ts) × AllByRecursion IsServedToEnd vs
   the_visits [] [] [] [] tell are = (refl, refl, tt)
   the_visits [] [] [] (t ∷ ts) tell are = absurd are
   the_visits [] [] (x ∷ xs) ts tell are = absurd are

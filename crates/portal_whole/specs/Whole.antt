@@ -7,12 +7,12 @@ use Rattle.portal_desk.specs.Session.{Ended}
 use Rattle.portal_desk.specs.Headline.{Visit, AreAnswered, IsLikeAll, IsUpheld}
 
 -- the visit is of a stream that is served to its end
-abbrev pub IsWhole : Visit → Type 0
-IsWhole v = (ending : Last) × (v.finish ≡ Ended ending)
+abbrev pub IsServedToEnd : Visit → Type 0
+IsServedToEnd v = (ending : Last) × (v.finish ≡ Ended ending)
 
 -- visits serve these streams to their ends and write these texts, where a 503 leaves the world;
 -- without a 503 they have the whole main promise
 abbrev pub KeepsPromise : World → List (List ℕ) → List (List ℕ) → Type 0
 KeepsPromise w streams texts =
     (visits : List Visit) × (map (λ v. v.bytes) visits ≡ streams) × (map (λ v. v.written) visits ≡ texts)
-    × AllByRecursion IsWhole visits × IsUpheld w visits × (AreAnswered visits → IsLikeAll w visits)
+    × AllByRecursion IsServedToEnd visits × IsUpheld w visits × (AreAnswered visits → IsLikeAll w visits)

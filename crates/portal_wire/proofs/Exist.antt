@@ -1,6 +1,7 @@
 -- A stream has requests, an ending and its text, if something stands at the front of each rest.
 use Rattle.portal_wire.proofs.Base.{◌≡◌, ℕ, zero, suc, ◌-◌, ◌<◌, ◌≤◌, Bool, true, false, List, [], ◌∷◌, ◌++◌, length}
-use Rattle.portal_wire.proofs.Base.{drop, refl, sym, ap, ◌∙◌, subst, arith, if◌then◌else◌, Request, Asked, Item, whole}
+use Rattle.portal_wire.proofs.Base.{drop, refl, sym, ap, ◌∙◌, subst, arith, if◌then◌else◌, Request, RequestContent}
+use Rattle.portal_wire.proofs.Base.{Item, whole}
 use Rattle.portal_wire.proofs.Base.{fault, over, Opens, answer_to, reply_text, request_of, closes_at, Rest, more, shut}
 use Rattle.portal_wire.proofs.Base.{Leads, Ends, Last, End, Refused, inl, inr, take, append_assoc, Ok, Err, nat_le}
 use Rattle.portal_wire.proofs.Base.{take-append-drop, length-append, asked_of, after_lines, body_length, fields_of}
@@ -17,24 +18,25 @@ Fronts bytes = (front rest : List ℕ) → bytes ≡ front ++ rest → (item : I
 abbrev pub Ended : ℕ → List ℕ → Type 0
 Ended left bytes = (rs : List Request) × (end : Last) × (closing : List ℕ) × (rest : Rest) × Leads left bytes rs rest × Ends rest end closing
 
-after_body : (h : RequestHead) (n : ℕ) (rest : List ℕ) (a : Asked) (after : List ℕ) (b : Bool)
+after_body : (h : RequestHead) (n : ℕ) (rest : List ℕ) (a : RequestContent) (after : List ℕ) (b : Bool)
     → whole a after ≡ (if b then whole (asked_of h (take n rest)) (drop n rest) else fault bad_length (is_head h.method)) → after ≡ drop n rest
 after_body h n rest a after true e = cc
 after_body h n rest a after false e = absurd (cc)
 
-after_head : (h : RequestHead) (r : _) (rest : List ℕ) (a : Asked) (after : List ℕ)
+after_head : (h : RequestHead) (r : _) (rest : List ℕ) (a : RequestContent) (after : List ℕ)
     → whole a after ≡ after_lines h r rest
     → (n : ℕ) × (after ≡ drop n rest)
 after_head h (Err why) rest a after e = absurd (cc)
 after_head h (Ok n) rest a after e = (n, after_body h n rest a after (nat_le n (length rest)) e)
 
-pub not_headless : (a : Asked) (after : List ℕ) (b : Bool) → whole a after ≡ (if b then over else fault bad_head false)
+pub not_headless : (a : RequestContent) (after : List ℕ) (b : Bool)
+    → whole a after ≡ (if b then over else fault bad_head false)
     → ⊥
 not_headless a after true e = cc
 not_headless a after false e = cc
 
 -- what is left after a request is a rest of the bytes
-leaves : (bytes : List ℕ) (a : Asked) (after : List ℕ) → Opens bytes (whole a after)
+leaves : (bytes : List ℕ) (a : RequestContent) (after : List ℕ) → Opens bytes (whole a after)
     → (front : List ℕ) × (bytes ≡ front ++ after)
 leaves bytes a after (inl (h, rest, t, e)) =
     let cut : (n : ℕ) × (after ≡ drop n rest) = after_head h (body_length h.minor (fields_of h)) rest a after e in (
@@ -46,7 +48,8 @@ leaves bytes a after (inl (h, rest, t, e)) =
     )
 leaves bytes a after (inr (none, e)) = absurd (not_headless a after _ e)
 
-fronts_after : (bytes : List ℕ) (a : Asked) (after : List ℕ) → Opens bytes (whole a after) → Fronts bytes → Fronts after
+fronts_after : (bytes : List ℕ) (a : RequestContent) (after : List ℕ) → Opens bytes (whole a after) → Fronts bytes
+    → Fronts after
 fronts_after bytes a after opens fronts front rest e =
     let cut : (f : List ℕ) × (bytes ≡ f ++ after) = leaves bytes a after opens in
     fronts (cut.0 ++ front) rest (cut.1 ∙ (ap (λ r. cut.0 ++ r) e ∙ sym (append_assoc cut.0 front rest)))
@@ -57,7 +60,7 @@ shut_ends true = refl
 shut_ends false = refl
 
 -- a request that closes, or one after which others come
-first : (left : ℕ) (bytes : List ℕ) (a : Asked) (after : List ℕ) (b : Bool) → closes_at left a ≡ b
+first : (left : ℕ) (bytes : List ℕ) (a : RequestContent) (after : List ℕ) (b : Bool) → closes_at left a ≡ b
     → Opens bytes (whole a after)
     → (b ≡ false → Ended (left - 1) after) → Ended left bytes
 first left bytes a after true e opens later = (
@@ -79,7 +82,7 @@ first left bytes a after false e opens later =
     )
 
 step : (left : ℕ) (bytes : List ℕ) (item : Item) → Opens bytes item
-    → ((a : Asked) (after : List ℕ) → Opens bytes (whole a after) → closes_at left a ≡ false → Ended (left - 1) after) → Ended left bytes
+    → ((a : RequestContent) (after : List ℕ) → Opens bytes (whole a after) → closes_at left a ≡ false → Ended (left - 1) after) → Ended left bytes
 step left bytes over opens later = ([], End, [], more bytes, refl, (opens, refl))
 step left bytes (fault why head_only) opens later =
     ([], Refused why.word, reply_text (answer_to why) head_only true, more bytes, refl, (why, head_only, opens, refl, refl))

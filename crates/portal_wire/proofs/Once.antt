@@ -1,6 +1,7 @@
 -- A stream has one list of requests and one ending.
 use Rattle.portal_wire.proofs.Base.{◌≡◌, ℕ, ◌-◌, Bool, true, false, List, [], ◌∷◌, refl, sym, ap, ◌∙◌, subst, MatchBool}
-use Rattle.portal_wire.proofs.Base.{Request, Asked, whole, Opens, answer_to, reply_text, request_of, closes_at, Rest}
+use Rattle.portal_wire.proofs.Base.{Request, RequestContent, whole, Opens, answer_to, reply_text, request_of, closes_at}
+use Rattle.portal_wire.proofs.Base.{Rest}
 use Rattle.portal_wire.proofs.Base.{more, shut, Leads, Ends, Last, End, Refused, Closed, Limit}
 use Rattle.portal_frame.proofs.Unique.{Opens-unique}
 
@@ -29,7 +30,7 @@ ends_shut false Limit Limit closing text x y = (refl, x ∙ sym y)
 ends_shut _ _ _ closing text x y = absurd (search)
 
 -- a stream that ends does not begin with a request
-ends_whole : (bytes : List ℕ) (end : Last) (closing : List ℕ) (a : Asked) (after : List ℕ)
+ends_whole : (bytes : List ℕ) (end : Last) (closing : List ℕ) (a : RequestContent) (after : List ℕ)
     → Ends (more bytes) end closing → Opens bytes (whole a after) → ⊥
 ends_whole bytes End closing a after x opens = let same = Opens-unique bytes _ _ x.0 opens in absurd (cc)
 ends_whole bytes (Refused r) closing a after x opens = let same = Opens-unique bytes _ _ x.2 opens in absurd (cc)

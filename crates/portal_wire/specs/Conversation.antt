@@ -6,7 +6,7 @@ use Rattle.portal_rules.specs.Answer.{Answer, Said, Json, Csv, Plain, Unavailabl
 use Rattle.std.specs.Bool.{MatchBool}
 use Rattle.portal_rules.specs.World.{World}
 use Rattle.portal_rules.specs.Run.{Request, Run, end_of}
-use Rattle.portal_frame.specs.Stream.{Asked, Refuses, whole, fault, over, Opens, is_head}
+use Rattle.portal_frame.specs.Stream.{RequestContent, RefusalContent, whole, fault, over, Opens, is_head}
 use Rattle.portal_wire.specs.declared.Ending.{Ending}
 use Rattle.portal_wire.specs.declared.Ending.TheVariants as ending
 use Rattle.portal_wire.specs.Wish.{answer_to, wish_of}
@@ -74,11 +74,11 @@ reply_text reply head_only close =
     reply_lines reply (length (body_bytes reply.body)) close ++ (if head_only then [] else body_bytes reply.body)
 
 -- the request of a run, with its marks for HEAD and for closing
-abbrev pub request_of : Bool → Asked → Request
+abbrev pub request_of : Bool → RequestContent → Request
 request_of closes a = record { code = a.code; head = is_head a.method; closes = closes; wish = wish_of a }
 
 -- whether the reply closes; at most `left` requests may be read, this one included
-abbrev pub closes_at : ℕ → Asked → Bool
+abbrev pub closes_at : ℕ → RequestContent → Bool
 closes_at left a = a.close || nat_le left 1
 
 -- what the first requests leave: bytes, or a closed connection (true if a request asked to close)
@@ -90,7 +90,7 @@ pub data Rest : Type 0 where
 abbrev pub Leads : ℕ → List ℕ → List Request → Rest → Type 0
 Leads left bytes [] rest = rest ≡ more bytes
 Leads left bytes (r ∷ rs) rest =
-    (a : Asked) × (after : List ℕ) × Opens bytes (whole a after) × (r ≡ request_of (closes_at left a) a)
+    (a : RequestContent) × (after : List ℕ) × Opens bytes (whole a after) × (r ≡ request_of (closes_at left a) a)
     × MatchBool (closes_at left a) ((rs ≡ []) × (rest ≡ shut a.close)) (Leads (left - 1) after rs rest)
 
 -- how the requests of a stream end; `Refused` has the error word, `Limit` is after the most requests
@@ -110,7 +110,7 @@ last ending.Limit = Limit
 abbrev pub Ends : Rest → Last → List ℕ → Type 0
 Ends (more bytes) End closing = Opens bytes over × (closing ≡ [])
 Ends (more bytes) (Refused word) closing =
-    (why : Refuses) × (head_only : Bool) × Opens bytes (fault why head_only) × (word ≡ why.word)
+    (why : RefusalContent) × (head_only : Bool) × Opens bytes (fault why head_only) × (word ≡ why.word)
     × (closing ≡ reply_text (answer_to why) head_only true)
 Ends (shut true) Closed closing = closing ≡ []
 Ends (shut false) Limit closing = closing ≡ []
@@ -125,13 +125,13 @@ pub record Exchange : Type 0 where
   pub request : Request
   pub reply : Answer
 
-abbrev pub asked_in : List Exchange → List Request
-asked_in [] = []
-asked_in (e ∷ es) = e.request ∷ asked_in es
+abbrev pub requests_of : List Exchange → List Request
+requests_of [] = []
+requests_of (e ∷ es) = e.request ∷ requests_of es
 
-abbrev pub told_in : List Exchange → List Answer
-told_in [] = []
-told_in (e ∷ es) = e.reply ∷ told_in es
+abbrev pub replies_of : List Exchange → List Answer
+replies_of [] = []
+replies_of (e ∷ es) = e.reply ∷ replies_of es
 
 -- the text of a reply, as its request asks for it
 abbrev pub exchange_text : Exchange → List ℕ
@@ -144,4 +144,4 @@ text (e ∷ es) = exchange_text e ++ text es
 
 -- the exchanges are a run, which ends in this world
 abbrev pub Reaches : World → List Exchange → World → Type 0
-Reaches old es new = (worlds : List World) × Run old (asked_in es) (told_in es) worlds × (new ≡ end_of old worlds)
+Reaches old es new = (worlds : List World) × Run old (requests_of es) (replies_of es) worlds × (new ≡ end_of old worlds)

@@ -18,8 +18,8 @@ use Rattle.portal_wire.specs.declared.routes.Route.{Route}
 use Rattle.portal_wire.specs.declared.routes.Route.TheVariants as route
 use Rattle.portal_rules.specs.Bodies.{dictionary, count}
 use Rattle.portal_rules.specs.Answer.{Answer, Json}
-use Rattle.portal_rules.specs.Run.{unavailable, Wish, Calls, Refused}
-use Rattle.portal_frame.specs.Stream.{Refuses, plain, Asked}
+use Rattle.portal_rules.specs.Run.{unavailable, Wish, Calls, NoCall}
+use Rattle.portal_frame.specs.Stream.{RefusalContent, plain_refusal, RequestContent}
 use Rattle.portal_rules.specs.Sight.{AbstractCall}
 use Rattle.portal_rolls.specs.declared.fault.RollFault.{RollFault}
 use Rattle.portal_rolls.specs.declared.fault.RollFault.TheVariants as fault
@@ -142,25 +142,25 @@ allow_of route.Students = codes "POST"
 allow_of route.Phase = codes "POST"
 allow_of _ = codes "GET, HEAD"
 
-abbrev pub no_route : Refuses
-no_route = plain 404 (codes "no_route")
+abbrev pub no_route : RefusalContent
+no_route = plain_refusal 404 (codes "no_route")
 
 -- the refusal of a method; `allow` lists those that the path takes
-abbrev pub bad_method : List ℕ → Refuses
+abbrev pub bad_method : List ℕ → RefusalContent
 bad_method allow = record { status = 405; word = codes "bad_method"; allow = allow; row = None }
 
-abbrev pub bad_body : Refuses
-bad_body = plain 400 (codes "bad_body")
+abbrev pub bad_body : RefusalContent
+bad_body = plain_refusal 400 (codes "bad_body")
 
 -- the refusal of a row of a roll, counted from 1
-abbrev pub bad_row : ℕ → Refuses
+abbrev pub bad_row : ℕ → RefusalContent
 bad_row row = record { status = 422; word = codes "bad_row"; allow = []; row = Some row }
 
-abbrev pub roll_full_reply : Refuses
-roll_full_reply = plain 422 (codes "roll_full")
+abbrev pub roll_full_reply : RefusalContent
+roll_full_reply = plain_refusal 422 (codes "roll_full")
 
-abbrev pub no_memory : Refuses
-no_memory = plain 503 (codes "unavailable")
+abbrev pub no_memory : RefusalContent
+no_memory = plain_refusal 503 (codes "unavailable")
 
 -- the body of a refusal
 abbrev pub fault_body : List ℕ → Option ℕ → Data
@@ -168,14 +168,14 @@ fault_body word None = dictionary ((codes "error", string word) ∷ [])
 fault_body word (Some row) = dictionary ((codes "error", string word) ∷ (codes "row", count row) ∷ [])
 
 -- the reply to a refusal
-abbrev pub answer_to : Refuses → Answer
+abbrev pub answer_to : RefusalContent → Answer
 answer_to r =
     if r.status == 503 then unavailable
     else record { status = r.status; allow = r.allow; body = Json (fault_body r.word r.row) }
 
 -- the request is refused without a call
-abbrev pub turned_away : Refuses → Wish
-turned_away why = Refused (answer_to why)
+abbrev pub turned_away : RefusalContent → Wish
+turned_away why = NoCall (answer_to why)
 
 -- the call of a JSON body that has its form
 abbrev pub by_body : {X : Type 0} → (X → AbstractCall) → Option X → Wish
@@ -183,7 +183,7 @@ by_body ask (Some x) = Calls (ask x)
 by_body ask None = turned_away bad_body
 
 -- the refusal for each fault of a roll; `Memory` has no cause in the text
-abbrev pub roll_refusal : RollFault → Refuses
+abbrev pub roll_refusal : RollFault → RefusalContent
 roll_refusal fault.NoHeader = bad_body
 roll_refusal fault.BadHeader = bad_body
 roll_refusal (fault.FieldCount row) = bad_row row
@@ -240,10 +240,10 @@ wish_at Put at body = put_at at body
 wish_at Post at body = post_at at body
 wish_at Other at body = wrong_method at
 
-abbrev pub wish_from : Option Route → Asked → Wish
+abbrev pub wish_from : Option Route → RequestContent → Wish
 wish_from None a = turned_away no_route
 wish_from (Some at) a = wish_at (method_of a.method) at a.body
 
 -- what a request wants: a call, or the refusal of its route, method or body
-abbrev pub wish_of : Asked → Wish
+abbrev pub wish_of : RequestContent → Wish
 wish_of a = wish_from (route_at a.path) a

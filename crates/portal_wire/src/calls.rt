@@ -3,12 +3,12 @@
 ghost use Rattle.std.specs.Prelude.{◌≡◌, ◌⊎◌, IfOk, IfErr};
 ghost use Rattle.portal_rules.specs.Meaning.{call_model};
 ghost use Rattle.portal_rules.specs.Run.{HasForm, Calls};
-ghost use Rattle.portal_frame.specs.Stream.{seen, refused};
+ghost use Rattle.portal_frame.specs.Stream.{request_content, refusal_content};
 ghost use Rattle.portal_rules.specs.Sight.{AbstractCall};
 ghost use Rattle.portal_wire.specs.declared.calls.CallFault.TheVariants as why;
 ghost use Rattle.portal_wire.specs.Wish.{no_memory, turned_away, get_at, put_at, post_at, to_move};
 ghost use Rattle.portal_wire.specs.Wish.{wish_at, wish_of, by_body, move_in, nothing_in};
-ghost use Rattle.portal_wire.specs.inner.Calls.{IsCallOf, told_by, of_body, of_roll};
+ghost use Rattle.portal_wire.specs.inner.Calls.{IsCallOf, refusal_for, of_body, of_roll};
 
 use crate::bodies::{BodyFault, read_empty, read_list, read_move};
 use crate::routes::{Method, Route, allow_at, method_in, route_in};
@@ -160,7 +160,7 @@ fn call_at(alloc: Global, method: Method, route: Route, body: &[u8]) -> Result<C
 
 /// Returns the call that a request makes, or why it makes none.
 fn routed_call(alloc: Global, request: &Request) -> Result<Call, CallFault>
-    ensures wish { IsCallOf (wish_of (seen request.now)) result }
+    ensures wish { IsCallOf (wish_of (request_content request.now)) result }
     ensures form { IfOk result (λ call. HasForm (call_model call)) }
 {
     let Some(route) = route_in(alloc, request.path.as_slice())? else {
@@ -172,7 +172,7 @@ fn routed_call(alloc: Global, request: &Request) -> Result<Call, CallFault>
 
 /// Refuses a request that cannot be turned into a call. Returns the reason, not yet a reply.
 fn refusal_of(fault: CallFault) -> Refusal
-    ensures { refused result ≡ told_by fault }
+    ensures { refusal_content result ≡ refusal_for fault }
 {
     match fault {
         CallFault::NoRoute => Refusal::by_word(404, "no_route"),
@@ -199,10 +199,11 @@ fn refusal_of(fault: CallFault) -> Refusal
 /// malformed body, or a roll with too many rows. Also refuses if memory runs out.
 pub fn call_of(alloc: Global, request: &Request) -> Result<(Vec<u8>, Call), Refusal>
     ensures code { IfOk result (λ found. found.0.items ≡ request.now.code.items) }
-    ensures wish { IfOk result (λ found. wish_of (seen request.now) ≡ Calls (call_model found.1)) }
+    ensures wish { IfOk result (λ found. wish_of (request_content request.now)
+        ≡ Calls (call_model found.1)) }
     ensures form { IfOk result (λ found. HasForm (call_model found.1)) }
-    ensures refused { IfErr result (λ refusal. (refused refusal ≡ no_memory)
-        ⊎ (wish_of (seen request.now) ≡ turned_away (refused refusal))) }
+    ensures refused { IfErr result (λ refusal. (refusal_content refusal ≡ no_memory)
+        ⊎ (wish_of (request_content request.now) ≡ turned_away (refusal_content refusal))) }
 {
     let Ok(code) = Vec::from_slice(alloc, request.code.as_slice()) else {
         return Err(refusal_of(CallFault::Memory));

@@ -4,7 +4,7 @@ ghost use Rattle.std.specs.Prelude.{◌≡◌, IfOk, OnOk, ◌++◌, string_byte
 ghost use Rattle.serde_json.specs.View.{view};
 ghost use Rattle.portal_rules.specs.Answer.{HasWholeNumbers};
 ghost use Rattle.portal_rules.specs.Meaning.{reply_model, body_model};
-ghost use Rattle.portal_frame.specs.Stream.{refused};
+ghost use Rattle.portal_frame.specs.Stream.{refusal_content};
 ghost use Rattle.portal_wire.specs.Wish.{answer_to, fault_body};
 ghost use Rattle.portal_wire.specs.Conversation.{reply_text, phrase_of, type_of, body_bytes};
 ghost use Rattle.portal_wire.specs.Conversation.{reply_lines, common_lines, allow_line, close_line};
@@ -35,7 +35,8 @@ fn told_fault(alloc: Global, word: &str, row: Option<u32>) -> Result<Value, Allo
 ///
 /// Memory ran out.
 pub fn reply_of(alloc: Global, refusal: &Refusal) -> Result<Reply, AllocError>
-    ensures reply { IfOk result (λ reply. reply_model reply ≡ answer_to (refused refusal.now)) }
+    ensures reply { IfOk result (λ reply. reply_model reply
+        ≡ answer_to (refusal_content refusal.now)) }
     ensures whole { IfOk result (λ reply. HasWholeNumbers (body_model reply.body)) }
 {
     if refusal.status == 503 {

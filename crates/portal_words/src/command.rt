@@ -44,7 +44,7 @@ pub enum Asked<'a> {
 }
 
 // Returns the command `serve` with the arguments that the parser matched.
-fn listening<'a>(matches: &ArgMatches<'a>) -> Option<Command<'a>> {
+fn serve_command<'a>(matches: &ArgMatches<'a>) -> Option<Command<'a>> {
     Some(Command::Serve {
         database: matches.get_str("DB")?,
         port: matches.get_one("port")?,
@@ -64,7 +64,7 @@ fn on_database<'a>(name: &str, database: &'a str) -> Option<Command<'a>> {
 }
 
 // Returns the command for a subcommand's name and matches.
-fn named<'a>(name: &str, matches: &ArgMatches<'a>) -> Option<Command<'a>>
+fn command_named<'a>(name: &str, matches: &ArgMatches<'a>) -> Option<Command<'a>>
     ensures check { name.now ≡ codes "check"
         → IsSomeAnd result (ChecksFile (first_of (codes "FILE") (rows_of (found_of matches.now)))) }
     ensures solve { name.now ≡ codes "solve"
@@ -73,13 +73,13 @@ fn named<'a>(name: &str, matches: &ArgMatches<'a>) -> Option<Command<'a>>
     match name {
         "check" => Some(Command::Check(matches.get_str("FILE"))),
         "solve" => Some(Command::Solve(matches.get_str("FILE"))),
-        "serve" => listening(matches),
+        "serve" => serve_command(matches),
         _ => on_database(name, matches.get_str("DB")?),
     }
 }
 
 // Returns the command for the subcommand that was matched.
-fn chosen<'a>(matches: &ArgMatches<'a>) -> Option<Command<'a>>
+fn command_matched<'a>(matches: &ArgMatches<'a>) -> Option<Command<'a>>
     ensures check { (file : Option Text)
         → MeetsFile (subcommand_rows_of matches.now) (codes "check") file
         → IsSomeAnd result (ChecksFile file) }
@@ -88,13 +88,13 @@ fn chosen<'a>(matches: &ArgMatches<'a>) -> Option<Command<'a>>
         → IsSomeAnd result (SolvesFile file) }
 {
     match matches.subcommand() {
-        Some((name, inner)) => named(name, inner),
+        Some((name, inner)) => command_named(name, inner),
         None => None,
     }
 }
 
 // Parses the words of a command line into matches.
-fn parsed<'a, S: AsStr>(alloc: Global, words: &'a [S]) -> Result<ArgMatches<'a>, Error>
+fn matches_of<'a, S: AsStr>(alloc: Global, words: &'a [S]) -> Result<ArgMatches<'a>, Error>
     ensures matches { (name : Text) (file : Option Text)
         → AsksFile (map S.text words.entry.now) name file
         → IfOk result (λ m. MeetsFile (subcommand_rows_of m) name file) }
@@ -119,8 +119,8 @@ pub fn command_of<'a, S: AsStr>(alloc: Global, words: &'a [S]) -> Result<Asked<'
         → drop 1 (map S.text words.entry.now) ≡ codes "solve" ∷ file ∷ []
         → IsTrue (is_file_word file) → IfOk result (Asks (SolvesFile (Some file))) }
 {
-    match parsed(alloc, words) {
-        Ok(matches) => match chosen(&matches) {
+    match matches_of(alloc, words) {
+        Ok(matches) => match command_matched(&matches) {
             Some(command) => Ok(Asked::Do(command)),
             None => Ok(Asked::Show {
                 text: String::from_str(alloc, "error: no command\n")?,

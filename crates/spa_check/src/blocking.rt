@@ -9,7 +9,7 @@ ghost use Rattle.spa_check.specs.inner.Groups.{AreLecturerGroups};
 
 use crate::groups::{Group, depth_of, lecturer_groups, project_groups};
 use crate::stable::is_with;
-use crate::wants::{least_from, wanted};
+use crate::wants::{least_from, wanted_projects};
 use spa_model::{Instance, Letter, Matching};
 use std::alloc::{AllocError, Global};
 
@@ -73,7 +73,7 @@ fn add_blocks(
     requires before { AreBlocksBefore instance.now matching.now s 0 blocks.old.items }
     ensures { OnOk result (AreBlocksBefore instance.now matching.now (s + 1) 0 blocks.new.items) }
 {
-    let list = wanted(instance, matching, s);
+    let list = wanted_projects(instance, matching, s);
     let mut next = 0;
     while let Some(p) = least_from(list, next) {
         if let Some(letter) = letter_of(instance, matching, projects, lecturers, s, p) {

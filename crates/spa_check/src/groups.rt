@@ -18,7 +18,7 @@ pub(crate) struct Group {
 const EMPTY: Group = Group { count: 0, depth: 0 };
 
 /// Returns the group with one more student, whose position is `depth`.
-fn joined(group: Group, depth: usize) -> Group
+fn group_with(group: Group, depth: usize) -> Group
     requires { group.count + 1 < 2 ^ 64 }
     ensures count { result.count ≡ group.count + 1 }
     ensures depth { result.depth ≡ max group.depth depth }
@@ -55,7 +55,7 @@ pub(crate) fn project_groups(
     for s in 0..instance.students() {
         if let Some(p) = instance.project_of(matching, s) {
             let depth = depth_of(instance, instance.lecturer_of(p), s);
-            groups[p] = joined(groups[p], depth);
+            groups[p] = group_with(groups[p], depth);
         }
     }
     Ok(groups)
@@ -75,7 +75,7 @@ pub(crate) fn lecturer_groups(
         if let Some(p) = instance.project_of(matching, s) {
             let l = instance.lecturer_of(p);
             let depth = depth_of(instance, l, s);
-            groups[l] = joined(groups[l], depth);
+            groups[l] = group_with(groups[l], depth);
         }
     }
     Ok(groups)

@@ -5,7 +5,7 @@ ghost use Rattle.spa_model.specs.declared.letter.Letter.{Letter};
 ghost use Rattle.spa_model.specs.Spa.{IsMatching, Blocks, Wants, SomeWorseAt, SomeWorseWith};
 ghost use Rattle.spa_model.specs.Spa.{IsWith, IsStable, is_lecturer, project_of, lecturer_of};
 
-use crate::wants::wanted;
+use crate::wants::wanted_projects;
 use spa_model::{Instance, Letter, Matching};
 
 /// Returns whether the student has a project of the lecturer, to test whether the matching is
@@ -103,7 +103,7 @@ fn is_content(instance: &Instance, matching: &Matching, s: usize) -> bool
     requires in_range { s < length instance.now.choices }
     ensures { IsTrue result ↔ ((p : ℕ) (x : Letter) → Blocks instance.now matching.now s p x → ⊥) }
 {
-    for p in wanted(instance, matching, s) {
+    for p in wanted_projects(instance, matching, s) {
         if letter_of(instance, matching, s, *p).is_some() {
             return false;
         }

@@ -19,7 +19,11 @@ pub(crate) fn place_in(list: &[usize], x: usize) -> usize
 }
 
 /// Returns the projects that the student prefers to the assigned one; all if none is assigned.
-pub(crate) fn wanted<'a>(instance: &'a Instance, matching: &Matching, s: usize) -> &'a [usize]
+pub(crate) fn wanted_projects<'a>(
+    instance: &'a Instance,
+    matching: &Matching,
+    s: usize,
+) -> &'a [usize]
     requires fits { IsMatching instance.now matching.now }
     requires in_range { s < length instance.now.choices }
     ensures each { (p : ℕ) → Contains result.now p ↔ Wants instance.now matching.now s p }
@@ -49,7 +53,7 @@ fn is_better_off(instance: &Instance, matching: &Matching, other: &Matching, s: 
     ensures { IsTrue result ↔ IsBetterOff instance.now matching.now other.now s }
 {
     match instance.project_of(other, s) {
-        Some(p) => wanted(instance, matching, s).contains(&p),
+        Some(p) => wanted_projects(instance, matching, s).contains(&p),
         None => false,
     }
 }

@@ -24,7 +24,7 @@ pub use Rattle.spa_model.proofs.Places.{place-injective, get_or-place, place-get
 pub use Rattle.spa_model.specs.Spa.{Blocks, Improves, IsAcceptable, IsAsGood, IsBefore, IsBest, IsDistinct, IsLawful}
 pub use Rattle.spa_model.specs.Spa.{IsMatching, IsOn, IsStable, Spa, Wants, at_lecturer, at_project, capacity_of}
 pub use Rattle.spa_model.specs.Spa.{choices_of, is_lecturer, lecturer_of, limit_of, place, project_of, ranking_of}
-pub use Rattle.spa_model.specs.Spa.{IsWith, SomeWorseWith, is_project, Rise}
+pub use Rattle.spa_model.specs.Spa.{IsWith, SomeWorseWith, is_project, TextsRise}
 pub use Rattle.spa_model.specs.declared.letter.Letter.{Letter}
 pub use Rattle.spa_model.specs.declared.letter.Letter.TheVariants.{A, B, C}
 pub use Rattle.spa_student.proofs.CutSteps.{acceptable_in_range}
@@ -33,4 +33,4 @@ pub use Rattle.spa_student.proofs.Machine.{put_same, ranked_of, student_in_range
 pub use Rattle.spa_student.proofs.Machine.{swap_at_lecturer_holds, as_good_as_stable, blocked, put_at_project}
 pub use Rattle.spa_student.proofs.Machine.{put_at_lecturer, is_project-at, project_from_test}
 pub use Rattle.spa_student.proofs.Start.{nobody_matches}
-pub use Rattle.spa_student.specs.inner.Machine.{Holds, IsRanked, IsSpent, rank_of}
+pub use Rattle.spa_student.specs.inner.Machine.{IsProvisional, IsRanked, IsSpent, rank_of}

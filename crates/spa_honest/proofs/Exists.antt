@@ -4,7 +4,8 @@ use Rattle.spa_honest.proofs.Base.{get_or, set, replicate, Option, Some, None, r
 use Rattle.spa_honest.proofs.Base.{get_or-set_same, get_or-set_other, eq-eqb, ne_eqb, cases_lt, cases_eq, Spa, place}
 use Rattle.spa_honest.proofs.Base.{at_project, at_lecturer, project_of, choices_of, lecturer_of, capacity_of, limit_of}
 use Rattle.spa_honest.proofs.Base.{IsBefore, IsAcceptable, IsBest, place-injective, sum_below, sum_below-lt, IsRanked}
-use Rattle.spa_honest.proofs.Base.{rank_of, IsSpent, Holds, student_in_range, put_same, put_cases, put_on, place_holds}
+use Rattle.spa_honest.proofs.Base.{rank_of, IsSpent, IsProvisional, student_in_range, put_same, put_cases, put_on}
+use Rattle.spa_honest.proofs.Base.{place_holds}
 use Rattle.spa_honest.proofs.Base.{delete_holds, best_at_end, nobody_matches, acceptable_in_range, rules, ◌-◌, IsWith}
 use Rattle.spa_honest.proofs.Base.{place-get_or, swap_at_project_holds, swap_at_lecturer_holds}
 use Rattle.spa_student.proofs.Start.{none_there}
@@ -68,7 +69,7 @@ Passed i c s p = IsAcceptable i s p × (place (choices_of i s) p < c s)
 
 -- what holds before and after each turn
 pub record UnderWay (i : Spa) (m : List (Option ℕ)) (c : ℕ → ℕ) : Type 0 where
-  pub holds : Holds i m (Passed i c)
+  pub holds : IsProvisional i m (Passed i c)
   pub at_cursor : (s p : ℕ) → project_of m s ≡ Some p → place (choices_of i s) p ≡ c s
 
 -- 1 for a free student
@@ -125,7 +126,8 @@ module _ (i : Spa) (law : IsRanked i) (m : List (Option ℕ)) (c : ℕ → ℕ) 
     gone_other : (k : ℕ) → k ≢ w → project_of (set (set m s (Some p)) w None) k ≡ project_of (set m s (Some p)) k
     gone_other k other = get_or-set_other (set m s (Some p)) w k None None other
 
-    let_go : Holds i (set (set m s (Some p)) w None) (Passed i c) → IsSpent i (set (set m s (Some p)) w None) w u
+    let_go : IsProvisional i (set (set m s (Some p)) w None) (Passed i c)
+        → IsSpent i (set (set m s (Some p)) w None) w u
         → UnderWay i (set (set m s (Some p)) w None) (moved c w)
     let_go holds spent = record {
       holds = delete_holds i (set (set m s (Some p)) w None) (Passed i c) (Passed i (moved c w)) law holds (λ x q old. (old.0, omega (arith, old.1, moved_more c w x))) new;
@@ -143,7 +145,7 @@ module _ (i : Spa) (law : IsRanked i) (m : List (Option ℕ)) (c : ℕ → ℕ) 
     go_less : turns i (set (set m s (Some p)) w None) (moved c w) s + 1 ≤ turns i m c s
     go_less = search (rules, w_free, moved_same, gone_other, moved_other, put_less, state)
 
-    goes : Holds i (set (set m s (Some p)) w None) (Passed i c) → IsSpent i (set (set m s (Some p)) w None) w u
+    goes : IsProvisional i (set (set m s (Some p)) w None) (Passed i c) → IsSpent i (set (set m s (Some p)) w None) w u
         → Turned i m c s
     goes holds spent = record {
       after = set (set m s (Some p)) w None;

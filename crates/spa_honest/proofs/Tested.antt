@@ -5,7 +5,7 @@ use Rattle.spa_honest.proofs.Base.{eq-eqb, cases_lt, Option, Some, None, Spa, pr
 use Rattle.spa_honest.proofs.Base.{lecturer_of, ranking_of, capacity_of, limit_of, at_project, at_lecturer, IsOn}
 use Rattle.spa_honest.proofs.Base.{IsBefore, IsAcceptable, IsDistinct, IsLawful, Improves, Wants, IsStable, IsBest}
 use Rattle.spa_honest.proofs.Base.{IsRanked, A, rules, ltb, ◌&&◌, ◌||◌, not, Ordering, list_all, list_any, is_lt}
-use Rattle.spa_honest.proofs.Base.{and_parts, or_cases, ltb-true, get_or_past, Rise, get_or-place, blocked}
+use Rattle.spa_honest.proofs.Base.{and_parts, or_cases, ltb-true, get_or_past, TextsRise, get_or-place, blocked}
 use Rattle.std.proofs.lemmas.List.Folds.{Any-from_list_any}
 use Rattle.std.proofs.lemmas.List.FromFn.{get_or-range_with_len, length-range_with_len}
 use Rattle.std.proofs.lemmas.List.Kept.{AllPairs-cons}
@@ -67,7 +67,7 @@ pairs test R sound (x ∷ xs) h i j d less low =
 abbrev rises : List (List ℕ) → Bool
 rises keys = pairwise (λ a b. is_lt (slice_cmp nat_cmp a b)) keys
 
-rise : (keys : List (List ℕ)) → rises keys ≡ true → Rise keys
+rise : (keys : List (List ℕ)) → rises keys ≡ true → TextsRise keys
 rise = pairs (λ a b. is_lt (slice_cmp nat_cmp a b)) (λ a b. slice_cmp nat_cmp a b ≡ Less) (λ a b. less (slice_cmp nat_cmp a b))
   where
     less : (o : Ordering) → is_lt o ≡ true → o ≡ Less

@@ -2,7 +2,8 @@
 use Rattle.spa_model.proofs.Base.{◌≡◌, ◌⊎◌, inl, inr, ◌↔◌, IsTrue, ℕ, ◌+◌, ◌<◌, Bool, true, false, List, [], length}
 use Rattle.spa_model.proofs.Base.{get_or, Option, Some, None, refl, sym, ◌∙◌, ap, subst, arith, cases_lt, false≢true}
 use Rattle.spa_model.proofs.Base.{get_or_default, Text, IsLeastOf, map_at, at_place, Any, Student, Project, Lecturer}
-use Rattle.spa_model.proofs.Base.{choices_at, lecturer_at, row_at, rank_at, Misses, MissesBelow, rules, not, lesser_row}
+use Rattle.spa_model.proofs.Base.{choices_at, lecturer_of_row, row_at, rank_at, Misses, MissesBelow, rules, not}
+use Rattle.spa_model.proofs.Base.{lesser_row}
 use Rattle.spa_model.proofs.Base.{least_either}
 use Rattle.std.specs.Bool.{MatchBool}
 use Rattle.std.specs.List.{AllWithin, HoldsAt}
@@ -15,10 +16,11 @@ pub choices_here : (students : List Student) (s : ℕ) (x : Student) → s < len
 choices_here students s x h at = map_at (λ y. y.choices.items) students s x [] h (sym at)
 
 pub lecturer_here : (projects : List Project) (p : ℕ) (x : Project) → p < length projects → x ≡ get_or projects p x
-    → lecturer_at projects p ≡ x.lecturer
+    → lecturer_of_row projects p ≡ x.lecturer
 lecturer_here projects p x h at = map_at (λ y. y.lecturer) projects p x 0 h (sym at)
 
-pub row_here : (lines : List Lines.Lecturer) (l : ℕ) (x : Lines.Lecturer) → l < length lines → x ≡ get_or lines l x
+pub row_here : (lines : List Lines.LecturerWithList) (l : ℕ) (x : Lines.LecturerWithList) → l < length lines
+    → x ≡ get_or lines l x
     → row_at lines l ≡ x.row
 row_here lines l x h at = map_at (λ y. y.row) lines l x 0 h (sym at)
 
@@ -40,7 +42,7 @@ least_same P Q None f g h = λ r q. h r (g r q)
 least_same P Q (Some b) f g h = (f b h.0, λ r q. h.1 r (g r q))
 
 -- one more student
-pub misses_more : (lines : List Lines.Lecturer) (lecturers : List Lecturer) (projects : List Project) (students : List Student) (n : ℕ) (a b : Option ℕ)
+pub misses_more : (lines : List Lines.LecturerWithList) (lecturers : List Lecturer) (projects : List Project) (students : List Student) (n : ℕ) (a b : Option ℕ)
     → IsLeastOf (MissesBelow lines lecturers projects students n) a
     → IsLeastOf (Misses lines lecturers projects (choices_at students n) n) b
     → IsLeastOf (MissesBelow lines lecturers projects students (n + 1)) (lesser_row a b)
@@ -65,13 +67,13 @@ misses_more lines lecturers projects students n a b before here =
 pub rank_read : (projects : List Project) (lecturers : List Lecturer) (p s : ℕ) (project : Project) (lecturer : Lecturer) (rank : Option ℕ)
     → p < length projects → project ≡ get_or projects p project → project.lecturer < length lecturers
     → lecturer ≡ get_or lecturers project.lecturer lecturer → s < length lecturer.ranks.items
-    → rank ≡ get_or lecturer.ranks.items s rank → rank_at lecturers (lecturer_at projects p) s ≡ rank
+    → rank ≡ get_or lecturer.ranks.items s rank → rank_at lecturers (lecturer_of_row projects p) s ≡ rank
 rank_read projects lecturers p s project lecturer rank h at l is k read =
     ap (λ n. rank_at lecturers n s) (lecturer_here projects p project h at) ∙ rank_here lecturers project.lecturer s lecturer l is ∙ get_or_default lecturer.ranks.items s None rank k ∙ sym read
 
-pub row_read : (projects : List Project) (lines : List Lines.Lecturer) (p : ℕ) (project : Project) (line : Lines.Lecturer)
+pub row_read : (projects : List Project) (lines : List Lines.LecturerWithList) (p : ℕ) (project : Project) (line : Lines.LecturerWithList)
     → p < length projects → project ≡ get_or projects p project → project.lecturer < length lines
-    → line ≡ get_or lines project.lecturer line → row_at lines (lecturer_at projects p) ≡ line.row
+    → line ≡ get_or lines project.lecturer line → row_at lines (lecturer_of_row projects p) ≡ line.row
 row_read projects lines p project line h at l is = ap (row_at lines) (lecturer_here projects p project h at) ∙ row_here lines project.lecturer line l is
 
 pub none_iff : (o : Option ℕ) (b : Bool) → is_some o ≡ not b → (IsTrue b ↔ (o ≡ None))

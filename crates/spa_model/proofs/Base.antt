@@ -29,7 +29,7 @@ pub use Rattle.std.specs.Str.{bytes_eq}
 pub use Rattle.spa_model.specs.Pairs.{AreSound, HasNone, HasPairs, lecturer_in, number_in, project_in, student_in}
 pub use Rattle.spa_model.specs.Pairs.{HasKey, IsInstanceOf, StandsFor, StandsLecturer, StandsProject, StandsStudent}
 pub use Rattle.spa_model.specs.Pairs.{keys_at, HasPairFault, number_of_pair_fault, IsPairRefusal}
-pub use Rattle.spa_model.specs.Spa.{IsAcceptable, IsDistinct, IsLawful, IsMatching, IsOn, Rise, Spa, at_lecturer}
+pub use Rattle.spa_model.specs.Spa.{IsAcceptable, IsDistinct, IsLawful, IsMatching, IsOn, TextsRise, Spa, at_lecturer}
 pub use Rattle.spa_model.specs.Spa.{at_project, capacity_of, choices_of, is_lecturer, is_project, lecturer_of, limit_of}
 pub use Rattle.spa_model.specs.Spa.{place, project_of, ranking_of, rank_in, Blocks, IsAsGood, IsBest}
 pub use Rattle.spa_model.specs.declared.instance.Lecturer.{Lecturer}
@@ -40,8 +40,10 @@ pub use Rattle.spa_model.specs.declared.matching.MatchingFault.TheVariants.{Lect
 pub use Rattle.spa_model.specs.declared.matching.MatchingFault.TheVariants.{NotAcceptable, ProjectOver, StudentTwice}
 pub use Rattle.spa_model.specs.inner.Fitting.{AreAssigned, AreAcceptable}
 pub use Rattle.spa_model.specs.inner.Numbers.{AreKeysOf, AreNumbers, Finds, IsApplicantOf, IsLecturerOf, IsProjectOf}
-pub use Rattle.spa_model.specs.inner.Numbers.{IsStudentOf, Misses, MissesBelow, choices_at, lecturer_at, lecturer_keys}
-pub use Rattle.spa_model.specs.inner.Numbers.{project_keys, rank_at, row_at, student_keys, rows_of, IsApplicantNumber}
+pub use Rattle.spa_model.specs.inner.Numbers.{IsStudentOf, Misses, MissesBelow, choices_at, lecturer_of_row}
+pub use Rattle.spa_model.specs.inner.Numbers.{keys_of_lecturers}
+pub use Rattle.spa_model.specs.inner.Numbers.{keys_of_projects, rank_at, row_at, keys_of_students, rows_of}
+pub use Rattle.spa_model.specs.inner.Numbers.{IsApplicantNumber}
 pub use Rattle.spa_model.specs.inner.Numbers.{numbers_at}
 pub use Rattle.spa_rows.proofs.Carry.{SameLines, none_before_carry, same_lines_sym, first_fault_carry}
 pub use Rattle.spa_rows.proofs.FirstFault.{handed_on, refuse_ok, refuse_err}

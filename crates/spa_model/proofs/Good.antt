@@ -4,7 +4,8 @@ use Rattle.spa_model.proofs.Base.{Ordering, Less, Equal, Greater, refl, sym, ◌
 use Rattle.spa_model.proofs.Base.{nat_list_cmp_total, cases_lt, get_or_default, get_or-take, length-take, length-map}
 use Rattle.spa_model.proofs.Base.{Text, Rows, BadAt, HasNoneBefore, IsKeyOf, AreKeysOf, Repeats, TooMany, BadKey}
 use Rattle.spa_model.proofs.Base.{KeyTwice, BadCapacity, NoSuchLecturer, RepeatInList, ListTooLong, NotApplicant}
-use Rattle.spa_model.proofs.Base.{at_place, map_at, Rise, student_keys, project_keys, lecturer_keys, IsSortedByKey}
+use Rattle.spa_model.proofs.Base.{at_place, map_at, TextsRise, keys_of_students, keys_of_projects, keys_of_lecturers}
+use Rattle.spa_model.proofs.Base.{IsSortedByKey}
 use Rattle.spa_model.proofs.Base.{ranks_by, sorted_far, true_from_ne_false, is_key, IsBadCapacity}
 use Rattle.std.proofs.lemmas.Map.Lookups.{exact_bytes}
 use Rattle.spa_rows.specs.declared.faults.InstanceFault.TheVariants.{NoSuchProject}
@@ -18,7 +19,7 @@ none_bad lines row Bad none k d h bad = none (row (get_or lines k d)) (k, get_or
 -- sorted lines whose keys differ have keys that rise
 rise_from_sorted : {X : Type 0} (key : X → Text) (lines : List X) → IsSortedByKey key (slice_cmp nat_cmp) lines
     → ((k : ℕ) (d : X) → k < length lines → Any (λ y. key y ≡ key (get_or lines k d)) (take k lines) → ⊥)
-    → Rise (map key lines)
+    → TextsRise (map key lines)
 rise_from_sorted {X} key lines sorted apart i j d less h =
     let low : j < length lines = omega (arith, length-map lines key) in
     let x = at_place lines i (omega arith) in
@@ -41,9 +42,9 @@ in_range : (n : ℕ) → (IsBadCapacity n → ⊥) → (1 ≤ n) × (n ≤ 200)
 in_range n h = (elim (cases_lt n 1) [ inl less ↦ absurd (h (inl less)) | inr not ↦ not ], elim (cases_lt 200 n) [ inl less ↦ absurd (h (inr less)) | inr not ↦ not ])
 
 pub record AreGood (rows : Rows) : Type 0 where
-  pub rise_students : Rise (student_keys rows.students)
-  pub rise_projects : Rise (project_keys rows.projects)
-  pub rise_lecturers : Rise (lecturer_keys rows.lecturers)
+  pub rise_students : TextsRise (keys_of_students rows.students)
+  pub rise_projects : TextsRise (keys_of_projects rows.projects)
+  pub rise_lecturers : TextsRise (keys_of_lecturers rows.lecturers)
   pub form_students : All (λ x. is_key x.key ≡ true) rows.students
   pub form_projects : All (λ x. is_key x.key ≡ true) rows.projects
   pub form_lecturers : All (λ x. is_key x.key ≡ true) rows.lecturers

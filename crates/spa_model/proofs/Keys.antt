@@ -2,7 +2,8 @@
 use Rattle.spa_model.proofs.Base.{cases_Bool, list_any, bytes_eq, Any-from_list_any, list_any-from_Any}
 use Rattle.spa_model.proofs.Base.{bytes_eq-Decides, false≢true, get_or_default, NamesNone, AreKeysOf, ◌≡◌, inl, inr, ℕ}
 use Rattle.spa_model.proofs.Base.{◌<◌, List, [], ◌∷◌, length, get_or, map, sym, ◌∙◌, arith, nat_list_cmp_total}
-use Rattle.spa_model.proofs.Base.{tied_itself, cases_lt, get_or-map, length-map, Text, IsKeyOf, at_place, map_at, Rise}
+use Rattle.spa_model.proofs.Base.{tied_itself, cases_lt, get_or-map, length-map, Text, IsKeyOf, at_place, map_at}
+use Rattle.spa_model.proofs.Base.{TextsRise}
 use Rattle.spa_model.proofs.Base.{HasKey}
 
 -- the key at a place
@@ -12,7 +13,7 @@ has_key key [] k text h at = absurd (omega arith)
 has_key key (x ∷ xs) k text h at = (rw (length-map (x ∷ xs) key) h, get_or-map key (x ∷ xs) k x [] h ∙ at x)
 
 -- a key has one number
-pub one_number : (keys : List Text) (m n : ℕ) (text : Text) → Rise keys → HasKey keys m text → HasKey keys n text
+pub one_number : (keys : List Text) (m n : ℕ) (text : Text) → TextsRise keys → HasKey keys m text → HasKey keys n text
     → m ≡ n
 one_number keys m n text rise h k = elim (cases_lt m n) [
   | inl less ↦ absurd (apart m n less k.0 h.1 k.1)

@@ -5,8 +5,9 @@ use Rattle.spa_model.proofs.Base.{get_or_default, get_or_past, length-map, Any-f
 use Rattle.spa_model.proofs.Base.{HasNoneBefore, Repeats, NotApplicant, ApplicantMissing, Memory, at_place, map_at}
 use Rattle.spa_model.proofs.Base.{Student, Project, Lecturer, Spa, place, IsOn, IsDistinct, IsLawful, capacity_of}
 use Rattle.spa_model.proofs.Base.{limit_of, HasKey, keys_at, StandsFor, StandsStudent, StandsProject, StandsLecturer}
-use Rattle.spa_model.proofs.Base.{student_keys, project_keys, lecturer_keys, AreNumbers, IsStudentOf, IsProjectOf}
-use Rattle.spa_model.proofs.Base.{IsLecturerOf, choices_at, lecturer_at, row_at, rank_at, Finds, MissesBelow, rules}
+use Rattle.spa_model.proofs.Base.{keys_of_students, keys_of_projects, keys_of_lecturers, AreNumbers, IsStudentOf}
+use Rattle.spa_model.proofs.Base.{IsProjectOf}
+use Rattle.spa_model.proofs.Base.{IsLecturerOf, choices_at, lecturer_of_row, row_at, rank_at, Finds, MissesBelow, rules}
 use Rattle.spa_model.proofs.Base.{list_any, list_any-from_Any}
 use Rattle.spa_rows.specs.Lines
 use Rattle.spa_model.specs.inner.Inside.{spa_of, AreRanks, HaveRanks}
@@ -44,7 +45,7 @@ empty_distinct : IsDistinct []
 empty_distinct i j d less h = absurd (omega arith)
 
 module _ (rows : Rows) (students : List Student) (projects : List Project) (lecturers : List Lecturer) (good : AreGood rows)
-    (so : AreNumbered rows students projects) (lists : AllZip (IsLecturerOf (student_keys rows.students)) rows.lecturers lecturers)
+    (so : AreNumbered rows students projects) (lists : AllZip (IsLecturerOf (keys_of_students rows.students)) rows.lecturers lecturers)
     (faultless : HasNoneBefore rows Memory) where
   no_other : (r : ℕ) → Numbered.OthersAt rows students projects so r → ⊥
   no_other r other = faultless NotApplicant (omega arith) r (Numbered.others_fault rows students projects so r other)
@@ -65,26 +66,26 @@ module _ (rows : Rows) (students : List Student) (projects : List Project) (lect
     n_lecturers : length lecturers ≡ length rows.lecturers
     n_lecturers = Missing.lecturer_count rows students projects lecturers so lists
 
-    student_column : map (λ s. s.key) students ≡ student_keys rows.students
-    student_column = zip_maps (λ x. x.key) (λ s. s.key) rows.students students (zip_weaker (IsStudentOf (project_keys rows.projects)) (λ x s. s.key ≡ x.key) rows.students students (λ x s is. is.key) so.choices)
+    student_column : map (λ s. s.key) students ≡ keys_of_students rows.students
+    student_column = zip_maps (λ x. x.key) (λ s. s.key) rows.students students (zip_weaker (IsStudentOf (keys_of_projects rows.projects)) (λ x s. s.key ≡ x.key) rows.students students (λ x s is. is.key) so.choices)
 
-    project_column : map (λ p. p.key) projects ≡ project_keys rows.projects
-    project_column = zip_maps (λ x. x.key) (λ p. p.key) rows.projects projects (zip_weaker (IsProjectOf (lecturer_keys rows.lecturers)) (λ x p. p.key ≡ x.key) rows.projects projects (λ x p is. is.key) so.offers)
+    project_column : map (λ p. p.key) projects ≡ keys_of_projects rows.projects
+    project_column = zip_maps (λ x. x.key) (λ p. p.key) rows.projects projects (zip_weaker (IsProjectOf (keys_of_lecturers rows.lecturers)) (λ x p. p.key ≡ x.key) rows.projects projects (λ x p is. is.key) so.offers)
 
-    lecturer_column : map (λ l. l.key) lecturers ≡ lecturer_keys rows.lecturers
-    lecturer_column = zip_maps (λ x. x.key) (λ l. l.key) rows.lecturers lecturers (zip_weaker (IsLecturerOf (student_keys rows.students)) (λ x l. l.key ≡ x.key) rows.lecturers lecturers (λ x l is. is.key) lists)
+    lecturer_column : map (λ l. l.key) lecturers ≡ keys_of_lecturers rows.lecturers
+    lecturer_column = zip_maps (λ x. x.key) (λ l. l.key) rows.lecturers lecturers (zip_weaker (IsLecturerOf (keys_of_students rows.students)) (λ x l. l.key ≡ x.key) rows.lecturers lecturers (λ x l is. is.key) lists)
 
     capacity_column : map (λ p. p.capacity) projects ≡ map (λ x. x.capacity) rows.projects
-    capacity_column = zip_maps (λ x. x.capacity) (λ p. p.capacity) rows.projects projects (zip_weaker (IsProjectOf (lecturer_keys rows.lecturers)) (λ x p. p.capacity ≡ x.capacity) rows.projects projects (λ x p is. is.capacity) so.offers)
+    capacity_column = zip_maps (λ x. x.capacity) (λ p. p.capacity) rows.projects projects (zip_weaker (IsProjectOf (keys_of_lecturers rows.lecturers)) (λ x p. p.capacity ≡ x.capacity) rows.projects projects (λ x p is. is.capacity) so.offers)
 
     limit_column : map (λ l. l.capacity) lecturers ≡ map (λ x. x.capacity) rows.lecturers
-    limit_column = zip_maps (λ x. x.capacity) (λ l. l.capacity) rows.lecturers lecturers (zip_weaker (IsLecturerOf (student_keys rows.students)) (λ x l. l.capacity ≡ x.capacity) rows.lecturers lecturers (λ x l is. is.capacity) lists)
+    limit_column = zip_maps (λ x. x.capacity) (λ l. l.capacity) rows.lecturers lecturers (zip_weaker (IsLecturerOf (keys_of_students rows.students)) (λ x l. l.capacity ≡ x.capacity) rows.lecturers lecturers (λ x l is. is.capacity) lists)
 
     abbrev ranking_at : ℕ → List ℕ
     ranking_at l = get_or (map (λ z. z.ranking.items) lecturers) l []
 
-    ranking_here : (l : ℕ) (y : Lines.Lecturer) → l < length rows.lecturers → get_or rows.lecturers l y ≡ y
-        → AreNumbers (student_keys rows.students) y.list (ranking_at l)
+    ranking_here : (l : ℕ) (y : Lines.LecturerWithList) → l < length rows.lecturers → get_or rows.lecturers l y ≡ y
+        → AreNumbers (keys_of_students rows.students) y.list (ranking_at l)
     ranking_here l y h at =
         let z = Missing.row_of rows students projects lecturers so lists l y h at in
         rw (map_at (λ w. w.ranking.items) lecturers l z.0 [] (omega (arith, n_lecturers)) z.1) z.2.ranking
@@ -102,11 +103,11 @@ module _ (rows : Rows) (students : List Student) (projects : List Project) (lect
         let x = at_place rows.students s low in
         Numbered.choice_known rows students projects so s (place (choices_at students s) p) p x.0 low x.1 on (on_at (choices_at students s) p on)
 
-    ranks_there : (s p : ℕ) → IsOn (choices_at students s) p → IsOn (ranking_at (lecturer_at projects p)) s
-    ranks_there s p on = elim (cases_lt (place (ranking_at (lecturer_at projects p)) s) (length (ranking_at (lecturer_at projects p)))) [
+    ranks_there : (s p : ℕ) → IsOn (choices_at students s) p → IsOn (ranking_at (lecturer_of_row projects p)) s
+    ranks_there s p on = elim (cases_lt (place (ranking_at (lecturer_of_row projects p)) s) (length (ranking_at (lecturer_of_row projects p)))) [
       | inl there ↦ there
       | inr past ↦
-          let l : ℕ = lecturer_at projects p in
+          let l : ℕ = lecturer_of_row projects p in
           let low : s < length rows.students = choices_there s p on in
           let l_low : l < length rows.lecturers = Numbered.lecturer_known rows students projects so p (known s p on) in
           let y = at_place rows.lecturers l l_low in
@@ -118,17 +119,17 @@ module _ (rows : Rows) (students : List Student) (projects : List Project) (lect
     ]
 
     applies : (l s : ℕ) → IsOn (ranking_at l) s
-        → (p : ℕ) × IsOn (choices_at students s) p × (lecturer_at projects p ≡ l)
+        → (p : ℕ) × IsOn (choices_at students s) p × (lecturer_of_row projects p ≡ l)
     applies l s on =
         let low : l < length rows.lecturers = ranking_there l s on in
         let y = at_place rows.lecturers l low in
-        let zip : AreNumbers (student_keys rows.students) y.0.list (ranking_at l) = ranking_here l y.0 low y.1 in
-        let size : length (ranking_at l) ≡ length y.0.list = AllZip-long (λ t n. HasKey (student_keys rows.students) n t) y.0.list (ranking_at l) zip in
+        let zip : AreNumbers (keys_of_students rows.students) y.0.list (ranking_at l) = ranking_here l y.0 low y.1 in
+        let size : length (ranking_at l) ≡ length y.0.list = AllZip-long (λ t n. HasKey (keys_of_students rows.students) n t) y.0.list (ranking_at l) zip in
         let i : ℕ = place (ranking_at l) s in
         let text = at_place y.0.list i (omega arith) in
-        let mine : HasKey (student_keys rows.students) (get_or (ranking_at l) i s) (get_or y.0.list i text.0) = zip_at (λ t n. HasKey (student_keys rows.students) n t) y.0.list (ranking_at l) i text.0 s (omega arith) zip in
-        let key : HasKey (student_keys rows.students) s text.0 = rw (on_at (ranking_at l) s on, text.1) at mine in
-        elim (any_or_none (lecturer_at projects) l (choices_at students s)) [
+        let mine : HasKey (keys_of_students rows.students) (get_or (ranking_at l) i s) (get_or y.0.list i text.0) = zip_at (λ t n. HasKey (keys_of_students rows.students) n t) y.0.list (ranking_at l) i text.0 s (omega arith) zip in
+        let key : HasKey (keys_of_students rows.students) s text.0 = rw (on_at (ranking_at l) s on, text.1) at mine in
+        elim (any_or_none (lecturer_of_row projects) l (choices_at students s)) [
           | inl any ↦ (any.1, at_on (choices_at students s) any.0 any.1 any.2 any.3, any.4)
           | inr none ↦ absurd (no_other y.0.row (
             l,
@@ -143,7 +144,7 @@ module _ (rows : Rows) (students : List Student) (projects : List Project) (lect
               omega arith,
               text.1,
               λ found.
-                  none (subst (λ n. Finds projects (choices_at students n) l) (one_number (student_keys rows.students) found.0 s text.0 so.rise_students found.1 key) found.2),
+                  none (subst (λ n. Finds projects (choices_at students n) l) (one_number (keys_of_students rows.students) found.0 s text.0 so.rise_students found.1 key) found.2),
             ),
           ))
         ]
@@ -152,7 +153,7 @@ module _ (rows : Rows) (students : List Student) (projects : List Project) (lect
     distinct_choices s = elim (cases_lt s (length rows.students)) [
       | inl low ↦
           let x = at_place rows.students s low in
-          distinct_numbers (project_keys rows.projects) x.0.list (choices_at students s) (Numbered.choices_numbered rows students projects so s x.0 low x.1) (λ twice. good.apart_students s x.0 low (subst (λ w. Repeats w.list) (sym x.1) twice))
+          distinct_numbers (keys_of_projects rows.projects) x.0.list (choices_at students s) (Numbered.choices_numbered rows students projects so s x.0 low x.1) (λ twice. good.apart_students s x.0 low (subst (λ w. Repeats w.list) (sym x.1) twice))
       | inr past ↦
           let none : choices_at students s ≡ [] = get_or_past (map (λ x. x.choices.items) students) s [] (omega (arith, length-map students (λ x. x.choices.items), n_students)) in
           subst IsDistinct (sym none) empty_distinct
@@ -162,7 +163,7 @@ module _ (rows : Rows) (students : List Student) (projects : List Project) (lect
     distinct_ranking l = elim (cases_lt l (length rows.lecturers)) [
       | inl low ↦
           let y = at_place rows.lecturers l low in
-          distinct_numbers (student_keys rows.students) y.0.list (ranking_at l) (ranking_here l y.0 low y.1) (λ twice. good.apart_lecturers l y.0 low (subst (λ w. Repeats w.list) (sym y.1) twice))
+          distinct_numbers (keys_of_students rows.students) y.0.list (ranking_at l) (ranking_here l y.0 low y.1) (λ twice. good.apart_lecturers l y.0 low (subst (λ w. Repeats w.list) (sym y.1) twice))
       | inr past ↦
           let none : get_or (map (λ z. z.ranking.items) lecturers) l [] ≡ [] = get_or_past (map (λ z. z.ranking.items) lecturers) l [] (omega (arith, length-map lecturers (λ z. z.ranking.items), n_lecturers)) in
           subst IsDistinct (sym none) empty_distinct
@@ -182,7 +183,7 @@ module _ (rows : Rows) (students : List Student) (projects : List Project) (lect
     short s = elim (cases_lt s (length rows.students)) [
       | inl low ↦
           let x = at_place rows.students s low in
-          let size : length (choices_at students s) ≡ length x.0.list = AllZip-long (λ t n. HasKey (project_keys rows.projects) n t) x.0.list (choices_at students s) (Numbered.choices_numbered rows students projects so s x.0 low x.1) in
+          let size : length (choices_at students s) ≡ length x.0.list = AllZip-long (λ t n. HasKey (keys_of_projects rows.projects) n t) x.0.list (choices_at students s) (Numbered.choices_numbered rows students projects so s x.0 low x.1) in
           omega (arith, subst (λ y. length y.list ≤ 20) x.1 (good.short s x.0 low))
       | inr past ↦
           let none : choices_at students s ≡ [] = get_or_past (map (λ x. x.choices.items) students) s [] (omega (arith, length-map students (λ x. x.choices.items), n_students)) in
@@ -215,28 +216,28 @@ module _ (rows : Rows) (students : List Student) (projects : List Project) (lect
 
     pub have_ranks : HaveRanks (length students) lecturers
     have_ranks k d h =
-        let count : length (student_keys rows.students) ≡ length students = length-map rows.students (λ x. x.key) ∙ sym n_students in
-        let ranks : AreRanks (length (student_keys rows.students)) (get_or lecturers k d).ranking.items (get_or lecturers k d).ranks.items = zip_all (IsLecturerOf (student_keys rows.students)) (λ z. AreRanks (length (student_keys rows.students)) z.ranking.items z.ranks.items) rows.lecturers lecturers (λ x z is. is.ranks) lists k d h in
+        let count : length (keys_of_students rows.students) ≡ length students = length-map rows.students (λ x. x.key) ∙ sym n_students in
+        let ranks : AreRanks (length (keys_of_students rows.students)) (get_or lecturers k d).ranking.items (get_or lecturers k d).ranks.items = zip_all (IsLecturerOf (keys_of_students rows.students)) (λ z. AreRanks (length (keys_of_students rows.students)) z.ranking.items z.ranks.items) rows.lecturers lecturers (λ x z is. is.ranks) lists k d h in
         subst (λ n. AreRanks n (get_or lecturers k d).ranking.items (get_or lecturers k d).ranks.items) count ranks
 
-    stands_student : (k : ℕ) (x : Lines.Student) → k < length rows.students → get_or rows.students k x ≡ x
+    stands_student : (k : ℕ) (x : Lines.StudentWithList) → k < length rows.students → get_or rows.students k x ≡ x
         → StandsStudent built x
     stands_student k x h at =
-        let same : keys_at (project_keys rows.projects) (choices_at students k) ≡ x.list = keys_same (project_keys rows.projects) x.list (choices_at students k) (Numbered.choices_numbered rows students projects so k x h at) in
+        let same : keys_at (keys_of_projects rows.projects) (choices_at students k) ≡ x.list = keys_same (keys_of_projects rows.projects) x.list (choices_at students k) (Numbered.choices_numbered rows students projects so k x h at) in
         (k, rw student_column (key_number (λ y. y.key) rows.students k x h at), rw project_column same)
 
-    stands_project : (k : ℕ) (x : Lines.Project) → k < length rows.projects → get_or rows.projects k x ≡ x
+    stands_project : (k : ℕ) (x : Lines.ProjectWithLecturer) → k < length rows.projects → get_or rows.projects k x ≡ x
         → StandsProject built x
     stands_project k x h at =
         let mine : HasKey built.project_keys k x.key = rw project_column (key_number (λ y. y.key) rows.projects k x h at) in
-        let lecturer : HasKey (lecturer_keys rows.lecturers) (lecturer_at projects k) x.lecturer = Numbered.lecturer_numbered rows students projects so k x h at in
+        let lecturer : HasKey (keys_of_lecturers rows.lecturers) (lecturer_of_row projects k) x.lecturer = Numbered.lecturer_numbered rows students projects so k x h at in
         (k, mine, ap (λ column. get_or column k 0) capacity_column ∙ map_at (λ y. y.capacity) rows.projects k x 0 h at, rw lecturer_column lecturer.1)
 
-    stands_lecturer : (k : ℕ) (x : Lines.Lecturer) → k < length rows.lecturers → get_or rows.lecturers k x ≡ x
+    stands_lecturer : (k : ℕ) (x : Lines.LecturerWithList) → k < length rows.lecturers → get_or rows.lecturers k x ≡ x
         → StandsLecturer built x
     stands_lecturer k x h at =
         let mine : HasKey built.lecturer_keys k x.key = rw lecturer_column (key_number (λ y. y.key) rows.lecturers k x h at) in
-        let same : keys_at (student_keys rows.students) (ranking_at k) ≡ x.list = keys_same (student_keys rows.students) x.list (ranking_at k) (ranking_here k x h at) in
+        let same : keys_at (keys_of_students rows.students) (ranking_at k) ≡ x.list = keys_same (keys_of_students rows.students) x.list (ranking_at k) (ranking_here k x h at) in
         (k, mine, ap (λ column. get_or column k 0) limit_column ∙ map_at (λ y. y.capacity) rows.lecturers k x 0 h at, rw student_column same)
 
     pub stands_for : StandsFor rows (spa_of students projects lecturers)

@@ -1,8 +1,9 @@
 -- Numbered lecturers and the lines that they come from say the same of who is missing on a list.
 use Rattle.spa_model.proofs.Base.{◌≡◌, ℕ, ◌<◌, true, List, [], length, get_or, Some, None, Any, refl, sym, ◌∙◌, ap}
 use Rattle.spa_model.proofs.Base.{arith, AllZip, length-map, AllZip-long, Rows, HasFault, ApplicantMissing, at_place}
-use Rattle.spa_model.proofs.Base.{Student, Project, Lecturer, place, IsOn, HasKey, student_keys, IsLecturerOf}
-use Rattle.spa_model.proofs.Base.{choices_at, lecturer_at, row_at, rank_at, Finds, MissesBelow, rules, ltb, nat_tests}
+use Rattle.spa_model.proofs.Base.{Student, Project, Lecturer, place, IsOn, HasKey, keys_of_students, IsLecturerOf}
+use Rattle.spa_model.proofs.Base.{choices_at, lecturer_of_row, row_at, rank_at, Finds, MissesBelow, rules, ltb}
+use Rattle.spa_model.proofs.Base.{nat_tests}
 use Rattle.spa_model.proofs.Base.{rank_in}
 use Rattle.spa_rows.specs.Lines
 use Rattle.spa_model.proofs.Places.{get_or-place, place-get_or-le}
@@ -19,47 +20,47 @@ ranked list s on none = let test : ltb (place list s) (length list) ≡ true = g
 pub unranked : (list : List ℕ) (s : ℕ) → (IsOn list s → ⊥) → rank_in list s ≡ None
 unranked list s off = search (rules, nat_tests)
 
-module _ (rows : Rows) (students : List Student) (projects : List Project) (lecturers : List Lecturer) (so : AreNumbered rows students projects) (lists : AllZip (IsLecturerOf (student_keys rows.students)) rows.lecturers lecturers) where
+module _ (rows : Rows) (students : List Student) (projects : List Project) (lecturers : List Lecturer) (so : AreNumbered rows students projects) (lists : AllZip (IsLecturerOf (keys_of_students rows.students)) rows.lecturers lecturers) where
   pub lecturer_count : length lecturers ≡ length rows.lecturers
-  lecturer_count = AllZip-long (IsLecturerOf (student_keys rows.students)) rows.lecturers lecturers lists
+  lecturer_count = AllZip-long (IsLecturerOf (keys_of_students rows.students)) rows.lecturers lecturers lists
 
   -- the row of a lecturer
-  pub row_of : (l : ℕ) (y : Lines.Lecturer) → l < length rows.lecturers → get_or rows.lecturers l y ≡ y
-      → (z : Lecturer) × (get_or lecturers l z ≡ z) × IsLecturerOf (student_keys rows.students) y z
+  pub row_of : (l : ℕ) (y : Lines.LecturerWithList) → l < length rows.lecturers → get_or rows.lecturers l y ≡ y
+      → (z : Lecturer) × (get_or lecturers l z ≡ z) × IsLecturerOf (keys_of_students rows.students) y z
   row_of l y h at =
       let row = at_place lecturers l (omega (arith, lecturer_count)) in
-      (row.0, row.1, rw (at, row.1) at (zip_at (IsLecturerOf (student_keys rows.students)) rows.lecturers lecturers l y row.0 h lists))
+      (row.0, row.1, rw (at, row.1) at (zip_at (IsLecturerOf (keys_of_students rows.students)) rows.lecturers lecturers l y row.0 h lists))
 
-  module _ (y : Lines.Lecturer) (z : Lecturer) (is_z : IsLecturerOf (student_keys rows.students) y z) (s : ℕ) (x : Lines.Student) (low : s < length rows.students) (is_x : get_or rows.students s x ≡ x) where
-    key_x : HasKey (student_keys rows.students) s x.key
+  module _ (y : Lines.LecturerWithList) (z : Lecturer) (is_z : IsLecturerOf (keys_of_students rows.students) y z) (s : ℕ) (x : Lines.StudentWithList) (low : s < length rows.students) (is_x : get_or rows.students s x ≡ x) where
+    key_x : HasKey (keys_of_students rows.students) s x.key
     key_x = key_number (λ q. q.key) rows.students s x low is_x
 
     long : length z.ranking.items ≡ length y.list
-    long = AllZip-long (λ t n. HasKey (student_keys rows.students) n t) y.list z.ranking.items is_z.ranking
+    long = AllZip-long (λ t n. HasKey (keys_of_students rows.students) n t) y.list z.ranking.items is_z.ranking
 
     -- on the list of texts, on the list of numbers
     pub on_number : Any (λ text. text ≡ x.key) y.list → IsOn z.ranking.items s
     on_number (i, text, under, is_text, same) =
-        let mine : HasKey (student_keys rows.students) (get_or z.ranking.items i 0) (get_or y.list i text) = zip_at (λ t n. HasKey (student_keys rows.students) n t) y.list z.ranking.items i text 0 under is_z.ranking in
-        let is_s : get_or z.ranking.items i 0 ≡ s = one_number (student_keys rows.students) (get_or z.ranking.items i 0) s x.key so.rise_students (mine.0, mine.1 ∙ is_text ∙ same) key_x in
+        let mine : HasKey (keys_of_students rows.students) (get_or z.ranking.items i 0) (get_or y.list i text) = zip_at (λ t n. HasKey (keys_of_students rows.students) n t) y.list z.ranking.items i text 0 under is_z.ranking in
+        let is_s : get_or z.ranking.items i 0 ≡ s = one_number (keys_of_students rows.students) (get_or z.ranking.items i 0) s x.key so.rise_students (mine.0, mine.1 ∙ is_text ∙ same) key_x in
         omega (arith, long, ap (place z.ranking.items) is_s, place-get_or-le z.ranking.items i 0 (omega (arith, long)))
 
     pub on_text : IsOn z.ranking.items s → Any (λ text. text ≡ x.key) y.list
     on_text on =
         let i : ℕ = place z.ranking.items s in
         let text = at_place y.list i (omega (arith, long)) in
-        let mine : HasKey (student_keys rows.students) (get_or z.ranking.items i 0) (get_or y.list i text.0) = zip_at (λ t n. HasKey (student_keys rows.students) n t) y.list z.ranking.items i text.0 0 (omega (arith, long)) is_z.ranking in
+        let mine : HasKey (keys_of_students rows.students) (get_or z.ranking.items i 0) (get_or y.list i text.0) = zip_at (λ t n. HasKey (keys_of_students rows.students) n t) y.list z.ranking.items i text.0 0 (omega (arith, long)) is_z.ranking in
         let is_s : get_or z.ranking.items i 0 ≡ s = get_or-place z.ranking.items s 0 on in
-        (i, text.0, omega (arith, long), text.1, sym text.1 ∙ sym mine.1 ∙ ap (λ n. get_or (student_keys rows.students) n []) is_s ∙ key_x.1)
+        (i, text.0, omega (arith, long), text.1, sym text.1 ∙ sym mine.1 ∙ ap (λ n. get_or (keys_of_students rows.students) n []) is_s ∙ key_x.1)
 
   -- the table's entry
-  pub rank_is : (l : ℕ) (y : Lines.Lecturer) (z : Lecturer) (s : ℕ) → l < length rows.lecturers
-      → get_or lecturers l z ≡ z → IsLecturerOf (student_keys rows.students) y z → s < length rows.students
+  pub rank_is : (l : ℕ) (y : Lines.LecturerWithList) (z : Lecturer) (s : ℕ) → l < length rows.lecturers
+      → get_or lecturers l z ≡ z → IsLecturerOf (keys_of_students rows.students) y z → s < length rows.students
       → rank_at lecturers l s ≡ rank_in z.ranking.items s
   rank_is l y z s h at is_z low = rank_here lecturers l s z (omega (arith, lecturer_count)) (sym at) ∙ is_z.ranks.each s (omega (arith, length-map rows.students (λ q. q.key)))
 
   -- a student who finds a project of the lecturer and has no place there is missing
-  missed : (r s l : ℕ) (x : Lines.Student) (y : Lines.Lecturer) → s < length rows.students
+  missed : (r s l : ℕ) (x : Lines.StudentWithList) (y : Lines.LecturerWithList) → s < length rows.students
       → get_or rows.students s x ≡ x → l < length rows.lecturers → get_or rows.lecturers l y ≡ y
       → Finds projects (choices_at students s) l → row_at rows.lecturers l ≡ r → rank_at lecturers l s ≡ None
       → HasFault rows ApplicantMissing r
@@ -75,9 +76,9 @@ module _ (rows : Rows) (students : List Student) (projects : List Project) (lect
       let low : s < length rows.students = omega (arith, Numbered.student_count rows students projects so) in
       let x = at_place rows.students s low in
       let known : p < length rows.projects = Numbered.choice_known rows students projects so s k p x.0 low x.1 under is_p in
-      let l_low : lecturer_at projects p < length rows.lecturers = Numbered.lecturer_known rows students projects so p known in
-      let y = at_place rows.lecturers (lecturer_at projects p) l_low in
-      missed r s (lecturer_at projects p) x.0 y.0 low x.1 l_low y.1 (k, p, under, is_p, refl) row none
+      let l_low : lecturer_of_row projects p < length rows.lecturers = Numbered.lecturer_known rows students projects so p known in
+      let y = at_place rows.lecturers (lecturer_of_row projects p) l_low in
+      missed r s (lecturer_of_row projects p) x.0 y.0 low x.1 l_low y.1 (k, p, under, is_p, refl) row none
 
   pub fault_misses : (r : ℕ) → HasFault rows ApplicantMissing r
       → MissesBelow rows.lecturers lecturers projects students (length students) r

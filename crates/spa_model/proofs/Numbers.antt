@@ -2,7 +2,8 @@
 use Rattle.spa_model.proofs.Base.{◌≡◌, ℕ, zero, suc, ◌+◌, ◌<◌, ◌≤◌, true, false, List, [], ◌∷◌, map, length, get_or}
 use Rattle.spa_model.proofs.Base.{refl, sym, ◌∙◌, ap, arith, Contains, Less, Equal, Greater, Ordering, nat_cmp, is_lt}
 use Rattle.spa_model.proofs.Base.{slice_cmp, bytes_eq, nat_list_cmp_total, length-map, get_or-map, bytes_eq-Decides}
-use Rattle.spa_model.proofs.Base.{true≢false, Text, Rise, number_in, rules, is_eq, ordering_reverse, position_or_len_is}
+use Rattle.spa_model.proofs.Base.{true≢false, Text, TextsRise, number_in, rules, is_eq, ordering_reverse}
+use Rattle.spa_model.proofs.Base.{position_or_len_is}
 use Rattle.spa_model.proofs.Base.{passes_at_first, fails_before_first}
 use Rattle.std.specs.List.Sorted.{IsSortedBy}
 use Rattle.std.proofs.lemmas.Map.Text.{is_eq-slice_cmp}
@@ -15,7 +16,7 @@ at_map key (x ∷ rows) P zero h f = f x
 at_map key (x ∷ rows) P (suc k) h f = at_map key rows P k (omega arith) f
 
 -- rows whose keys rise are sorted
-pub sorted_rows : {X : Type 0} (key : X → Text) (rows : List X) → Rise (map key rows)
+pub sorted_rows : {X : Type 0} (key : X → Text) (rows : List X) → TextsRise (map key rows)
     → IsSortedBy (λ a b. is_lt (slice_cmp nat_cmp (key a) (key b))) rows
 sorted_rows key rows rise k d low high =
     let size = length-map rows key in
@@ -31,7 +32,7 @@ equal : (a b : Text) → slice_cmp nat_cmp a b ≡ Equal → bytes_eq a b ≡ tr
 equal a b e = sym (is_eq-slice_cmp a b) ∙ ap is_eq e
 
 -- the row that compares as equal has the number
-pub number_found : {X : Type 0} (key : X → Text) (rows : List X) (text : Text) (n : ℕ) → Rise (map key rows)
+pub number_found : {X : Type 0} (key : X → Text) (rows : List X) (text : Text) (n : ℕ) → TextsRise (map key rows)
     → n < length rows → ((d : X) → slice_cmp nat_cmp (key (get_or rows n d)) text ≡ Equal)
     → n ≡ number_in (map key rows) text
 number_found key rows text n rise h found =

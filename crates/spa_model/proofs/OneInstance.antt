@@ -3,7 +3,8 @@ use Rattle.spa_model.proofs.Base.{◌≡◌, ◌≢◌, inl, inr, ℕ, zero, suc
 use Rattle.spa_model.proofs.Base.{length, get_or, All, Contains, refl, sym, subst, ◌∙◌, ap, arith, bytes_eq, cases_lt}
 use Rattle.spa_model.proofs.Base.{ext_get_or, get_or_default, get_or_past, get_or-take, length-map, length-take}
 use Rattle.spa_model.proofs.Base.{IsDistinct-from_AllPairs, bytes_eq-Decides, Text, Rows, HasNoneBefore, KeyTwice}
-use Rattle.spa_model.proofs.Base.{Memory, at_place, map_at, Spa, Rise, IsLawful, IsOn, place, choices_of, lecturer_of}
+use Rattle.spa_model.proofs.Base.{Memory, at_place, map_at, Spa, TextsRise, IsLawful, IsOn, place, choices_of}
+use Rattle.spa_model.proofs.Base.{lecturer_of}
 use Rattle.spa_model.proofs.Base.{capacity_of, limit_of, HasKey, keys_at, StandsFor, StandsStudent, StandsProject}
 use Rattle.spa_model.proofs.Base.{StandsLecturer, number_in, rules, ◌+◌, Less, Equal, Greater, nat_cmp, slice_cmp}
 use Rattle.spa_model.proofs.Base.{nat_list_cmp_total, tied_itself, ◌||◌, AllByRecursion, nat_list_eq_equiv}
@@ -12,7 +13,7 @@ use Rattle.std.specs.Prelude.{AllPairs}
 use Rattle.std.specs.List.{IsDistinct}
 use Rattle.std.specs.Set.{is_member}
 use Rattle.std.proofs.lemmas.Map.Keys.{IsDistinct-cons}
-use Rattle.spa_rows.specs.Lines.{Lecturer, Project, Student}
+use Rattle.spa_rows.specs.Lines.{LecturerWithList, ProjectWithLecturer, StudentWithList}
 use Rattle.spa_model.proofs.Keys.{one_number}
 use Rattle.spa_model.proofs.Numbers.{number_is, number_known}
 use Rattle.spa_model.proofs.Places.{place-get_or-le}
@@ -25,7 +26,7 @@ pub never_itself : (a : Text) → slice_cmp nat_cmp a a ≡ Less → ⊥
 never_itself a h = let tied : slice_cmp nat_cmp a a ≡ Equal = tied_itself nat_list_cmp_total a in cc
 
 -- two lists that rise, as long as each other, where each of ys stands in xs
-module _ (xs ys : List Text) (up : Rise xs) (rise : Rise ys) (long : length xs ≡ length ys)
+module _ (xs ys : List Text) (up : TextsRise xs) (rise : TextsRise ys) (long : length xs ≡ length ys)
     (there : (k : ℕ) → k < length ys → (m : ℕ) × (m < length xs) × (get_or xs m [] ≡ get_or ys k [])) where
   strict : (k l : ℕ) (h : k < length ys) (g : l < length ys) → k < l → (there k h).0 < (there l g).0
   strict k l h g low = elim (cases_lt (there k h).0 (there l g).0) [
@@ -67,13 +68,13 @@ own_key : (keys : List Text) (n : ℕ) → n < length keys → Contains keys (ge
 own_key keys n h = (n, h, get_or_default keys n (get_or keys n []) [] h)
 
 -- a key's number is its place
-pub own_number : (keys : List Text) (n : ℕ) → Rise keys → n < length keys → number_in keys (get_or keys n []) ≡ n
+pub own_number : (keys : List Text) (n : ℕ) → TextsRise keys → n < length keys → number_in keys (get_or keys n []) ≡ n
 own_number keys n rise h =
     let text : Text = get_or keys n [] in
     let low : number_in keys text < length keys = number_known keys text (own_key keys n h) in
     one_number keys (number_in keys text) n text rise (low, number_is keys text low) (h, refl)
 
-pub numbers_back : (keys : List Text) (list : List ℕ) → Rise keys → All (λ n. n < length keys) list
+pub numbers_back : (keys : List Text) (list : List ℕ) → TextsRise keys → All (λ n. n < length keys) list
     → map (number_in keys) (keys_at keys list) ≡ list
 numbers_back keys [] rise all = refl
 numbers_back keys (n ∷ ns) rise all =
@@ -81,7 +82,8 @@ numbers_back keys (n ∷ ns) rise all =
     cc (numbers_back keys ns rise (λ k d h. all (suc k) d (omega arith)))
 
 -- two lists of numbers that have the same keys are one
-numbers_one : (keys others : List Text) (ns ms : List ℕ) → keys ≡ others → Rise keys → All (λ n. n < length keys) ns
+numbers_one : (keys others : List Text) (ns ms : List ℕ) → keys ≡ others → TextsRise keys
+    → All (λ n. n < length keys) ns
     → All (λ n. n < length others) ms → keys_at keys ns ≡ keys_at others ms → ns ≡ ms
 numbers_one keys others ns ms same rise low below e =
     let low_too : All (λ n. n < length keys) ms = subst (λ (ks : List Text). All (λ n. n < length ks) ms) (sym same) below in
@@ -148,7 +150,7 @@ module _ {X : Type 0} (key : X → Text) (lines : List X) (keys : List Text) (lo
           absurd (omega (arith, length-map lines key))
 
 -- keys that rise, and hold each key of others that rise, as many as they are, are these
-pub keys_one : (ks ls : List Text) → Rise ks → Rise ls → length ks ≡ length ls
+pub keys_one : (ks ls : List Text) → TextsRise ks → TextsRise ls → length ks ≡ length ls
     → ((text : Text) → Contains ls text → Contains ks text) → ks ≡ ls
 keys_one ks ls up rise long into = same_keys ks ls up rise long (λ k h.
     let c : Contains ks (get_or ls k []) = into (get_or ls k []) (own_key ls k h) in
@@ -162,29 +164,29 @@ module _ (rows : Rows) (i : Spa) (lawful : IsLawful i) (for : StandsFor rows i) 
       → get_or lines k x ≡ x → P x
   here P lines all k x low at = rw at at (all k x low)
 
-  pub student_there : (k : ℕ) (x : Student) → k < length rows.students → get_or rows.students k x ≡ x
+  pub student_there : (k : ℕ) (x : StudentWithList) → k < length rows.students → get_or rows.students k x ≡ x
       → Contains i.student_keys x.key
   student_there k x low at = let s = here (StandsStudent i) rows.students for.students k x low at in known_key i.student_keys s.0 x.key s.1
 
-  pub project_there : (k : ℕ) (x : Project) → k < length rows.projects → get_or rows.projects k x ≡ x
+  pub project_there : (k : ℕ) (x : ProjectWithLecturer) → k < length rows.projects → get_or rows.projects k x ≡ x
       → Contains i.project_keys x.key
   project_there k x low at = let s = here (StandsProject i) rows.projects for.projects k x low at in known_key i.project_keys s.0 x.key s.1
 
-  pub lecturer_there : (k : ℕ) (x : Lecturer) → k < length rows.lecturers → get_or rows.lecturers k x ≡ x
+  pub lecturer_there : (k : ℕ) (x : LecturerWithList) → k < length rows.lecturers → get_or rows.lecturers k x ≡ x
       → Contains i.lecturer_keys x.key
   lecturer_there k x low at = let s = here (StandsLecturer i) rows.lecturers for.lecturers k x low at in known_key i.lecturer_keys s.0 x.key s.1
 
   -- what a line says, at the number of its key
-  pub student_says : (k : ℕ) (x : Student) (n : ℕ) → k < length rows.students → get_or rows.students k x ≡ x
+  pub student_says : (k : ℕ) (x : StudentWithList) (n : ℕ) → k < length rows.students → get_or rows.students k x ≡ x
       → HasKey i.student_keys n x.key → keys_at i.project_keys (choices_of i n) ≡ x.list
   student_says k x n low at own = search (rules, here (StandsStudent i) rows.students for.students, one_number)
 
-  pub project_says : (k : ℕ) (x : Project) (n : ℕ) → k < length rows.projects → get_or rows.projects k x ≡ x
+  pub project_says : (k : ℕ) (x : ProjectWithLecturer) (n : ℕ) → k < length rows.projects → get_or rows.projects k x ≡ x
       → HasKey i.project_keys n x.key
       → (capacity_of i n ≡ x.capacity) × (get_or i.lecturer_keys (lecturer_of i n) [] ≡ x.lecturer)
   project_says k x n low at own = search (rules, here (StandsProject i) rows.projects for.projects, one_number)
 
-  pub lecturer_says : (k : ℕ) (x : Lecturer) (n : ℕ) → k < length rows.lecturers → get_or rows.lecturers k x ≡ x
+  pub lecturer_says : (k : ℕ) (x : LecturerWithList) (n : ℕ) → k < length rows.lecturers → get_or rows.lecturers k x ≡ x
       → HasKey i.lecturer_keys n x.key
       → (limit_of i n ≡ x.capacity) × (keys_at i.student_keys (ranking_of i n) ≡ x.list)
   lecturer_says k x n low at own = search (rules, here (StandsLecturer i) rows.lecturers for.lecturers, one_number)
@@ -206,15 +208,15 @@ module _ (i : Spa) (lawful : IsLawful i) where
 -- ---- two instances of the same rows
 
 module _ (rows : Rows) (none : HasNoneBefore rows Memory) (i j : Spa) (li : IsLawful i) (fi : StandsFor rows i) (lj : IsLawful j) (fj : StandsFor rows j) where
-  students_apart : (k : ℕ) (x : Student) → k < length rows.students → get_or rows.students k x ≡ x
+  students_apart : (k : ℕ) (x : StudentWithList) → k < length rows.students → get_or rows.students k x ≡ x
       → IsEarlierKey rows.students (λ y. y.key) k x.key → ⊥
   students_apart k x low at early = none KeyTwice (omega arith) x.row (inr (inr (k, x, low, low, at, refl, early)))
 
-  projects_apart : (k : ℕ) (x : Project) → k < length rows.projects → get_or rows.projects k x ≡ x
+  projects_apart : (k : ℕ) (x : ProjectWithLecturer) → k < length rows.projects → get_or rows.projects k x ≡ x
       → IsEarlierKey rows.projects (λ y. y.key) k x.key → ⊥
   projects_apart k x low at early = none KeyTwice (omega arith) x.row (inr (inl (k, x, low, low, at, refl, early)))
 
-  lecturers_apart : (k : ℕ) (x : Lecturer) → k < length rows.lecturers → get_or rows.lecturers k x ≡ x
+  lecturers_apart : (k : ℕ) (x : LecturerWithList) → k < length rows.lecturers → get_or rows.lecturers k x ≡ x
       → IsEarlierKey rows.lecturers (λ y. y.key) k x.key → ⊥
   lecturers_apart k x low at early = none KeyTwice (omega arith) x.row (inl (k, x, low, low, at, refl, early))
 

@@ -1,8 +1,9 @@
 -- What one stage of building hands to the next.
 use Rattle.spa_model.proofs.Base.{◌≡◌, ℕ, ◌<◌, List, length, get_or, Option, All, refl, sym, ◌∙◌, subst, arith, AllZip}
 use Rattle.spa_model.proofs.Base.{get_or_default, length-map, Rows, IsLeastOf, HasFault, HasNoneBefore, AreKeysOf}
-use Rattle.spa_model.proofs.Base.{NotApplicant, ApplicantMissing, Student, Project, Lecturer, student_keys}
-use Rattle.spa_model.proofs.Base.{project_keys, lecturer_keys, IsStudentOf, IsProjectOf, IsLecturerOf, MissesBelow}
+use Rattle.spa_model.proofs.Base.{NotApplicant, ApplicantMissing, Student, Project, Lecturer, keys_of_students}
+use Rattle.spa_model.proofs.Base.{keys_of_projects, keys_of_lecturers, IsStudentOf, IsProjectOf, IsLecturerOf}
+use Rattle.spa_model.proofs.Base.{MissesBelow}
 use Rattle.spa_model.proofs.Base.{rules, AreListNumbers, HaveNumbers, HasNumber, HasKey, IsKeyOf, AreNumbers, Text, Vec}
 use Rattle.spa_model.proofs.Base.{Global, map, cases_lt, inl, inr, IsDistinct, Repeats, at_place, AllZip-long}
 use Rattle.spa_rows.specs.Lines
@@ -29,28 +30,28 @@ numbers_listed key lines list owners numbers are known =
     ]
 
 -- rankings by number
-module _ (rows : Rows) (rankings : List (Vec ℕ Global)) (are : AllZip (λ x own. AreNumbers (student_keys rows.students) x.list own.items) rows.lecturers rankings) where
+module _ (rows : Rows) (rankings : List (Vec ℕ Global)) (are : AllZip (λ x own. AreNumbers (keys_of_students rows.students) x.list own.items) rows.lecturers rankings) where
   pub rankings_below : All (λ own. All (λ s. s < length rows.students) own.items) rankings
   rankings_below = subst (λ n. All (λ own. All (λ s. s < n) own.items) rankings) (length-map rows.students (λ x. x.key))
-      (zip_all (λ x own. AreNumbers (student_keys rows.students) x.list own.items) (λ own. All (λ s. s < length (student_keys rows.students)) own.items) rows.lecturers rankings (λ x own have. numbers_below (student_keys rows.students) x.list own.items have) are)
+      (zip_all (λ x own. AreNumbers (keys_of_students rows.students) x.list own.items) (λ own. All (λ s. s < length (keys_of_students rows.students)) own.items) rows.lecturers rankings (λ x own have. numbers_below (keys_of_students rows.students) x.list own.items have) are)
 
   pub rankings_distinct : All (λ x. Repeats x.list → ⊥) rows.lecturers → All (λ own. IsDistinct own.items) rankings
   rankings_distinct apart k d low =
-      let line = at_place rows.lecturers k (omega (arith, low, AllZip-long (λ x own. AreNumbers (student_keys rows.students) x.list own.items) rows.lecturers rankings are)) in
-      distinct_numbers (student_keys rows.students) (get_or rows.lecturers k line.0).list (get_or rankings k d).items (zip_at (λ x own. AreNumbers (student_keys rows.students) x.list own.items) rows.lecturers rankings k line.0 d (omega (arith, low, AllZip-long (λ x own. AreNumbers (student_keys rows.students) x.list own.items) rows.lecturers rankings are)) are) (apart k line.0 (omega (arith, low, AllZip-long (λ x own. AreNumbers (student_keys rows.students) x.list own.items) rows.lecturers rankings are)))
+      let line = at_place rows.lecturers k (omega (arith, low, AllZip-long (λ x own. AreNumbers (keys_of_students rows.students) x.list own.items) rows.lecturers rankings are)) in
+      distinct_numbers (keys_of_students rows.students) (get_or rows.lecturers k line.0).list (get_or rankings k d).items (zip_at (λ x own. AreNumbers (keys_of_students rows.students) x.list own.items) rows.lecturers rankings k line.0 d (omega (arith, low, AllZip-long (λ x own. AreNumbers (keys_of_students rows.students) x.list own.items) rows.lecturers rankings are)) are) (apart k line.0 (omega (arith, low, AllZip-long (λ x own. AreNumbers (keys_of_students rows.students) x.list own.items) rows.lecturers rankings are)))
 
 pub numbered : (rows : Rows) (students : List Student) (projects : List Project) → AreGood rows
-    → AllZip (IsStudentOf (project_keys rows.projects)) rows.students students
-    → AllZip (IsProjectOf (lecturer_keys rows.lecturers)) rows.projects projects → AreNumbered rows students projects
+    → AllZip (IsStudentOf (keys_of_projects rows.projects)) rows.students students
+    → AllZip (IsProjectOf (keys_of_lecturers rows.lecturers)) rows.projects projects → AreNumbered rows students projects
 numbered rows students projects good choices offers = search rules
 
 module _ (rows : Rows) (students : List Student) (projects : List Project) (so : AreNumbered rows students projects) where
   -- choices are projects
   pub choices_below : All (λ s. All (λ p. p < length projects) s.choices.items) students
   choices_below =
-      let count : length (project_keys rows.projects) ≡ length projects = length-map rows.projects (λ x. x.key) ∙ sym (Numbered.project_count rows students projects so) in
+      let count : length (keys_of_projects rows.projects) ≡ length projects = length-map rows.projects (λ x. x.key) ∙ sym (Numbered.project_count rows students projects so) in
       subst (λ n. All (λ s. All (λ p. p < n) s.choices.items) students) count
-      (zip_all (IsStudentOf (project_keys rows.projects)) (λ s. All (λ p. p < length (project_keys rows.projects)) s.choices.items) rows.students students (λ x s is. numbers_below (project_keys rows.projects) x.list s.choices.items is.choices) so.choices)
+      (zip_all (IsStudentOf (keys_of_projects rows.projects)) (λ s. All (λ p. p < length (keys_of_projects rows.projects)) s.choices.items) rows.students students (λ x s is. numbers_below (keys_of_projects rows.projects) x.list s.choices.items is.choices) so.choices)
 
   -- the least row of the fault NotApplicant
   pub other_least : (o : Option ℕ) → IsLeastOf (Numbered.OthersAt rows students projects so) o
@@ -61,24 +62,24 @@ module _ (rows : Rows) (students : List Student) (projects : List Project) (so :
   pub lists_known : HasNoneBefore rows ApplicantMissing
       → All (λ y. AreKeysOf rows.students (λ x. x.key) y.list) rows.lecturers
   lists_known none k d h =
-      let y : Lines.Lecturer = get_or rows.lecturers k d in
+      let y : Lines.LecturerWithList = get_or rows.lecturers k d in
       all_known (λ x. x.key) rows.students y.list (λ (i, text, under, at, unknown).
       none NotApplicant (omega arith) y.row (Numbered.others_fault rows students projects so y.row (k, y, h, h, get_or_default rows.lecturers k y d h, refl, (i, text, under, at, λ found. unknown (is_key_of (λ x. x.key) rows.students found.0 text found.1)))))
 
-  module _ (lecturers : List Lecturer) (lists : AllZip (IsLecturerOf (student_keys rows.students)) rows.lecturers lecturers) where
+  module _ (lecturers : List Lecturer) (lists : AllZip (IsLecturerOf (keys_of_students rows.students)) rows.lecturers lecturers) where
     -- projects are offered by lecturers
     pub offered_below : All (λ p. p.lecturer < length lecturers) projects
     offered_below =
-        let count : length (lecturer_keys rows.lecturers) ≡ length lecturers = length-map rows.lecturers (λ x. x.key) ∙ sym (Missing.lecturer_count rows students projects lecturers so lists) in
+        let count : length (keys_of_lecturers rows.lecturers) ≡ length lecturers = length-map rows.lecturers (λ x. x.key) ∙ sym (Missing.lecturer_count rows students projects lecturers so lists) in
         subst (λ n. All (λ p. p.lecturer < n) projects) count
-        (zip_all (IsProjectOf (lecturer_keys rows.lecturers)) (λ p. p.lecturer < length (lecturer_keys rows.lecturers)) rows.projects projects (λ x p is. is.lecturer.0) so.offers)
+        (zip_all (IsProjectOf (keys_of_lecturers rows.lecturers)) (λ p. p.lecturer < length (keys_of_lecturers rows.lecturers)) rows.projects projects (λ x p is. is.lecturer.0) so.offers)
 
     -- a table has a place for each student
     pub ranks_for_all : All (λ l. length l.ranks.items ≡ length students) lecturers
     ranks_for_all =
-        let count : length (student_keys rows.students) ≡ length students = length-map rows.students (λ x. x.key) ∙ sym (Numbered.student_count rows students projects so) in
+        let count : length (keys_of_students rows.students) ≡ length students = length-map rows.students (λ x. x.key) ∙ sym (Numbered.student_count rows students projects so) in
         subst (λ n. All (λ l. length l.ranks.items ≡ n) lecturers) count
-        (zip_all (IsLecturerOf (student_keys rows.students)) (λ l. length l.ranks.items ≡ length (student_keys rows.students)) rows.lecturers lecturers (λ x l is. is.ranks.count) lists)
+        (zip_all (IsLecturerOf (keys_of_students rows.students)) (λ l. length l.ranks.items ≡ length (keys_of_students rows.students)) rows.lecturers lecturers (λ x l is. is.ranks.count) lists)
 
     -- the least row of the fault ApplicantMissing
     pub missing_least : (o : Option ℕ)

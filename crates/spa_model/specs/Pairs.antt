@@ -1,7 +1,7 @@
 -- When an instance stands for rows, what can be wrong with pairs, and when they make a matching.
 use Rattle.std.specs.Prelude.{◌≡◌, ◌<◌, ℕ, List, [], All, map, length, slice_index_or, ◌≤◌, ◌+◌, ◌==◌, Option, Some}
 use Rattle.std.specs.Prelude.{Any, Contains, take, count_by}
-use Rattle.spa_rows.specs.Lines.{Text, Lecturer, Project, Student, Rows, Pair}
+use Rattle.spa_rows.specs.Lines.{Text, LecturerWithList, ProjectWithLecturer, StudentWithList, Rows, Pair}
 use Rattle.spa_model.specs.Spa.{Spa, choices_of, lecturer_of, capacity_of, ranking_of, limit_of, project_of}
 use Rattle.spa_model.specs.Spa.{IsAcceptable, IsLawful, IsMatching}
 use Rattle.std.specs.List.{position_or_len}
@@ -20,14 +20,14 @@ HasKey keys n text = (n < length keys) × (slice_index_or keys n [] ≡ text)
 abbrev pub keys_at : List Text → List ℕ → List Text
 keys_at keys list = map (λ n. slice_index_or keys n []) list
 
-abbrev pub StandsStudent : Spa → Student → Type 0
+abbrev pub StandsStudent : Spa → StudentWithList → Type 0
 StandsStudent i x = (s : ℕ) × HasKey i.student_keys s x.key × (keys_at i.project_keys (choices_of i s) ≡ x.list)
 
-abbrev pub StandsProject : Spa → Project → Type 0
+abbrev pub StandsProject : Spa → ProjectWithLecturer → Type 0
 StandsProject i x =
     (p : ℕ) × HasKey i.project_keys p x.key × (capacity_of i p ≡ x.capacity) × (slice_index_or i.lecturer_keys (lecturer_of i p) [] ≡ x.lecturer)
 
-abbrev pub StandsLecturer : Spa → Lecturer → Type 0
+abbrev pub StandsLecturer : Spa → LecturerWithList → Type 0
 StandsLecturer i x =
     (l : ℕ) × HasKey i.lecturer_keys l x.key × (limit_of i l ≡ x.capacity)
     × (keys_at i.student_keys (ranking_of i l) ≡ x.list)

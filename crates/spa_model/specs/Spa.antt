@@ -130,8 +130,8 @@ pub record IsBest (i : Spa) (m : List (Option ℕ)) : Type 0 where
   pub best : (n : List (Option ℕ)) → IsStable i n → (s : ℕ) → IsAsGood i s (project_of m s) (project_of n s)
 
 -- each key is smaller than every later one, in byte order
-abbrev pub Rise : List Text → Type 0
-Rise keys = AllPairs (λ a b. slice_cmp nat_cmp a b ≡ Less) keys
+abbrev pub TextsRise : List Text → Type 0
+TextsRise keys = AllPairs (λ a b. slice_cmp nat_cmp a b ≡ Less) keys
 
 -- no number occurs twice
 abbrev pub IsDistinct : List ℕ → Type 0
@@ -144,9 +144,9 @@ pub record IsLawful (i : Spa) : Type 0 where
   pub project_rows : length i.capacities ≡ length i.lecturers
   pub lecturer_key_rows : length i.lecturer_keys ≡ length i.rankings
   pub lecturer_rows : length i.limits ≡ length i.rankings
-  pub student_keys_rise : Rise i.student_keys
-  pub project_keys_rise : Rise i.project_keys
-  pub lecturer_keys_rise : Rise i.lecturer_keys
+  pub student_keys_rise : TextsRise i.student_keys
+  pub project_keys_rise : TextsRise i.project_keys
+  pub lecturer_keys_rise : TextsRise i.lecturer_keys
   pub offered : (p : ℕ) → p < length i.lecturers → lecturer_of i p < length i.rankings
   pub known : (s p : ℕ) → IsAcceptable i s p → p < length i.lecturers
   pub choices_distinct : (s : ℕ) → IsDistinct (choices_of i s)

@@ -3,7 +3,7 @@
 ghost use Rattle.std.specs.Prelude.{◌≡◌, ◌<◌, IfErr, IfOk, length};
 
 use crate::instance::Instance;
-use crate::pairs::{assigned, check_pairs, project_numbers, student_numbers};
+use crate::pairs::{assigned_projects, check_pairs, project_numbers, student_numbers};
 use spa_rows::PairLine;
 use std::alloc::{AllocError, Global};
 use std::marker::Model;
@@ -78,7 +78,7 @@ impl Matching {
         let students = student_numbers(alloc, instance, lines)?;
         let projects = project_numbers(alloc, instance, lines)?;
         check_pairs(alloc, instance, lines, &students, &projects)?;
-        let own = assigned(alloc, instance.students(), &students, &projects)?;
+        let own = assigned_projects(alloc, instance.students(), &students, &projects)?;
         Ok(Matching { projects: own })
     }
 

@@ -159,7 +159,7 @@ fn lecturer_over(
 }
 
 /// Refuses the pairs with this fault at `row`, or returns `Ok` if `row` is `None`.
-fn refused(fault: MatchingFault, row: Option<u32>) -> Result<(), BadMatching>
+fn refuse_pairs(fault: MatchingFault, row: Option<u32>) -> Result<(), BadMatching>
     ensures ok { OnOk result (row ≡ None) }
     ensures err { IfErr result (λ e. (e.fault ≡ fault) × (row ≡ Some e.row)) }
 {
@@ -183,21 +183,21 @@ pub(crate) fn check_pairs(
     ensures err { IfErr result (λ e. IsPairRefusal instance.now lines.now e.fault e.row) }
 {
     let unknown = no_such_student(instance, lines, students);
-    refused(MatchingFault::NoSuchStudent, unknown)?;
+    refuse_pairs(MatchingFault::NoSuchStudent, unknown)?;
     let unknown = no_such_project(instance, lines, projects);
-    refused(MatchingFault::NoSuchProject, unknown)?;
+    refuse_pairs(MatchingFault::NoSuchProject, unknown)?;
     let unlisted = not_acceptable(instance, lines, students, projects);
-    refused(MatchingFault::NotAcceptable, unlisted)?;
+    refuse_pairs(MatchingFault::NotAcceptable, unlisted)?;
     let again = student_twice(alloc, instance, lines, students)?;
-    refused(MatchingFault::StudentTwice, again)?;
+    refuse_pairs(MatchingFault::StudentTwice, again)?;
     let over = project_over(alloc, instance, lines, projects)?;
-    refused(MatchingFault::ProjectOver, over)?;
+    refuse_pairs(MatchingFault::ProjectOver, over)?;
     let over = lecturer_over(alloc, instance, lines, projects)?;
-    refused(MatchingFault::LecturerOver, over)
+    refuse_pairs(MatchingFault::LecturerOver, over)
 }
 
 /// Returns the project that the pairs give each of so many students, if any.
-pub(crate) fn assigned(
+pub(crate) fn assigned_projects(
     alloc: Global,
     count: usize,
     students: &[usize],

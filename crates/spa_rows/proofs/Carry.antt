@@ -6,8 +6,9 @@ use Rattle.spa_rows.proofs.Base.{Repeats, number_of, InstanceFault, TooMany, Bad
 use Rattle.spa_rows.proofs.Base.{NoSuchLecturer, NoSuchProject, RepeatInList, ListTooLong, NotApplicant}
 use Rattle.spa_rows.proofs.Base.{ApplicantMissing, Memory, is_key, rules, ◌≢◌, false_from_ne_true, nat_list_eq_equiv}
 use Rattle.spa_rows.proofs.Base.{IsPermutation, IsDistinct, bytes_eq, length-take, get_or-take, IsPermutation-sym}
-use Rattle.spa_rows.proofs.Base.{IsPermutation-map, Contains-permutation, length_permutation, Lecturer, Project}
-use Rattle.spa_rows.proofs.Base.{Student, IsOffered, FindsOne, IsApplicant, MissesOne}
+use Rattle.spa_rows.proofs.Base.{IsPermutation-map, Contains-permutation, length_permutation, LecturerWithList}
+use Rattle.spa_rows.proofs.Base.{ProjectWithLecturer}
+use Rattle.spa_rows.proofs.Base.{StudentWithList, IsOffered, FindsOne, IsApplicant, MissesOne}
 use Rattle.std.proofs.lemmas.Map.Keys.{IsDistinct-from_apart, IsDistinct-IsPermutation, apart_from_distinct}
 use Rattle.spa_rows.proofs.Lists.{at_place, map_at}
 use Rattle.spa_rows.proofs.FirstFault.{same_number}
@@ -51,7 +52,7 @@ pub offered_carry : (a b : Rows) → SameLines a b → (project lecturer : Text)
     → IsOffered b project lecturer
 offered_carry a b same project lecturer offered = any_carry (λ p. (p.key ≡ project) × (p.lecturer ≡ lecturer)) (λ p. (p.key ≡ project) × (p.lecturer ≡ lecturer)) a.projects b.projects same.projects (λ x h. h) offered
 
-pub finds_carry : (a b : Rows) → SameLines a b → (s : Student) (lecturer : Text) → FindsOne a s lecturer
+pub finds_carry : (a b : Rows) → SameLines a b → (s : StudentWithList) (lecturer : Text) → FindsOne a s lecturer
     → FindsOne b s lecturer
 finds_carry a b same s lecturer found = any_step (λ project. IsOffered a project lecturer) (λ project. IsOffered b project lecturer) s.list (λ project h. offered_carry a b same project lecturer h) found
 
@@ -59,7 +60,7 @@ pub applicant_carry : (a b : Rows) → SameLines a b → (lecturer text : Text) 
     → IsApplicant b lecturer text
 applicant_carry a b same lecturer text is = any_carry (λ s. (s.key ≡ text) × FindsOne a s lecturer) (λ s. (s.key ≡ text) × FindsOne b s lecturer) a.students b.students same.students (λ s h. (h.0, finds_carry a b same s lecturer h.1)) is
 
-pub misses_carry : (a b : Rows) → SameLines a b → (x : Lecturer) → MissesOne a x → MissesOne b x
+pub misses_carry : (a b : Rows) → SameLines a b → (x : LecturerWithList) → MissesOne a x → MissesOne b x
 misses_carry a b same x missed = any_carry (λ s. FindsOne a s x.key × (Any (λ text. text ≡ s.key) x.list → ⊥)) (λ s. FindsOne b s x.key × (Any (λ text. text ≡ s.key) x.list → ⊥)) a.students b.students same.students (λ s h. (finds_carry a b same s x.key h.0, h.1)) missed
 
 -- either of two faults
@@ -68,15 +69,15 @@ either_carry f g (inl h) = inl (f h)
 either_carry f g (inr h) = inr (g h)
 
 module _ (a b : Rows) (same : SameLines a b) where
-  lecturer_carry : (P Q : Lecturer → Type 0) → ((x : Lecturer) → P x → Q x) → (r : ℕ)
+  lecturer_carry : (P Q : LecturerWithList → Type 0) → ((x : LecturerWithList) → P x → Q x) → (r : ℕ)
       → BadAt a.lecturers (λ x. x.row) (λ _ x. P x) r → BadAt b.lecturers (λ x. x.row) (λ _ x. Q x) r
   lecturer_carry P Q step r bad = bad_carry (λ x. x.row) P Q a.lecturers b.lecturers same.lecturers step r bad
 
-  project_carry : (P Q : Project → Type 0) → ((x : Project) → P x → Q x) → (r : ℕ)
+  project_carry : (P Q : ProjectWithLecturer → Type 0) → ((x : ProjectWithLecturer) → P x → Q x) → (r : ℕ)
       → BadAt a.projects (λ x. x.row) (λ _ x. P x) r → BadAt b.projects (λ x. x.row) (λ _ x. Q x) r
   project_carry P Q step r bad = bad_carry (λ x. x.row) P Q a.projects b.projects same.projects step r bad
 
-  student_carry : (P Q : Student → Type 0) → ((x : Student) → P x → Q x) → (r : ℕ)
+  student_carry : (P Q : StudentWithList → Type 0) → ((x : StudentWithList) → P x → Q x) → (r : ℕ)
       → BadAt a.students (λ x. x.row) (λ _ x. P x) r → BadAt b.students (λ x. x.row) (λ _ x. Q x) r
   student_carry P Q step r bad = bad_carry (λ x. x.row) P Q a.students b.students same.students step r bad
 

@@ -4,7 +4,7 @@ use Rattle.spa_rows.proofs.Base.{subst, arith, cases_lt, get_or-take, length-tak
 use Rattle.spa_rows.proofs.Base.{IsKeyOf, NamesNone, Repeats, HasNumber, HaveNumbers, Differ, AreListNumbers, AllZip}
 use Rattle.spa_rows.proofs.Base.{AllZip-long, Vec, Global, [], map, Option, Bool, true, false, IsTrue, IsAnyAnswer, eqb}
 use Rattle.spa_rows.proofs.Base.{eqb-true, eq-eqb, false≢true, refl, ⊤, IsLeastOf, BadAt, Rows, HasNoneBefore}
-use Rattle.spa_rows.proofs.Base.{NoSuchLecturer, KeyTwice, Student, Project}
+use Rattle.spa_rows.proofs.Base.{NoSuchLecturer, KeyTwice, StudentWithList, ProjectWithLecturer}
 use Rattle.spa_rows.proofs.Lists.{at_place, map_at, zip_at, zip_all, zip_weaker}
 use Rattle.spa_rows.proofs.LeastRow.{alike}
 
@@ -114,10 +114,10 @@ contains_answer xs x true (k, h, at) = (λ _. (k, h, eqb-true (get_or xs k x) x 
 contains_answer xs x false none = (λ e. absurd (false≢true e), λ (k, h, at). absurd (false≢true (sym (none k x (omega arith) h) ∙ eq-eqb (get_or xs k x) x at)))
 
 -- no line has the key of an earlier one
-pub students_apart : (rows : Rows) → HasNoneBefore rows NoSuchLecturer → (n : ℕ) (x : Student)
+pub students_apart : (rows : Rows) → HasNoneBefore rows NoSuchLecturer → (n : ℕ) (x : StudentWithList)
     → n < length rows.students → get_or rows.students n x ≡ x → IsEarlierKey rows.students (λ y. y.key) n x.key → ⊥
 students_apart rows none n x h at earlier = none KeyTwice (omega arith) x.row (inr (inr (n, x, h, h, at, refl, earlier)))
 
-pub projects_apart : (rows : Rows) → HasNoneBefore rows NoSuchLecturer → (n : ℕ) (x : Project)
+pub projects_apart : (rows : Rows) → HasNoneBefore rows NoSuchLecturer → (n : ℕ) (x : ProjectWithLecturer)
     → n < length rows.projects → get_or rows.projects n x ≡ x → IsEarlierKey rows.projects (λ y. y.key) n x.key → ⊥
 projects_apart rows none n x h at earlier = none KeyTwice (omega arith) x.row (inr (inl (n, x, h, h, at, refl, earlier)))

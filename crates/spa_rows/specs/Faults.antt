@@ -1,6 +1,6 @@
 -- What can be wrong with the rows of an instance: `HasFault rows fault r` says that row r has it.
 use Rattle.std.specs.Prelude.{◌≡◌, ℕ, ◌<◌, List, length, slice_index_or, ◌⊎◌, ◌≤◌, false, Any, take}
-use Rattle.spa_rows.specs.Lines.{is_key, Text, Lecturer, Project, Student, Rows}
+use Rattle.spa_rows.specs.Lines.{is_key, Text, LecturerWithList, ProjectWithLecturer, StudentWithList, Rows}
 use Rattle.spa_rows.specs.declared.faults.InstanceFault.{InstanceFault}
 use Rattle.spa_rows.specs.declared.faults.InstanceFault.TheVariants.{TooMany, BadKey, KeyTwice, BadCapacity}
 use Rattle.spa_rows.specs.declared.faults.InstanceFault.TheVariants.{NoSuchLecturer, NoSuchProject, RepeatInList}
@@ -17,13 +17,13 @@ abbrev pub BadAt : {X : Type 0} → List X → (X → ℕ) → (ℕ → X → Ty
 BadAt lines row Bad r = BadBelow lines row Bad (length lines) r
 
 -- a lecturer's, a project's or a student's line has the row number r and is bad
-abbrev pub BadLecturer : Rows → (ℕ → Lecturer → Type 0) → ℕ → Type 0
+abbrev pub BadLecturer : Rows → (ℕ → LecturerWithList → Type 0) → ℕ → Type 0
 BadLecturer rows Bad r = BadAt rows.lecturers (λ x. x.row) Bad r
 
-abbrev pub BadProject : Rows → (ℕ → Project → Type 0) → ℕ → Type 0
+abbrev pub BadProject : Rows → (ℕ → ProjectWithLecturer → Type 0) → ℕ → Type 0
 BadProject rows Bad r = BadAt rows.projects (λ x. x.row) Bad r
 
-abbrev pub BadStudent : Rows → (ℕ → Student → Type 0) → ℕ → Type 0
+abbrev pub BadStudent : Rows → (ℕ → StudentWithList → Type 0) → ℕ → Type 0
 BadStudent rows Bad r = BadAt rows.students (λ x. x.row) Bad r
 
 -- one of the first j lines has this key
@@ -53,7 +53,7 @@ abbrev pub IsOffered : Rows → Text → Text → Type 0
 IsOffered rows project lecturer = Any (λ p. (p.key ≡ project) × (p.lecturer ≡ lecturer)) rows.projects
 
 -- the student lists some project of the lecturer
-abbrev pub FindsOne : Rows → Student → Text → Type 0
+abbrev pub FindsOne : Rows → StudentWithList → Text → Type 0
 FindsOne rows student lecturer = Any (λ project. IsOffered rows project lecturer) student.list
 
 -- the text is the key of a student who lists some project of the lecturer
@@ -61,7 +61,7 @@ abbrev pub IsApplicant : Rows → Text → Text → Type 0
 IsApplicant rows lecturer text = Any (λ s. (s.key ≡ text) × FindsOne rows s lecturer) rows.students
 
 -- some student lists a project of the lecturer and is not on the lecturer's list
-abbrev pub MissesOne : Rows → Lecturer → Type 0
+abbrev pub MissesOne : Rows → LecturerWithList → Type 0
 MissesOne rows x = Any (λ s. FindsOne rows s x.key × (Any (λ text. text ≡ s.key) x.list → ⊥)) rows.students
 
 -- row r has the fault; `TooMany` belongs to no single row and has r = 0

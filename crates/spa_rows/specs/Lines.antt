@@ -15,21 +15,21 @@ abbrev pub Text : Type 0
 Text = List ℕ
 
 -- a lecturer, with the list of students, best first
-pub record Lecturer : Type 0 where
+pub record LecturerWithList : Type 0 where
   pub row : ℕ
   pub key : Text
   pub capacity : ℕ
   pub list : List Text
 
 -- a project, and the lecturer who offers it
-pub record Project : Type 0 where
+pub record ProjectWithLecturer : Type 0 where
   pub row : ℕ
   pub key : Text
   pub capacity : ℕ
   pub lecturer : Text
 
 -- a student, with the list of projects, best first
-pub record Student : Type 0 where
+pub record StudentWithList : Type 0 where
   pub row : ℕ
   pub key : Text
   pub list : List Text
@@ -42,6 +42,6 @@ pub record Pair : Type 0 where
 
 -- the lines of an instance by kind, each kind in its given order
 pub record Rows : Type 0 where
-  pub lecturers : List Lecturer
-  pub projects : List Project
-  pub students : List Student
+  pub lecturers : List LecturerWithList
+  pub projects : List ProjectWithLecturer
+  pub students : List StudentWithList

@@ -16,7 +16,7 @@ use crate::lines::{InstanceRows, ListNumbers};
 use std::alloc::{AllocError, Global};
 
 /// Returns the smaller of the faulty rows of two kinds of lines, or the only one present.
-fn lesser(a: Option<u32>, b: Option<u32>) -> Option<u32>
+fn smaller_row(a: Option<u32>, b: Option<u32>) -> Option<u32>
     ensures { result ≡ lesser_row a b }
 {
     match b {
@@ -45,7 +45,7 @@ fn bad_keys(rows: &InstanceRows) -> Option<u32>
     let lecturer = least_where(&rows.lecturers, has_bad_key);
     let project = least_where(&rows.projects, has_bad_key);
     let student = least_where(&rows.students, has_bad_key);
-    lesser(lecturer, lesser(project, student))
+    smaller_row(lecturer, smaller_row(project, student))
 }
 
 /// Finds, in lines of every kind, the lowest-numbered row that repeats a key of its kind.
@@ -55,7 +55,7 @@ fn keys_twice(alloc: Global, rows: &InstanceRows) -> Result<Option<u32>, AllocEr
     let lecturer = key_twice(alloc, &rows.lecturers)?;
     let project = key_twice(alloc, &rows.projects)?;
     let student = key_twice(alloc, &rows.students)?;
-    Ok(lesser(lecturer, lesser(project, student)))
+    Ok(smaller_row(lecturer, smaller_row(project, student)))
 }
 
 /// Finds, in lines of every kind, the lowest-numbered row with a bad capacity.
@@ -64,7 +64,7 @@ fn bad_capacities(rows: &InstanceRows) -> Option<u32>
 {
     let lecturer = least_where(&rows.lecturers, |line| is_bad_capacity(line.capacity));
     let project = least_where(&rows.projects, |line| is_bad_capacity(line.capacity));
-    lesser(lecturer, project)
+    smaller_row(lecturer, project)
 }
 
 /// Finds, in lines of every kind, the lowest-numbered row of a project whose lecturer is unknown.
@@ -101,7 +101,7 @@ fn repeats_in_lists(
 {
     let lecturer = repeat_in_list(alloc, &rows.lecturers, rankings, rows.students.len() + 1)?;
     let student = repeat_in_list(alloc, &rows.students, choices, rows.projects.len() + 1)?;
-    Ok(lesser(lecturer, student))
+    Ok(smaller_row(lecturer, student))
 }
 
 /// Finds, in lines of every kind, the lowest-numbered row of a student whose list is too long.

@@ -16,9 +16,9 @@ pub struct LecturerLine {
 
 impl Model for LecturerLine {
     ghost use Rattle.std.specs.Prelude.{map};
-    ghost use Rattle.spa_rows.specs.Lines.{Lecturer};
+    ghost use Rattle.spa_rows.specs.Lines.{LecturerWithList};
 
-    ghost Value = { Lecturer };
+    ghost Value = { LecturerWithList };
 
     ghost view = { λ x. record {
       row = x.row;
@@ -38,9 +38,9 @@ pub struct ProjectLine {
 }
 
 impl Model for ProjectLine {
-    ghost use Rattle.spa_rows.specs.Lines.{Project};
+    ghost use Rattle.spa_rows.specs.Lines.{ProjectWithLecturer};
 
-    ghost Value = { Project };
+    ghost Value = { ProjectWithLecturer };
 
     ghost view = { λ x. record {
       row = x.row;
@@ -60,9 +60,9 @@ pub struct StudentLine {
 
 impl Model for StudentLine {
     ghost use Rattle.std.specs.Prelude.{map};
-    ghost use Rattle.spa_rows.specs.Lines.{Student};
+    ghost use Rattle.spa_rows.specs.Lines.{StudentWithList};
 
-    ghost Value = { Student };
+    ghost Value = { StudentWithList };
 
     ghost view = { λ x. record {
       row = x.row;

@@ -16,7 +16,8 @@ pub use Rattle.spa_model.specs.Spa.{at_lecturer, at_project, capacity_of, choice
 pub use Rattle.spa_model.specs.Spa.{lecturer_of, limit_of, place, project_of, ranking_of, IsOn, Improves, Wants, Blocks}
 pub use Rattle.spa_model.specs.Spa.{IsStable, IsAsGood}
 pub use Rattle.spa_student.specs.declared.cuts.Progress.{Progress}
-pub use Rattle.spa_student.specs.inner.Cuts.{IsFree, IsPastCut, IsSettled, IsUnderWay, Puts, IsCut, IsUncut, AreCounts}
+pub use Rattle.spa_student.specs.inner.Cuts.{IsFree, IsPastCut, IsPlacedOrExhausted, IsUnderWay, Puts, IsCut, IsUncut}
+pub use Rattle.spa_student.specs.inner.Cuts.{AreCounts}
 pub use Rattle.spa_student.specs.inner.Cuts.{AreMarks, IsNextEntry, KeepsCuts, Leaves, Exchanges}
-pub use Rattle.spa_student.specs.inner.Machine.{Holds, LecturerSpent, ProjectSpent, rank_of, IsRanked, IsSpent}
+pub use Rattle.spa_student.specs.inner.Machine.{IsProvisional, LecturerSpent, ProjectSpent, rank_of, IsRanked, IsSpent}
 pub use Rattle.spa_student.specs.inner.Worst.{IsWorstWith, IsWorstAt}

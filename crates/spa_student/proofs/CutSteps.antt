@@ -6,7 +6,8 @@ use Rattle.spa_student.proofs.Base.{length-replicate, cases_lt, cases_eq, Spa, p
 use Rattle.spa_student.proofs.Base.{at_project, at_lecturer, project_of, choices_of, lecturer_of, ranking_of}
 use Rattle.spa_student.proofs.Base.{capacity_of, limit_of, IsBefore, IsAcceptable, IsMatching, IsWith, IsLawful}
 use Rattle.spa_student.proofs.Base.{IsDistinct, IsBest, place-injective, one_if, count_by-set, Progress, rank_of}
-use Rattle.spa_student.proofs.Base.{LecturerSpent, ProjectSpent, Holds, IsPastCut, IsUnderWay, Puts, IsSettled}
+use Rattle.spa_student.proofs.Base.{LecturerSpent, ProjectSpent, IsProvisional, IsPastCut, IsUnderWay, Puts}
+use Rattle.spa_student.proofs.Base.{IsPlacedOrExhausted}
 use Rattle.spa_student.proofs.Base.{IsWorstWith, rules, ◌∷◌, Vec, Global, sum_by-set, sum_by-cons, get_or-place}
 use Rattle.spa_student.proofs.Base.{place-get_or, place-get_or-le, IsCut, IsUncut, AreCounts, AreMarks, IsNextEntry}
 use Rattle.spa_student.proofs.Base.{KeepsCuts, Leaves, IsWorstAt, IsSpent}
@@ -91,7 +92,7 @@ was_cut : (i : Spa) (q after : Progress) → KeepsCuts q after → (s p : ℕ) �
 was_cut i q after cuts s p past = rw (cuts.project_cuts, cuts.lecturer_cuts) at past
 
 -- nobody is cut at the own project
-held_uncut : (i : Spa) (m : List (Option ℕ)) (q : Progress) → Holds i m (IsCut i q) → (s p : ℕ)
+held_uncut : (i : Spa) (m : List (Option ℕ)) (q : Progress) → IsProvisional i m (IsCut i q) → (s p : ℕ)
     → project_of m s ≡ Some p → IsPastCut i q s p → ⊥
 held_uncut i m q holds s p e past = search rules
 
@@ -109,7 +110,7 @@ module _ (i : Spa) (q after : Progress) (marks : AreMarks i q) (s p : ℕ) (next
       → ((x ≡ s) × (u ≡ p)) ⊎ (project_of q.projects.items x ≡ Some u)
   after_cases x u e = put_cases i q.projects.items s p next_in_range next.free x u (rw puts.projects at e)
 
-  pub placed_uncut : Holds i q.projects.items (IsCut i q) → IsUncut i after
+  pub placed_uncut : IsProvisional i q.projects.items (IsCut i q) → IsUncut i after
   placed_uncut holds x u e past = search (rules, after_cases, was_cut, held_uncut)
 
 -- A STUDENT who has a project
@@ -230,8 +231,8 @@ spent_below_lecturer : (i : Spa) (m : List (Option ℕ)) (l w t : ℕ) → Lectu
 spent_below_lecturer i m l w t spent le = record { full = spent.full; before = λ x q e own. omega (arith, spent.before x q e own) }
 
 -- where the cuts are the same, the same pairs are deleted
-held_on : (i : Spa) (m : List (Option ℕ)) (q after : Progress) → KeepsCuts q after → Holds i m (IsCut i q)
-    → Holds i m (IsCut i after)
+held_on : (i : Spa) (m : List (Option ℕ)) (q after : Progress) → KeepsCuts q after → IsProvisional i m (IsCut i q)
+    → IsProvisional i m (IsCut i after)
 held_on i m q after cuts holds = search (rules, same_cut, was_cut)
 
 -- the entries before the next one are deleted
@@ -256,19 +257,19 @@ module _ (i : Spa) (lawful : IsLawful i) (q placed : Progress) (state : IsUnderW
   placed_state marks room room_l = record {
     marks = marks;
     counts = counts;
-    holds = subst (λ m. Holds i m (IsCut i placed)) (sym puts.projects) (held_on i (set q.projects.items s (Some p)) q placed cuts
+    holds = subst (λ m. IsProvisional i m (IsCut i placed)) (sym puts.projects) (held_on i (set q.projects.items s (Some p)) q placed cuts
         (place_holds i q.projects.items (IsCut i q) state.holds s p in_range next.free next.acceptable (earlier_cut i q state.marks s p next) (omega (arith, now_at)) (omega (arith, now_with))));
   }
 
   -- a student was let go, and a cut fell to where the student stands
   gone_state : (w : ℕ) (after : Progress) → Leaves w placed after → AreMarks i after → AreCounts i after
-      → Holds i (set (set q.projects.items s (Some p)) w None) (IsCut i q)
+      → IsProvisional i (set (set q.projects.items s (Some p)) w None) (IsCut i q)
       → ((x u : ℕ) → IsPastCut i placed x u → IsPastCut i after x u)
       → ((x u : ℕ) → IsPastCut i after x u → IsPastCut i placed x u ⊎ IsSpent i (set (set q.projects.items s (Some p)) w None) x u) → IsUnderWay i after
   gone_state w after leaves marks after_counts held more new = record {
     marks = marks;
     counts = after_counts;
-    holds = subst (λ m. Holds i m (IsCut i after)) (sym (leaves.projects ∙ ap (λ k. set k w None) puts.projects)) (delete_holds i (set (set q.projects.items s (Some p)) w None) (IsCut i q) (IsCut i after) (ranked_of i lawful) held
+    holds = subst (λ m. IsProvisional i m (IsCut i after)) (sym (leaves.projects ∙ ap (λ k. set k w None) puts.projects)) (delete_holds i (set (set q.projects.items s (Some p)) w None) (IsCut i q) (IsCut i after) (ranked_of i lawful) held
         (λ x u gone. (gone.0, more x u (same_cut i q placed cuts x u gone.1)))
         (λ x u gone. elim (new x u gone.1) [ inl old ↦ inl (gone.0, was_cut i q placed cuts x u old) | inr now ↦ inr now ]));
   }
@@ -333,7 +334,8 @@ module _ (i : Spa) (q : Progress) (state : IsUnderWay i q) (s k : ℕ) (in_range
   moved_next v now within uncut = search (rules, entry_acceptable, get_or-set_same, mover_in, passed_cut, place-get_or-le)
 
 -- THE END: every student is settled
-pub best_when_settled : (i : Spa) (q : Progress) → IsUnderWay i q → ((s : ℕ) → s < length i.choices → IsSettled i q s)
+pub best_when_settled : (i : Spa) (q : Progress) → IsUnderWay i q
+    → ((s : ℕ) → s < length i.choices → IsPlacedOrExhausted i q s)
     → IsBest i q.projects.items
 best_when_settled i q state settled = best_at_end i q.projects.items (IsCut i q) state.holds (λ s p free on. (on, state.marks.passed s p (omega (arith, settled s (acceptable_in_range i s p on) free))))
 

@@ -4,7 +4,8 @@ use Rattle.spa_student.proofs.Base.{arith, set, Option, Some, None, length-set, 
 use Rattle.spa_student.proofs.Base.{get_or_past, cases_lt, cases_eq, Spa, place, is_project, is_lecturer, at_project}
 use Rattle.spa_student.proofs.Base.{at_lecturer, project_of, choices_of, lecturer_of, ranking_of, capacity_of, limit_of}
 use Rattle.spa_student.proofs.Base.{IsBefore, IsAcceptable, IsLawful, IsBest, rank_of, LecturerSpent, ProjectSpent}
-use Rattle.spa_student.proofs.Base.{Holds, place-injective, one_if, count_by-set, rules, true, eqb-true, eq-eqb, ne_eqb}
+use Rattle.spa_student.proofs.Base.{IsProvisional, place-injective, one_if, count_by-set, rules, true, eqb-true, eq-eqb}
+use Rattle.spa_student.proofs.Base.{ne_eqb}
 use Rattle.spa_student.proofs.Base.{cases_Bool, cases_order, IsOn, Improves, Wants, Blocks, IsStable, IsAsGood}
 use Rattle.spa_student.proofs.Base.{IsRanked, IsSpent, off_project, count_by-le, count_by-lt, sum_below, sum_below-lt}
 use Rattle.spa_student.proofs.Base.{share, at_lecturer-sum}
@@ -46,7 +47,8 @@ blocked i n stable t p s u at same before wants room =
     ]
 
 -- s has u in m, ranked before t, and has u in each stable n with t at p, if u is p or has room in n
-kept : (i : Spa) (m n : List (Option ℕ)) (Deleted : ℕ → ℕ → Type 0) → Holds i m Deleted → (stable : IsStable i n)
+kept : (i : Spa) (m n : List (Option ℕ)) (Deleted : ℕ → ℕ → Type 0) → IsProvisional i m Deleted
+    → (stable : IsStable i n)
     → IsRanked i → (t p s u : ℕ) → project_of n t ≡ Some p → project_of m s ≡ Some u
     → lecturer_of i u ≡ lecturer_of i p → rank_of i (lecturer_of i u) s < rank_of i (lecturer_of i u) t → (u ≡ p) ⊎ (at_project n u < capacity_of i u)
     → (o : Option ℕ) → project_of n s ≡ o → o ≡ Some u
@@ -76,7 +78,8 @@ fewer m n u t same keeps t_in at not_at =
     count_by-lt (is_project u) m n t same (λ s h. is_project-at u (project_of n s) (keeps s (project_from_test u (project_of m s) h))) t_in (off_project u (project_of m t) not_at) (is_project-at u (project_of n t) at)
 
 -- a pair that may be deleted is in no stable matching
-pub spent_is_hopeless : (i : Spa) (m n : List (Option ℕ)) (Deleted : ℕ → ℕ → Type 0) → Holds i m Deleted → IsRanked i
+pub spent_is_hopeless : (i : Spa) (m n : List (Option ℕ)) (Deleted : ℕ → ℕ → Type 0) → IsProvisional i m Deleted
+    → IsRanked i
     → (t p : ℕ) → IsSpent i m t p → IsStable i n → project_of n t ≡ Some p → ⊥
 spent_is_hopeless i m n Deleted holds lawful t p (inr project) stable at =
     let keeps : (s : ℕ) → project_of m s ≡ Some p → project_of n s ≡ Some p =
@@ -105,8 +108,9 @@ spent_is_hopeless i m n Deleted holds lawful t p (inl lecturer) stable at =
     omega (arith, sum_m, sum_n, less, lecturer.full, stable.matching.lecturers l)
 
 -- DELETE: pairs that may be deleted are deleted
-pub delete_holds : (i : Spa) (m : List (Option ℕ)) (Deleted More : ℕ → ℕ → Type 0) → IsRanked i → Holds i m Deleted
-    → ((s p : ℕ) → Deleted s p → More s p) → ((s p : ℕ) → More s p → Deleted s p ⊎ IsSpent i m s p) → Holds i m More
+pub delete_holds : (i : Spa) (m : List (Option ℕ)) (Deleted More : ℕ → ℕ → Type 0) → IsRanked i
+    → IsProvisional i m Deleted
+    → ((s p : ℕ) → Deleted s p → More s p) → ((s p : ℕ) → More s p → Deleted s p ⊎ IsSpent i m s p) → IsProvisional i m More
 delete_holds i m Deleted More lawful holds keeps new = record {
   matching = holds.matching;
   first = λ s p q has better. keeps s p (holds.first s p q has better);
@@ -127,7 +131,7 @@ spent_unblocked i m s p (inr project) B b = omega (arith, project.full, b.1)
 spent_unblocked i m s p (inr project) C b = omega (arith, project.before b.2.0 b.2.1, b.2.2.0)
 
 -- at the end: each free student has no pair left
-pub stable_at_end : (i : Spa) (m : List (Option ℕ)) (Deleted : ℕ → ℕ → Type 0) → Holds i m Deleted
+pub stable_at_end : (i : Spa) (m : List (Option ℕ)) (Deleted : ℕ → ℕ → Type 0) → IsProvisional i m Deleted
     → ((s p : ℕ) → project_of m s ≡ None → IsAcceptable i s p → Deleted s p) → IsStable i m
 stable_at_end i m Deleted holds free = record {
   matching = holds.matching;
@@ -141,7 +145,7 @@ stable_at_end i m Deleted holds free = record {
   why s p wants = holds.spent s p (gone s p (project_of m s) refl wants.0 wants.1)
 
 -- a student who, when free, has no pair left has no worse than in any stable matching
-pub as_good_as_stable : (i : Spa) (m : List (Option ℕ)) (Deleted : ℕ → ℕ → Type 0) → Holds i m Deleted
+pub as_good_as_stable : (i : Spa) (m : List (Option ℕ)) (Deleted : ℕ → ℕ → Type 0) → IsProvisional i m Deleted
     → (n : List (Option ℕ)) → IsStable i n → (s : ℕ)
     → ((p : ℕ) → project_of m s ≡ None → IsAcceptable i s p → Deleted s p)
     → IsAsGood i s (project_of m s) (project_of n s)
@@ -160,7 +164,7 @@ as_good_as_stable i m Deleted holds n stable s free = each (project_of m s) (pro
         ]
 
 -- at the end: each student has the best of all stable matchings
-pub best_at_end : (i : Spa) (m : List (Option ℕ)) (Deleted : ℕ → ℕ → Type 0) → Holds i m Deleted
+pub best_at_end : (i : Spa) (m : List (Option ℕ)) (Deleted : ℕ → ℕ → Type 0) → IsProvisional i m Deleted
     → ((s p : ℕ) → project_of m s ≡ None → IsAcceptable i s p → Deleted s p) → IsBest i m
 best_at_end i m Deleted holds free = search (rules, stable_at_end, as_good_as_stable)
 
@@ -198,7 +202,7 @@ stands_before : (xs : List ℕ) (x w : ℕ) → IsOn xs x → x ≢ w → place 
 stands_before xs x w on other le = elim (cases_eq (place xs x) (place xs w)) [ inl level ↦ absurd (other (place-injective xs x w on level)) | inr apart ↦ omega arith ]
 
 -- a free student s is put at p, the first project that is left
-module _ (i : Spa) (m : List (Option ℕ)) (Deleted : ℕ → ℕ → Type 0) (holds : Holds i m Deleted) (s p : ℕ) (in_range : s < length m) (free : project_of m s ≡ None) (on : IsAcceptable i s p) (first : (q : ℕ) → IsBefore (choices_of i s) q p → Deleted s q) where
+module _ (i : Spa) (m : List (Option ℕ)) (Deleted : ℕ → ℕ → Type 0) (holds : IsProvisional i m Deleted) (s p : ℕ) (in_range : s < length m) (free : project_of m s ≡ None) (on : IsAcceptable i s p) (first : (q : ℕ) → IsBefore (choices_of i s) q p → Deleted s q) where
   pub put_on : (x q : ℕ) → project_of (set m s (Some p)) x ≡ Some q → IsAcceptable i x q
   put_on x q e = elim (put_cases i m s p in_range free x q e) [ inl new ↦ rw (new.0, new.1) on | inr old ↦ holds.matching.acceptable x q old ]
 
@@ -208,7 +212,7 @@ module _ (i : Spa) (m : List (Option ℕ)) (Deleted : ℕ → ℕ → Type 0) (h
 
   -- PLACE: the project and its lecturer have room
   pub place_holds : at_project m p < capacity_of i p → at_lecturer i m (lecturer_of i p) < limit_of i (lecturer_of i p)
-      → Holds i (set m s (Some p)) Deleted
+      → IsProvisional i (set m s (Some p)) Deleted
   place_holds room room_l = record {
     matching = record {
       students = length-set m s (Some p) ∙ holds.matching.students;
@@ -259,7 +263,7 @@ module _ (i : Spa) (m : List (Option ℕ)) (Deleted : ℕ → ℕ → Type 0) (h
 
     let_go : ((q : ℕ) → at_project (set (set m s (Some p)) w None) q ≤ capacity_of i q)
         → ((t v : ℕ) → Deleted t v → IsSpent i (set (set m s (Some p)) w None) t v)
-        → Holds i (set (set m s (Some p)) w None) Deleted
+        → IsProvisional i (set (set m s (Some p)) w None) Deleted
     let_go fits spent = record {
       matching = record {
         students = length-set (set m s (Some p)) w None ∙ length-set m s (Some p) ∙ holds.matching.students;
@@ -289,7 +293,7 @@ module _ (i : Spa) (m : List (Option ℕ)) (Deleted : ℕ → ℕ → Type 0) (h
   pub swap_at_project_holds : IsRanked i → (w : ℕ) → at_project m p ≡ capacity_of i p
       → project_of (set m s (Some p)) w ≡ Some p
       → ((x : ℕ) → project_of (set m s (Some p)) x ≡ Some p → rank_of i (lecturer_of i p) x ≤ rank_of i (lecturer_of i p) w)
-      → Holds i (set (set m s (Some p)) w None) Deleted × ProjectSpent i (set (set m s (Some p)) w None) p w
+      → IsProvisional i (set (set m s (Some p)) w None) Deleted × ProjectSpent i (set (set m s (Some p)) w None) p w
   swap_at_project_holds lawful w full has worst = (
     let_go w p has refl (λ q. omega (arith, count w p has refl q, holds.matching.projects q)) (λ t u gone. elim (holds.spent t u gone) [
       | inl lecturer ↦ inl (still_spent w p has refl s_worst u t lecturer)
@@ -314,7 +318,7 @@ module _ (i : Spa) (m : List (Option ℕ)) (Deleted : ℕ → ℕ → Type 0) (h
       → at_lecturer i m (lecturer_of i p) ≡ limit_of i (lecturer_of i p)
       → project_of (set m s (Some p)) w ≡ Some u → lecturer_of i u ≡ lecturer_of i p
       → ((x q : ℕ) → project_of (set m s (Some p)) x ≡ Some q → lecturer_of i q ≡ lecturer_of i p → rank_of i (lecturer_of i p) x ≤ rank_of i (lecturer_of i p) w)
-      → Holds i (set (set m s (Some p)) w None) Deleted × LecturerSpent i (set (set m s (Some p)) w None) (lecturer_of i u) w
+      → IsProvisional i (set (set m s (Some p)) w None) Deleted × LecturerSpent i (set (set m s (Some p)) w None) (lecturer_of i u) w
   swap_at_lecturer_holds lawful w u room full has own worst = (
     let_go w u has own
         (one_more (at_project m) (at_project (set (set m s (Some p)) w None)) (capacity_of i) p (λ q. omega (arith, count w u has own q)) room holds.matching.projects)

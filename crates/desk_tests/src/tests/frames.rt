@@ -1,7 +1,7 @@
 //! Tests framing by examples.
 
 use crate::tests::portal::says;
-use portal_fixtures::{cut, unescaped};
+use portal_fixtures::{cut, without_escapes};
 use portal_frame::{Frame, Refusal, Request, frame};
 use std::process::Abort;
 
@@ -87,7 +87,7 @@ fn are(rt: &(impl Abort + AllocGlobal), rows: &str) {
 fn is_row(rt: &(impl Abort + AllocGlobal), row: &str) {
     let (input, rest) = cut(row, "  ");
     let (wanted, bytes) = cut(rest.trim_start(), "  ");
-    let bytes = unescaped(rt.alloc(), bytes.trim_start()).expect(rt, "memory");
+    let bytes = without_escapes(rt.alloc(), bytes.trim_start()).expect(rt, "memory");
     is(rt, bytes.as_str(), input == "ended", wanted);
 }
 

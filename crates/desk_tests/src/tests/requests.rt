@@ -4,7 +4,7 @@ use crate::tests::devices::is_text;
 use crate::tests::frames::{finds, framed, owned};
 use crate::tests::portal::{BAD_HEAD, filled, has_length, reply, says};
 use portal_core::{Body, Call, Reply, Round, StudentRow};
-use portal_fixtures::{Line, unescaped};
+use portal_fixtures::{Line, without_escapes};
 use portal_wire::{Frame, Refusal, Request, call_of, reply_bytes, reply_of};
 use serde_json::{Value, json};
 use std::alloc::AllocError;
@@ -40,7 +40,7 @@ fn is_refused(rt: &impl Abort, refusal: &Refusal, status: u16, word: &str) {
 
 /// Builds the request of a line.
 fn asked(rt: &(impl Abort + AllocGlobal), line: &Line) -> Request {
-    let body = unescaped(rt.alloc(), line.body).expect(rt, "memory");
+    let body = without_escapes(rt.alloc(), line.body).expect(rt, "memory");
     Request {
         method: bytes_of(rt, line.method),
         path: bytes_of(rt, line.path),

@@ -37,7 +37,7 @@ with_sheet (Office v) (Render sheet) reply = record reply { body = sheet_text v 
 with_sheet v act reply = reply
 
 -- the body of an answer other than 503; JSON has whole numbers only
-abbrev pub IsTold : Said → Type 0
-IsTold (Json body) = has_float body ≡ false
-IsTold Unavailable = ⊥
-IsTold _ = Unit {0}
+abbrev pub IsAnsweredBody : Said → Type 0
+IsAnsweredBody (Json body) = has_float body ≡ false
+IsAnsweredBody Unavailable = ⊥
+IsAnsweredBody _ = Unit {0}

@@ -6,7 +6,8 @@ use Rattle.portal_desk.specs.declared.served.Cause.TheVariants as cause
 use Rattle.portal_desk.specs.Kept.{TakesAtMost}
 use Rattle.portal_frame.specs.declared.types.Frame.{Frame}
 use Rattle.portal_frame.specs.declared.types.Frame.TheVariants as frame
-use Rattle.portal_frame.specs.Stream.{Asked, Opens, whole, fault, over, seen, refused, request_limit}
+use Rattle.portal_frame.specs.Stream.{RequestContent, Opens, whole, fault, over, request_content, refusal_content}
+use Rattle.portal_frame.specs.Stream.{request_limit}
 
 -- the buffer and what the source has left are still the stream; at the end nothing is left
 abbrev pub ReadsMore : Option (List ℕ) → Option (List ℕ) → List ℕ → List ℕ → Bool → Type 0
@@ -39,8 +40,8 @@ abbrev pub Heads : List ℕ → List ℕ → List ℕ → Frame → Type 0
 Heads stream buffer rest frame.Need = ⊥
 Heads stream buffer rest frame.End = Opens stream over
 Heads stream buffer rest (frame.Request request used) =
-    Opens stream (whole (seen request) (drop used buffer ++ rest))
-Heads stream buffer rest (frame.Bad refusal head_only) = Opens stream (fault (refused refusal) head_only)
+    Opens stream (whole (request_content request) (drop used buffer ++ rest))
+Heads stream buffer rest (frame.Bad refusal head_only) = Opens stream (fault (refusal_content refusal) head_only)
 
 -- a request's bytes are in the buffer, and no more than the longest request
 abbrev pub IsWithin : List ℕ → Frame → Type 0
@@ -57,4 +58,4 @@ pub record Follows (old new : Option (List ℕ)) (before after : List ℕ) (foun
 
 -- no request stands whole there
 abbrev pub NoneWhole : List ℕ → Type 0
-NoneWhole bytes = (a : Asked) → (after : List ℕ) → ¬ (Opens bytes (whole a after))
+NoneWhole bytes = (a : RequestContent) → (after : List ℕ) → ¬ (Opens bytes (whole a after))

@@ -15,14 +15,14 @@ IsEnded (Ended ending) = Unit {0}
 IsEnded (Stopped why failed left) = ⊥
 
 -- the sessions serve these streams to their ends, and write these texts, each to an empty writer
-abbrev pub AreOf : {K : Type 0} → List (Session K) → List (List ℕ) → List (List ℕ) → Type 0
-AreOf [] [] [] = Unit {0}
-AreOf (s ∷ ss) (x ∷ xs) (t ∷ ts) =
-    (s.bytes ≡ x) × (s.before ≡ Some []) × (s.after ≡ Some t) × IsEnded s.finish × AreOf ss xs ts
-AreOf _ _ _ = ⊥
+abbrev pub AreSessionsOf : {K : Type 0} → List (Session K) → List (List ℕ) → List (List ℕ) → Type 0
+AreSessionsOf [] [] [] = Unit {0}
+AreSessionsOf (s ∷ ss) (x ∷ xs) (t ∷ ts) =
+    (s.bytes ≡ x) × (s.before ≡ Some []) × (s.after ≡ Some t) × IsEnded s.finish × AreSessionsOf ss xs ts
+AreSessionsOf _ _ _ = ⊥
 
 -- from `old` to `new`, keepers serve the streams in turn and write these texts
 abbrev pub ServesEach : {K : Type 0} → (K → KeeperState) → K → K → List (List ℕ) → List (List ℕ) → Type 0
 ServesEach state old new streams texts =
     (sessions : List (Session _)) × AreServedOn state old sessions × (left_by old sessions ≡ new)
-    × AreOf sessions streams texts
+    × AreSessionsOf sessions streams texts

@@ -12,7 +12,7 @@ use Rattle.portal_rules.specs.declared.decision.Reply.{Reply}
 use Rattle.portal_rules.specs.declared.keeper.KeepFault.{KeepFault}
 use Rattle.portal_rules.specs.declared.keeper.KeepFault.TheVariants.{Memory, Store}
 use Rattle.portal_frame.specs.declared.types.Refusal.{Refusal}
-use Rattle.portal_frame.specs.Stream.{refused}
+use Rattle.portal_frame.specs.Stream.{refusal_content}
 use Rattle.portal_wire.specs.Wish.{answer_to}
 
 -- a first part of a text that could not be written whole
@@ -45,11 +45,11 @@ Broke cause.Store failed reply head closes before after =
     (failed ≡ true) × (reply ≡ unavailable) × Appends before after (reply_text unavailable head true)
 
 -- whether the store failed
-abbrev pub is_store : Result Reply KeepFault → Bool
-is_store (Ok reply) = false
-is_store (Err Memory) = false
-is_store (Err Store) = true
+abbrev pub has_store_failed : Result Reply KeepFault → Bool
+has_store_failed (Ok reply) = false
+has_store_failed (Err Memory) = false
+has_store_failed (Err Store) = true
 
 -- the reply to a refusal, or 503
 abbrev pub TurnsAway : Refusal → Answer → Type 0
-TurnsAway refusal reply = (reply ≡ answer_to (refused refusal)) ⊎ (reply ≡ unavailable)
+TurnsAway refusal reply = (reply ≡ answer_to (refusal_content refusal)) ⊎ (reply ≡ unavailable)

@@ -28,7 +28,7 @@ abbrev pub is_noted : {S : Type 0} → HashMap (Bor Key) (Vec ℕ Global) S → 
 is_noted table project place = is_noted_in (map.get text_eq table project) place
 
 -- the table has at each project just the places of the students whose list holds it
-abbrev pub IsIndexOf : {S : Type 0} → List Student → HashMap (Bor Key) (Vec ℕ Global) S → Type 0
-IsIndexOf students table =
+abbrev pub IsApplicantIndex : {S : Type 0} → List Student → HashMap (Bor Key) (Vec ℕ Global) S → Type 0
+IsApplicantIndex students table =
     (project : Bor Key) (place : ℕ)
     → is_noted table project place ≡ passes_at (λ s. has s.choice project.now) students place

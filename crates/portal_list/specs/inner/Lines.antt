@@ -7,13 +7,13 @@ use Rattle.portal_rules.specs.declared.rows.ProjectRow.{ProjectRow}
 use Rattle.portal_list.specs.inner.Rows.{AllEntries}
 
 -- no fault of these lines is ever told, so that they need no row
-abbrev pub instance_lecturer : Lecturer → Lines.Lecturer
+abbrev pub instance_lecturer : Lecturer → Lines.LecturerWithList
 instance_lecturer l = record { row = 0; key = l.row.key; capacity = l.row.capacity; list = unwrap_or l.ranking [] }
 
-abbrev pub instance_project : ProjectRow → Lines.Project
+abbrev pub instance_project : ProjectRow → Lines.ProjectWithLecturer
 instance_project p = record { row = 0; key = p.key; capacity = p.capacity; lecturer = p.lecturer }
 
-abbrev pub instance_student : Student → Lines.Student
+abbrev pub instance_student : Student → Lines.StudentWithList
 instance_student s = record { row = 0; key = s.row.key; list = s.choice }
 
 abbrev pub instance_rows : AllEntries → Rows

@@ -4,7 +4,7 @@ ghost use Rattle.std.specs.Prelude.{◌≡◌, IfOk};
 ghost use Rattle.portal_list.specs.inner.Shown.{catalogue_in};
 
 use crate::entries::{Entries, LecturerEntry};
-use crate::second_round::played;
+use crate::second_round::entries_in_play;
 use portal_rules::{HasLecturerRow, LecturerRow, Listing, Round, listings_of};
 use std::alloc::{AllocError, Global};
 
@@ -23,7 +23,7 @@ pub(crate) fn catalogue_of(alloc: Global, entries: &Entries) -> Result<Vec<Listi
     match entries.round {
         Round::First => listings_of(alloc, &entries.lecturers, &entries.projects),
         Round::Second => {
-            let left = played(alloc, entries)?;
+            let left = entries_in_play(alloc, entries)?;
             listings_of(alloc, &left.lecturers, &left.projects)
         }
     }

@@ -68,7 +68,7 @@ fn has_applicant(students: &[StudentEntry], projects: &[ProjectRow], lecturer: &
 }
 
 /// Finds in the entries the lecturers who have an applicant and no ranking.
-pub(crate) fn waiting(
+pub(crate) fn lecturers_to_rank(
     alloc: Global,
     lecturers: &[LecturerEntry],
     projects: &[ProjectRow],
@@ -98,7 +98,7 @@ pub(super) fn still_to_rank(
         (filter (is_waiting students.now projects.now) lecturers.now) else [])) }
 {
     if closed {
-        waiting(alloc, lecturers, projects, students)
+        lecturers_to_rank(alloc, lecturers, projects, students)
     } else {
         Ok(Vec::new(alloc))
     }

@@ -73,16 +73,16 @@ refusal status word members = answered status (dictionary ((codes "error", strin
 abbrev pub sheet : Said → Answer
 sheet text = record { status = 200; allow = []; body = text }
 
-abbrev pub persons : List (List ℕ × List ℕ) → Data
-persons them = several (map (λ p. dictionary ((codes "key", string p.0) ∷ (codes "name", string p.1) ∷ [])) them)
+abbrev pub worked_persons : List (List ℕ × List ℕ) → Data
+worked_persons them = several (map (λ p. dictionary ((codes "key", string p.0) ∷ (codes "name", string p.1) ∷ [])) them)
 
 -- a lecturer sees who listed each own project, and not where
 pub record TellsApplicants : Type 0 where
   pub to_lee : reply listed (codes "lee-code-01") AbstractCall.Applicants ≡ body ((
     codes "projects",
     several (
-        dictionary ((codes "applicants", persons ((codes "S1", codes "Ann") ∷ (codes "S2", codes "Roe, Bea") ∷ [])) ∷ (codes "id", string (codes "P1")) ∷ [])
-        ∷ dictionary ((codes "applicants", persons ((codes "S1", codes "Ann") ∷ [])) ∷ (codes "id", string (codes "P2")) ∷ []) ∷ []),
+        dictionary ((codes "applicants", worked_persons ((codes "S1", codes "Ann") ∷ (codes "S2", codes "Roe, Bea") ∷ [])) ∷ (codes "id", string (codes "P1")) ∷ [])
+        ∷ dictionary ((codes "applicants", worked_persons ((codes "S1", codes "Ann") ∷ [])) ∷ (codes "id", string (codes "P2")) ∷ []) ∷ []),
   ) ∷ [])
   pub in_another_order : reply (changed listed (Choices (codes "S1") (codes "P2" ∷ codes "P1" ∷ []))) (codes "lee-code-01") AbstractCall.Applicants
       ≡ reply listed (codes "lee-code-01") AbstractCall.Applicants

@@ -11,16 +11,16 @@ use Rattle.portal_store.specs.declared.store.OpenFault.{OpenFault}
 use Rattle.portal_store.specs.declared.store.OpenFault.TheVariants as opening
 
 -- a refusal is for the store or for want of memory, or it says that this is not so
-abbrev pub Denies : OpenFault → Type 0 → Type 0
-Denies opening.NotPortal so = ⊥
-Denies opening.OtherVersion so = ⊥
-Denies opening.Damaged so = so → ⊥
-Denies opening.Store so = Unit {0}
-Denies opening.Memory so = Unit {0}
+abbrev pub SaysNot : OpenFault → Type 0 → Type 0
+SaysNot opening.NotPortal so = ⊥
+SaysNot opening.OtherVersion so = ⊥
+SaysNot opening.Damaged so = so → ⊥
+SaysNot opening.Store so = Unit {0}
+SaysNot opening.Memory so = Unit {0}
 
 -- a refusal is for the store or for want of memory: of the tables it says nothing
 abbrev pub SaysNothing : OpenFault → Type 0
-SaysNothing fault = Denies fault (Unit {0})
+SaysNothing fault = SaysNot fault (Unit {0})
 
 -- row numbers of the tables of many rows differ
 abbrev pub NumbersDiffer : Trees → Type 0

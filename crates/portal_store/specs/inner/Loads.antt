@@ -24,9 +24,10 @@ abbrev pub LoadsIn : Round → Trees → RowsOfWorld → Type 0
 LoadsIn = Loads version
 
 -- the rows of a round's tables, with its phase, the code of the office, and the rows of what was before
-abbrev pub joined : Round → Phase → Key → AllRows → List (Key × List Key) → List (Key × List Key) → List (Key × Key)
+abbrev pub rows_with_earlier : Round → Phase → Key → AllRows → List (Key × List Key) → List (Key × List Key)
+    → List (Key × Key)
     → RowsOfWorld
-joined round phase code rows choices rankings pairs =
+rows_with_earlier round phase code rows choices rankings pairs =
     record {
       round = round;
       phase = phase;
@@ -44,7 +45,7 @@ joined round phase code rows choices rankings pairs =
 
 -- the rows of a second round after the first: its own, and what was of the first is the earlier
 abbrev pub after_first : RowsOfWorld → Phase → AllRows → RowsOfWorld
-after_first first phase rows = joined Second phase first.office rows first.choices first.rankings first.pairs
+after_first first phase rows = rows_with_earlier Second phase first.office rows first.choices first.rankings first.pairs
 
 -- nothing is kept of a round before
 abbrev pub HasNothingBefore : World → Type 0

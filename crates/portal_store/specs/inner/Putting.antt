@@ -25,11 +25,11 @@ with_rankings w (f ∷ fs) = with_rankings (changed w (Ranks f.0 f.1)) fs
 
 -- where these lecturers are on the roll, whose keys rise, the tables turn to the world with these
 -- rankings
-pub record RanksAll (round : Round) (fills : List (Key × List Key)) (old new : Database) : Type 0 where
+pub record HasRankings (round : Round) (fills : List (Key × List Key)) (old new : Database) : Type 0 where
   pub holds : IsConsistentIn round new
   pub world : world_in round new.trees ≡ with_rankings (world_in round old.trees) fills
 
 abbrev pub TurnsAll : Round → List (Key × List Key) → Database → Database → Type 0
 TurnsAll round fills old new =
     IsConsistentIn round old → Rise (map lecturer_key (world_in round old.trees).lecturers)
-    → AllByRecursion (λ f. has (map lecturer_key (world_in round old.trees).lecturers) f.0 ≡ true) fills → RanksAll round fills old new
+    → AllByRecursion (λ f. has (map lecturer_key (world_in round old.trees).lecturers) f.0 ≡ true) fills → HasRankings round fills old new

@@ -48,21 +48,21 @@ abbrev pub Remembers : ViewCache → Database → Type 0
 Remembers cache db = IsConsistent db × IsCacheOf cache (world_of db.trees)
 
 -- what is remembered is right, and the answer is this of the world
-abbrev pub Shows : {V E : Type 0} → ViewCache → (World → V → Type 0) → Database → Result V E → Type 0
-Shows cache Answer db result = IsCacheOf cache (world_of db.trees) × IfOk result (Answer (world_of db.trees))
+abbrev pub ShowsWorld : {V E : Type 0} → ViewCache → (World → V → Type 0) → Database → Result V E → Type 0
+ShowsWorld cache Answer db result = IsCacheOf cache (world_of db.trees) × IfOk result (Answer (world_of db.trees))
 
 -- the same of tables of a round
 abbrev pub RemembersIn : Round → ViewCache → Database → Type 0
 RemembersIn round cache db = IsConsistentIn round db × IsCacheOf cache (world_in round db.trees)
 
-abbrev pub ShowsIn : {V E : Type 0} → Round → ViewCache → (World → V → Type 0) → Database → Result V E → Type 0
-ShowsIn round cache Answer db result =
+abbrev pub ShowsWorldIn : {V E : Type 0} → Round → ViewCache → (World → V → Type 0) → Database → Result V E → Type 0
+ShowsWorldIn round cache Answer db result =
     IsCacheOf cache (world_in round db.trees) × IfOk result (Answer (world_in round db.trees))
 
 -- the same result, with another fault for a fault
-abbrev pub IsToldAs : {V E F : Type 0} → Result V E → Result V F → Type 0
-IsToldAs (Ok v) told = told ≡ Ok v
-IsToldAs (Err e) told = IfOk told (λ _. ⊥)
+abbrev pub IsSameUpToFault : {V E F : Type 0} → Result V E → Result V F → Type 0
+IsSameUpToFault (Ok v) told = told ≡ Ok v
+IsSameUpToFault (Err e) told = IfOk told (λ _. ⊥)
 
 -- the entries before were those of the world, so those after are
 abbrev pub KeepsEntries : Option AllEntries → Option AllEntries → State → State → Type 0

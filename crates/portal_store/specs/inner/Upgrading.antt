@@ -14,7 +14,7 @@ use Rattle.portal_store.specs.World.{world_in}
 use Rattle.portal_store.specs.inner.Asked.{AdmitsAs}
 
 -- tables of version 1 were upgraded, whose world has these entries
-pub record UpgradesTables {S : Type 0} (g : Ghosts S) (entries : AllEntries) (old new : Held S) : Type 0 where
+pub record UpgradesWithEntries {S : Type 0} (g : Ghosts S) (entries : AllEntries) (old new : Held S) : Type 0 where
   pub idle : new.in_transaction ≡ false
   -- no table had one of the five new names
   pub free : has_names OfSecond old.schema ≡ false

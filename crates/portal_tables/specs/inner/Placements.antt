@@ -57,13 +57,13 @@ abbrev pub places_shown : Trees → List Row
 places_shown db = map (columns (1 ∷ 4 ∷ [])) (by_key (db student_tree))
 
 -- the pair of a student who has a place
-abbrev pub pair_told : Row → Option (Key × Key)
-pair_told c = option_map (λ p. (first_cell c, p)) (text_or_none (column c 1))
+abbrev pub first_pair : Row → Option (Key × Key)
+first_pair c = option_map (λ p. (first_cell c, p)) (text_or_none (column c 1))
 
 -- key and place have the form of a key
-abbrev pub HasKeys : Row → Type 0
-HasKeys c = (is_key (first_cell c) ≡ true) × IfSome (text_or_none (column c 1)) (λ p. is_key p ≡ true)
+abbrev pub HasPairKeys : Row → Type 0
+HasPairKeys c = (is_key (first_cell c) ≡ true) × IfSome (text_or_none (column c 1)) (λ p. is_key p ≡ true)
 
 -- the result of the first round
 abbrev pub first_pairs : Trees → List (Key × Key)
-first_pairs db = filter_map pair_told (places_shown db)
+first_pairs db = filter_map first_pair (places_shown db)

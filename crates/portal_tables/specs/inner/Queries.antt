@@ -93,8 +93,8 @@ selection (SecondPlaceOf student) =
 selection (Numbers table) = record { tree = table_tree table; passes = every; by = 0 ∷ []; shown = 0 ∷ [] }
 
 -- the query shows these rows of the tables
-abbrev pub Shows : Query → Trees → List Row → Type 0
-Shows q db rows =
+abbrev pub QueryShows : Query → Trees → List Row → Type 0
+QueryShows q db rows =
     ListsBy (selection q).by (selection q).passes (columns (selection q).shown) (db (selection q).tree) rows
 
 -- the texts, and the value that each asks for

@@ -17,8 +17,9 @@ abbrev pub MayRead : {S V E : Type 0} → Round → Ghosts S → (Database → T
 MayRead round g Right Told result old new = Reading round IfOpen Right Told result (state g old) (state g new)
 
 -- `Answer` holds of an answer, `Fault` of an error
-abbrev pub Answers : {V E : Type 0} → (Database → V → Type 0) → (Database → E → Type 0) → Database → Result V E → Type 0
-Answers Answer Fault db result = MatchResult result (Answer db) (Fault db)
+abbrev pub GivesOrFails : {V E : Type 0} → (Database → V → Type 0) → (Database → E → Type 0) → Database → Result V E
+    → Type 0
+GivesOrFails Answer Fault db result = MatchResult result (Answer db) (Fault db)
 
 -- the fault `Damaged` says that this is not so
 abbrev pub Blames : TableFault → Type 0 → Type 0

@@ -84,17 +84,17 @@ MovesSecond phase old new =
     → Becomes second_tree (second_row (pos phase)) old new
 
 -- the lecturer's one row says that a ranking is there
-abbrev pub Ranks : List ℕ → Database → Database → Type 0
-Ranks key old new =
+abbrev pub MarksRanked : List ℕ → Database → Database → Type 0
+MarksRanked key old new =
     IsCurrentSchema old.schema → RowNumbersDiffer (old.trees lecturer_tree)
     → (number : ℤ) (name code : List ℕ) (capacity ranked : ℤ)
     → filter (has_text 1 key) (old.trees lecturer_tree) ≡ (Int number ∷ lecturer_cells key name code capacity ranked) ∷ []
     → Sets lecturer_tree (has_text 1 key) (Int number ∷ lecturer_cells key name code capacity (pos 1)) old new
 
 -- a text, or NULL
-abbrev pub text_cell : Option (List ℕ) → Value
-text_cell None = Null
-text_cell (Some t) = Words t
+abbrev pub text_or_null_cell : Option (List ℕ) → Value
+text_or_null_cell None = Null
+text_or_null_cell (Some t) = Words t
 
 -- what a student's row shows: its number and its four columns
 abbrev pub student_columns : Row → Row
@@ -104,7 +104,7 @@ student_columns = columns (0 ∷ 1 ∷ 2 ∷ 3 ∷ 4 ∷ [])
 abbrev pub assigned_by : List Assigned → Value → Value → Value
 assigned_by [] key value = value
 assigned_by (a ∷ all) key value =
-    assigned_by all key (if is_eq (value_cmp key (Words a.0)) then text_cell a.1 else value)
+    assigned_by all key (if is_eq (value_cmp key (Words a.0)) then text_or_null_cell a.1 else value)
 
 abbrev pub with_assigned : List Assigned → Row → Row
 with_assigned all r = column r 0 ∷ column r 1 ∷ column r 2 ∷ column r 3 ∷ assigned_by all (column r 1) (column r 4) ∷ []

@@ -49,15 +49,16 @@ abbrev pub placed_at_shown : Round → Trees → Phase → Key → List Applican
 placed_at_shown round db phase k lines = put_all person_key (placed_among phase k lines) (persons_before round db k)
 
 -- applicants and placed students of the projects with these keys
-abbrev pub applicants_told : Round → Trees → Phase → List Key → List (Key × List Person)
-applicants_told round db phase keys = map (λ k. (k, map (λ l. l.person) (lines_shown round db phase k))) keys
+abbrev pub applicants_of_projects : Round → Trees → Phase → List Key → List (Key × List Person)
+applicants_of_projects round db phase keys = map (λ k. (k, map (λ l. l.person) (lines_shown round db phase k))) keys
 
-abbrev pub placed_told : Round → Trees → Phase → List Key → List (Key × List Person)
-placed_told round db phase keys = map (λ k. (k, placed_at_shown round db phase k (lines_shown round db phase k))) keys
+abbrev pub placed_of_projects : Round → Trees → Phase → List Key → List (Key × List Person)
+placed_of_projects round db phase keys =
+    map (λ k. (k, placed_at_shown round db phase k (lines_shown round db phase k))) keys
 
-pub record AreTold (round : Round) (db : Trees) (phase : Phase) (keys : List Key) (told : ProjectStudents) : Type 0 where
-  pub applicants : map with_persons told.applicants.items ≡ applicants_told round db phase keys
-  pub placed : map with_persons told.placed.items ≡ placed_told round db phase keys
+pub record AreStudentsOf (round : Round) (db : Trees) (phase : Phase) (keys : List Key) (told : ProjectStudents) : Type 0 where
+  pub applicants : map with_persons told.applicants.items ≡ applicants_of_projects round db phase keys
+  pub placed : map with_persons told.placed.items ≡ placed_of_projects round db phase keys
 
 -- what the lecturer sees whose row is shown, with the catalogue, a ranking, and what is told of the
 -- own projects
@@ -78,7 +79,7 @@ lecturer_sees_with round phase c offers ranking applicants placed =
 abbrev pub lecturer_shown : Round → Trees → Phase → Row → List Listing → LecturerSees
 lecturer_shown round db phase c offers =
     let own = own_keys_shown db (first_cell c) in
-    lecturer_sees_with round phase c offers (ranking_shown round db c) (applicants_told round db phase own) (placed_told round db phase own)
+    lecturer_sees_with round phase c offers (ranking_shown round db c) (applicants_of_projects round db phase own) (placed_of_projects round db phase own)
 
 -- the keys of the lecturer's projects have their form
 pub record HasOwnKeys (lecturer : Key) (db : Database) : Type 0 where

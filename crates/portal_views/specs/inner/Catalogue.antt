@@ -6,7 +6,7 @@ use Rattle.portal_views.specs.inner.Base.{List, map, filter, filter_map, AllByRe
 use Rattle.portal_views.specs.inner.Base.{Round, First, Second, LecturerRow, ProjectRow, Listing, Key, equals}
 use Rattle.portal_views.specs.inner.Base.{IsLecturer, IsProject}
 use Rattle.portal_tables.specs.declared.select.RollTable.TheVariants.{Lecturers, Projects, Students}
-use Rattle.portal_tables.specs.inner.Placements.{first_pairs, places_shown, HasKeys}
+use Rattle.portal_tables.specs.inner.Placements.{first_pairs, places_shown, HasPairKeys}
 use Rattle.portal_tables.specs.inner.Rolls.{RollRises, lecturers_shown, projects_shown}
 use Rattle.portal_tables.specs.inner.Shown.{shown_lecturer, shown_project}
 
@@ -30,9 +30,9 @@ pub record HasOffers (db : Database) : Type 0 where
   pub projects : AllByRecursion (λ c. IsProject (shown_project c)) (projects_shown db.trees)
 
 -- what the reading of the first round's result asks, where it is read
-abbrev pub HasPairs : Round → Trees → Type 0
-HasPairs First db = ⊤
-HasPairs Second db = RollRises Students db × AllByRecursion HasKeys (places_shown db)
+abbrev pub HasFirstPairs : Round → Trees → Type 0
+HasFirstPairs First db = ⊤
+HasFirstPairs Second db = RollRises Students db × AllByRecursion HasPairKeys (places_shown db)
 
 -- in the first round this is the catalogue of the tables; of another round nothing is said
 abbrev pub IsCatalogue : Round → Trees → List Listing → Type 0

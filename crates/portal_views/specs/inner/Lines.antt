@@ -21,16 +21,16 @@ pub record HasTables (db : Database) : Type 0 where
   pub apart : AllByRecursion (λ t. RowNumbersDiffer (db.trees t)) own_trees
 
 -- the key that the row begins with has its form
-abbrev pub HasKey : Row → Type 0
-HasKey c = is_key (first_cell c) ≡ true
+abbrev pub HasKeyForm : Row → Type 0
+HasKeyForm c = is_key (first_cell c) ≡ true
 
 -- key and name, which come first, have their forms
 abbrev pub IsNamed : Row → Type 0
 IsNamed c = (is_key (first_cell c) ≡ true) × (is_name (bytes (column c 1)) ≡ true)
 
 -- and so has the assigned project behind them, where there is one
-abbrev pub IsTold : Row → Type 0
-IsTold c = IsNamed c × IfSome (text_or_none (column c 2)) (λ p. is_key p ≡ true)
+abbrev pub IsNamedWithPlacement : Row → Type 0
+IsNamedWithPlacement c = IsNamed c × IfSome (text_or_none (column c 2)) (λ p. is_key p ≡ true)
 
 -- a student on the roll has the key
 abbrev pub IsStudentKey : Trees → Key → Type 0
@@ -50,8 +50,8 @@ shown_line round db c =
     record { person = record { key = first_cell c; name = bytes (column c 1) }; placed = placement_shown round db c }
 
 -- and of the student whose key, name and assigned project are shown alone, with that project
-abbrev pub told_line : Row → ApplicantLine
-told_line c =
+abbrev pub placement_line : Row → ApplicantLine
+placement_line c =
     record { person = record { key = first_cell c; name = bytes (column c 1) }; placed = text_or_none (column c 2) }
 
 -- the line with the place in a round, in place of the assigned project

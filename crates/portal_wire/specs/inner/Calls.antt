@@ -5,7 +5,7 @@ use Rattle.portal_wire.specs.declared.bodies.BodyFault.TheVariants.{Bad, Memory}
 use Rattle.portal_rules.specs.declared.decision.Call.{Call}
 use Rattle.portal_rules.specs.Meaning.{call_model}
 use Rattle.portal_rules.specs.Run.{Wish, Calls}
-use Rattle.portal_frame.specs.Stream.{Refuses}
+use Rattle.portal_frame.specs.Stream.{RefusalContent}
 use Rattle.portal_wire.specs.declared.calls.CallFault.{CallFault}
 use Rattle.portal_wire.specs.declared.calls.CallFault.TheVariants.{NoRoute, BadMethod, BadBody, BadRow, RollFull}
 use Rattle.portal_wire.specs.declared.calls.CallFault.TheVariants.{Memory}
@@ -22,19 +22,19 @@ GivesBody view (Ok a) o = o ≡ Some (view a)
 GivesBody view (Err Bad) o = o ≡ None
 GivesBody view (Err Memory) o = Unit {0}
 
-abbrev pub told_by : CallFault → Refuses
-told_by NoRoute = no_route
-told_by (BadMethod at) = bad_method (allow_of at)
-told_by BadBody = bad_body
-told_by (BadRow row) = bad_row row
-told_by RollFull = roll_full_reply
-told_by Memory = no_memory
+abbrev pub refusal_for : CallFault → RefusalContent
+refusal_for NoRoute = no_route
+refusal_for (BadMethod at) = bad_method (allow_of at)
+refusal_for BadBody = bad_body
+refusal_for (BadRow row) = bad_row row
+refusal_for RollFull = roll_full_reply
+refusal_for Memory = no_memory
 
 -- the call, or why there is none; want of memory may be answered in place of both
 abbrev pub IsCallOf : Wish → Result Call CallFault → Type 0
 IsCallOf wish (Ok call) = wish ≡ Calls (call_model call)
 IsCallOf wish (Err Memory) = Unit {0}
-IsCallOf wish (Err why) = wish ≡ turned_away (told_by why)
+IsCallOf wish (Err why) = wish ≡ turned_away (refusal_for why)
 
 -- the ending after a reply that closes, which was asked for or not
 abbrev pub last_for : Bool → Last

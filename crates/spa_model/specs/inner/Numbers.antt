@@ -15,7 +15,7 @@ use Rattle.spa_model.specs.Pairs.{HasKey}
 use Rattle.spa_model.specs.inner.Inside.{AreRanks}
 
 -- the rows of these lines
-abbrev pub rows_of : List Lines.Lecturer → List Lines.Project → List Lines.Student → Rows
+abbrev pub rows_of : List Lines.LecturerWithList → List Lines.ProjectWithLecturer → List Lines.StudentWithList → Rows
 rows_of lecturers projects students = record { lecturers = lecturers; projects = projects; students = students }
 
 -- the lines of each kind are sorted by key
@@ -25,14 +25,14 @@ pub record AreSorted (rows : Rows) : Type 0 where
   pub students : IsSortedByKey (λ x. x.key) (slice_cmp nat_cmp) rows.students
 
 -- the keys of lines in their order
-abbrev pub student_keys : List Lines.Student → List Text
-student_keys lines = map (λ x. x.key) lines
+abbrev pub keys_of_students : List Lines.StudentWithList → List Text
+keys_of_students lines = map (λ x. x.key) lines
 
-abbrev pub project_keys : List Lines.Project → List Text
-project_keys lines = map (λ x. x.key) lines
+abbrev pub keys_of_projects : List Lines.ProjectWithLecturer → List Text
+keys_of_projects lines = map (λ x. x.key) lines
 
-abbrev pub lecturer_keys : List Lines.Lecturer → List Text
-lecturer_keys lines = map (λ x. x.key) lines
+abbrev pub keys_of_lecturers : List Lines.LecturerWithList → List Text
+keys_of_lecturers lines = map (λ x. x.key) lines
 
 -- each text of a list is the key of one of these lines
 abbrev pub AreKeysOf : {X : Type 0} → List X → (X → Text) → List Text → Type 0
@@ -43,24 +43,24 @@ abbrev pub AreNumbers : List Text → List Text → List ℕ → Type 0
 AreNumbers keys texts numbers = AllZip (λ text n. HasKey keys n text) texts numbers
 
 -- a line, with its texts as numbers
-pub record IsStudentOf (keys : List Text) (line : Lines.Student) (student : Student) : Type 0 where
+pub record IsStudentOf (keys : List Text) (line : Lines.StudentWithList) (student : Student) : Type 0 where
   pub key : student.key ≡ line.key
   pub choices : AreNumbers keys line.list student.choices.items
 
-pub record IsProjectOf (keys : List Text) (line : Lines.Project) (project : Project) : Type 0 where
+pub record IsProjectOf (keys : List Text) (line : Lines.ProjectWithLecturer) (project : Project) : Type 0 where
   pub key : project.key ≡ line.key
   pub capacity : project.capacity ≡ line.capacity
   pub lecturer : HasKey keys project.lecturer line.lecturer
 
-pub record IsLecturerOf (keys : List Text) (line : Lines.Lecturer) (lecturer : Lecturer) : Type 0 where
+pub record IsLecturerOf (keys : List Text) (line : Lines.LecturerWithList) (lecturer : Lecturer) : Type 0 where
   pub key : lecturer.key ≡ line.key
   pub capacity : lecturer.capacity ≡ line.capacity
   pub ranking : AreNumbers keys line.list lecturer.ranking.items
   pub ranks : AreRanks (length keys) lecturer.ranking.items lecturer.ranks.items
 
 -- the lecturer of a project in these rows
-abbrev pub lecturer_at : List Project → ℕ → ℕ
-lecturer_at projects p = slice_index_or (map (λ x. x.lecturer) projects) p 0
+abbrev pub lecturer_of_row : List Project → ℕ → ℕ
+lecturer_of_row projects p = slice_index_or (map (λ x. x.lecturer) projects) p 0
 
 -- the choices of a student in these rows
 abbrev pub choices_at : List Student → ℕ → List ℕ
@@ -72,12 +72,12 @@ HaveChoicesBelow n students = All (λ s. All (λ p. p < n) s.choices.items) stud
 
 -- one of the choices is a project of the lecturer
 abbrev pub Finds : List Project → List ℕ → ℕ → Type 0
-Finds projects choices l = Any (λ p. lecturer_at projects p ≡ l) choices
+Finds projects choices l = Any (λ p. lecturer_of_row projects p ≡ l) choices
 
 -- the text is the key of a student with such a choice
-abbrev pub IsApplicantOf : List Lines.Student → List Student → List Project → ℕ → Text → Type 0
+abbrev pub IsApplicantOf : List Lines.StudentWithList → List Student → List Project → ℕ → Text → Type 0
 IsApplicantOf lines students projects l text =
-    (s : ℕ) × HasKey (student_keys lines) s text × Finds projects (choices_at students s) l
+    (s : ℕ) × HasKey (keys_of_students lines) s text × Finds projects (choices_at students s) l
 
 -- the number is that of a student with such a choice
 abbrev pub IsApplicantNumber : List Student → List Project → ℕ → ℕ → Type 0
@@ -88,7 +88,7 @@ abbrev pub numbers_at : List (Vec ℕ Global) → ℕ → List ℕ
 numbers_at lists k = slice_index_or (map (λ own. own.items) lists) k []
 
 -- the row of a lecturer's line
-abbrev pub row_at : List Lines.Lecturer → ℕ → ℕ
+abbrev pub row_at : List Lines.LecturerWithList → ℕ → ℕ
 row_at lines l = slice_index_or (map (λ x. x.row) lines) l 0
 
 -- the place of a student with a lecturer, from the table
@@ -96,11 +96,11 @@ abbrev pub rank_at : List Lecturer → ℕ → ℕ → Option ℕ
 rank_at lecturers l s = slice_index_or (slice_index_or (map (λ x. x.ranks.items) lecturers) l []) s None
 
 -- one of the choices of s is a project of a lecturer, in the row r, who has no place for s
-abbrev pub Misses : List Lines.Lecturer → List Lecturer → List Project → List ℕ → ℕ → ℕ → Type 0
+abbrev pub Misses : List Lines.LecturerWithList → List Lecturer → List Project → List ℕ → ℕ → ℕ → Type 0
 Misses lines lecturers projects choices s r =
-    BadAt choices (λ p. row_at lines (lecturer_at projects p)) (λ _ p. rank_at lecturers (lecturer_at projects p) s ≡ None) r
+    BadAt choices (λ p. row_at lines (lecturer_of_row projects p)) (λ _ p. rank_at lecturers (lecturer_of_row projects p) s ≡ None) r
 
 -- such a choice of one of the first n students
-abbrev pub MissesBelow : List Lines.Lecturer → List Lecturer → List Project → List Student → ℕ → ℕ → Type 0
+abbrev pub MissesBelow : List Lines.LecturerWithList → List Lecturer → List Project → List Student → ℕ → ℕ → Type 0
 MissesBelow lines lecturers projects students n r =
     (s : ℕ) × (s < n) × Misses lines lecturers projects (choices_at students s) s r

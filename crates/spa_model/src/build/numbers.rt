@@ -5,7 +5,7 @@ ghost use Rattle.spa_rows.specs.Lines.{Text, is_key};
 ghost use Rattle.spa_rows.specs.Faults.{IsKeyOf};
 ghost use Rattle.spa_model.specs.Spa.{IsDistinct};
 ghost use Rattle.spa_model.specs.inner.Inside.{AreRanks};
-ghost use Rattle.spa_model.specs.inner.Numbers.{lecturer_keys};
+ghost use Rattle.spa_model.specs.inner.Numbers.{keys_of_lecturers};
 ghost use Rattle.spa_model.specs.inner.Numbers.{AreNumbers, IsStudentOf, IsProjectOf};
 ghost use Rattle.spa_model.specs.inner.Numbers.{IsLecturerOf};
 ghost use Rattle.std.specs.List.{AllZip};
@@ -65,7 +65,7 @@ fn numbered_project(
 ) -> Result<Project, AllocError>
     requires form { is_key line.now.key ≡ true }
     requires known { IsKeyOf lecturers.now (λ x. x.key) line.now.lecturer }
-    ensures { IfOk result (IsProjectOf (lecturer_keys lecturers.now) line.now) }
+    ensures { IfOk result (IsProjectOf (keys_of_lecturers lecturers.now) line.now) }
 {
     let Some(number) = lecturers.find(&line.lecturer) else {
         unreachable!()
@@ -130,7 +130,7 @@ pub(crate) fn number_projects(
     requires form { All (λ x. is_key x.key ≡ true) lines.now }
     requires known { All (λ x. IsKeyOf lecturers.now (λ y. y.key) x.lecturer) lines.now }
     ensures { IfOk result (λ projects. AllZip (IsProjectOf
-        (lecturer_keys lecturers.now)) lines.now projects.items) }
+        (keys_of_lecturers lecturers.now)) lines.now projects.items) }
 {
     let places = Places::of(alloc, lecturers)?;
     let mut projects = Vec::with_capacity(alloc, lines.len())?;

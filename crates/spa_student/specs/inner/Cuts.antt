@@ -3,7 +3,7 @@ use Rattle.std.specs.Prelude.{◌≡◌, ◌⊎◌, ℕ, ◌+◌, ◌<◌, ◌�
 use Rattle.spa_model.specs.Spa.{Spa, place, project_of, choices_of, lecturer_of, ranking_of, at_project, at_lecturer}
 use Rattle.spa_model.specs.Spa.{IsAcceptable, IsLawful}
 use Rattle.spa_student.specs.declared.cuts.Progress.{Progress}
-use Rattle.spa_student.specs.inner.Machine.{rank_of, Holds}
+use Rattle.spa_student.specs.inner.Machine.{rank_of, IsProvisional}
 use Rattle.spa_student.specs.inner.Worst.{IsAssignment, IsWorstAt, IsWorstWith}
 
 -- s stands at or past the cut of p, or of p's lecturer
@@ -55,7 +55,7 @@ pub record IsFree (i : Spa) (q : Progress) (s : ℕ) : Type 0 where
 pub record IsUnderWay (i : Spa) (q : Progress) : Type 0 where
   pub marks : AreMarks i q
   pub counts : AreCounts i q
-  pub holds : Holds i q.projects.items (IsCut i q)
+  pub holds : IsProvisional i q.projects.items (IsCut i q)
 
 -- s is free, and p is the entry at the cursor and not cut
 pub record IsNextEntry (i : Spa) (q : Progress) (s p : ℕ) : Type 0 where
@@ -104,5 +104,6 @@ pub record Exchanges (s p w : ℕ) (before after : Progress) : Type 0 where
   pub cursors : after.cursors.items ≡ slice_set before.cursors.items w (slice_index before.cursors.items w + 1)
 
 -- s has a project, or no entry left
-abbrev pub IsSettled : Spa → Progress → ℕ → Type 0
-IsSettled i q s = project_of q.projects.items s ≡ None → length (choices_of i s) ≤ slice_index q.cursors.items s
+abbrev pub IsPlacedOrExhausted : Spa → Progress → ℕ → Type 0
+IsPlacedOrExhausted i q s =
+    project_of q.projects.items s ≡ None → length (choices_of i s) ≤ slice_index q.cursors.items s

@@ -2,7 +2,7 @@
 
 ghost use Rattle.std.specs.Prelude.{◌≡◌, ◌≢◌, ◌<◌, ◌⊎◌, ℕ, IfOk, IfSome, Some, sum};
 ghost use Rattle.spa_model.specs.Spa.{IsBest};
-ghost use Rattle.spa_student.specs.inner.Cuts.{IsFree, IsSettled, IsUnderWay};
+ghost use Rattle.spa_student.specs.inner.Cuts.{IsFree, IsPlacedOrExhausted, IsUnderWay};
 
 use crate::cuts::Progress;
 use spa_model::{Instance, Matching};
@@ -15,8 +15,9 @@ impl Progress {
         requires state { IsUnderWay instance.now self.old }
         requires free { IsFree instance.now self.old s }
         ensures state { IsUnderWay instance.now self.new }
-        ensures settled { (x : ℕ) → result ≢ Some x → (x ≡ s) ⊎ IsSettled instance.now self.old x
-            → IsSettled instance.now self.new x }
+        ensures settled { (x : ℕ) → result ≢ Some x → (x ≡ s)
+            ⊎ IsPlacedOrExhausted instance.now self.old x
+            → IsPlacedOrExhausted instance.now self.new x }
         ensures free { IfSome result (IsFree instance.now self.new) }
         ensures moves { IfSome result
             (λ w. sum self.old.cursors.items < sum self.new.cursors.items) }
@@ -36,8 +37,8 @@ impl Progress {
         requires state { IsUnderWay instance.now self.old }
         requires free { IsFree instance.now self.old s }
         ensures state { IsUnderWay instance.now self.new }
-        ensures settled { (x : ℕ) → (x ≡ s) ⊎ IsSettled instance.now self.old x
-            → IsSettled instance.now self.new x }
+        ensures settled { (x : ℕ) → (x ≡ s) ⊎ IsPlacedOrExhausted instance.now self.old x
+            → IsPlacedOrExhausted instance.now self.new x }
     {
         let mut free = s;
         while let Some(w) = self.turn(instance, free) {

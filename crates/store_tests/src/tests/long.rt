@@ -4,7 +4,7 @@
 use crate::tests::steps::{new_desk, new_lists};
 use portal_core::Keeper;
 use portal_desk::Desk;
-use portal_fixtures::{Line, lines, responded};
+use portal_fixtures::{Line, lines, reply_to_line};
 use std::process::Abort;
 
 /// The numbers of the students, the projects and the lecturers.
@@ -32,7 +32,7 @@ fn each(rt: &(impl Abort + AllocGlobal), template: &str, numbers: &[&str]) -> St
 
 /// Checks that the line's request gets its reply from `Desk::respond`.
 fn answers<K: Keeper>(rt: &(impl Abort + AllocGlobal), desk: &mut Desk<K>, line: &Line) {
-    let found = responded(rt.alloc(), desk, line).expect(rt, "memory");
+    let found = reply_to_line(rt.alloc(), desk, line).expect(rt, "memory");
     let wanted = line.reply(rt.alloc()).expect(rt, "memory");
     assert!(rt; found.as_slice() == wanted.as_bytes(), "{}", line.text);
 }

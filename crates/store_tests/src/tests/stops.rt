@@ -8,7 +8,7 @@ use portal_core::Keeper;
 use portal_desk::{Cause, Counted, Desk};
 use portal_fixtures::changes::{CHOOSING, PUBLICATION, RANKING, SETUP};
 use portal_fixtures::version1::IN_PUBLISHED;
-use portal_fixtures::{Line, SEEN, ask, lines, seen};
+use portal_fixtures::{Line, SEEN, ask, lines, world_output};
 use portal_store::{NotOpened, OpenFault, Store, UpgradeFault};
 use sqlite::{Alter, Connection, FileStore, Files, Options};
 use sqlite_disk::{Crash, Disk, Memory};
@@ -138,7 +138,7 @@ fn shown_by<S: Alter + Drop>(
     rt: &(impl Abort + AllocGlobal),
     mut desk: Desk<Store<S>>,
 ) -> (Vec<u8>, Connection<S>) {
-    let text = seen(rt.alloc(), &mut desk).expect(rt, "memory");
+    let text = world_output(rt.alloc(), &mut desk).expect(rt, "memory");
     (text, desk.into_keeper().into_connection())
 }
 

@@ -3,10 +3,10 @@
 use crate::tests::steps::{new_desk, new_lists, plays};
 use portal_core::Keeper;
 use portal_desk::{Counted, Desk};
+use portal_fixtures::output_for;
 use portal_fixtures::worked::{
     IN_CHOOSING, IN_PUBLISHED, IN_SETUP, SECOND_PUBLICATION, SECOND_TO_RANKING,
 };
-use portal_fixtures::written;
 use std::io::Read;
 use std::process::Abort;
 use std::{io, slice};
@@ -92,7 +92,7 @@ fn dripped<K: Keeper>(
 fn gives<K: Keeper>(rt: &(impl Abort + AllocGlobal), desk: &mut Desk<K>, served: &Served) {
     let (parts, bytes, output) = *served;
     plays(rt, desk, parts);
-    let text = written(rt.alloc(), desk, bytes.as_bytes());
+    let text = output_for(rt.alloc(), desk, bytes.as_bytes());
     assert!(rt; text.as_slice() == output.as_bytes());
     let text = dripped(rt, desk, bytes.as_bytes());
     assert!(rt; text.as_slice() == output.as_bytes());
@@ -166,7 +166,7 @@ fn takes_the_longest<K: Keeper + Drop>(rt: &(impl Abort + AllocGlobal), desk: De
     bytes
         .resize(bytes.len() + 1_048_561, b' ')
         .expect(rt, "memory");
-    let text = written(rt.alloc(), &mut desk, &bytes);
+    let text = output_for(rt.alloc(), &mut desk, &bytes);
     let wanted =
         "HTTP/1.1 200 OK\r\ncontent-type: application/json\r\ncontent-length: 15\r\n\r\n{\"projects\":[]}";
     assert_eq!(rt; text.as_slice(), wanted.as_bytes());

@@ -6,7 +6,7 @@ use portal_fixtures::worked::{
     IN_CHOOSING, IN_PUBLISHED, IN_RANKING, IN_SETUP, LISTS, PUBLICATION, RESULT, SECOND_LISTS,
     SECOND_OPENING, SECOND_PUBLICATION, SECOND_TO_RANKING, TO_RANKING,
 };
-use portal_fixtures::{seen, version1};
+use portal_fixtures::{version1, world_output};
 use portal_store::{NotOpened, OpenFault, Store, UpgradeFault};
 use sqlite::{Alter, Connection, MemStore};
 use std::process::Abort;
@@ -93,7 +93,7 @@ fn again<S: Alter + Drop>(rt: &(impl Abort + AllocGlobal), desk: Desk<Store<S>>)
 fn seen_after(rt: &(impl Abort + AllocGlobal), played: &[&str]) -> Vec<u8> {
     let mut desk = new_desk(rt);
     plays(rt, &mut desk, played);
-    seen(rt.alloc(), &mut desk).expect(rt, "memory")
+    world_output(rt.alloc(), &mut desk).expect(rt, "memory")
 }
 
 /// Checks that the desk shows the same as a new desk after the first scripts, and plays the others.
@@ -105,7 +105,7 @@ fn shows<S: Alter + Drop>(
 ) {
     let mut desk = desk;
     let wanted = seen_after(rt, played);
-    let found = seen(rt.alloc(), &mut desk).expect(rt, "memory");
+    let found = world_output(rt.alloc(), &mut desk).expect(rt, "memory");
     assert!(rt; found.as_slice() == wanted.as_slice());
     plays(rt, &mut desk, parts);
 }

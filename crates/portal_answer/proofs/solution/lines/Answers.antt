@@ -1,13 +1,13 @@
 use Rattle.portal_answer.proofs.Base.{◌≡◌, ◌∙◌, ◌<◌, ◌++◌, ap, sym, arith, rules, length, List, Option, is_some}
 use Rattle.portal_answer.proofs.Base.{is_none, ℕ, refl, codes, append_assoc, decimal, count_by, flat_map, zip, Text}
-use Rattle.portal_answer.proofs.Base.{Told, string_bytes, IsLawful}
+use Rattle.portal_answer.proofs.Base.{Output, string_bytes, IsLawful}
 use Rattle.std.proofs.Common.{take, ◌+◌, ◌-◌}
 use Rattle.std.proofs.lemmas.List.{length-take-le}
 use Rattle.std.proofs.lemmas.List.Sums.{count_by-le-length}
 use Rattle.portal_answer.proofs.Assigned.{counts, line, line_more, one_more, whole}
 use Rattle.portal_answer.proofs.solution.lines.Goals as goal
 
-abbrev told : Text → Told
+abbrev told : Text → Output
 told text = record { text = text; status = 0 }
 
 pub loop-student-preserved : goal.loop-student-preserved

@@ -8,10 +8,10 @@ pub returns : goal.returns
 returns g c = record {
   comes = if_ok_both c.close_store.result _ _ _
       (λ files falls leaves. record {
-        clean = λ honest. c.rest.ensures.comes.clean (falls honest);
+        clean = λ honest. c.release_store.ensures.comes.clean (falls honest);
         holds = λ honest image may.
             let clean = falls honest in
-            ∥∥₁_map (leaves honest (c.rest.ensures.numbered clean) (c.rest.ensures.sound clean) image may)
-            (λ h. let r : (db : Trees) × (file_state c.args.conn).may_leave db × HoldsDatabase image db = (h.0, c.rest.ensures.quiet h.0 h.1, h.2) in r);
+            ∥∥₁_map (leaves honest (c.release_store.ensures.numbered clean) (c.release_store.ensures.sound clean) image may)
+            (λ h. let r : (db : Trees) × (file_state c.args.conn).may_leave db × HoldsDatabase image db = (h.0, c.release_store.ensures.quiet h.0 h.1, h.2) in r);
       }) c.close_store.ensures.clean c.close_store.ensures.left;
 }

@@ -2,7 +2,7 @@ use Rattle.std.proofs.Common.{sym, ap, subst, ◌∙◌}
 use Rattle.portal_rules.specs.Good.{Good}
 use Rattle.portal_rules.specs.View.{office_sees}
 use Rattle.portal_desk.proofs.InTurn.{uses_then}
-use Rattle.portal_serve.specs.Hall.{told_of}
+use Rattle.portal_serve.specs.Hall.{office_report}
 use Rattle.portal_file.proofs.Base.{if_ok}
 use Rattle.portal_file.proofs.reporting.report_of.Goals as goal
 
@@ -11,7 +11,7 @@ returns-in-Ok-clause-text g c =
     if_ok c.report.result _ _
     (λ text is on good.
     let same = c.in-Ok.ensures.looks.same (c.report.ensures.uses.clean on) in
-    is on (subst Good (sym same) good) ∙ ap (λ w. told_of (office_sees w)) same) c.report.ensures.text
+    is on (subst Good (sym same) good) ∙ ap (λ w. office_report (office_sees w)) same) c.report.ensures.text
 
 pub returns-in-Ok-clause-uses : goal.returns-in-Ok-clause-uses
 returns-in-Ok-clause-uses g c =

@@ -23,20 +23,20 @@ returns-then-not-branch-2 g c rows h =
     is_whole g.K.Kind.format rows c.loop-number.number c.loop-number.rdr c.take_record-in-loop-number.new.rdr c.loop-number.lines.items (fields_of c.take_record-in-loop-number.new.row)
     (c.loop-number.invariant.1 rows h) (λ left has. rw c.if-not-branch-2.true at c.in_ok-take_record-2.ensures.took left has)
 
-pub returns-in_err-line_of : goal.returns-in_err-line_of
-returns-in_err-line_of g c rows h =
-    let (e, returned, is) = err_from_is_err_and c.from_residual-in_err-line_of.result c.from_residual-in_err-line_of.ensures.1 in
+pub returns-in_err-parse_line : goal.returns-in_err-parse_line
+returns-in_err-parse_line g c rows h =
+    let (e, returned, is) = err_from_is_err_and c.from_residual-in_err-parse_line.result c.from_residual-in_err-parse_line.ensures.1 in
     let first = stops g.K.Kind.format rows c.loop-number.number c.loop-number.rdr c.take_record-in-loop-number.new.rdr c.loop-number.lines.items (fields_of c.take_record-in-loop-number.new.row)
-    c.in_err-line_of.field-0.0 (c.loop-number.invariant.1 rows h) (omega arith)
-    (λ left has. rw c.if-not-branch-2.false at c.in_ok-take_record-2.ensures.took left has) c.in_err-line_of.ensures in
+    c.in_err-parse_line.field-0.0 (c.loop-number.invariant.1 rows h) (omega arith)
+    (λ left has. rw c.if-not-branch-2.false at c.in_ok-take_record-2.ensures.took left has) c.in_err-parse_line.ensures in
     rw (returned, is) first
 
 pub loop-number-preserved : goal.loop-number-preserved
 loop-number-preserved g c = (
   c.in_ok-take_record-2.ensures.kept,
   λ rows h. rw c.in_ok-push.ensures.items (goes_on g.K.Kind.format rows c.loop-number.number c.loop-number.rdr c.take_record-in-loop-number.new.rdr c.loop-number.lines.items
-      (fields_of c.take_record-in-loop-number.new.row) c.in_ok-line_of.field-0
-      (c.loop-number.invariant.1 rows h) (omega arith) (λ left has. rw c.if-not-branch-2.false at c.in_ok-take_record-2.ensures.took left has) c.in_ok-line_of.ensures),
+      (fields_of c.take_record-in-loop-number.new.row) c.in_ok-parse_line.field-0
+      (c.loop-number.invariant.1 rows h) (omega arith) (λ left has. rw c.if-not-branch-2.false at c.in_ok-take_record-2.ensures.took left has) c.in_ok-parse_line.ensures),
 )
 
 pub returns-then-branch : goal.returns-then-branch

@@ -6,7 +6,7 @@ use Rattle.portal_serve.proofs.server.serve_each.Goals as goal
 pub returns-then-outcome-clause-told : goal.returns-then-outcome-clause-told
 returns-then-outcome-clause-told g c =
     told_failed _ _ _ c.in-Some.outcome c.loop-accepted.accepted c.loop-accepted.faults c.loop-accepted.invariant.told c.in-Some.ensures.adds c.if-outcome.true
-    c.closed-then-outcome.result c.closed-then-outcome.ensures.accepted (c.closed-then-outcome.ensures.faults ∙ c.faults_with-faults.ensures) c.closed-then-outcome.ensures.ended
+    c.hall_of-then-outcome.result c.hall_of-then-outcome.ensures.accepted (c.hall_of-then-outcome.ensures.faults ∙ c.faults_with-faults.ensures) c.hall_of-then-outcome.ensures.ended
 
 pub loop-accepted-preserved : goal.loop-accepted-preserved
 loop-accepted-preserved g c =

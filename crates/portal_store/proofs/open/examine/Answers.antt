@@ -1,4 +1,5 @@
-use Rattle.portal_store.proofs.Base.{◌∙◌, Admits, Answers, Denies, HasEntries, HasGoodWorld, Held, MatchResult-weaker}
+use Rattle.portal_store.proofs.Base.{◌∙◌, Admits, GivesOrFails, SaysNot, HasEntries, HasGoodWorld, Held}
+use Rattle.portal_store.proofs.Base.{MatchResult-weaker}
 use Rattle.portal_store.proofs.Base.{Second, current_own, reads_as, reads_handed, reads_of, reads_open, reads_then_of}
 use Rattle.portal_store.proofs.Base.{subst, world_of, Reads, IsSoundIfOpen, clean_before, looks_by, looks_then}
 use Rattle.portal_store.proofs.Base.{on_ok_weaker, settled_still, state}
@@ -15,7 +16,7 @@ pub returns-clause-reads : goal.returns-clause-reads
 returns-clause-reads g c mine =
     let r = c.judge_both.result in
     let e = c.judge_both.new.conn in
-    let judged = subst (λ (h : Held g.row.S.Denot). Reads Second g.S.Store (IsSoundIfOpen g.S.Store h) (Answers (λ db e. Admits db.trees × HasEntries e (world_of db.trees)) (λ db fault. Denies fault (HasGoodWorld db.trees))) r h e)
+    let judged = subst (λ (h : Held g.row.S.Denot). Reads Second g.S.Store (IsSoundIfOpen g.S.Store h) (GivesOrFails (λ db e. Admits db.trees × HasEntries e (world_of db.trees)) (λ db fault. SaysNot fault (HasGoodWorld db.trees))) r h e)
     (c.in_ok-see_tables.ensures.same mine) c.judge_both.ensures in
     reads_as (reads_then_of (λ own on sound told. λ _. sound (on tt)) (reads_of (current_own _) (λ own sound. tt) (c.in_ok-see_first.ensures.reads mine)) (reads_open judged)) (λ no. no)
     (λ own sound told. MatchResult-weaker r told.1 (λ e it. it) (λ f no. blamed f _ _ _ told.0 no))

@@ -1,5 +1,5 @@
-use Rattle.portal_tables.proofs.Base.{◌∷◌, pair_told, [], ap, sym, subst, ◌∙◌, IfOk-weaker, AllByRecursion, filter_map}
-use Rattle.portal_tables.proofs.Base.{state, student_tree, OfRoll, Students, HasKeys}
+use Rattle.portal_tables.proofs.Base.{◌∷◌, first_pair, [], ap, sym, subst, ◌∙◌, IfOk-weaker, AllByRecursion, filter_map}
+use Rattle.portal_tables.proofs.Base.{state, student_tree, OfRoll, Students, HasPairKeys}
 use Rattle.portal_tables.proofs.InTurn.{reads_more, reads_handed, judged}
 use Rattle.portal_tables.proofs.Listed.{roll_rises, roll_shown}
 use Rattle.portal_tables.proofs.Texts.{key_texts}
@@ -18,5 +18,5 @@ returns g c =
     reads_more rows.ensures.reads
     (λ own any shown.
     let same = c.deref.ensures.value ∙ roll_shown (4 ∷ []) table rows.rows.items shown rows.ensures.rise in
-    judged c.pairs_from.result _ _ (IfOk-weaker c.pairs_from.result _ _ (λ v is. is ∙ ap (filter_map pair_told) same) c.pairs_from.ensures.ok)
-    (λ damaged it. c.pairs_from.ensures.damaged damaged (subst (AllByRecursion HasKeys) (sym same) it.2)))
+    judged c.pairs_from.result _ _ (IfOk-weaker c.pairs_from.result _ _ (λ v is. is ∙ ap (filter_map first_pair) same) c.pairs_from.ensures.ok)
+    (λ damaged it. c.pairs_from.ensures.damaged damaged (subst (AllByRecursion HasPairKeys) (sym same) it.2)))

@@ -1,5 +1,5 @@
-use Rattle.portal_views.proofs.Base.{◌∙◌, ◌++◌, ◌∷◌, ◌≡◌, ApplicantLine, List, Person, [], ap, applicants_told}
-use Rattle.portal_views.proofs.Base.{lines_shown, map, map-append, next_item, placed_at_shown, placed_told}
+use Rattle.portal_views.proofs.Base.{◌∙◌, ◌++◌, ◌∷◌, ◌≡◌, ApplicantLine, List, Person, [], ap, applicants_of_projects}
+use Rattle.portal_views.proofs.Base.{lines_shown, map, map-append, next_item, placed_at_shown, placed_of_projects}
 use Rattle.portal_views.proofs.Base.{reads_handed, reads_more, reads_short, reads_then, state, sym, take, ◌+◌}
 use Rattle.portal_views.proofs.applicants.project_students.Goals as goal
 
@@ -26,11 +26,11 @@ loop-project-preserved g c =
     (λ own tables told. record {
       applicants =
           c.in_ok-add.ensures.applicants ∙ (λ i. told.0.applicants i ++ (key, persons ((c.deref-in-loop-project.ensures.value ∙ told.1.0) i)) ∷ [])
-          ∙ sym (ap (applicants_told round db phase) next ∙ map-append (λ k. (k, persons (lines_shown round db phase k))) (take at keys) (key ∷ []));
+          ∙ sym (ap (applicants_of_projects round db phase) next ∙ map-append (λ k. (k, persons (lines_shown round db phase k))) (take at keys) (key ∷ []));
       placed =
           c.in_ok-add.ensures.placed
           ∙ (λ i. told.0.placed i ++ (key, (told.1.1 ∙ ap (placed_at_shown round db phase key) (c.deref.ensures.value ∙ told.1.0)) i) ∷ [])
-          ∙ sym (ap (placed_told round db phase) next ∙ map-append (λ k. (k, placed_at_shown round db phase k (lines_shown round db phase k))) (take at keys) (key ∷ []));
+          ∙ sym (ap (placed_of_projects round db phase) next ∙ map-append (λ k. (k, placed_at_shown round db phase k (lines_shown round db phase k))) (take at keys) (key ∷ []));
     })
 
 pub returns-in_err-add : goal.returns-in_err-add

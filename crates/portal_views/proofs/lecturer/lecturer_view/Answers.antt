@@ -1,5 +1,5 @@
-use Rattle.portal_views.proofs.Base.{◌∙◌, ◌≡◌, Global, Err, Listing, Vec, ap, applicants_told, lecturer_shown}
-use Rattle.portal_views.proofs.Base.{own_keys_shown, placed_told, reads_handed, reads_more, reads_of, reads_then}
+use Rattle.portal_views.proofs.Base.{◌∙◌, ◌≡◌, Global, Err, Listing, Vec, ap, applicants_of_projects, lecturer_shown}
+use Rattle.portal_views.proofs.Base.{own_keys_shown, placed_of_projects, reads_handed, reads_more, reads_of, reads_then}
 use Rattle.portal_views.proofs.Base.{reads_then_of, state, subst, sym, HasOwnKeys}
 use Rattle.portal_views.proofs.Turns.{reads_rejected}
 use Rattle.portal_views.proofs.lecturer.lecturer_view.Goals as goal
@@ -48,7 +48,7 @@ returns g c =
     λ i. record from {
       me = c.in_ok-person_at.ensures.ok i;
       capacity = c.in_ok-capacity_at.ensures.ok i;
-      applicants = (told.1.1.applicants ∙ ap (applicants_told round db phase) keys) i;
+      applicants = (told.1.1.applicants ∙ ap (applicants_of_projects round db phase) keys) i;
       ranking = told.1.0 i;
-      placed = (told.1.1.placed ∙ ap (placed_told round db phase) keys) i;
+      placed = (told.1.1.placed ∙ ap (placed_of_projects round db phase) keys) i;
     })

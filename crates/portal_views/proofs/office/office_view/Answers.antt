@@ -1,4 +1,4 @@
-use Rattle.portal_views.proofs.Base.{◌∙◌, AreReadable, Database, Err, HasFirstPlace, HasKey, HasPlacement}
+use Rattle.portal_views.proofs.Base.{◌∙◌, AreReadable, Database, Err, HasFirstPlace, HasKeyForm, HasPlacement}
 use Rattle.portal_views.proofs.Base.{HasPlacementAsked, IfOk-weaker, IsLecturer, IsStudent, Lecturers, Projects, Round}
 use Rattle.portal_views.proofs.Base.{Some, Students, all_two, all_weaker, ap, judged, office_sees_with, reads_handed}
 use Rattle.portal_views.proofs.Base.{reads_more, reads_open, reads_then, shown_lecturer, shown_student, state, subst₃}
@@ -34,7 +34,7 @@ returns-in_err-unlisted g c =
     let rolls = c.in_ok-rolls.rolls in
     reads_handed c.from_residual-in_err-unlisted.ensures.1 (reads_then (reads_first c.in_ok-rolls.ensures) (reads_open (rw c.deref.ensures.value at c.in_err-unlisted.ensures)))
     (λ own lists told damaged fine. told.1 damaged
-    (all_weaker (λ r. IsStudent (shown_student r)) HasKey (λ r is. is.key) rolls.students.items (readable c.args.round (state g.S.Store c.args.conn.now).now rolls told.0 fine).student_forms))
+    (all_weaker (λ r. IsStudent (shown_student r)) HasKeyForm (λ r is. is.key) rolls.students.items (readable c.args.round (state g.S.Store c.args.conn.now).now rolls told.0 fine).student_forms))
 
 pub returns-in_err-waiting : goal.returns-in_err-waiting
 returns-in_err-waiting g c =
@@ -42,7 +42,7 @@ returns-in_err-waiting g c =
     let f = c.in_err-waiting in
     reads_handed c.from_residual-in_err-waiting.ensures.1 (reads_then (reads_first c.in_ok-rolls.ensures) (reads_then (reads_open c.in_ok-unlisted.ensures) f.ensures.reads))
     (λ own lists told damaged fine. f.ensures.damaged (ap Err damaged)
-    (all_weaker (λ r. IsLecturer (shown_lecturer r)) HasKey (λ r is. is.key) rolls.lecturers.items (readable c.args.round (state g.S.Store c.args.conn.now).now rolls told.0 fine).lecturer_forms))
+    (all_weaker (λ r. IsLecturer (shown_lecturer r)) HasKeyForm (λ r is. is.key) rolls.lecturers.items (readable c.args.round (state g.S.Store c.args.conn.now).now rolls told.0 fine).lecturer_forms))
 
 pub returns-in_err-pairs : goal.returns-in_err-pairs
 returns-in_err-pairs g c =

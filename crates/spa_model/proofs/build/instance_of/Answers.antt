@@ -1,6 +1,6 @@
 use Rattle.spa_model.proofs.Base.{List, refl, Rows, IsLeastOf, HasNoneBefore, HasFault, IsRefusal, NotApplicant}
 use Rattle.spa_model.proofs.Base.{ApplicantMissing, Memory, handed_on, AllZip, AllZip-long, AreNumbers, HaveNumbers}
-use Rattle.spa_model.proofs.Base.{project_keys, student_keys, length-map, Student, Project, Ok, Err, refuse_ok}
+use Rattle.spa_model.proofs.Base.{keys_of_projects, keys_of_students, length-map, Student, Project, Ok, Err, refuse_ok}
 use Rattle.spa_model.proofs.Base.{refuse_err, rows_of}
 use Rattle.spa_model.proofs.Good.{AreGood, are_good}
 use Rattle.spa_model.proofs.Numbered.{AreNumbered}
@@ -31,11 +31,11 @@ abbrev projects : After-deref-2 → List Project
 projects c = c.in_ok-project_rows.project_rows.items
 
 choices_numbered : (c : Start)
-    → AllZip (λ x own. AreNumbers (project_keys c.args.projects.now) x.list own.items) c.args.students.now c.args.choices.now
+    → AllZip (λ x own. AreNumbers (keys_of_projects c.args.projects.now) x.list own.items) c.args.students.now c.args.choices.now
 choices_numbered c = Stages.numbers_listed (λ x. x.key) c.args.projects.now (λ x. x.list) c.args.students.now c.args.choices.now c.requires.choices (good c).known_projects
 
 so : (c : After-deref-2) → AreNumbered (rows (start c)) (students c) (projects c)
-so c = Stages.numbered _ _ _ (good (start c)) (c.in_ok-student_rows.ensures (project_keys c.args.projects.now) (choices_numbered (start c))) c.in_ok-project_rows.ensures
+so c = Stages.numbered _ _ _ (good (start c)) (c.in_ok-student_rows.ensures (keys_of_projects c.args.projects.now) (choices_numbered (start c))) c.in_ok-project_rows.ensures
 
 -- and once no list names another than an applicant
 abbrev numbers : In_ok-refuse → After-deref-2
@@ -49,7 +49,7 @@ none_other c =
 
 -- rankings by number
 rankings_numbered : (c : In_ok-refuse)
-    → AllZip (λ x own. AreNumbers (student_keys c.args.students.now) x.list own.items) c.args.lecturers.now c.args.rankings.now
+    → AllZip (λ x own. AreNumbers (keys_of_students c.args.students.now) x.list own.items) c.args.lecturers.now c.args.rankings.now
 rankings_numbered c = Stages.numbers_listed (λ x. x.key) c.args.students.now (λ x. x.list) c.args.lecturers.now c.args.rankings.now c.requires.rankings (Stages.lists_known _ _ _ (so (numbers c)) (none_other c))
 
 pub number_students-requires-clause-form : goal.number_students-requires-clause-form
@@ -94,19 +94,19 @@ pub applicant_missing-requires-clause-choices : goal.applicant_missing-requires-
 applicant_missing-requires-clause-choices c = rw (c.deref-5.ensures.value, c.deref-4.ensures.value) (Stages.choices_below _ _ _ (so (goal.at.applicant_missing-requires-clause-choices c).After-deref-2))
 
 pub applicant_missing-requires-clause-offered : goal.applicant_missing-requires-clause-offered
-applicant_missing-requires-clause-offered c = rw (c.deref-4.ensures.value, c.deref-3.ensures.value) (Stages.offered_below _ _ _ (so (goal.at.applicant_missing-requires-clause-offered c).After-deref-2) _ (c.in_ok-lecturer_rows.ensures (student_keys c.args.students.now) (length-map c.args.students.now (λ x. x.key)) (rankings_numbered (goal.at.applicant_missing-requires-clause-offered c).In_ok-refuse)))
+applicant_missing-requires-clause-offered c = rw (c.deref-4.ensures.value, c.deref-3.ensures.value) (Stages.offered_below _ _ _ (so (goal.at.applicant_missing-requires-clause-offered c).After-deref-2) _ (c.in_ok-lecturer_rows.ensures (keys_of_students c.args.students.now) (length-map c.args.students.now (λ x. x.key)) (rankings_numbered (goal.at.applicant_missing-requires-clause-offered c).In_ok-refuse)))
 
 pub applicant_missing-requires-clause-count : goal.applicant_missing-requires-clause-count
-applicant_missing-requires-clause-count c = rw c.deref-3.ensures.value (Missing.lecturer_count _ _ _ _ (so (goal.at.applicant_missing-requires-clause-count c).After-deref-2) (c.in_ok-lecturer_rows.ensures (student_keys c.args.students.now) (length-map c.args.students.now (λ x. x.key)) (rankings_numbered (goal.at.applicant_missing-requires-clause-count c).In_ok-refuse)))
+applicant_missing-requires-clause-count c = rw c.deref-3.ensures.value (Missing.lecturer_count _ _ _ _ (so (goal.at.applicant_missing-requires-clause-count c).After-deref-2) (c.in_ok-lecturer_rows.ensures (keys_of_students c.args.students.now) (length-map c.args.students.now (λ x. x.key)) (rankings_numbered (goal.at.applicant_missing-requires-clause-count c).In_ok-refuse)))
 
 pub applicant_missing-requires-clause-ranks : goal.applicant_missing-requires-clause-ranks
-applicant_missing-requires-clause-ranks c = rw (c.deref-3.ensures.value, c.deref-5.ensures.value) (Stages.ranks_for_all _ _ _ (so (goal.at.applicant_missing-requires-clause-ranks c).After-deref-2) _ (c.in_ok-lecturer_rows.ensures (student_keys c.args.students.now) (length-map c.args.students.now (λ x. x.key)) (rankings_numbered (goal.at.applicant_missing-requires-clause-ranks c).In_ok-refuse)))
+applicant_missing-requires-clause-ranks c = rw (c.deref-3.ensures.value, c.deref-5.ensures.value) (Stages.ranks_for_all _ _ _ (so (goal.at.applicant_missing-requires-clause-ranks c).After-deref-2) _ (c.in_ok-lecturer_rows.ensures (keys_of_students c.args.students.now) (length-map c.args.students.now (λ x. x.key)) (rankings_numbered (goal.at.applicant_missing-requires-clause-ranks c).In_ok-refuse)))
 
 pub returns-in_err-refuse-2-clause-err : goal.returns-in_err-refuse-2-clause-err
 returns-in_err-refuse-2-clause-err c =
     let before : In_ok-refuse = (goal.at.returns-in_err-refuse-2-clause-err c).In_ok-refuse in
     let all : Rows = rows (start (numbers before)) in
-    let missing : IsLeastOf (HasFault all ApplicantMissing) c.applicant_missing.result = Stages.missing_least all _ _ (so (numbers before)) _ (c.in_ok-lecturer_rows.ensures (student_keys c.args.students.now) (length-map c.args.students.now (λ x. x.key)) (rankings_numbered before)) c.applicant_missing.result (rw (← c.deref-3.ensures.value, ← c.deref-4.ensures.value, ← c.deref-5.ensures.value) c.applicant_missing.ensures) in
+    let missing : IsLeastOf (HasFault all ApplicantMissing) c.applicant_missing.result = Stages.missing_least all _ _ (so (numbers before)) _ (c.in_ok-lecturer_rows.ensures (keys_of_students c.args.students.now) (length-map c.args.students.now (λ x. x.key)) (rankings_numbered before)) c.applicant_missing.result (rw (← c.deref-3.ensures.value, ← c.deref-4.ensures.value, ← c.deref-5.ensures.value) c.applicant_missing.ensures) in
     let refusal = refuse_err all ApplicantMissing c.applicant_missing.result (Err c.in_err-refuse-2.field-0.0) c.in_err-refuse-2.ensures (none_other before) missing in
     handed_on c.from_residual-in_err-refuse-2.result c.in_err-refuse-2.field-0.0 (λ e. IsRefusal all e.fault e.row) c.from_residual-in_err-refuse-2.ensures.1 refusal
 
@@ -117,21 +117,21 @@ before c = (goal.at.returns-clause-ok c).In_ok-refuse
 faultless : (c : In_ok-refuse-2) → HasNoneBefore (rows (start (numbers (before c)))) Memory
 faultless c =
     let all : Rows = rows (start (numbers (before c))) in
-    let missing : IsLeastOf (HasFault all ApplicantMissing) c.applicant_missing.result = Stages.missing_least all _ _ (so (numbers (before c))) _ (c.in_ok-lecturer_rows.ensures (student_keys c.args.students.now) (length-map c.args.students.now (λ x. x.key)) (rankings_numbered (before c))) c.applicant_missing.result (rw (← c.deref-3.ensures.value, ← c.deref-4.ensures.value, ← c.deref-5.ensures.value) c.applicant_missing.ensures) in
+    let missing : IsLeastOf (HasFault all ApplicantMissing) c.applicant_missing.result = Stages.missing_least all _ _ (so (numbers (before c))) _ (c.in_ok-lecturer_rows.ensures (keys_of_students c.args.students.now) (length-map c.args.students.now (λ x. x.key)) (rankings_numbered (before c))) c.applicant_missing.result (rw (← c.deref-3.ensures.value, ← c.deref-4.ensures.value, ← c.deref-5.ensures.value) c.applicant_missing.ensures) in
     refuse_ok all ApplicantMissing Memory c.applicant_missing.result (Ok c.in_ok-refuse-2.field-0) refl c.in_ok-refuse-2.ensures (none_other (before c)) missing
 
 pub invariant_of-result : goal.invariant_of-result
 invariant_of-result c =
     let good' : AreGood (rows (start (numbers (before c)))) = good (start (numbers (before c))) in
     let so' = so (numbers (before c)) in
-    (Lawful.lawful _ _ _ _ good' so' (c.in_ok-lecturer_rows.ensures (student_keys c.args.students.now) (length-map c.args.students.now (λ x. x.key)) (rankings_numbered (before c))) (faultless c), Lawful.have_ranks _ _ _ _ good' so' (c.in_ok-lecturer_rows.ensures (student_keys c.args.students.now) (length-map c.args.students.now (λ x. x.key)) (rankings_numbered (before c))) (faultless c))
+    (Lawful.lawful _ _ _ _ good' so' (c.in_ok-lecturer_rows.ensures (keys_of_students c.args.students.now) (length-map c.args.students.now (λ x. x.key)) (rankings_numbered (before c))) (faultless c), Lawful.have_ranks _ _ _ _ good' so' (c.in_ok-lecturer_rows.ensures (keys_of_students c.args.students.now) (length-map c.args.students.now (λ x. x.key)) (rankings_numbered (before c))) (faultless c))
 
 pub returns-clause-ok : goal.returns-clause-ok
 returns-clause-ok c =
     let good' : AreGood (rows (start (numbers (before c)))) = good (start (numbers (before c))) in
     let so' = so (numbers (before c)) in
     let count = length-map c.args.students.now (λ x. x.key) in
-    let ranked = c.in_ok-lecturer_rows.ensures (student_keys c.args.students.now) count (rankings_numbered (before c)) in
+    let ranked = c.in_ok-lecturer_rows.ensures (keys_of_students c.args.students.now) count (rankings_numbered (before c)) in
     record {
       stands = Lawful.stands_for _ _ _ _ good' so' ranked (faultless c);
       lawful = Lawful.lawful _ _ _ _ good' so' ranked (faultless c);

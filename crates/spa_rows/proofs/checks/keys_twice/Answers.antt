@@ -12,4 +12,4 @@ returns c =
     let second : IsLeastOf (BadProject rows (λ j x. IsEarlierKey rows.projects (λ y. y.key) j x.key)) c.in_ok-project.project = rw (sym projects) c.in_ok-project.ensures in
     let third : IsLeastOf (BadStudent rows (λ j x. IsEarlierKey rows.students (λ y. y.key) j x.key)) c.in_ok-student.student = rw (sym students) c.in_ok-student.ensures in
     let later = least_either (BadProject rows (λ j x. IsEarlierKey rows.projects (λ y. y.key) j x.key)) (BadStudent rows (λ j x. IsEarlierKey rows.students (λ y. y.key) j x.key)) _ _ second third in
-    rw (c.lesser-2.ensures, c.lesser.ensures) (least_either (BadLecturer rows (λ j x. IsEarlierKey rows.lecturers (λ y. y.key) j x.key)) (λ r. BadProject rows (λ j x. IsEarlierKey rows.projects (λ y. y.key) j x.key) r ⊎ BadStudent rows (λ j x. IsEarlierKey rows.students (λ y. y.key) j x.key) r) _ _ first later)
+    rw (c.smaller_row-2.ensures, c.smaller_row.ensures) (least_either (BadLecturer rows (λ j x. IsEarlierKey rows.lecturers (λ y. y.key) j x.key)) (λ r. BadProject rows (λ j x. IsEarlierKey rows.projects (λ y. y.key) j x.key) r ⊎ BadStudent rows (λ j x. IsEarlierKey rows.students (λ y. y.key) j x.key) r) _ _ first later)

@@ -40,4 +40,4 @@ returns c =
     let students : c.deref-2.result.now ≡ rows.students = c.deref-2.ensures.value ∙ ap (λ x. x.students) c.rows.view_is in
     let lecturer : IsLeastOf (BadAt rows.lecturers (λ x. x.row) (λ _ x. Repeats x.list)) c.in_ok-lecturer.lecturer = rw (← lecturers) c.in_ok-lecturer.ensures in
     let student : IsLeastOf (BadAt rows.students (λ x. x.row) (λ _ x. Repeats x.list)) c.in_ok-student.student = rw (← students) c.in_ok-student.ensures in
-    rw c.lesser.ensures (least_either _ _ _ _ lecturer student)
+    rw c.smaller_row.ensures (least_either _ _ _ _ lecturer student)

@@ -1,4 +1,4 @@
-use Rattle.portal_desk.proofs.Base.{◌≡◌, ◌∙◌, ◌||◌, sym, reply_model, seen}
+use Rattle.portal_desk.proofs.Base.{◌≡◌, ◌∙◌, ◌||◌, sym, reply_model, request_content}
 use Rattle.portal_desk.proofs.Moving.{acted_as}
 use Rattle.portal_desk.proofs.Sent.{broke, still}
 use Rattle.portal_desk.proofs.desk.Desk.answer.Goals as goal
@@ -9,7 +9,7 @@ returns-in-Err-clause-err g c =
     let shut : c.if-closes.shut ≡ (c.args.closes || c.failed-lost.result) =
     elim c.if-closes.branch [ then-closes w ↦ rw w.if-closes.true (w.shut-is ∙ w.if-closes.true) | else-closes w ↦ rw w.if-closes.false w.shut-is ] in (
       reply_model c.respond-reply.result,
-      acted_as _ _ c.args.request.now.close c.args.closes (seen c.args.request.now) _ c.respond-reply.ensures.acted,
+      acted_as _ _ c.args.request.now.close c.args.closes (request_content c.args.request.now) _ c.respond-reply.ensures.acted,
       broke c.in-Err.cause _ _ _ c.args.closes _ _ (rw (c.asks_head.ensures, shut, c.failed-lost.ensures.failed) at c.in-Err.ensures.writes),
     )
 
@@ -19,6 +19,6 @@ returns-clause-ok g c =
     let shut : c.if-closes.shut ≡ (c.args.closes || c.failed-lost.result) =
     elim c.if-closes.branch [ then-closes w ↦ rw w.if-closes.true (w.shut-is ∙ w.if-closes.true) | else-closes w ↦ rw w.if-closes.false w.shut-is ] in (
       reply_model c.respond-reply.result,
-      acted_as _ _ c.args.request.now.close c.args.closes (seen c.args.request.now) _ c.respond-reply.ensures.acted,
+      acted_as _ _ c.args.request.now.close c.args.closes (request_content c.args.request.now) _ c.respond-reply.ensures.acted,
       (calm, still _ _ _ _ c.args.closes _ calm (rw (c.asks_head.ensures, shut, c.failed-lost.ensures.failed) at c.in-Ok.ensures.writes)),
     )

@@ -1,4 +1,4 @@
-use Rattle.portal_desk.proofs.Base.{◌∙◌, refl, rules, sym, seen}
+use Rattle.portal_desk.proofs.Base.{◌∙◌, refl, rules, sym, request_content}
 use Rattle.portal_desk.proofs.Failing.{calm_before}
 use Rattle.portal_desk.proofs.Sent.{broke_store, broke_unread}
 use Rattle.portal_desk.proofs.Taking.{none_taken, follows_taken, missed_taken, ended_taken, cut_taken, cut_held}
@@ -13,7 +13,7 @@ returns-in-Err-clause-serves g c =
     let failed = c.in-Err.ensures.err in
     record {
       worked = x.worked;
-      served = rw (c.stopped.ensures.cause, c.stopped.ensures.requests) (missed x.told _ _ c.in-Err.cause _ failed.causes failed.left c.in-Err.ensures.none);
+      served = rw (c.serve_fault.ensures.cause, c.serve_fault.ensures.requests) (missed x.told _ _ c.in-Err.cause _ failed.causes failed.left c.in-Err.ensures.none);
       taken = missed_taken _ _ x.bound x.held x.taken failed.taken;
       stays = let causes = failed.causes in search rules;
       settles = let causes = failed.causes in search rules;
@@ -24,7 +24,7 @@ returns-in-End-clause-serves g c =
     let x = c.loop-found.invariant in
     record {
       worked = x.worked;
-      served = rw (c.served.ensures.requests, c.served.ensures.ending) (end_known x.told _ _ (rw c.in-End.is at c.in-Ok.ensures.follows));
+      served = rw (c.served_result.ensures.requests, c.served_result.ensures.ending) (end_known x.told _ _ (rw c.in-End.is at c.in-Ok.ensures.follows));
       taken = ended_taken x.bound c.in-Ok.ensures.held x.taken c.in-Ok.ensures.follows;
       stays = search rules;
       settles = search rules;
@@ -35,7 +35,7 @@ returns-in-Bad-clause-serves g c =
     let x = c.loop-found.invariant in
     record {
       worked = x.worked;
-      served = rw (c.served-in-Bad.ensures.requests, c.served-in-Bad.ensures.ending)
+      served = rw (c.served_result-in-Bad.ensures.requests, c.served_result-in-Bad.ensures.ending)
           (bad_known x.told _ _ _ c.in-Bad.refusal c.in-Bad.head_only (rw c.in-Bad.is at c.in-Ok.ensures.follows) c.in-Ok-send_refusal.ensures.writes);
       taken = ended_taken x.bound c.in-Ok.ensures.held x.taken c.in-Ok.ensures.follows;
       stays = search rules;
@@ -47,7 +47,7 @@ returns-in-Err-send_refusal-clause-serves g c =
     let x = c.loop-found.invariant in
     record {
       worked = x.worked;
-      served = rw (c.stopped-in-Err-send_refusal.ensures.cause, c.stopped-in-Err-send_refusal.ensures.requests)
+      served = rw (c.serve_fault-in-Err-send_refusal.ensures.cause, c.serve_fault-in-Err-send_refusal.ensures.requests)
           (cut_known x.told _ _ _ c.in-Bad.refusal c.in-Bad.head_only (rw c.in-Bad.is at c.in-Ok.ensures.follows) c.in-Err-send_refusal.cause _ _ c.in-Err-send_refusal.ensures.writes);
       taken = ended_taken x.bound c.in-Ok.ensures.held x.taken c.in-Ok.ensures.follows;
       stays = search rules;
@@ -61,7 +61,7 @@ returns-in-Err-answer-clause-serves g c =
     let store = broke_store c.in-Err-answer.cause _ _ _ _ _ _ c.in-Err-answer.ensures.err.2 in
     record {
       worked = worked_more _ _ _ _ _ _ x.worked c.in-Err-answer.ensures.err.1 c.answer.ensures.counts;
-      served = rw (c.stopped-in-Err-answer.ensures.cause, c.stopped-in-Err-answer.ensures.requests)
+      served = rw (c.serve_fault-in-Err-answer.ensures.cause, c.serve_fault-in-Err-answer.ensures.requests)
           (broke_known x.told _ _ _ _ c.in-Request.request c.in-Request.used c.closes_now-closes.result (rw c.in-Request.is at c.in-Ok.ensures.follows) c.closes_now-closes.ensures
           c.in-Err-answer.cause _ _ c.in-Err-answer.ensures.err);
       taken = ended_taken x.bound c.in-Ok.ensures.held x.taken c.in-Ok.ensures.follows;
@@ -84,7 +84,7 @@ returns-then-closes-clause-serves g c =
     let x = c.loop-found.invariant in
     record {
       worked = worked_more _ _ _ _ _ _ x.worked c.in-Ok-answer.ensures.ok.1 c.answer.ensures.counts;
-      served = rw (c.served-then-closes.ensures.requests, c.served-then-closes.ensures.ending, c.ending_of.ensures)
+      served = rw (c.served_result-then-closes.ensures.requests, c.served_result-then-closes.ensures.ending, c.ending_of.ensures)
           (closes_known x.told _ _ _ _ c.in-Request.request c.in-Request.used c.closes_now-closes.result (rw c.in-Request.is at c.in-Ok.ensures.follows) c.closes_now-closes.ensures
           (c.in-Ok-answer.ensures.ok.0, c.in-Ok-answer.ensures.ok.1, c.in-Ok-answer.ensures.ok.2.1) c.if-closes.true);
       taken = ended_taken x.bound c.in-Ok.ensures.held x.taken c.in-Ok.ensures.follows;
@@ -111,7 +111,7 @@ pub loop-found-preserved : goal.loop-found-preserved
 loop-found-preserved g c =
     let x = c.loop-found.invariant in
     record {
-      bound = goes_on c.loop-found.done (seen c.in-Request.request) c.closes_now-closes.result x.bound c.if-closes.false c.closes_now-closes.ensures;
+      bound = goes_on c.loop-found.done (request_content c.in-Request.request) c.closes_now-closes.result x.bound c.if-closes.false c.closes_now-closes.ensures;
       reader = c.in-Ok.ensures.failures ∙ x.reader;
       writer = c.in-Ok-answer.ensures.failures ∙ x.writer;
       source = c.in-Ok.ensures.same_device ∙ x.source;

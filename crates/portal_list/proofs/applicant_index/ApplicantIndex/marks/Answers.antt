@@ -1,5 +1,5 @@
 use Rattle.portal_list.proofs.Base.{◌≡◌, false, get_or, length, subst, sym, ap, ◌∙◌, arith, ◌||◌, or-false, is_among}
-use Rattle.portal_list.proofs.Base.{is_noted_in, IsIndexOf, length-replicate, with_items_is}
+use Rattle.portal_list.proofs.Base.{is_noted_in, IsApplicantIndex, length-replicate, with_items_is}
 use Rattle.portal_list.proofs.Noted.{passes_never, wanted_more, none_marked}
 use Rattle.portal_list.proofs.applicant_index.ApplicantIndex.marks.Goals as goal
 use Rattle.portal_list.proofs.applicant_index.ApplicantIndex.marks.Goals.{in-Some, in_default}
@@ -15,7 +15,7 @@ loop-project-init c =
 pub loop-project-preserved : goal.loop-project-preserved
 loop-project-preserved c =
     let j = c.loop-project.project-index in
-    let wanted : IsIndexOf c.args.self.now c.self.inside.places = subst (λ ss. IsIndexOf ss c.self.inside.places) c.self.view_is c.self.invariant in
+    let wanted : IsApplicantIndex c.args.self.now c.self.inside.places = subst (λ ss. IsApplicantIndex ss c.self.inside.places) c.self.view_is c.self.invariant in
     let more = wanted_more c.args.self.now c.self.inside.places wanted c.args.projects.now j c.project-item.result c.as_bytes.result c.loop-project-test.true (sym c.project-item.is) c.as_bytes.ensures.bytes in
     elim c.match-get.branch [
       | in-Some w ↦

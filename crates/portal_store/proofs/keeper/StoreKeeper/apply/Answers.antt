@@ -8,22 +8,22 @@ use Rattle.portal_store.proofs.keeper.StoreKeeper.apply.Goals as goal
 pub invariant_of-self-2 : goal.invariant_of-self-2
 invariant_of-self-2 g c =
     let change = change_model c.args.change.now in
-    let new = c.take-taken.new.conn in
+    let new = c.commit_change-taken.new.conn in
     let is = c.self.view_is in
     let kept = c.self.invariant.kept in
     let own = c.in_default.ensures in
     let dirty = g.met.S.Store.shut_if_dirty new.store in
     let good = c.requires.good in
     let leaves = c.requires.leaves_good in
-    let made = c.counted-made.result in
-    let ends = ends_told {D = IsTransition change} c.counted-made.ensures.same c.take-taken.ensures.ends in
+    let made = c.count_outcome-made.result in
+    let ends = ends_told {D = IsTransition change} c.count_outcome-made.ensures.same c.commit_change-taken.ensures.ends in
     record {
-      kept = change_keeps change new is kept own dirty good leaves made ends c.take-taken.ensures.left;
+      kept = change_keeps change new is kept own dirty good leaves made ends c.commit_change-taken.ensures.left;
       shown = change_follows change new is kept own dirty good leaves IsCacheOf c.self.inside.cache c.follow.new.self (λ on clean. c.self.invariant.shown on) made ends
           (on_ok_weaker made (λ follows w sound. follows w) c.follow.ensures.made) c.follow.ensures.not_made;
-      entered = change_follows change new is kept own dirty good leaves AreEntries c.take-taken.new.entries c.follow-2.new.entries
+      entered = change_follows change new is kept own dirty good leaves AreEntries c.commit_change-taken.new.entries c.follow-2.new.entries
           (λ on clean. let old = kept.ready on.0 on.1 in
-          c.take-taken.ensures.entries (subst (λ (s : Seen _). IsTrue s.own → IsCurrentSchema s.conn.schema) (sym is) own on.0) old.holds (subst (λ s. IsCleanStore g.S.Store s → Good (kept_world g.S.Store s)) (sym is) good on) clean (c.self.invariant.entered on))
+          c.commit_change-taken.ensures.entries (subst (λ (s : Seen _). IsTrue s.own → IsCurrentSchema s.conn.schema) (sym is) own on.0) old.holds (subst (λ s. IsCleanStore g.S.Store s → Good (kept_world g.S.Store s)) (sym is) good on) clean (c.self.invariant.entered on))
           made ends c.follow-2.ensures.made c.follow-2.ensures.not_made;
     }
 
@@ -31,17 +31,17 @@ pub returns : goal.returns
 returns g c =
     let change = change_model c.args.change.now in
     let old = c.self.inside.conn in
-    let new = c.take-taken.new.conn in
+    let new = c.commit_change-taken.new.conn in
     let is = c.self.view_is in
     let kept = c.self.invariant.kept in
     let own = c.in_default.ensures in
     let dirty = g.met.S.Store.shut_if_dirty new.store in
     let good = c.requires.good in
     let leaves = c.requires.leaves_good in
-    let made = c.counted-made.result in
-    let ends = ends_told {D = IsTransition change} c.counted-made.ensures.same c.take-taken.ensures.ends in
-    let keeps = change_keeps change new is kept own dirty good leaves made ends c.take-taken.ensures.left in
-    let call = change_call change new is kept own dirty good leaves c.counted-made.new.faults (g.met.S.Store.settled new.store) made ends keeps in
+    let made = c.count_outcome-made.result in
+    let ends = ends_told {D = IsTransition change} c.count_outcome-made.ensures.same c.commit_change-taken.ensures.ends in
+    let keeps = change_keeps change new is kept own dirty good leaves made ends c.commit_change-taken.ensures.left in
+    let call = change_call change new is kept own dirty good leaves c.count_outcome-made.new.faults (g.met.S.Store.settled new.store) made ends keeps in
     let here : IsTrue c.args.self.now.own → IsCurrentSchema old.schema = λ mine. subst (λ (s : Seen _). IsCurrentSchema s.conn.schema) (sym is) (own mine) in
     record {
       changes = record {

@@ -18,13 +18,13 @@ pub returns : goal.returns
 returns g c =
     let new = c.show-shown.new.conn in
     let is = c.self.view_is in
-    let told = c.counted.ensures.same in
+    let told = c.count_outcome.ensures.same in
     let read = read_by new is c.self.invariant.kept c.in_default.ensures (g.met.S.Store.shut_if_dirty new.store) c.show-shown.ensures in
-    let call = read.call c.counted.new.faults (g.met.S.Store.settled new.store) c.counted.result told in
+    let call = read.call c.count_outcome.new.faults (g.met.S.Store.settled new.store) c.count_outcome.result told in
     record {
       looks = record { uses = call.uses; same = read.same; counts = search rules };
       alive = call.alive;
-      shown = told_if _ c.show-shown.result c.counted.result told (when_ok _ _ _ c.show-shown.result (λ on. (read.told (λ holds was. (holds, c.self.invariant.shown was)) on).1)
+      shown = told_if _ c.show-shown.result c.count_outcome.result told (when_ok _ _ _ c.show-shown.result (λ on. (read.told (λ holds was. (holds, c.self.invariant.shown was)) on).1)
           (λ view shows on good. shows on (subst (λ s. Good (kept_world g.S.Store s)) (sym is) good) ∙ ap (λ s. seen.view (kept_world g.S.Store s) c.args.code.now) is));
       store = record { own = search rules; lasts = call.stays_open };
     }

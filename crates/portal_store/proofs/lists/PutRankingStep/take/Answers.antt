@@ -1,6 +1,6 @@
 use Rattle.portal_store.proofs.Base.{Ok, subst, ◌∙◌, ap, sym, Round, tree_of, PutsList, RanksSecond, Does, Made, GoesOn}
 use Rattle.portal_store.proofs.Base.{does_then, ranking_table, TurnsThere}
-use Rattle.portal_tables.specs.inner.RowChanges.{Ranks}
+use Rattle.portal_tables.specs.inner.RowChanges.{MarksRanked}
 use Rattle.portal_store.proofs.RankTurns.{rank_made}
 use Rattle.portal_store.proofs.SecondRanks.{second_made}
 use Rattle.portal_store.proofs.lists.PutRankingStep.take.Goals as goal
@@ -10,7 +10,7 @@ returns-in-First g c =
     let k = c.args.self.lecturer.now in
     let list = c.args.self.students.now in
     let put = subst (λ l. Does g.S.Store (GoesOn (PutsList (tree_of l) k list)) (Ok c.in_ok-put_list.field-0) c.args.tx.now c.put_list.new.tx) (c.rankings_of.ensures.is ∙ ap ranking_table c.in-First.is) c.in_ok-put_list.ensures in
-    let told = subst (λ x. Does g.S.Store (Made (Ranks x)) c.set_ranked.result c.put_list.new.tx c.set_ranked.new.tx) c.as_bytes.ensures.bytes c.set_ranked.ensures in
+    let told = subst (λ x. Does g.S.Store (Made (MarksRanked x)) c.set_ranked.result c.put_list.new.tx c.set_ranked.new.tx) c.as_bytes.ensures.bytes c.set_ranked.ensures in
     subst (λ (round : Round). Does g.S.Store (GoesOn (TurnsThere round k list)) c.set_ranked.result c.args.tx.now c.set_ranked.new.tx) (sym c.in-First.is) (does_then g.S.Store _ _ _ _ _ _ _ _ put told (rank_made k list _ _ _))
 
 pub returns-in-Second : goal.returns-in-Second

@@ -8,11 +8,11 @@ use Rattle.portal_store.proofs.store.Store.upgrade.Goals as goal
 pub invariant_of-result : goal.invariant_of-result
 invariant_of-result g c =
     let old = c.args.conn in
-    let new = c.upgraded.new.conn in
+    let new = c.upgrade_with_entries.new.conn in
     let own = c.fits_first-own in
     let first = own.ensures.first.0 in
-    let entries = c.in-Ok-upgraded.entries in
-    let up = c.in-Ok-upgraded.ensures.upgrades in
+    let entries = c.in-Ok-upgrade_with_entries.entries in
+    let up = c.in-Ok-upgrade_with_entries.ensures.upgrades in
     let shut = clean_if_open _ _ (g.met.S.Store.shut_if_dirty new.store) in
     record {
       kept = upgraded_kept g.S.Store own.result entries old new first up shut;
@@ -22,14 +22,14 @@ invariant_of-result g c =
 
 pub returns-clause-upgrades : goal.returns-clause-upgrades
 returns-clause-upgrades g c =
-    let new = c.upgraded.new.conn in
+    let new = c.upgrade_with_entries.new.conn in
     let own = c.fits_first-own in
-    let up = c.in-Ok-upgraded in
+    let up = c.in-Ok-upgrade_with_entries in
     let shut = clean_if_open _ _ (g.met.S.Store.shut_if_dirty new.store) in
     upgraded g.S.Store own.result c.args.conn new shut (g.met.S.Store.settled new.store) up.entries own.ensures.first up.ensures.upgrades
 
-pub returns-in-Err-upgraded-clause-refuses : goal.returns-in-Err-upgraded-clause-refuses
-returns-in-Err-upgraded-clause-refuses g c = c.in-Err-upgraded.ensures.refuses
+pub returns-in-Err-upgrade_with_entries-clause-refuses : goal.returns-in-Err-upgrade_with_entries-clause-refuses
+returns-in-Err-upgrade_with_entries-clause-refuses g c = c.in-Err-upgrade_with_entries.ensures.refuses
 
 pub returns-in-Err-clause-refuses : goal.returns-in-Err-clause-refuses
 returns-in-Err-clause-refuses g c =
@@ -38,8 +38,8 @@ returns-in-Err-clause-refuses g c =
     not_upgraded g.S.Store _ c.from.result conn conn c.upgrade_fault_of.ensures (untouched g.S.Store _ conn c.requires.idle)
     (λ first clean. blames_none _ _ _ _ c.from.ensures.0) (λ first. survives_weaker s s _ _ (λ clean db no. absurd no) (survives_same s))
 
-pub upgraded-requires : goal.upgraded-requires
-upgraded-requires g c = record {
+pub upgrade_with_entries-requires : goal.upgrade_with_entries-requires
+upgrade_with_entries-requires g c = record {
   idle = c.requires.idle;
   first = c.fits_first-own.ensures.first;
   taken = c.is_there-is_taken.ensures ∙ ap (has_names OfSecond) c.schema.ensures.value;

@@ -2,11 +2,11 @@ use Rattle.spa_model.proofs.Base.{◌∙◌, subst, HasPairs, rules}
 use Rattle.spa_model.proofs.AssignedPairs.{known_pairs, apart_pairs, has_pairs, is_matching}
 use Rattle.spa_model.proofs.matching.Matching.build.Goals as goal
 
-pub assigned-requires-clause-known : goal.assigned-requires-clause-known
-assigned-requires-clause-known c = search (rules, known_pairs)
+pub assigned_projects-requires-clause-known : goal.assigned_projects-requires-clause-known
+assigned_projects-requires-clause-known c = search (rules, known_pairs)
 
-pub assigned-requires-clause-apart : goal.assigned-requires-clause-apart
-assigned-requires-clause-apart c = search (rules, apart_pairs)
+pub assigned_projects-requires-clause-apart : goal.assigned_projects-requires-clause-apart
+assigned_projects-requires-clause-apart c = search (rules, apart_pairs)
 
 pub returns-clause-ok : goal.returns-clause-ok
 returns-clause-ok c =

@@ -1,4 +1,4 @@
-use Rattle.spa_student.proofs.Base.{◌≡◌, ◌≢◌, ◌⊎◌, ℕ, ◌-◌, length, sum, IsFree, IsUnderWay, IsSettled}
+use Rattle.spa_student.proofs.Base.{◌≡◌, ◌≢◌, ◌⊎◌, ℕ, ◌-◌, length, sum, IsFree, IsUnderWay, IsPlacedOrExhausted}
 use Rattle.std.proofs.Common.{sum_by}
 use Rattle.spa_student.proofs.cuts.Progress.settle.Given as goal
 
@@ -7,7 +7,8 @@ abbrev pub invariant-loop-w : goal.invariant-loop-w
 invariant-loop-w l = record {
   state : IsUnderWay l.instance l.self;
   free : IsFree l.instance l.self l.free;
-  settled : (x : ℕ) → x ≢ l.free → (x ≡ l.s) ⊎ IsSettled l.instance l.initial.self x → IsSettled l.instance l.self x;
+  settled : (x : ℕ) → x ≢ l.free → (x ≡ l.s) ⊎ IsPlacedOrExhausted l.instance l.initial.self x
+      → IsPlacedOrExhausted l.instance l.self x;
 }
 
 abbrev pub decreases-loop-w : goal.decreases-loop-w

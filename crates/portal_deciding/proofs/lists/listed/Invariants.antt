@@ -1,5 +1,0 @@
-use Rattle.portal_rules.proofs.Base.{◌≡◌, false, take, in_catalogue}
-use Rattle.portal_deciding.proofs.lists.listed.Given as goal
-
-abbrev pub invariant-loop-listing : goal.invariant-loop-listing
-invariant-loop-listing l = in_catalogue (take l.listing-index l.catalogue) l.text ≡ false
