@@ -11,7 +11,7 @@ ghost use Rattle.portal_list.specs.inner.Fill.{missing, with_missing, filled, fi
 use crate::applicant_index::ApplicantIndex;
 use crate::entries::{Entries, LecturerEntry, StudentEntry};
 use crate::list_checks::applicants;
-use crate::views::waiting;
+use crate::views::lecturers_to_rank;
 use portal_rules::{ProjectRow, try_map};
 use spa_rows::Key;
 use std::alloc::{AllocError, Global};
@@ -139,7 +139,7 @@ impl Entries {
             → map {B = words.Key × List words.Key} (λ f. (f.0, f.1.items)) v.items
             ≡ fill_missing w) }
     {
-        let lecturers = waiting(alloc, &self.lecturers, &self.projects, &self.students)?;
+        let lecturers = lecturers_to_rank(alloc, &self.lecturers, &self.projects, &self.students)?;
         let wanted = ApplicantIndex::of(alloc, &self.students)?;
         fills_from(alloc, &lecturers, &self.projects, &wanted)
     }
