@@ -1,26 +1,23 @@
 -- What `open` makes of what was read.
-use Rattle.portal_store.proofs.Base.{List, [], ◌∷◌, pos, ◌≡◌, ◌≢◌, ℕ, Bool, true, false, not, IsTrue, Ok, Err, Result}
-use Rattle.portal_store.proofs.Base.{map, length, filter, slice_index_or, refl, sym, ap, subst, ◌∙◌, IsPermutation, Int}
-use Rattle.portal_store.proofs.Base.{Row, column, Trees, Database, HasCleanDisk, IsUnchanged, State, Ghosts, Held}
-use Rattle.portal_store.proofs.Base.{state, Round, First, Second, portal_tree, second_tree, choice2_tree, ranked2_tree}
-use Rattle.portal_store.proofs.Base.{ranking2_tree, assigned2_tree, first_trees, own_trees, version, IsCurrentSchema}
-use Rattle.portal_store.proofs.Base.{RowNumbersDiffer, portal_row, second_row, ListsBy, every, columns, HasOffice}
-use Rattle.portal_store.proofs.Base.{number_of_phase, is_empty, AllNumbersDiffer, HasSecond, IsUnopened, IsConsistent}
-use Rattle.portal_store.proofs.Base.{IsConsistentIn, later_trees, IsKept, early_trees, apart_one, current_own, SaysNot}
-use Rattle.portal_store.proofs.Base.{AdmitsAs, Admits, TableFault, OpenFault, IfErr, IsLive, apart_none, HasVersion}
-use Rattle.portal_store.proofs.Base.{RefusalSays, NumbersDiffer, SaysNothing, Reading, Anyhow, IsCommitted, OnlyLooks}
-use Rattle.portal_store.proofs.Base.{OnOk, HasFirstSchema, clean_before, HasRound, IsErrAnd, reads_as, all_append}
-use Rattle.portal_store.proofs.Base.{filter_all, nil_from_length, parts_of, second_trees}
+use Rattle.portal_store.proofs.Base.{List, [], ◌∷◌, pos, ◌≡◌, ◌≢◌, ◌⊎◌, inl, inr, ℕ, Bool, true, false, not, IsTrue, Ok}
+use Rattle.portal_store.proofs.Base.{Err, Result, map, length, filter, slice_index_or, refl, sym, ap, subst, ◌∙◌}
+use Rattle.portal_store.proofs.Base.{IsPermutation, Int, Row, column, Trees, Database, HasCleanDisk, IsUnchanged, State}
+use Rattle.portal_store.proofs.Base.{Ghosts, Held, state, Round, First, Second, portal_tree, second_tree, choice2_tree}
+use Rattle.portal_store.proofs.Base.{ranked2_tree, ranking2_tree, assigned2_tree, first_trees, own_trees, version}
+use Rattle.portal_store.proofs.Base.{IsCurrentSchema, RowNumbersDiffer, portal_row, second_row, ListsBy, every, columns}
+use Rattle.portal_store.proofs.Base.{HasOffice, number_of_phase, is_empty, AllNumbersDiffer, HasSecond, IsUnopened}
+use Rattle.portal_store.proofs.Base.{IsConsistent, IsConsistentIn, later_trees, IsKept, early_trees, apart_one}
+use Rattle.portal_store.proofs.Base.{current_own, SaysNot, AdmitsAs, Admits, TableFault, OpenFault, IfErr, IsLive}
+use Rattle.portal_store.proofs.Base.{apart_none, HasVersion, RefusalSays, NumbersDiffer, SaysNothing, IsOfRows, Reading}
+use Rattle.portal_store.proofs.Base.{Anyhow, IsCommitted, OnlyLooks, OnOk, HasFirstSchema, clean_before, HasRound}
+use Rattle.portal_store.proofs.Base.{IsErrAnd, reads_as, all_append, filter_all, nil_from_length, parts_of}
+use Rattle.portal_store.proofs.Base.{second_trees}
 use Rattle.sqlite.proofs.Callers.{one_permutation}
-unfoldable use Rattle.sqlite.specs.State.{Begins}
-use Rattle.sqlite.specs.Listing.{understood, reads_listing, IsSourceOf}
-use Rattle.portal_tables.specs.declared.select.Query.TheVariants.{Office}
-use Rattle.portal_store.specs.Crash.{ShowsVersion}
 use Rattle.portal_store.specs.inner.Keeping.{IsReady}
 use Rattle.portal_store.proofs.Absent.{as_many}
 use Rattle.portal_store.proofs.Keeps.{leaves_shown}
 use Rattle.portal_tables.specs.inner.Decoding.{FindsAny}
-use Rattle.portal_tables.specs.inner.Queries.{selection, QueryShows, query_text}
+use Rattle.portal_tables.specs.inner.Queries.{selection, QueryShows}
 use Rattle.portal_tables.specs.declared.select.Query.{Query}
 use Rattle.portal_tables.specs.declared.fault.TableFault.TheVariants as told
 use Rattle.portal_store.specs.declared.store.OpenFault.TheVariants.{NotPortal, OtherVersion, Damaged, Store, Memory}
@@ -38,12 +35,24 @@ denies_more Memory A B back h = tt
 pub denies_any : (fault : OpenFault) (A : Type 0) → SaysNothing fault → SaysNot fault A
 denies_any fault A = denies_more fault (Unit {0}) A (λ _. tt)
 
+-- who denies anything is for the rows, for the store or for want of memory
+pub of_rows : (fault : OpenFault) (A : Type 0) → SaysNot fault A → IsOfRows fault
+of_rows fault A = denies_more fault A ⊥ (λ no. absurd no)
+
 -- as a fault of the tables' rows
 pub denied_of : (fault : OpenFault) (why : TableFault) (A : Type 0) → (why ≡ told.Damaged → fault ≡ Damaged)
     → ((why ≡ told.Damaged → ⊥) → SaysNothing fault) → (why ≡ told.Damaged → A → ⊥) → SaysNot fault A
 denied_of fault told.Damaged A damaged nothing h = subst (λ f. SaysNot f A) (sym (damaged refl)) (h refl)
 denied_of fault told.Store A damaged nothing h = denies_any fault A (nothing (λ e. absurd (cc)))
 denied_of fault told.Memory A damaged nothing h = denies_any fault A (nothing (λ e. absurd (cc)))
+
+pub of_told : (fault : OpenFault) (why : TableFault) → (why ≡ told.Damaged → fault ≡ Damaged)
+    → ((why ≡ told.Damaged → ⊥) → SaysNothing fault) → IsOfRows fault
+of_told fault why damaged nothing = denied_of fault why ⊥ damaged nothing (λ is no. no)
+
+pub of_judged : (fault : OpenFault) → (fault ≡ Damaged) ⊎ (fault ≡ Memory) → IsOfRows fault
+of_judged fault (inl is) = subst IsOfRows (sym is) (λ no. no)
+of_judged fault (inr is) = subst IsOfRows (sym is) tt
 
 -- an error that is handed on as a refusal
 pub reads_said : {round : Round} {On : State → Type 0} {Right : Database → Type 0} {U D V : Type 0} {T : Database → Result U D → Type 0} {Told : Database → Result V OpenFault → Type 0} {e : D} {r : Result V OpenFault} {Said : OpenFault → Type 0} {a b : State}
@@ -105,16 +114,20 @@ office_version of db shown row rest h is v = record {
 
 pub office_refuted : {V : Type 0} (of : ℕ) (A : Type 0) (db : Trees) (shown : List Row) (r : Result V OpenFault)
     → ListsBy (0 ∷ []) every (columns (0 ∷ 2 ∷ 3 ∷ 4 ∷ [])) (db portal_tree) shown → (r ≡ Err NotPortal → shown ≡ [])
-    → (r ≡ Err OtherVersion → shown ≢ []) → (r ≡ Err OtherVersion → (row : Row) → shown ≡ row ∷ [] → column row 1 ≡ Int (pos of) → ⊥) → IfErr r (λ fault. fault ≡ Damaged → ⊥) → IfErr r (λ fault. RefusalSays fault of A db)
-office_refuted of A db shown (Ok v) h none there other judged = tt
-office_refuted of A db shown (Err NotPortal) h none there other judged = listed_none _ _ _ shown h (none refl)
-office_refuted of A db shown (Err OtherVersion) h none there other judged = record {
-  there = λ empty. there refl (listed_nil _ _ _ shown h empty);
-  other = λ row one v. other refl _ (listed_one _ _ _ shown row h one) v;
-}
-office_refuted of A db shown (Err Damaged) h none there other judged = absurd (judged refl)
-office_refuted of A db shown (Err Store) h none there other judged = tt
-office_refuted of A db shown (Err Memory) h none there other judged = tt
+    → (r ≡ Err OtherVersion → (row : Row) × (rest : List Row) × (shown ≡ row ∷ rest) × (column row 1 ≢ Int (pos of))) → IfErr r (λ fault. fault ≡ Damaged → ⊥) → IfErr r (λ fault. RefusalSays fault of A db)
+office_refuted of A db shown (Ok v) h none other judged = tt
+office_refuted of A db shown (Err NotPortal) h none other judged = listed_none _ _ _ shown h (none refl)
+office_refuted of A db shown (Err OtherVersion) h none other judged =
+    let it = other refl in
+    record {
+      there = λ empty. let e : it.0 ∷ it.1 ≡ [] = sym it.2 ∙ listed_nil _ _ _ shown h empty in absurd (cc);
+      other = λ row one v.
+          let e : columns (0 ∷ 2 ∷ 3 ∷ 4 ∷ []) row ∷ [] ≡ it.0 ∷ it.1 = sym (listed_one _ _ _ shown row h one) ∙ it.2 in
+          it.3 (sym (ap (λ (l : List Row). column (slice_index_or l 0 []) 1) e) ∙ v);
+    }
+office_refuted of A db shown (Err Damaged) h none other judged = absurd (judged refl)
+office_refuted of A db shown (Err Store) h none other judged = tt
+office_refuted of A db shown (Err Memory) h none other judged = tt
 
 -- a table of which a query shows whether there is a row
 
@@ -201,24 +214,6 @@ module _
         let ready = admitted mine clean in
         leaves_shown g new law ready.settled ready.holds (found mine clean).0.0.is_open db may;
   }
-
--- what the text begins with, and so the version that is shown, depends on the database alone
-pub version_still : (of : ℕ) (a b : State) → b.now ≡ a.now → ShowsVersion of a → ShowsVersion of b
-unfolding Begins
-version_still of a b same h = record {
-  row = h.row;
-  rest = h.rest;
-  shown =
-      let it = h.shown in (
-        it.0,
-        record { is = subst (λ (d : Database). understood d.schema (query_text Office) ≡ Ok it.0) (sym same) it.1.is; whole = it.1.whole; given = it.1.given; now = it.1.now },
-        it.2,
-        it.3,
-        subst (λ (d : Database). IsSourceOf (reads_listing d.schema (query_text Office)) d it.3) (sym same) it.4,
-        it.5,
-      );
-  version_is = h.version_is;
-}
 
 -- what a read tells of the tables that a look before it found
 pub told_before : {V E : Type 0} {Right : Database → Type 0} {Told : Database → Result V E → Type 0} (r : Result V E) (a b c : State) (P : Database → Type 0)

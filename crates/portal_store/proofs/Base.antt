@@ -5,7 +5,7 @@ pub use Rattle.std.proofs.Common.{Bool, Err, IfOk, IsTrue, List, None, Ok, OnErr
 pub use Rattle.std.proofs.Common.{ap₂, arith, cond, eqb, false, filter, get_or, inl, inr, length, map, not, option_map}
 pub use Rattle.std.proofs.Common.{pos, refl, rules, slice_index_or, subst, subst₂, sym, take, true, ℕ, ◌&&◌, ◌++◌, ◌+◌}
 pub use Rattle.std.proofs.Common.{◌<◌, ◌||◌, ◌∙◌, ◌∷◌, ◌≡◌, ◌≢◌, ◌⊎◌, ◌+ℤ◌, append_assoc, append-nil, Less, suc, ◌≤◌}
-pub use Rattle.std.proofs.Common.{IfErr, drop, ℤ}
+pub use Rattle.std.proofs.Common.{IfErr, drop, zero, ℤ}
 pub use Rattle.std.proofs.Math.Bool.{or-true, and-false, or-false}
 pub use Rattle.std.proofs.lemmas.Bool.{cases_Bool, or_parts, eqb-false}
 pub use Rattle.std.proofs.lemmas.Bool.Decides.{nat_tests, eqb_tells}
@@ -14,7 +14,7 @@ pub use Rattle.std.proofs.lemmas.List.Sorted.{IsPermutation-cons, IsPermutation-
 pub use Rattle.std.proofs.lemmas.List.Sorted.{IsPermutation-middle, IsPermutation-refl, IsPermutation-sym}
 pub use Rattle.std.proofs.lemmas.List.Sorted.{IsPermutation-trans, length_permutation, list_any-IsPermutation}
 pub use Rattle.std.proofs.lemmas.List.Sorted.{IsPermutation-append_right}
-pub use Rattle.std.proofs.lemmas.Result.{IfOk-weaker, MatchResult-weaker, on_err_weaker, on_ok_weaker}
+pub use Rattle.std.proofs.lemmas.Result.{IfErr-weaker, IfOk-weaker, MatchResult-weaker, on_err_weaker, on_ok_weaker}
 pub use Rattle.std.proofs.lemmas.Result.{MatchResult-from_both}
 pub use Rattle.std.specs.List.{AllByRecursion, cons_option, filter_map, find, list_all, list_any, AllZip}
 pub use Rattle.std.specs.List.Sorted.{IsPermutation}
@@ -70,7 +70,8 @@ pub use Rattle.portal_store.specs.World.{ranking_in, choice_in, placement_in_rou
 pub use Rattle.portal_store.specs.declared.add_rows.NewRows.{NewRows}
 pub use Rattle.portal_store.specs.declared.store.OpenFault.{OpenFault}
 pub use Rattle.portal_store.specs.inner.Adding.{with_rows_added}
-pub use Rattle.portal_store.specs.inner.Asked.{Admits, AdmitsAs, SaysNot, NumbersDiffer, SaysNothing, IsJudged}
+pub use Rattle.portal_store.specs.inner.Asked.{Admits, AdmitsAs, SaysNot, IsOfRows, NumbersDiffer, SaysNothing}
+pub use Rattle.portal_store.specs.inner.Asked.{IsJudged}
 pub use Rattle.portal_store.specs.inner.Ending.{CommitsChange, LeavesMade}
 pub use Rattle.portal_store.specs.inner.Keeping.{AreEntries, HasChangedIn, IsKept, IsTransitionFrom, IsTransitionIn}
 pub use Rattle.portal_store.specs.inner.Keeping.{early_trees, HasChangedFrom}

@@ -1,5 +1,5 @@
 -- What is promised of a store that was made, and of a connection that is handed back.
-use Rattle.portal_store.proofs.Base.{◌≡◌, ◌≢◌, ◌↔◌, ◌∙◌, Bool, IsTrue, false, refl, sym, subst, Trees, Database}
+use Rattle.portal_store.proofs.Base.{◌≡◌, ◌≢◌, ◌↔◌, ◌∙◌, Bool, IsTrue, false, refl, sym, ap, subst, Trees, Database}
 use Rattle.portal_store.proofs.Base.{HasCleanDisk, IsUnchanged, IsLive, Survives, Ghosts, Held, state, Key, is_code}
 use Rattle.portal_store.proofs.Base.{Good, HasFirstSchema, IsCurrentSchema, IsFirstSchema, first_version, no_schema}
 use Rattle.portal_store.proofs.Base.{version, Creates, IsFresh, has_names, Commits, IsAfter, LeavesOnly, IsCommitted}
@@ -11,7 +11,7 @@ use Rattle.portal_tables.proofs.Runs.{survives_same}
 use Rattle.portal_tables.specs.declared.names.Names.TheVariants.{All}
 use Rattle.portal_store.specs.Calls.{CreatesStore, HandsBack, MakesStore, OpensStore, RefusesToCreate, RefusesToUpgrade}
 use Rattle.portal_store.specs.Calls.{UpgradesStore}
-use Rattle.portal_store.specs.Crash.{ShowsVersion, as_upgrading}
+use Rattle.portal_store.specs.Crash.{Explains, ShowsVersion, as_upgrading, first_queries}
 use Rattle.portal_store.specs.declared.store.CreateFault.{CreateFault}
 use Rattle.portal_store.specs.declared.store.CreateFault.TheVariants as creating
 use Rattle.portal_store.specs.declared.store.OpenFault.TheVariants as opening
@@ -151,24 +151,46 @@ not_created g office fault old new back free other = record {
 
 -- an upgrade that ends with a fault of opening
 
-never_exists : (found : OpenFault) → as_upgrading found ≢ upgrading.Exists
+pub never_exists : (found : OpenFault) → as_upgrading found ≢ upgrading.Exists
 never_exists opening.NotPortal e = absurd (cc)
 never_exists opening.OtherVersion e = absurd (cc)
 never_exists opening.Damaged e = absurd (cc)
 never_exists opening.Store e = absurd (cc)
 never_exists opening.Memory e = absurd (cc)
 
+-- as a fault of upgrading it is still told from the others
+opening_of : UpgradeFault → OpenFault
+opening_of upgrading.NotPortal = opening.NotPortal
+opening_of upgrading.OtherVersion = opening.OtherVersion
+opening_of upgrading.Damaged = opening.Damaged
+opening_of upgrading.Memory = opening.Memory
+opening_of _ = opening.Store
+
+as_back : (found : OpenFault) → opening_of (as_upgrading found) ≡ found
+unfolding opening_of
+as_back opening.NotPortal = refl
+as_back opening.OtherVersion = refl
+as_back opening.Damaged = refl
+as_back opening.Store = refl
+as_back opening.Memory = refl
+
+as_once : (a b : OpenFault) → as_upgrading a ≡ as_upgrading b → a ≡ b
+as_once a b same = sym (as_back a) ∙ ap opening_of same ∙ as_back b
+
 pub not_upgraded : {S : Type 0} (g : Ghosts S) (fault : UpgradeFault) (found : OpenFault) (old new : Held S)
     → fault ≡ as_upgrading found
     → HandsBack g (LeavesUpgraded (state g old)) old new
+    → (HasCleanDisk (state g new) → Explains found first_version first_queries (state g old))
     → (IsFirstSchema old.schema → HasCleanDisk (state g new)
     → RefusalSays found first_version (HasGoodFirst first_version (state g old).now.trees) (state g old).now.trees)
     → (IsFirstSchema old.schema → Survives (state g old) (state g new) (IsUpgradedFrom (state g old).now.trees))
     → RefusesToUpgrade g fault old new
-not_upgraded g fault found old new is back said left =
+not_upgraded g fault found old new is back so said left =
     let never : fault ≢ upgrading.Exists = λ e. never_exists found (sym is ∙ e) in
     record {
       back = back;
+      explained = λ other same clean.
+          subst (λ f. Explains f first_version first_queries (state g old)) (as_once found other (sym is ∙ same)) (so clean);
       barred = λ first clean. (found, is, said first clean);
       taken = λ e. absurd (never e);
       order = λ e. absurd (never e);

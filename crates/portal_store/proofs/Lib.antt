@@ -9,6 +9,7 @@ pub mod CatalogueLeft
 pub mod ChoiceTurns
 pub mod FillTurns
 pub mod Ended
+pub mod Explained
 pub mod Filled
 pub mod FirstRows
 pub mod Fine

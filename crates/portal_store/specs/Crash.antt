@@ -1,10 +1,14 @@
 -- What a refusal to open or upgrade says of the tables, and what can be opened after a crash.
 use Rattle.portal_store.specs.Base.{Row, column, Trees, portal_tree, version, first_version, IsFirstSchema}
 use Rattle.portal_store.specs.Base.{IsCurrentSchema, Database, IsDatabase, First, is_code, Key, Change, changed, Good}
-use Rattle.sqlite.specs.State.{Begins, State}
-use Rattle.portal_tables.specs.inner.Queries.{query_text}
-use Rattle.portal_tables.specs.declared.select.Query.TheVariants.{Office}
-use Rattle.std.specs.Prelude.{◌≡◌, ◌≢◌, ℕ, List, [], ◌∷◌, pos, ◌⊎◌, IsTrue, false}
+use Rattle.sqlite.specs.State.{State}
+use Rattle.sqlite.specs.declared.error.Error.{Error}
+use Rattle.portal_tables.specs.declared.list_table.Lists.TheVariants.{Choices, Rankings, SecondChoices, SecondRankings}
+use Rattle.portal_tables.specs.declared.select.Query.{Query}
+use Rattle.portal_tables.specs.declared.select.Query.TheVariants.{AllLists, Office, Second, SecondPlacements}
+use Rattle.portal_tables.specs.declared.select.Query.TheVariants.{SecondRanked, Whole}
+use Rattle.portal_tables.specs.declared.select.RollTable.TheVariants.{Lecturers, Projects, Students}
+use Rattle.std.specs.Prelude.{◌≡◌, ◌≢◌, ℕ, List, [], ◌∷◌, ◌++◌, pos, ◌⊎◌, IsTrue, false}
 use Rattle.sqlite.specs.declared.types.Value.TheVariants.{Int}
 use Rattle.portal_store.specs.Kept.{HasGoodWorld, HasGoodFirst, IsConsistent, HasChanged}
 use Rattle.portal_store.specs.declared.store.OpenFault.{OpenFault}
@@ -13,7 +17,7 @@ use Rattle.portal_store.specs.declared.store.UpgradeFault.{UpgradeFault}
 use Rattle.portal_store.specs.declared.store.UpgradeFault.TheVariants as upgrading
 use Rattle.portal_tables.specs.Making.{IsFresh, Upgrades, has_names}
 use Rattle.portal_tables.specs.declared.names.Names.TheVariants.{OfSecond}
-use Rattle.portal_tables.specs.Steps.{IsAfter}
+use Rattle.portal_tables.specs.Steps.{HasAnswer, HasRefusal, IsAfter, IsStoreError}
 use Rattle.portal_store.specs.World.{world_in, world_of, first_world}
 
 -- `portal` has a row; if it has only one, that row has this schema version
@@ -26,15 +30,56 @@ pub record HasOther (of : ℕ) (db : Trees) : Type 0 where
   pub there : db portal_tree ≢ []
   pub other : (row : Row) → db portal_tree ≡ row ∷ [] → column row 2 ≢ Int (pos of)
 
--- the query of the office's row, as the schema understands it, shows a row; the first one has this
--- schema version
+-- the query of the office's row, as the schema understands it, shows these rows
+abbrev pub ShowsOffice : State → List Row → Type 0
+ShowsOffice = HasAnswer Office
+
+-- it shows a row, and the first one has this schema version
 pub record ShowsVersion (of : ℕ) (s : State) : Type 0 where
   pub row : Row
   pub rest : List Row
-  pub shown : Begins (query_text Office) [] s (row ∷ rest)
+  pub shown : ShowsOffice s (row ∷ rest)
   pub version_is : column row 1 ≡ Int (pos of)
 
--- what a refusal says of tables that should have the schema version `of` and satisfy `so`
+-- it shows a row, and the first one has another schema version
+pub record ShowsOther (of : ℕ) (s : State) : Type 0 where
+  pub row : Row
+  pub rest : List Row
+  pub shown : ShowsOffice s (row ∷ rest)
+  pub other : column row 1 ≢ Int (pos of)
+
+-- the queries of the first round's tables, of the second's, and of all eleven, by which `open` and
+-- `upgrade` see whether tables can be queried
+abbrev pub first_queries : List Query
+first_queries = Office ∷ Whole Lecturers ∷ Whole Projects ∷ Whole Students ∷ AllLists Choices ∷ AllLists Rankings ∷ []
+
+abbrev pub later_queries : List Query
+later_queries = Second ∷ AllLists SecondChoices ∷ SecondRanked ∷ AllLists SecondRankings ∷ SecondPlacements ∷ []
+
+abbrev pub own_queries : List Query
+own_queries = first_queries ++ later_queries
+
+-- the query is rejected, with an error that is not the store's
+pub record IsRejected (query : Query) (s : State) : Type 0 where
+  pub error : Error
+  pub refused : HasRefusal query s error
+  pub not_store : IsStoreError error → ⊥
+
+-- one of the queries is
+abbrev pub RefusesOne : List Query → State → Type 0
+RefusesOne [] s = ⊥
+RefusesOne (query ∷ queries) s = IsRejected query s ⊎ RefusesOne queries s
+
+-- what a refusal says of any tables, own or not, that should be of this version and answer these
+-- queries; a fault of the store or want of memory says nothing
+abbrev pub Explains : OpenFault → ℕ → List Query → State → Type 0
+Explains opening.NotPortal of queries s = RefusesOne queries s ⊎ ShowsOffice s []
+Explains opening.OtherVersion of queries s = ShowsOther of s
+Explains opening.Damaged of queries s = ShowsVersion of s
+Explains opening.Store of queries s = Unit {0}
+Explains opening.Memory of queries s = Unit {0}
+
+-- what a refusal says of own tables that should have the schema version `of` and satisfy `so`
 abbrev pub RefusalSays : OpenFault → ℕ → Type 0 → Trees → Type 0
 RefusalSays opening.NotPortal of so db = db portal_tree ≡ []
 RefusalSays opening.OtherVersion of so db = HasOther of db

@@ -20,8 +20,9 @@ ghost use Rattle.portal_store.specs.Kept.{AllNumbersDiffer, HasGoodFirst};
 ghost use Rattle.portal_store.specs.inner.Keeping.{early_trees};
 ghost use Rattle.portal_store.specs.inner.Loads.{HasNothingBefore};
 ghost use Rattle.portal_store.specs.World.{world_in};
-ghost use Rattle.portal_store.specs.Crash.{HasVersion, RefusalSays, ShowsVersion};
-ghost use Rattle.portal_store.specs.inner.Asked.{SaysNot, SaysNothing, AdmitsAs};
+ghost use Rattle.portal_store.specs.Crash.{Explains, HasVersion, RefusalSays};
+ghost use Rattle.portal_store.specs.Crash.{RefusesOne, ShowsVersion, first_queries};
+ghost use Rattle.portal_store.specs.inner.Asked.{AdmitsAs, SaysNot, IsOfRows, SaysNothing};
 ghost use Rattle.portal_store.specs.inner.Reading.{IsSoundIfOpen};
 
 use crate::fault::table_fault_of;
@@ -45,6 +46,8 @@ pub(crate) fn see_tables<S: Alter>(
     ensures none { IsTrue own → IfErr result (λ _. ⊥) }
     ensures damaged { result ≢ Err OpenFault.Damaged }
     ensures version { result ≢ Err OpenFault.OtherVersion }
+    ensures refused { IsCommitted (state S.Store conn.old) → HasCleanDisk (state S.Store conn.new)
+        → result ≡ Err OpenFault.NotPortal → RefusesOne queries.now (state S.Store conn.old) }
 {
     if own {
         return Ok(());
@@ -62,9 +65,8 @@ fn judge_office(rows: &[Row], version: u32) -> Result<(), OpenFault>
     ensures none { (result ≡ Err OpenFault.NotPortal) ↔ (rows.now ≡ []) }
     ensures version { OnOk result ((row : Cells) × (rest : List Cells) × (rows.now ≡ row ∷ rest)
         × (column row 1 ≡ Int (pos version))) }
-    ensures there { result ≡ Err OpenFault.OtherVersion → rows.now ≢ [] }
-    ensures other { result ≡ Err OpenFault.OtherVersion → (row : Cells) → rows.now ≡ row ∷ []
-        → column row 1 ≡ Int (pos version) → ⊥ }
+    ensures other { result ≡ Err OpenFault.OtherVersion → (row : Cells) × (rest : List Cells)
+        × (rows.now ≡ row ∷ rest) × (column row 1 ≢ Int (pos version)) }
     ensures judged { IfErr result (λ fault. (fault ≡ OpenFault.Damaged) → ⊥) }
 {
     match rows {
@@ -87,6 +89,8 @@ fn see_office<S: Alter>(conn: &mut Connection<S>, version: u32) -> Result<(), Op
         result conn.old conn.new }
     ensures shows { HasCleanDisk (state S.Store conn.new)
         → OnOk result (ShowsVersion version (state S.Store conn.new)) }
+    ensures explained { HasCleanDisk (state S.Store conn.new)
+        → IfErr result (λ fault. Explains fault version [] (state S.Store conn.old)) }
 {
     let rows = read(conn, Query::Office)?;
     judge_office(&rows, version)
@@ -109,6 +113,8 @@ pub(crate) fn see_first<S: Alter>(
         (GivesOrFails (λ db _. HasVersion version db.trees)
         (λ db fault. RefusalSays fault version (Unit {0}) db.trees))
         result conn.old conn.new }
+    ensures explained { IsCommitted (state S.Store conn.old) → HasCleanDisk (state S.Store conn.new)
+        → IfErr result (λ fault. Explains fault version first_queries (state S.Store conn.old)) }
 {
     let queries = [
         Query::Office,
@@ -165,7 +171,8 @@ fn see_first_world<S: Alter>(
     conn: &mut Connection<S>,
     version: u32,
 ) -> Result<Entries, OpenFault>
-    ensures { Reads First S.Store IsDatabase
+    ensures refused { IfErr result IsOfRows }
+    ensures reads { Reads First S.Store IsDatabase
         (GivesOrFails (λ db e. HasGoodFirst version db.trees
         × HasEntries e (world_in First db.trees))
         (λ db fault. SaysNot fault (HasGoodFirst version db.trees)))
@@ -195,7 +202,8 @@ pub(crate) fn judge_first<S: Alter>(
     conn: &mut Connection<S>,
     version: u32,
 ) -> Result<Entries, OpenFault>
-    ensures { Reads First S.Store (IsSoundIfOpen S.Store conn.old)
+    ensures refused { IfErr result IsOfRows }
+    ensures reads { Reads First S.Store (IsSoundIfOpen S.Store conn.old)
         (GivesOrFails (λ db e. AdmitsAs version db.trees × HasEntries e (world_in First db.trees))
         (λ db fault. SaysNot fault (HasGoodFirst version db.trees)))
         result conn.old conn.new }

@@ -1,6 +1,6 @@
 //! Implements `Keeper` for the store; `Store::office_code` returns the office's code.
 
-ghost use Rattle.std.specs.Prelude.{◌≡◌, IfOk, OnOk, IsTrue};
+ghost use Rattle.std.specs.Prelude.{◌≡◌, IfErr, IfOk, OnOk, IsTrue};
 ghost use Rattle.portal_rules.specs.World.{changed};
 ghost use Rattle.portal_rules.specs.Keeping.{Changes, IsAlive, KeepsGood, Looks};
 ghost use Rattle.portal_rules.specs.Meaning.{change_model};
@@ -27,7 +27,8 @@ impl<S: Alter> Store<S> {
     /// Checks before each call of the keeper that tables that were the portal's own still are.
     /// Otherwise returns `Store`.
     fn check_own(&self) -> Result<(), TableFault>
-        ensures { IsTrue self.now.own → OnOk result (IsCurrentSchema self.now.conn.schema) }
+        ensures own { IsTrue self.now.own → OnOk result (IsCurrentSchema self.now.conn.schema) }
+        ensures store { IfErr result (λ fault. fault ≡ TableFault.Store) }
     {
         if !self.own || self.pattern.fits(&self.conn) {
             return Ok(());

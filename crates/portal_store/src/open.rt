@@ -15,9 +15,10 @@ ghost use Rattle.portal_list.specs.inner.Rows.{HasEntries};
 ghost use Rattle.portal_store.specs.Kept.{AreEmpty, HasSecond, HasGoodWorld, HasGoodWorldIn};
 ghost use Rattle.portal_store.specs.World.{phase_in, round_in, world_of};
 ghost use Rattle.portal_store.specs.Calls.{OpensStore, RefusesToOpen};
-ghost use Rattle.portal_store.specs.Crash.{HasVersion, Refutes, ShowsVersion};
-ghost use Rattle.portal_store.specs.inner.Asked.{NumbersDiffer, SaysNot, IsJudged, SaysNothing};
-ghost use Rattle.portal_store.specs.inner.Asked.{Admits};
+ghost use Rattle.portal_store.specs.Crash.{Explains, HasVersion, Refutes, ShowsVersion};
+ghost use Rattle.portal_store.specs.Crash.{own_queries};
+ghost use Rattle.portal_store.specs.inner.Asked.{Admits, SaysNot, IsJudged, IsOfRows};
+ghost use Rattle.portal_store.specs.inner.Asked.{NumbersDiffer, SaysNothing};
 ghost use Rattle.portal_store.specs.inner.Reading.{ReadsAll, IsSoundIfOpen, queried_rows};
 
 use crate::checks::{judge_rows, see_first, see_first_numbers, see_row_numbers, see_tables};
@@ -34,7 +35,8 @@ use std::alloc::Global;
 
 /// Checks that a table of the second round is empty: a query of it returns no row.
 fn see_none<S: Alter>(conn: &mut Connection<S>, query: Query<'_>) -> Result<(), OpenFault>
-    ensures { Reads (round_asked query.entry) S.Store (λ _. ReadsAll query.entry)
+    ensures refused { IfErr result IsOfRows }
+    ensures reads { Reads (round_asked query.entry) S.Store (λ _. ReadsAll query.entry)
         (GivesOrFails (λ db _. queried_rows query.entry db.trees ≡ [])
         (λ db fault. SaysNot fault (queried_rows query.entry db.trees ≡ [])))
         result conn.old conn.new }
@@ -49,7 +51,8 @@ fn see_none<S: Alter>(conn: &mut Connection<S>, query: Query<'_>) -> Result<(), 
 
 /// Checks that a second round that is not open has no lists, rankings or placements.
 fn see_nothing<S: Alter>(conn: &mut Connection<S>) -> Result<(), OpenFault>
-    ensures { Reads Second S.Store Always
+    ensures refused { IfErr result IsOfRows }
+    ensures reads { Reads Second S.Store Always
         (GivesOrFails (λ db _. AreEmpty db.trees) (λ db fault. SaysNot fault (AreEmpty db.trees)))
         result conn.old conn.new }
 {
@@ -61,7 +64,8 @@ fn see_nothing<S: Alter>(conn: &mut Connection<S>) -> Result<(), OpenFault>
 
 /// Checks that the first round is published, as an open second round requires.
 fn see_published<S: Alter>(alloc: Global, conn: &mut Connection<S>) -> Result<(), OpenFault>
-    ensures { Reads First S.Store IsDatabase
+    ensures refused { IfErr result IsOfRows }
+    ensures reads { Reads First S.Store IsDatabase
         (GivesOrFails (λ db _. phase_in First db.trees ≡ Published)
         (λ db fault. SaysNot fault (HasGoodWorldIn Second db.trees)))
         result conn.old conn.new }
@@ -75,7 +79,8 @@ fn see_published<S: Alter>(alloc: Global, conn: &mut Connection<S>) -> Result<()
 /// Checks that without a second round its other tables are empty, and that with one the first round
 /// is published.
 fn see_second<S: Alter>(alloc: Global, conn: &mut Connection<S>) -> Result<(), OpenFault>
-    ensures { Reads Second S.Store IsDatabase
+    ensures refused { IfErr result IsOfRows }
+    ensures reads { Reads Second S.Store IsDatabase
         (GivesOrFails (λ db _. HasSecond (round_in db.trees) db.trees)
         (λ db fault. SaysNot fault (HasGoodWorld db.trees)))
         result conn.old conn.new }
@@ -102,7 +107,8 @@ fn see_numbers<S: Alter>(conn: &mut Connection<S>) -> Result<(), OpenFault>
 
 /// Loads the world of both rounds, checks that it is good, and returns its entries.
 fn see_world<S: Alter>(alloc: Global, conn: &mut Connection<S>) -> Result<Entries, OpenFault>
-    ensures { Reads Second S.Store IsDatabase
+    ensures refused { IfErr result IsOfRows }
+    ensures reads { Reads Second S.Store IsDatabase
         (GivesOrFails (λ db e. IsJudged db.trees × HasEntries e (world_of db.trees))
         (λ db fault. NumbersDiffer db.trees → SaysNot fault (HasGoodWorld db.trees)))
         result conn.old conn.new }
@@ -114,7 +120,8 @@ fn see_world<S: Alter>(alloc: Global, conn: &mut Connection<S>) -> Result<Entrie
 /// Checks the rowids of both rounds, then the row of `second`, then the world, and returns its
 /// entries.
 fn judge_both<S: Alter>(alloc: Global, conn: &mut Connection<S>) -> Result<Entries, OpenFault>
-    ensures { Reads Second S.Store (IsSoundIfOpen S.Store conn.old)
+    ensures refused { IfErr result IsOfRows }
+    ensures reads { Reads Second S.Store (IsSoundIfOpen S.Store conn.old)
         (GivesOrFails (λ db e. Admits db.trees × HasEntries e (world_of db.trees))
         (λ db fault. SaysNot fault (HasGoodWorld db.trees)))
         result conn.old conn.new }
@@ -142,6 +149,8 @@ fn examine<S: Alter>(
         (GivesOrFails (λ db e. Admits db.trees × HasEntries e (world_of db.trees))
         (λ db fault. Refutes fault db.trees))
         result conn.old conn.new }
+    ensures explained { IsCommitted (state S.Store conn.old) → HasCleanDisk (state S.Store conn.new)
+        → IfErr result (λ fault. Explains fault version own_queries (state S.Store conn.old)) }
 {
     see_first(conn, own, VERSION)?;
     let queries = [
@@ -169,8 +178,9 @@ impl<S: Alter> Store<S> {
     /// has no row. `OtherVersion`: that row has a version other than 2. `Damaged`: it has version
     /// 2, and the rows represent no good world. `Store`: the store reports an error. `Memory`:
     /// memory runs out. What the first three say is proved of own tables, so that a good world in
-    /// them is refused only for the latter two; where `portal` has several rows, `OtherVersion` and
-    /// `Damaged` say nothing of the version.
+    /// them is refused only for the latter two. Of any tables it is proved that `NotPortal` means
+    /// that one of the eleven queries fails with an error that is not the store's, or that the one
+    /// of `portal` shows no row, and that the next two tell the version in the first row shown.
     pub fn open(alloc: Global, mut conn: Connection<S>) -> Result<Store<S>, NotOpened<OpenFault, S>>
         requires idle { conn.in_transaction ≡ false }
         ensures opens { IfOk result (OpensStore S.Store conn) }

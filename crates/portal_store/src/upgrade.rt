@@ -13,7 +13,8 @@ ghost use Rattle.portal_list.specs.inner.Rows.{HasEntries};
 ghost use Rattle.portal_store.specs.Calls.{RefusesToUpgrade, UpgradesStore};
 ghost use Rattle.portal_store.specs.Kept.{HasGoodFirst};
 ghost use Rattle.portal_store.specs.World.{world_in};
-ghost use Rattle.portal_store.specs.Crash.{RefusalSays, ShowsVersion};
+ghost use Rattle.portal_store.specs.Crash.{Explains, RefusalSays, ShowsVersion};
+ghost use Rattle.portal_store.specs.Crash.{first_queries};
 ghost use Rattle.portal_store.specs.inner.Asked.{AdmitsAs};
 ghost use Rattle.portal_store.specs.inner.Reading.{IsSoundIfOpen, OverLive};
 ghost use Rattle.portal_store.specs.inner.Upgrading.{UpgradesWithEntries};
@@ -46,6 +47,9 @@ fn examine_first<S: Alter>(
         (λ db fault. RefusalSays fault first_version
         (HasGoodFirst first_version db.trees) db.trees))
         result conn.old conn.new }
+    ensures explained { IsCommitted (state S.Store conn.old) → HasCleanDisk (state S.Store conn.new)
+        → IfErr result (λ fault.
+        Explains fault first_version first_queries (state S.Store conn.old)) }
 {
     see_first(conn, own, FIRST_VERSION)?;
     judge_first(alloc, conn, FIRST_VERSION)
@@ -96,8 +100,9 @@ impl<S: Alter> Store<S> {
     /// version is 1 and, if the first six tables are the portal's, their world is good. `Store`:
     /// the store reports an error. `Memory`: memory runs out. The first four are checked in this
     /// order, and a fault of the device or memory shortage never causes them. What the first three
-    /// say is proved of own tables; where `portal` has several rows, the latter two of them say
-    /// nothing of the version.
+    /// say is proved of own tables. Of any tables it is proved that `NotPortal` means that one of
+    /// the first six queries fails with an error that is not the store's, or that the one of
+    /// `portal` shows no row, and that the next two tell the version in the first row shown.
     pub fn upgrade(
         alloc: Global,
         mut conn: Connection<S>,

@@ -103,9 +103,9 @@ pub use Rattle.portal_tables.specs.inner.Shown.{as_list, first_cell, shown_name,
 pub use Rattle.portal_tables.specs.inner.Texts.{add_eight_text, add_text, clear_text, names, place_among, round_of}
 pub use Rattle.portal_tables.specs.inner.Texts.{assigned2_text, lecturer_text, list_table_text, portal_text}
 pub use Rattle.portal_tables.specs.inner.Texts.{project_text, ranked2_text, second_text, student_text}
-pub use Rattle.sqlite.proofs.Callers.{EndsIn, IsPlain, begins_shown, shown_begins, command_of, given_begin}
-pub use Rattle.sqlite.proofs.Callers.{memory_is_clean, one_permutation, one_step, reads_as, runs_as, statement_of}
-pub use Rattle.sqlite.proofs.Callers.{survives_begin, unchanged_then}
+pub use Rattle.sqlite.proofs.Callers.{EndsIn, IsPlain, begins_shown, command_of, given_begin, memory_is_clean}
+pub use Rattle.sqlite.proofs.Callers.{one_permutation, one_step, reads_as, runs_as, statement_of, survives_begin}
+pub use Rattle.sqlite.proofs.Callers.{unchanged_then}
 pub use Rattle.sqlite.proofs.InsideLemmas.{keeps_then as kept_then}
 pub use Rattle.sqlite.proofs.StateLemmas.{survives_then, survives_weaker, unchanged}
 pub use Rattle.sqlite.proofs.StreamLemmas.{rolled_back_since}

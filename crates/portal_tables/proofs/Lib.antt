@@ -10,6 +10,7 @@ pub mod Queries
 pub mod Rises
 pub mod Statements
 pub mod Shows
+pub mod Repeated
 pub mod Keeping
 pub mod Owned
 pub mod Fresh

@@ -1,14 +1,14 @@
 -- The meaning of each query's text, whatever the checks are, and so what a query shows and leaves.
-use Rattle.portal_tables.proofs.Base.{◌≡◌, if◌then◌else◌, ℕ, Bool, true, Begins, shown_begins, List, [], false, map}
-use Rattle.portal_tables.proofs.Base.{Err, Option, Some, None, refl, sym, ap, subst, subst₂, ◌∙◌, Ok, Result, OnOk}
-use Rattle.portal_tables.proofs.Base.{OnErr, Row, Term, col, Schema, Database, Answers, Command, Program, Compiled}
-use Rattle.portal_tables.proofs.Base.{State, Shown, HasCleanDisk, IsUnchanged, Survives, Select, everything, understood}
-use Rattle.portal_tables.proofs.Base.{reads_listing, lets_of, Ends, IsPlain, IsPlainIfAny, EndsIn, command_of, reads_as}
-use Rattle.portal_tables.proofs.Base.{survives_weaker, Choices, Whole, LecturerByCode, StudentByCode, LecturerByKey}
-use Rattle.portal_tables.proofs.Base.{StudentTold, AllLists, ListOf, Choosers, Listed, ProjectsOf, First}
-use Rattle.portal_tables.proofs.Base.{SecondRankedBy, SecondPlaceOf, Numbers, Lecturers, OfRoll, OfLists, ListsBy}
-use Rattle.portal_tables.proofs.Base.{HasRound, selection, round_asked, query_text, given, on_ok_weaker, Reading}
-use Rattle.portal_tables.proofs.Base.{Anyhow, IsUnchangedOrUndone, Reads, Always}
+use Rattle.portal_tables.proofs.Base.{◌≡◌, if◌then◌else◌, ℕ, Bool, true, List, [], false, map, Err, Option, Some, None}
+use Rattle.portal_tables.proofs.Base.{refl, sym, ap, subst, subst₂, ◌∙◌, Ok, Result, OnOk, OnErr, Row, Term, col}
+use Rattle.portal_tables.proofs.Base.{Schema, Database, Answers, Command, Program, Compiled, State, Shown, HasCleanDisk}
+use Rattle.portal_tables.proofs.Base.{IsUnchanged, Survives, Select, everything, understood, reads_listing, lets_of}
+use Rattle.portal_tables.proofs.Base.{Ends, IsPlain, IsPlainIfAny, EndsIn, command_of, reads_as, survives_weaker}
+use Rattle.portal_tables.proofs.Base.{Choices, Whole, LecturerByCode, StudentByCode, LecturerByKey, StudentTold}
+use Rattle.portal_tables.proofs.Base.{AllLists, ListOf, Choosers, Listed, ProjectsOf, First, SecondRankedBy}
+use Rattle.portal_tables.proofs.Base.{SecondPlaceOf, Numbers, Lecturers, OfRoll, OfLists, ListsBy, HasRound, selection}
+use Rattle.portal_tables.proofs.Base.{round_asked, query_text, given, on_ok_weaker, Reading, Anyhow}
+use Rattle.portal_tables.proofs.Base.{IsUnchangedOrUndone, Reads, Always}
 use Rattle.sqlite.specs.Listing.{misses_table, if_select, is_select, listing_schema}
 use Rattle.sqlite_ast.specs.declared.Select as written_select
 use Rattle.sqlite_ast.specs.declared.Statement.{Statement}
@@ -192,14 +192,6 @@ module _ (q : Query) (sql : List ℕ) (params : Row) (text : sql ≡ query_text 
       let read = reads_as (query_text q) (given q) old new old.now.schema refl _ refl it.1 it.2 rows here in
       let lists = listed (selection q).tree (selection q).by (tests q) (map (λ at. col 1 at) (selection q).shown) old.now.trees (given q) rows (program_is _ (asked q) old.now (given q) rows it.0 read).answer in
       subst₂ (λ p show. ListsBy (selection q).by p show (old.now.trees (selection q).tree) rows) (tested q) (λ i r. columns_are (selection q).shown (given q) r i) lists
-
-  -- what is shown is what the text itself begins with, under any schema
-  pub begins : (old new : State) (rows : List Row) → Shown sql params old new rows
-      → Begins (query_text q) (given q) new rows
-  unfolding Shown
-  begins old new rows h =
-      let sure : IsPlain (understood old.now.schema sql) = subst IsPlain (sym h.1.is) (subst IsPlainIfAny h.1.is (plain old.now.schema)) in
-      subst₂ (λ t v. Begins t v new rows) text values (shown_begins sql params old new rows sure h)
 
   pub asks : {V E : Type 0} {Told : Database → Result V E → Type 0} (r : Result V E) (old new : State)
       → (IsPlainIfAny (understood old.now.schema sql) → HasCleanDisk new → OnOk r (IsUnchanged old new))

@@ -1,8 +1,13 @@
 -- What a transaction leaves, what a read does to a connection, and what it returns.
-use Rattle.std.specs.Prelude.{◌≡◌, ◌⊎◌}
-use Rattle.portal_tables.specs.Base.{IsTrue, Trees, Database, State, IsUnchanged, IsRolledBack, false, Result, IfOk}
-use Rattle.portal_tables.specs.Base.{OnOk, OnErr, Held, state, HasCleanDisk, Survives, Ghosts, Round}
+use Rattle.std.specs.Prelude.{◌≡◌, ◌⊎◌, List}
+use Rattle.sqlite.specs.State.{FailsToQuery, Shown, store_error}
+use Rattle.sqlite.specs.declared.error.Error.{Error}
+use Rattle.sqlite_trees.specs.declared.error.StoreError.{StoreError}
+use Rattle.portal_tables.specs.Base.{IsTrue, Row, Trees, Database, State, IsUnchanged, IsRolledBack, false, Result}
+use Rattle.portal_tables.specs.Base.{IfOk, OnOk, OnErr, Held, state, HasCleanDisk, Survives, Ghosts, Round}
 use Rattle.portal_tables.specs.Tables.{HasRound}
+use Rattle.portal_tables.specs.declared.select.Query.{Query}
+use Rattle.portal_tables.specs.inner.Queries.{given, query_text}
 
 -- the change is made and committed
 pub record Commits (Change : Database → Database → Type 0) (old new : State) : Type 0 where
@@ -59,3 +64,15 @@ Reads round g Right Told result old new = Reading round Anyhow Right Told result
 -- `Answer` holds of what a read returns, if it succeeds
 abbrev pub Gives : {V E : Type 0} → (Database → V → Type 0) → Database → Result V E → Type 0
 Gives Answer db result = IfOk result (Answer db)
+
+-- asked in this state, the query shows these rows and changes nothing
+abbrev pub HasAnswer : Query → State → List Row → Type 0
+HasAnswer query s rows = Shown (query_text query) (given query) s s rows
+
+-- asked in this state, the query fails with this error and leaves the state as it is
+abbrev pub HasRefusal : Query → State → Error → Type 0
+HasRefusal query s e = FailsToQuery (query_text query) (given query) s s e
+
+-- the error is one that the store reports, such as a fault of its device or want of memory
+abbrev pub IsStoreError : Error → Type 0
+IsStoreError e = (cause : StoreError) × (e ≡ store_error cause)

@@ -1,12 +1,12 @@
 //! Defines all queries, and runs them. Each query reads one table.
 
-ghost use Rattle.std.specs.Prelude.{◌≡◌};
-ghost use Rattle.portal_tables.specs.inner.Base.{Begins, Err, HasCleanDisk, IfOk, List};
+ghost use Rattle.std.specs.Prelude.{◌≡◌, ◌⊎◌, IfErr};
+ghost use Rattle.portal_tables.specs.inner.Base.{Err, HasCleanDisk, IfOk, List};
 ghost use Rattle.portal_tables.specs.inner.Base.{AllByRecursion, Cells, bound, state};
 ghost use Rattle.portal_tables.specs.inner.Decoding.{ShowsAs, FindsAny};
 ghost use Rattle.portal_tables.specs.inner.Queries.{QueryShows, round_asked, query_text, given};
 ghost use Rattle.portal_tables.specs.inner.Queries as texts;
-ghost use Rattle.portal_tables.specs.Steps.{Reads, Gives};
+ghost use Rattle.portal_tables.specs.Steps.{Gives, HasAnswer, HasRefusal, IsStoreError, Reads};
 ghost use Rattle.portal_tables.specs.inner.Reads.{Always, GivesOrFails, Blames};
 ghost use Rattle.portal_tables.specs.inner.Shown.{as_list};
 
@@ -196,14 +196,16 @@ fn values<'a>(value: &'a Option<ValueRef<'a>>) -> &'a [ValueRef<'a>]
     }
 }
 
-/// Runs one of the queries and returns its rows, or the store's own error. Under any schema the rows
-/// are those of the query's text.
+/// Runs one of the queries and returns its rows, or the connection's own error. Under any schema,
+/// the rows are what the query's text shows there, and an error that is not the store's is the
+/// text's: in the same state, the query would show them, or fail with it, again.
 pub fn read<S: Alter>(conn: &mut Connection<S>, query: Query<'_>) -> Result<Vec<Row>, Error>
     ensures reads { Reads (round_asked query.entry) S.Store Always
         (Gives (λ db rows. QueryShows query.entry db.trees rows.items)) result conn.old conn.new }
-    ensures begins { HasCleanDisk (state S.Store conn.new)
-        → IfOk result (λ rows. Begins (query_text query.entry) (given query.entry)
-        (state S.Store conn.new) rows.items) }
+    ensures answers { HasCleanDisk (state S.Store conn.new)
+        → IfOk result (λ rows. HasAnswer query.entry (state S.Store conn.old) rows.items) }
+    ensures fails { HasCleanDisk (state S.Store conn.new)
+        → IfErr result (λ e. IsStoreError e ⊎ HasRefusal query.entry (state S.Store conn.old) e) }
 {
     conn.query_all(query.text(), values(&query.value()))
 }

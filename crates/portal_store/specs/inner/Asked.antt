@@ -22,6 +22,10 @@ SaysNot opening.Memory so = Unit {0}
 abbrev pub SaysNothing : OpenFault → Type 0
 SaysNothing fault = SaysNot fault (Unit {0})
 
+-- a refusal is for the rows, for the store or for want of memory
+abbrev pub IsOfRows : OpenFault → Type 0
+IsOfRows fault = SaysNot fault ⊥
+
 -- row numbers of the tables of many rows differ
 abbrev pub NumbersDiffer : Trees → Type 0
 NumbersDiffer = AllNumbersDiffer (early_trees ++ later_trees)

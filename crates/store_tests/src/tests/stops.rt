@@ -9,7 +9,7 @@ use portal_desk::{Cause, Counted, Desk};
 use portal_fixtures::changes::{CHOOSING, PUBLICATION, RANKING, SETUP};
 use portal_fixtures::version1::IN_PUBLISHED;
 use portal_fixtures::{Line, SEEN, ask, lines, world_output};
-use portal_store::{NotOpened, OpenFault, Store, UpgradeFault};
+use portal_store::{CreateFault, NotOpened, OpenFault, Store, UpgradeFault};
 use sqlite::{Alter, Connection, FileStore, Files, Options};
 use sqlite_disk::{Crash, Disk, Memory};
 use std::process::Abort;
@@ -196,12 +196,10 @@ fn makes<S: Alter + Drop>(
     assert!(rt; conn.is_autocommit());
     match Store::create(rt.alloc(), conn, new_office_code(rt)) {
         Ok(store) => (true, store.into_connection()),
-        Err(
-            NotOpened {
-                fault: _,
-                connection,
-            },
-        ) => (false, connection),
+        Err(NotOpened { fault, connection }) => {
+            assert!(rt; fault == CreateFault::Store);
+            (false, connection)
+        }
     }
 }
 

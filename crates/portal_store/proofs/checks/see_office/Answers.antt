@@ -1,9 +1,8 @@
 use Rattle.portal_store.proofs.Base.{◌∷◌, ListsBy, [], columns, every, on_ok_weaker, portal_tree, reads_more, state}
 use Rattle.portal_store.proofs.Base.{subst, sym, MatchResult-from_both}
-use Rattle.sqlite.specs.State.{Begins}
-use Rattle.portal_tables.specs.inner.Queries.{query_text}
-use Rattle.portal_tables.specs.declared.select.Query.TheVariants.{Office}
+use Rattle.portal_store.specs.Crash.{ShowsOffice}
 use Rattle.portal_store.proofs.Asked.{blames_none, office_refuted, office_version, reads_said}
+use Rattle.portal_store.proofs.Explained.{converted, explains_office, explains_said, version_still}
 use Rattle.portal_store.proofs.checks.see_office.Goals as goal
 
 pub returns-clause-reads : goal.returns-clause-reads
@@ -14,13 +13,27 @@ returns-clause-reads g c =
     (λ own any shown.
     let lists = subst (λ rows. ListsBy (0 ∷ []) every (columns (0 ∷ 2 ∷ 3 ∷ 4 ∷ [])) (db portal_tree) rows) (sym c.deref.ensures.value) shown in
     MatchResult-from_both c.judge_office.result _ _ (on_ok_weaker c.judge_office.result (λ is. office_version c.args.version db c.deref.result.now is.0 is.1 lists is.2 is.3) judged.version)
-    (office_refuted c.args.version (Unit {0}) db c.deref.result.now c.judge_office.result lists judged.none.0 judged.there judged.other judged.judged))
+    (office_refuted c.args.version (Unit {0}) db c.deref.result.now c.judge_office.result lists judged.none.0 judged.other judged.judged))
 
 pub returns-in_err-rows-clause-reads : goal.returns-in_err-rows-clause-reads
 returns-in_err-rows-clause-reads g c = reads_said c.from_residual.ensures.1 c.in_err-rows.ensures.reads (λ own any told f so. blames_none f _ _ _ so.0)
 
 pub returns-clause-shows : goal.returns-clause-shows
 returns-clause-shows g c clean =
-    let begins = subst (λ rows. Begins (query_text Office) [] (state g.S.Store c.read.new.conn) rows) (sym c.deref.ensures.value) (c.in_ok-rows.ensures.begins clean) in
+    let old = state g.S.Store c.args.conn.now in
+    let new = state g.S.Store c.read.new.conn in
+    let same = c.in_ok-rows.ensures.reads.same clean tt in
+    let shown = subst (ShowsOffice old) (sym c.deref.ensures.value) (c.in_ok-rows.ensures.answers clean) in
     on_ok_weaker c.judge_office.result
-    (λ is. record { row = is.0; rest = is.1; shown = subst (λ rows. Begins (query_text Office) [] (state g.S.Store c.read.new.conn) rows) is.2 begins; version_is = is.3 }) c.judge_office.ensures.version
+    (λ is. version_still c.args.version old new same.0.now_is same.0.is_open (record { row = is.0; rest = is.1; shown = subst (ShowsOffice old) is.2 shown; version_is = is.3 }))
+    c.judge_office.ensures.version
+
+pub returns-clause-explained : goal.returns-clause-explained
+returns-clause-explained g c clean =
+    let old = state g.S.Store c.args.conn.now in
+    let judged = c.judge_office.ensures in
+    let shown = subst (ShowsOffice old) (sym c.deref.ensures.value) (c.in_ok-rows.ensures.answers clean) in
+    explains_office c.judge_office.result c.args.version c.deref.result.now old shown judged.none.0 judged.other judged.judged
+
+pub returns-in_err-rows-clause-explained : goal.returns-in_err-rows-clause-explained
+returns-in_err-rows-clause-explained g c clean = converted c.from_residual.ensures.1 (λ f so. explains_said f _ _ _ so.0)

@@ -1,9 +1,12 @@
-use Rattle.portal_store.proofs.Base.{◌∙◌, Admits, GivesOrFails, SaysNot, HasEntries, HasGoodWorld, Held}
-use Rattle.portal_store.proofs.Base.{MatchResult-weaker}
-use Rattle.portal_store.proofs.Base.{Second, current_own, reads_as, reads_handed, reads_of, reads_open, reads_then_of}
-use Rattle.portal_store.proofs.Base.{subst, world_of, Reads, IsSoundIfOpen, clean_before, looks_by, looks_then}
-use Rattle.portal_store.proofs.Base.{on_ok_weaker, settled_still, state}
-use Rattle.portal_store.proofs.Asked.{blamed, blames_more, version_still}
+use Rattle.portal_store.proofs.Base.{◌∙◌, Err, IfErr-weaker, Admits, GivesOrFails, SaysNot, HasEntries, HasGoodWorld}
+use Rattle.portal_store.proofs.Base.{Held}
+use Rattle.portal_store.proofs.Base.{MatchResult-weaker, Second, current_own, reads_as, reads_handed, reads_of}
+use Rattle.portal_store.proofs.Base.{reads_open, reads_then_of, subst, world_of, Reads, IsSoundIfOpen, clean_before}
+use Rattle.portal_store.proofs.Base.{looks_by, looks_then, on_ok_weaker, settled_still, state, version}
+use Rattle.portal_store.specs.Crash.{first_queries, later_queries, own_queries}
+use Rattle.portal_store.proofs.Asked.{blamed, blames_more}
+use Rattle.portal_store.proofs.Explained.{explains_rows, explains_so, explains_tables, explains_wide, handed}
+use Rattle.portal_store.proofs.Explained.{refused_first, refused_later, version_so, version_still}
 use Rattle.portal_store.proofs.open.examine.Goals as goal
 
 pub returns-in_err-see_first-clause-reads : goal.returns-in_err-see_first-clause-reads
@@ -17,7 +20,7 @@ returns-clause-reads g c mine =
     let r = c.judge_both.result in
     let e = c.judge_both.new.conn in
     let judged = subst (λ (h : Held g.row.S.Denot). Reads Second g.S.Store (IsSoundIfOpen g.S.Store h) (GivesOrFails (λ db e. Admits db.trees × HasEntries e (world_of db.trees)) (λ db fault. SaysNot fault (HasGoodWorld db.trees))) r h e)
-    (c.in_ok-see_tables.ensures.same mine) c.judge_both.ensures in
+    (c.in_ok-see_tables.ensures.same mine) c.judge_both.ensures.reads in
     reads_as (reads_then_of (λ own on sound told. λ _. sound (on tt)) (reads_of (current_own _) (λ own sound. tt) (c.in_ok-see_first.ensures.reads mine)) (reads_open judged)) (λ no. no)
     (λ own sound told. MatchResult-weaker r told.1 (λ e it. it) (λ f no. blamed f _ _ _ told.0 no))
 
@@ -25,7 +28,7 @@ pub returns-in_err-see_tables-clause-looks : goal.returns-in_err-see_tables-clau
 returns-in_err-see_tables-clause-looks g c = looks_then _ _ _ c.see_first.ensures.looks c.see_tables.ensures.looks
 
 pub returns-clause-looks : goal.returns-clause-looks
-returns-clause-looks g c = looks_then _ _ _ c.see_first.ensures.looks (looks_then _ _ _ c.see_tables.ensures.looks (looks_by c.judge_both.result c.judge_both.ensures))
+returns-clause-looks g c = looks_then _ _ _ c.see_first.ensures.looks (looks_then _ _ _ c.see_tables.ensures.looks (looks_by c.judge_both.result c.judge_both.ensures.reads))
 
 pub returns-clause-shows : goal.returns-clause-shows
 returns-clause-shows g c settled clean =
@@ -33,16 +36,44 @@ returns-clause-shows g c settled clean =
     let mid = state g.S.Store c.see_first.new.conn in
     let seen = state g.S.Store c.see_tables.new.conn in
     let new = state g.S.Store c.judge_both.new.conn in
-    let later = clean_before seen new _ c.judge_both.ensures.crash clean in
+    let later = clean_before seen new _ c.judge_both.ensures.reads.crash clean in
     let early = clean_before mid seen _ c.see_tables.ensures.looks.crash later in
     on_ok_weaker c.judge_both.result
     (λ same.
     let still = c.see_tables.ensures.looks.stays (λ on. settled_still old mid settled (c.see_first.ensures.looks.stays settled early on)) later same.0.was_open in
-    version_still _ mid new (same.0.now_is ∙ still.1) (c.in_ok-see_first.ensures.shows early)) (c.judge_both.ensures.same clean tt)
+    version_still _ mid new (same.0.now_is ∙ still.1) same.0.is_open (c.in_ok-see_first.ensures.shows early)) (c.judge_both.ensures.reads.same clean tt)
 
 pub returns-clause-version : goal.returns-clause-version
 returns-clause-version g c settled first clean =
     let mid = state g.S.Store c.see_first.new.conn in
     let seen = state g.S.Store c.see_tables.new.conn in
-    let early = clean_before mid seen _ c.see_tables.ensures.looks.crash (clean_before seen (state g.S.Store c.judge_both.new.conn) _ c.judge_both.ensures.crash clean) in
-    on_ok_weaker c.judge_both.result (λ same. c.in_ok-see_first.ensures.version settled first early) (c.judge_both.ensures.same clean tt)
+    let early = clean_before mid seen _ c.see_tables.ensures.looks.crash (clean_before seen (state g.S.Store c.judge_both.new.conn) _ c.judge_both.ensures.reads.crash clean) in
+    on_ok_weaker c.judge_both.result (λ same. c.in_ok-see_first.ensures.version settled first early) (c.judge_both.ensures.reads.same clean tt)
+
+pub returns-in_err-see_first-clause-explained : goal.returns-in_err-see_first-clause-explained
+returns-in_err-see_first-clause-explained g c settled clean =
+    let f = c.in_err-see_first in
+    let old = state g.S.Store c.args.conn.now in
+    handed c.from_residual.ensures.1
+    (explains_wide f.field-0.0 version first_queries own_queries old (refused_first first_queries later_queries old) (f.ensures.explained settled clean))
+
+pub returns-in_err-see_tables-clause-explained : goal.returns-in_err-see_tables-clause-explained
+returns-in_err-see_tables-clause-explained g c settled clean =
+    let f = c.in_err-see_tables in
+    let old = state g.S.Store c.args.conn.now in
+    let mid = state g.S.Store c.see_first.new.conn in
+    let early = clean_before mid (state g.S.Store c.see_tables.new.conn) _ c.see_tables.ensures.looks.crash clean in
+    let first = c.see_first.ensures.looks in
+    let rest = λ on. settled_still old mid settled (first.stays settled early on) in
+    let told = explains_tables (Err f.field-0.0) version later_queries mid f.ensures.damaged f.ensures.version (f.ensures.refused rest clean) in
+    handed c.from_residual-in_err-see_tables.ensures.1
+    (explains_so old mid settled first early f.field-0.0 version own_queries (explains_wide f.field-0.0 version later_queries own_queries mid (refused_later first_queries later_queries mid) told))
+
+pub returns-clause-explained : goal.returns-clause-explained
+returns-clause-explained g c settled clean =
+    let old = state g.S.Store c.args.conn.now in
+    let mid = state g.S.Store c.see_first.new.conn in
+    let seen = state g.S.Store c.see_tables.new.conn in
+    let early = clean_before mid seen _ c.see_tables.ensures.looks.crash (clean_before seen (state g.S.Store c.judge_both.new.conn) _ c.judge_both.ensures.reads.crash clean) in
+    let shows = version_so old mid settled c.see_first.ensures.looks early version (c.in_ok-see_first.ensures.shows early) in
+    IfErr-weaker c.judge_both.result _ _ (λ f. explains_rows f version own_queries old shows) c.judge_both.ensures.refused

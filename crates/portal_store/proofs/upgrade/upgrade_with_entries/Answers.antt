@@ -1,7 +1,8 @@
 use Rattle.portal_store.proofs.Base.{Err, ap, rules, sym, ◌∙◌, state, Upgrades, clean_before, commits_asked, stays_then}
 use Rattle.portal_store.proofs.Base.{survives_weaker}
 use Rattle.portal_store.proofs.Asked.{blames_none}
-use Rattle.portal_store.proofs.Calls.{looked_at, not_upgraded}
+use Rattle.portal_store.proofs.Calls.{looked_at, never_exists, not_upgraded}
+use Rattle.portal_store.proofs.Explained.{explains_said}
 use Rattle.portal_store.proofs.Keeps.{not_both}
 use Rattle.portal_store.proofs.Upgraded.{first_own, first_untaken, leaves_upgraded, leaves_world}
 use Rattle.portal_store.proofs.upgrade.upgrade_with_entries.Goals as goal
@@ -16,6 +17,7 @@ returns-in-Err-clause-refuses g c =
     let reads = c.in-Err.ensures.reads in
     not_upgraded g.S.Store _ c.in-Err.fault old mid c.upgrade_fault_of.ensures
     (looked_at g.S.Store _ old mid rest.settled c.requires.idle looks)
+    (λ clean. c.in-Err.ensures.explained rest.settled clean)
     (λ first clean. (reads (c.requires.first.1 first)).told (first_own _ first) (λ on. (rest.live on).0) clean)
     (λ first. survives_weaker _ _ _ _ (λ clean db no. absurd no) looks.crash)
 
@@ -28,6 +30,7 @@ returns-then-is_taken-clause-refuses g c =
     let taken = sym c.requires.taken ∙ c.if-is_taken.true in
     record {
       back = looked_at g.S.Store _ old c.examine_first.new.conn rest.settled c.requires.idle looks;
+      explained = λ found is clean. absurd (never_exists found (sym is));
       barred = λ first clean. absurd (not_both _ taken (first_untaken _ first));
       taken = λ is. taken;
       order = λ is clean. c.in-Ok.ensures.shows clean;
@@ -76,6 +79,7 @@ returns-in-Err-upgrade_tables-clause-refuses g c =
     let early = clean_before mid new _ crash in
     let free = sym c.requires.taken ∙ c.if-is_taken.false in
     let fails = c.in-Err-upgrade_tables in
+    let nothing = c.from.ensures.0 (λ damaged. c.upgrade_tables.ensures.fault (fails.is ∙ ap Err damaged)) in
     not_upgraded g.S.Store _ c.from.result c.args.conn.now c.upgrade_tables.new.conn (search rules)
     (record {
       idle = c.upgrade_tables.ensures.idle;
@@ -84,7 +88,8 @@ returns-in-Err-upgrade_tables-clause-refuses g c =
           stays_then old mid new (looks.stays rest.settled (early clean) later.0) later;
       crash = leaves_upgraded old mid new looks.crash crash free (λ first clean. ((reads (mine first)).same clean tt).0.now_is);
     })
-    (λ first clean. blames_none _ _ _ _ (c.from.ensures.0 (λ damaged. c.upgrade_tables.ensures.fault (fails.is ∙ ap Err damaged))))
+    (λ clean. explains_said _ _ _ _ nothing)
+    (λ first clean. blames_none _ _ _ _ nothing)
     (λ first. leaves_world old mid new looks.crash crash first
     (λ clean.
     let r = reads (mine first) in

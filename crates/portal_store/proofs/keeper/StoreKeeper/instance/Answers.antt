@@ -7,7 +7,7 @@ use Rattle.portal_store.proofs.keeper.StoreKeeper.instance.Goals as goal
 pub invariant_of-self-in-None : goal.invariant_of-self-in-None
 invariant_of-self-in-None g c =
     let new = c.instance_in.new.conn in
-    let read = read_by new c.self.view_is c.self.invariant.kept c.in_default.ensures (g.met.S.Store.shut_if_dirty new.store) c.instance_in.ensures in
+    let read = read_by new c.self.view_is c.self.invariant.kept c.in_default.ensures.own (g.met.S.Store.shut_if_dirty new.store) c.instance_in.ensures in
     record {
       kept = read.kept;
       shown = λ on. subst (IsCacheOf c.self.inside.cache) (sym (read.world on)) (c.self.invariant.shown (read.was on));
@@ -20,7 +20,7 @@ returns-in-None g c =
     let is = c.self.view_is in
     let built = c.instance_in.result in
     let told = c.count_outcome-in-None.ensures.same in
-    let read = read_by new is c.self.invariant.kept c.in_default.ensures (g.met.S.Store.shut_if_dirty new.store) c.instance_in.ensures in
+    let read = read_by new is c.self.invariant.kept c.in_default.ensures.own (g.met.S.Store.shut_if_dirty new.store) c.instance_in.ensures in
     let call = read.call c.count_outcome-in-None.new.faults (g.met.S.Store.settled new.store) c.count_outcome-in-None.result told in
     record {
       looks = record { uses = call.uses; same = read.same; counts = search rules };

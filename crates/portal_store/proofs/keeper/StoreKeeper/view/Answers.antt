@@ -7,7 +7,7 @@ use Rattle.portal_store.proofs.keeper.StoreKeeper.view.Goals as goal
 pub invariant_of-self-2 : goal.invariant_of-self-2
 invariant_of-self-2 g c =
     let new = c.show-shown.new.conn in
-    let read = read_by new c.self.view_is c.self.invariant.kept c.in_default.ensures (g.met.S.Store.shut_if_dirty new.store) c.show-shown.ensures in
+    let read = read_by new c.self.view_is c.self.invariant.kept c.in_default.ensures.own (g.met.S.Store.shut_if_dirty new.store) c.show-shown.ensures in
     record {
       kept = read.kept;
       shown = λ on. subst (IsCacheOf c.show-shown.new.cache) (sym (read.world on)) (read.told (λ holds was. (holds, c.self.invariant.shown was)) on).0;
@@ -19,7 +19,7 @@ returns g c =
     let new = c.show-shown.new.conn in
     let is = c.self.view_is in
     let told = c.count_outcome.ensures.same in
-    let read = read_by new is c.self.invariant.kept c.in_default.ensures (g.met.S.Store.shut_if_dirty new.store) c.show-shown.ensures in
+    let read = read_by new is c.self.invariant.kept c.in_default.ensures.own (g.met.S.Store.shut_if_dirty new.store) c.show-shown.ensures in
     let call = read.call c.count_outcome.new.faults (g.met.S.Store.settled new.store) c.count_outcome.result told in
     record {
       looks = record { uses = call.uses; same = read.same; counts = search rules };

@@ -1,6 +1,7 @@
 use Rattle.portal_store.proofs.Base.{clean_if_open}
 use Rattle.portal_store.proofs.Asked.{blames_none}
 use Rattle.portal_store.proofs.Calls.{looked_at, open_entered, open_kept, opened, untouched}
+use Rattle.portal_store.proofs.Explained.{explains_said}
 use Rattle.portal_store.proofs.store.Store.open.Goals as goal
 
 pub invariant_of-result : goal.invariant_of-result
@@ -36,9 +37,14 @@ returns-in-Err-examine-clause-refuses g c =
     let reads = c.in-Err-examine.ensures.reads in
     record {
       back = looked_at g.S.Store _ c.args.conn c.examine.new.conn rest.settled c.requires.idle c.examine.ensures.looks;
+      explained = λ clean. c.in-Err-examine.ensures.explained rest.settled clean;
       refuted = λ current clean. (reads (c.fits-own.ensures.current.1 current)).told current (λ on. (rest.live on).0) clean;
     }
 
 pub returns-in-Err-clause-refuses : goal.returns-in-Err-clause-refuses
 returns-in-Err-clause-refuses g c =
-    record { back = untouched g.S.Store _ c.args.conn c.requires.idle; refuted = λ current clean. blames_none _ _ _ _ c.from.ensures.0 }
+    record {
+      back = untouched g.S.Store _ c.args.conn c.requires.idle;
+      explained = λ clean. explains_said _ _ _ _ c.from.ensures.0;
+      refuted = λ current clean. blames_none _ _ _ _ c.from.ensures.0;
+    }
