@@ -12,7 +12,8 @@ use Rattle.portal_desk.specs.Headline.{Visit, AreVisits, IsVisit, exchanges_of, 
 use Rattle.portal_desk.proofs.Steps.{answered_apart}
 use Rattle.portal_desk.proofs.Promised.{RunsGood, StepsBest, RunsBest, are_unseen, publishes_best, upheld}
 use Rattle.portal_desk.proofs.Heeding.{same_bytes}
-use Rattle.portal_file.specs.Tables.{Stream, TellsIn, Either}
+use Rattle.portal_file.specs.Tables.{Stream, Either}
+use Rattle.portal_file.specs.inner.Connected.{TellsIn}
 use Rattle.portal_file.specs.Files.{HoldsSome, HoldsWorld}
 use Rattle.portal_file.specs.Chain.{Process, IsProcess, AreProcesses, left_after, exchanges_by, MayStandFor, IsKeptRun}
 use Rattle.portal_file.specs.Chain.{KeptOverFiles, AllTellOfProcesses, IsKnown, PromisedOverFiles}

@@ -25,8 +25,10 @@ use Rattle.sqlite_catalog.specs.Listing.{Lists}
 use Rattle.sqlite_catalog.proofs.ReadLemmas.{lists_once}
 use Rattle.portal_tables.specs.Tables.{no_schema}
 use Rattle.portal_tables.proofs.Owned.{one_schema}
-use Rattle.portal_file.specs.Tables.{AllStand, Shows, Stands, Stream, Version, First, Current, Either, Work, work_of}
-use Rattle.portal_file.specs.Files.{Holds, HoldsLeft, HoldsSome}
+use Rattle.portal_file.specs.Tables.{Stands, Stream, Version, First, Current, Either, Work}
+use Rattle.portal_file.specs.inner.Connected.{AllStand, Shows, work_of}
+use Rattle.portal_file.specs.Files.{Holds, HoldsSome}
+use Rattle.portal_file.specs.inner.Lift.{HoldsLeft}
 use Rattle.portal_file.specs.Chain.{OverFiles, work_over}
 use Rattle.portal_file.specs.inner.Lift.{RunsOver}
 use Rattle.portal_file.proofs.Base.{if_ok}

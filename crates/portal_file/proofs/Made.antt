@@ -12,7 +12,13 @@ use Rattle.portal_tables.specs.Tables.{IsFirstSchema, first_schema, no_schema, p
 use Rattle.portal_tables.specs.Making.{has_names}
 use Rattle.portal_tables.specs.declared.names.Names.{Names}
 use Rattle.portal_tables.specs.declared.names.Names.TheVariants.{All, OfSecond}
+use Rattle.std.specs.List.{list_any}
+use Rattle.std.specs.Prelude.{◌||◌}
+use Rattle.portal_tables.specs.inner.Named.{is_named_table, is_named_view}
+use Rattle.portal_tables.specs.inner.Schema.{first_written, portal_written}
+use Rattle.portal_tables.proofs.Named.{named_is}
 use Rattle.portal_tables.proofs.Base.{everything}
+use Rattle.portal_tables.proofs.Defined.{first_as_written, portal_as_written}
 use Rattle.portal_store.specs.Crash.{IsUpgradedFrom, LeavesUpgraded}
 use Rattle.portal_store.specs.Kept.{Seen, IsCleanStore, kept_world}
 use Rattle.portal_store.specs.World.{first_world, world_of}
@@ -20,7 +26,8 @@ use Rattle.portal_store.specs.Calls.{CreatesStore, UpgradesStore}
 use Rattle.portal_store.proofs.Upgraded.{named_as}
 use Rattle.sqlite.specs.Schema.{Schema}
 use Rattle.sqlite.specs.Effect.{Database}
-use Rattle.portal_file.specs.Tables.{AllStand, TreesStand, ClosesAs, Shows, Stands, First, Current, Either}
+use Rattle.portal_file.specs.Tables.{Stands, First, Current, Either}
+use Rattle.portal_file.specs.inner.Connected.{AllStand, TreesStand, ClosesAs, Shows}
 use Rattle.portal_file.proofs.Served.{closed_world, no_proof}
 
 -- tables of version 1 that were upgraded
@@ -48,14 +55,21 @@ fresh_world g old new made office closes is none clean =
 
 -- which names are taken in the portal's own tables
 
-current_named : (names : Names) → has_names names portal_schema ≡ true
+current_computed : (names : Names)
+    → (list_any (is_named_table names) portal_written.tables || list_any (is_named_view names) portal_written.views) ≡ true
 unfolding everything
-current_named All = refl
-current_named OfSecond = refl
+current_computed All = refl
+current_computed OfSecond = refl
+
+current_named : (names : Names) → has_names names portal_schema ≡ true
+current_named names = ap (has_names names) portal_as_written ∙ sym (named_is names portal_written) ∙ current_computed names
+
+first_computed : (list_any (is_named_table All) first_written.tables || list_any (is_named_view All) first_written.views) ≡ true
+unfolding everything
+first_computed = refl
 
 first_named : has_names All first_schema ≡ true
-unfolding everything
-first_named = refl
+first_named = ap (has_names All) first_as_written ∙ sym (named_is All first_written) ∙ first_computed
 
 none_named : has_names All no_schema ≡ false
 unfolding everything

@@ -25,7 +25,8 @@ use Rattle.sqlite.specs.Store.{Ghosts}
 use Rattle.sqlite.specs.Held.{Held, state}
 use Rattle.sqlite.specs.State.{State, HasCleanDisk}
 use Rattle.sqlite_trees.specs.Objects.{number_in}
-use Rattle.portal_store.specs.Kept.{Seen, IsCleanStore, HasDisk, KeepsClean, LeavesWorld, kept_state, kept_world}
+use Rattle.portal_store.specs.Kept.{Seen, IsCleanStore, HasDisk, LeavesWorld, kept_state, kept_world}
+use Rattle.portal_store.specs.inner.Keeping.{KeepsClean}
 use Rattle.portal_store.specs.World.{world_of}
 use Rattle.portal_store.specs.Calls.{OpensStore, RefusesToOpen, RefusesToUpgrade}
 use Rattle.portal_store.specs.declared.store.OpenFault.{OpenFault}
@@ -33,10 +34,12 @@ use Rattle.portal_store.specs.declared.store.OpenFault.TheVariants as opening
 use Rattle.portal_store.specs.declared.store.UpgradeFault.{UpgradeFault}
 use Rattle.portal_store.specs.declared.store.UpgradeFault.TheVariants as upgrading
 use Rattle.portal_store.proofs.Again.{holds_again, none_but_store}
-use Rattle.portal_store.proofs.Upgraded.{first_own}
+use Rattle.portal_tables.proofs.Owned.{first_own}
 use Rattle.portal_tables.proofs.InTurn.{clean_before}
-use Rattle.portal_file.specs.Tables.{AllStand, TreesStand, ClosesAs, IsTurn, Shows, Stands, StandsCurrent, StandsFirst}
-use Rattle.portal_file.specs.Tables.{Stream, TellsIn}
+use Rattle.portal_file.specs.Tables.{IsTurn, Stands, StandsCurrent, StandsFirst}
+use Rattle.portal_file.specs.inner.Connected.{AllStand, TreesStand, ClosesAs, Shows}
+use Rattle.portal_file.specs.Tables.{Stream}
+use Rattle.portal_file.specs.inner.Connected.{TellsIn}
 use Rattle.portal_file.specs.Tables.{First, Current, Either}
 use Rattle.portal_file.specs.Jobs.{IsOfStore, ReportsStream}
 use Rattle.portal_file.proofs.Sets.{World-set}

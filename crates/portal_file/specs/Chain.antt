@@ -1,7 +1,7 @@
 -- Processes over one database file, each of which finds what the one before may leave, and what is
 -- promised of them.
-use Rattle.std.specs.Prelude.{◌≡◌, ◌⊎◌, List, [], ◌∷◌, ◌++◌, Option, Some, IsSome}
-use Rattle.std.specs.List.{AllByRecursion}
+use Rattle.std.specs.Prelude.{◌≡◌, ◌⊎◌, List, [], ◌∷◌, Option, Some, IsSome}
+use Rattle.std.specs.List.{AllByRecursion, flat_map}
 use Rattle.sqlite_disk.specs.declared.Disk.{Ghosts}
 use Rattle.sqlite_disk.specs.declared.Files.{Files}
 use Rattle.sqlite_wal.specs.Files.{outcomes}
@@ -39,8 +39,7 @@ left_after image [] = image
 left_after image (p ∷ ps) = left_after p.left ps
 
 abbrev pub exchanges_by : List Process → List Exchange
-exchanges_by [] = []
-exchanges_by (p ∷ ps) = p.exchanges ++ exchanges_by ps
+exchanges_by ps = flat_map (λ p. p.exchanges) ps
 
 -- any processes
 

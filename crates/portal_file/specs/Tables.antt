@@ -1,10 +1,6 @@
--- The portal's tables, as a database stands for a world, and what work over a connection to them finds and leaves.
-use Rattle.std.specs.Prelude.{◌≡◌, ◌⊎◌, ℕ, List, Option, IfSome, IsTrue}
-use Rattle.sqlite.specs.State.{State}
-use Rattle.sqlite.specs.Store.{Ghosts}
-use Rattle.sqlite.specs.Held.{Held, state}
+-- The portal's tables, as a database stands for a world, and what work over them finds and leaves.
+use Rattle.std.specs.Prelude.{◌≡◌, ◌⊎◌, List, Option, IfSome}
 use Rattle.sqlite.specs.Effect.{Database, IsDatabase}
-use Rattle.sqlite.specs.Tree.{Trees}
 use Rattle.portal_rules.specs.World.{World}
 use Rattle.portal_rules.specs.Good.{Good}
 use Rattle.portal_rules.specs.Run.{Run, AllAnswered, end_of}
@@ -12,9 +8,8 @@ use Rattle.portal_rules.specs.declared.phase.Round.TheVariants as round
 use Rattle.portal_wire.specs.Conversation.{Exchange, requests_of, replies_of}
 use Rattle.portal_desk.specs.Kept.{MayReach}
 use Rattle.portal_desk.specs.Session.{Finish, TellsExchanges}
-use Rattle.portal_tables.specs.Tables.{IsFirstSchema, first_version, no_schema}
-use Rattle.portal_tables.specs.Steps.{LeavesOnly}
-use Rattle.portal_store.specs.Kept.{HasGoodFirst, IsConsistent, Seen, IsCleanStore, LeavesConsistent}
+use Rattle.portal_tables.specs.Tables.{IsFirstSchema, first_version}
+use Rattle.portal_store.specs.Kept.{HasGoodFirst, IsConsistent}
 use Rattle.portal_store.specs.World.{world_in, world_of}
 
 -- the version of the portal's tables: 1, 2, or either
@@ -42,35 +37,11 @@ Stands First db w = StandsFirst db w
 Stands Current db w = StandsCurrent db w
 Stands Either db w = StandsCurrent db w ⊎ StandsFirst db w
 
--- the trees are those of a database that stands so for the world
-abbrev pub TreesStand : Version → Trees → World → Type 0
-TreesStand version db w = (d : Database) × (d.trees ≡ db) × Stands version d w
-
--- the connection is open and shows a database that stands so for the world
-pub record Shows (version : Version) (s : State) (w : World) : Type 0 where
-  pub is_open : IsTrue s.is_open
-  pub stands : ∥ Stands version s.now w ∥₁
-
--- each of these trees stands so for a world of this kind
-abbrev pub AllStand : Version → (Trees → Type 0) → (World → Type 0) → Type 0
-AllStand version Finds Kind = (db : Trees) → Finds db → ∥ ((w : World) × Kind w × TreesStand version db w) ∥₁
-
--- what a store promises of the connection that it gives back
-pub record ClosesAs {S : Type 0} (g : Ghosts S) (s : Seen S) (new : Held S) : Type 0 where
-  pub same : new ≡ s.conn
-  pub kept : IsCleanStore g s → IsConsistent (state g new).now
-  pub only : IsTrue (state g new).is_open → LeavesOnly (state g new)
-  pub left : LeavesConsistent g s
-
 -- what is read and written, and how serving it ends
 pub record Stream : Type 0 where
   pub bytes : List ℕ
   pub written : List ℕ
   pub finish : Finish
-
--- what is written tells the requests, if the bytes are known
-abbrev pub TellsIn : Option Stream → List Exchange → Type 0
-TellsIn stream es = IfSome stream (λ s. TellsExchanges s.finish s.bytes es s.written)
 
 -- from a world that is found, these requests with their replies lead to what is left
 pub record IsTurn (Finds : World → Type 0) (Leaves : (World → Type 0) → Type 0) (es : List Exchange)
@@ -80,8 +51,8 @@ pub record IsTurn (Finds : World → Type 0) (Leaves : (World → Type 0) → Ty
   -- if no reply is 503, they are a run, and its last world is left
   pub turns : (w : World) → Finds w → AllAnswered (replies_of es)
       → (worlds : List World) × Run w (requests_of es) (replies_of es) worlds × Leaves (λ v. v ≡ end_of w worlds)
-  -- what is written tells the requests
-  pub tells : TellsIn stream es
+  -- what is written tells the requests, if the bytes are known
+  pub tells : IfSome stream (λ s. TellsExchanges s.finish s.bytes es s.written)
 
 -- work over tables, in a connection or in files
 pub record Work : Type 1 where
@@ -93,12 +64,3 @@ pub record Work : Type 1 where
   pub leaves : Version → (World → Type 0) → Type 0
   -- it serves these requests, of this stream, if its bytes are known
   pub serves : List Exchange → Option Stream → Type 0
-
--- work over a connection: what it shows before, and what a stop after it may leave
-abbrev pub work_of : State → State → Work
-work_of old new = record {
-  finds = λ version. Shows version old;
-  is_new = old.now.schema ≡ no_schema;
-  leaves = λ version. AllStand version new.may_leave;
-  serves = IsTurn (Shows Either old) (AllStand Either new.may_leave);
-}

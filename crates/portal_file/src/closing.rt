@@ -9,7 +9,7 @@ ghost use Rattle.sqlite_trees.specs.View.{IsClean};
 ghost use Rattle.sqlite_store.specs.FileStore.{recovers, state as store_state, view};
 ghost use Rattle.sqlite.specs.Held.{AreDatabases};
 ghost use Rattle.sqlite.specs.Files.{HoldsDatabase, file_state};
-ghost use Rattle.portal_file.specs.Files.{ComesOf};
+ghost use Rattle.portal_file.specs.inner.Lift.{ComesOf};
 
 use sqlite::{Connection, FileStore, Files};
 use sqlite_disk::Disk;

@@ -3,7 +3,7 @@
 ghost use Rattle.std.specs.Prelude.{◌≡◌, false, IfOk, IfErr};
 ghost use Rattle.sqlite.specs.Held.{state};
 ghost use Rattle.portal_store.specs.Calls.{OpensStore};
-ghost use Rattle.portal_file.specs.Tables.{ClosesAs};
+ghost use Rattle.portal_file.specs.inner.Connected.{ClosesAs};
 ghost use Rattle.portal_file.specs.inner.Lift.{RefusesTables, WorksOver};
 
 use portal_store::{NotOpened, OpenFault, Store};

@@ -7,6 +7,6 @@ pub use Rattle.std.proofs.lemmas.List.{take_all, take-append-le, append-nil, len
 pub use Rattle.std.specs.Io.KnownBytes.{Consumes, IsAtEnd, Appends}
 pub use Rattle.std.specs.Prelude.{IfErr, IfSome}
 pub use Rattle.portal_answer.specs.Answer.{Text, Output, IfLonger, IsAnswer}
-pub use Rattle.portal_run.specs.Run.{ConsumesAtMost, SaysUpgrade, WritesAnswer, AnswersSome, refusal_line}
-pub use Rattle.portal_run.specs.Run.{refusal_status}
+pub use Rattle.portal_run.specs.Run.{ConsumesAtMost, WritesAnswer, AnswersSome}
+pub use Rattle.portal_run.specs.inner.Commands.{SaysUpgrade, refusal_line, refusal_status}
 pub use Rattle.portal_run.specs.inner.Lines.{TakesMore, Says}

@@ -2,7 +2,7 @@
 use Rattle.portal_run.proofs.Base.{◌<◌, ℕ, Option, Some, None, Result, Ok, Err, IfOk, IfErr, Text, SaysUpgrade, Says}
 use Rattle.portal_run.proofs.Base.{refusal_line, refusal_status}
 use Rattle.portal_run.proofs.Known.{said_status}
-use Rattle.portal_run.specs.Run.{upgrade_line}
+use Rattle.portal_run.specs.inner.Commands.{upgrade_line}
 use Rattle.portal_store.specs.declared.store.UpgradeFault.{UpgradeFault}
 
 -- a refusal

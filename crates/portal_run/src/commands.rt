@@ -4,8 +4,10 @@ ghost use Rattle.std.specs.Prelude.{◌≡◌, ◌<◌, ◌≤◌, ◌⊎◌, �
 ghost use Rattle.std.specs.Prelude.{IfSome, IfOk, IsErr, IsTrue};
 ghost use Rattle.clap.specs.Words.{Text};
 ghost use Rattle.portal_words.specs.Line.{is_file_word};
-ghost use Rattle.portal_run.specs.Run.{WritesAnswer, AnswersSome, IsOfFile, IsUpgrade, task_of};
-ghost use Rattle.portal_run.specs.Run.{ConsumesAtMost, SaysUpgrade};
+ghost use Rattle.portal_run.specs.Run.{WritesAnswer, AnswersSome};
+ghost use Rattle.portal_run.specs.inner.Commands.{IsOfFile, IsUpgrade, task_of};
+ghost use Rattle.portal_run.specs.Run.{ConsumesAtMost};
+ghost use Rattle.portal_run.specs.inner.Commands.{SaysUpgrade};
 ghost use Rattle.portal_desk.specs.Kept.{TakesAtMost, taken_limit};
 
 use crate::init::{init, upgrade_over};

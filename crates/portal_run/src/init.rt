@@ -1,7 +1,8 @@
 //! Creates a database for `init`; upgrades one for `upgrade`.
 
 ghost use Rattle.std.specs.Prelude.{◌<◌, ◌≤◌};
-ghost use Rattle.portal_run.specs.Run.{ConsumesAtMost, SaysUpgrade};
+ghost use Rattle.portal_run.specs.Run.{ConsumesAtMost};
+ghost use Rattle.portal_run.specs.inner.Commands.{SaysUpgrade};
 
 use crate::database::{expect_database, outcome};
 use crate::input::{InputFault, first_bytes};

@@ -3,7 +3,7 @@
 ghost use Rattle.std.specs.Prelude.{◌≡◌, ◌≢◌, ◌⊎◌, IfErr, IfOk};
 ghost use Rattle.std.specs.Io.KnownBytes.{Appends};
 ghost use Rattle.portal_store.specs.declared.store.UpgradeFault.{UpgradeFault};
-ghost use Rattle.portal_run.specs.Run.{refusal_line, refusal_status};
+ghost use Rattle.portal_run.specs.inner.Commands.{refusal_line, refusal_status};
 ghost use Rattle.portal_run.specs.inner.Lines.{Says, connect_refusal, create_refusal, open_refusal};
 
 use portal_store::{CreateFault, OpenFault};

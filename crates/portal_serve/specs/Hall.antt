@@ -12,8 +12,6 @@ use Rattle.portal_serve.specs.declared.server.Ended.TheVariants.{Full, StoreFaul
 use Rattle.portal_rules.specs.Sight.{OfficeSees}
 use Rattle.portal_rules.specs.World.{has_result}
 use Rattle.portal_rules.specs.Bodies.{report_text, line_feed}
-use Rattle.portal_rules.specs.declared.view.View.{View as Sight}
-use Rattle.portal_rules.specs.declared.view.View.TheVariants.{Nobody, Office, Lecturer, Student}
 use Rattle.portal_reports.specs.Status.{status_text}
 use Rattle.portal_wire.specs.Conversation.{Exchange}
 use Rattle.portal_rules.specs.Keeping.{KeeperState}
@@ -40,10 +38,6 @@ is_store_fault (Err fault) = is_store_cause fault.cause
 abbrev pub Adds : Option (List Outcome) → Option (List Outcome) → List Outcome → Type 0
 Adds old new more = IfSome old (λ outcomes. new ≡ Some (outcomes ++ more))
 
--- the connection ended by a fault of its own
-abbrev pub is_faulty : Outcome → Bool
-is_faulty outcome = is_own_fault outcome.ended
-
 -- the desk has not failed by the end of the connection
 pub record StillWorks (outcome : Outcome) : Type 0 where
   pub working : outcome.failed ≡ false
@@ -58,7 +52,7 @@ EndsBy _ outcomes = All StillWorks outcomes
 -- the hall counts one outcome for each accepted connection, and those with a fault of their own
 pub record CountsOutcomes (hall : Hall) (outcomes : List Outcome) : Type 0 where
   pub accepted : hall.accepted ≡ length outcomes
-  pub faults : hall.faults ≡ count_by is_faulty outcomes
+  pub faults : hall.faults ≡ count_by (λ outcome. is_own_fault outcome.ended) outcomes
   pub ends : EndsBy hall.ended outcomes
 
 -- what serving up to `most` connections on a desk did, with this result
@@ -80,15 +74,3 @@ pub record ServesHall {K : Type 0} (state : K → KeeperState) (hall : Hall) (mo
 -- the report: the state of the round and, once there is a result, an empty line and the result
 abbrev pub office_report : OfficeSees → List ℕ
 office_report v = status_text v ++ (if has_result v.round v.phase then line_feed ++ report_text v else [])
-
--- the office sees this, and the text is its report
-abbrev pub IsOfficeReport : Sight → List ℕ → Type 0
-IsOfficeReport Nobody text = ⊥
-IsOfficeReport (Office v) text = text ≡ office_report v
-IsOfficeReport (Lecturer v) text = ⊥
-IsOfficeReport (Student v) text = ⊥
-
--- the office does not see this
-abbrev pub IsOther : Sight → Type 0
-IsOther (Office v) = ⊥
-IsOther _ = Unit {0}

@@ -4,7 +4,8 @@ ghost use Rattle.std.specs.Prelude.{◌≡◌, ◌+◌, Err, IfOk, OnOk};
 ghost use Rattle.portal_rules.specs.Good.{Good};
 ghost use Rattle.portal_rules.specs.Keeping.{IsAlive, Uses};
 ghost use Rattle.portal_rules.specs.View.{office_sees};
-ghost use Rattle.portal_serve.specs.Hall.{office_report, IsOfficeReport, IsOther};
+ghost use Rattle.portal_serve.specs.Hall.{office_report};
+ghost use Rattle.portal_serve.specs.inner.Told.{IsOfficeReport, IsOther};
 
 use portal_core::{Code, KeepFault, Keeper, OfficeView, View};
 use portal_reports::{allocation_text, status_text};

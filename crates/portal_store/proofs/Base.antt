@@ -60,21 +60,20 @@ pub use Rattle.portal_rules.specs.inner.Offers.{offered}
 pub use Rattle.portal_list.specs.inner.Shown.{is_wanted, is_waiting}
 pub use Rattle.portal_store.specs.Crash.{Refutes, Bars, Reopens, OpensAgain, OpensFresh, UpgradesAgain, HasVersion}
 pub use Rattle.portal_store.specs.Crash.{RefusalSays, IsLeft, IsUpgradedFrom, LeavesUpgraded}
-pub use Rattle.portal_store.specs.Kept.{AllNumbersDiffer, HasChanged, HasGoodFirst, HasGoodWorld, HasGoodWorldIn}
-pub use Rattle.portal_store.specs.Kept.{HasSecond, IsCleanStore, IsConsistent, IsConsistentIn, IsTransition, IsUnopened}
-pub use Rattle.portal_store.specs.Kept.{Seen, Whole, kept_world, later_trees, AreWhole, AreEmpty, HasDisk, DiskInMemory}
-pub use Rattle.portal_store.specs.Kept.{KeepsClean, Lasts, LastsInMemory, IsOpened, IsBrokenStore, LeavesWorld}
-pub use Rattle.portal_store.specs.Kept.{UnbrokenInMemory, AreConsistent, LeavesConsistent, kept_state}
+pub use Rattle.portal_store.specs.Kept.{HasChanged, HasGoodFirst, HasGoodWorld, HasGoodWorldIn, HasSecond, IsCleanStore}
+pub use Rattle.portal_store.specs.Kept.{IsConsistent, IsConsistentIn, IsTransition, IsUnopened, Seen, Whole, kept_world}
+pub use Rattle.portal_store.specs.Kept.{AreWhole, HasDisk, DiskInMemory, Lasts, LastsInMemory, IsOpened, IsBrokenStore}
+pub use Rattle.portal_store.specs.Kept.{LeavesWorld, UnbrokenInMemory, AreConsistent, LeavesConsistent, kept_state}
 pub use Rattle.portal_store.specs.World.{is_ranked, lecturer_stored, phase_in, round_in, student_stored, first_world}
-pub use Rattle.portal_store.specs.World.{ranking_in, choice_in, placement_in_round, second_phase, office_row, round_by}
+pub use Rattle.portal_store.specs.World.{ranking_in, choice_in, placement_in_round, second_phase, office_row}
 pub use Rattle.portal_store.specs.declared.add_rows.NewRows.{NewRows}
 pub use Rattle.portal_store.specs.declared.store.OpenFault.{OpenFault}
 pub use Rattle.portal_store.specs.inner.Adding.{with_rows_added}
 pub use Rattle.portal_store.specs.inner.Asked.{Admits, AdmitsAs, SaysNot, IsOfRows, NumbersDiffer, SaysNothing}
 pub use Rattle.portal_store.specs.inner.Asked.{IsJudged}
 pub use Rattle.portal_store.specs.inner.Ending.{CommitsChange, LeavesMade}
-pub use Rattle.portal_store.specs.inner.Keeping.{AreEntries, HasChangedIn, IsKept, IsTransitionFrom, IsTransitionIn}
-pub use Rattle.portal_store.specs.inner.Keeping.{early_trees, HasChangedFrom}
+pub use Rattle.portal_store.specs.inner.Keeping.{AllNumbersDiffer, AreEmpty, KeepsClean, AreEntries, HasChangedIn}
+pub use Rattle.portal_store.specs.inner.Keeping.{IsKept, IsTransitionFrom, IsTransitionIn, early_trees, HasChangedFrom}
 pub use Rattle.portal_store.specs.inner.Loads.{LoadsIn, Loads, after_first, rows_with_earlier, HasNothingBefore}
 pub use Rattle.portal_store.specs.inner.Opening.{OpensSecondRound, is_opening}
 pub use Rattle.portal_store.specs.inner.Placing.{ShowsRoll, TurnsLeft, TurnsShown, assigned_of, pair_left}
@@ -100,29 +99,28 @@ pub use Rattle.portal_tables.proofs.Shapes.{student_rows_formed, student_test}
 pub use Rattle.portal_tables.proofs.Sorted.{all_permuted, all_two, at, distinct_if_rise, distinct_permuted, map_alike}
 pub use Rattle.portal_tables.proofs.Sorted.{map_alike_on, map_twice, permutes, permutes_more, put_all_map, put_same}
 pub use Rattle.portal_tables.proofs.Sorted.{rise_distinct, all_has, has_of, one_rise, rise_put_all, more_put}
-pub use Rattle.portal_tables.specs.Making.{IsFresh, Upgrades, has_names, Creates, Upgraded, has_name, is_named_table}
-pub use Rattle.portal_tables.specs.Making.{is_named_view}
-pub use Rattle.portal_tables.specs.Rows.{IsWhole, chosen, list_in_order, of_key, HasOffice, number_of_phase}
-pub use Rattle.portal_tables.specs.Rows.{RowNumbersDiffer, has_text, portal_row, row_key, second_row, text_or_none}
-pub use Rattle.portal_tables.specs.Rows.{phase_numbered}
-pub use Rattle.portal_tables.specs.Steps.{Anyhow, Reading, Commits, IsAfter, IsCommitted, IsUnchangedOrUndone}
-pub use Rattle.portal_tables.specs.Steps.{OnlyLooks}
-pub use Rattle.portal_tables.specs.Steps.{Stays, LeavesOnly, Reads}
+pub use Rattle.portal_tables.specs.Making.{IsFresh, Upgrades, has_names, Creates, Upgraded, has_name, stands_for_table}
+pub use Rattle.portal_tables.specs.Rows.{IsWhole, chosen, of_key, HasOffice, number_of_phase, RowNumbersDiffer}
+pub use Rattle.portal_tables.specs.Rows.{has_text, portal_row, row_key, second_row, text_or_none, phase_numbered}
+pub use Rattle.portal_tables.specs.Steps.{Commits, IsAfter, Stays, LeavesOnly}
 pub use Rattle.portal_tables.specs.Tables.{tree_of, assigned2_tree, choice2_tree, choice_tree, first_trees}
 pub use Rattle.portal_tables.specs.Tables.{first_version, lecturer_tree, own_trees, portal_tree, project_tree}
 pub use Rattle.portal_tables.specs.Tables.{ranked2_tree, ranking2_tree, ranking_tree, second_tree, student_tree}
 pub use Rattle.portal_tables.specs.Tables.{version, HasFirstSchema, IsCurrentSchema, IsFirstSchema, no_schema}
-pub use Rattle.portal_tables.specs.Tables.{first_schema, SameTable, second_trees, choice_table, ranking_table, HasRound}
+pub use Rattle.portal_tables.specs.Tables.{first_schema, SameTable, later_trees, choice_table, ranking_table}
 pub use Rattle.portal_tables.specs.declared.fault.TableFault.{TableFault}
 pub use Rattle.portal_tables.specs.declared.names.Names.TheVariants.{OfSecond}
 pub use Rattle.portal_tables.specs.declared.office.Office.{Office}
 pub use Rattle.portal_tables.specs.inner.Changes.{Keeps, ListsBy, columns, every, with_rows, Becomes, InsertsRows}
 pub use Rattle.portal_tables.specs.inner.Changes.{AreNew, Sets}
-pub use Rattle.portal_tables.specs.inner.Owners.{choice_shown, has_list, IsFine, entry, IsRead}
+pub use Rattle.portal_tables.specs.inner.MakingSteps.{second_trees}
+pub use Rattle.portal_tables.specs.inner.Owners.{choice_shown, list_in_order, has_list, IsFine, entry, IsRead}
 pub use Rattle.portal_tables.specs.inner.Placements.{pair_shown, HasPlacement, first_pairs, first_pair}
 pub use Rattle.portal_tables.specs.inner.Putting.{HasPut, PutsList, RanksSecond, HasPlacements, PutsPlacements}
 pub use Rattle.portal_tables.specs.inner.Putting.{HasRanked}
-pub use Rattle.portal_tables.specs.inner.Reads.{GivesOrFails}
+pub use Rattle.portal_tables.specs.inner.Reads.{GivesOrFails, Anyhow, Reading, IsCommitted, IsUnchangedOrUndone}
+pub use Rattle.portal_tables.specs.inner.Reads.{OnlyLooks}
+pub use Rattle.portal_tables.specs.inner.Reads.{Reads, HasRound}
 pub use Rattle.portal_tables.specs.inner.Rolls.{RollsRise, by_key, lecturer_columns, lecturers_shown, projects_shown}
 pub use Rattle.portal_tables.specs.inner.Rolls.{roll_columns, students_shown}
 pub use Rattle.portal_tables.specs.inner.RowChanges.{Assigns, MovesSecond, MovesTo, pair_new, assigned_by}

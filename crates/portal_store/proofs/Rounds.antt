@@ -1,12 +1,16 @@
 -- The round of the tables, and the world that they stand for in it.
-use Rattle.portal_store.proofs.Base.{◌≡◌, pos, true, false, [], ◌∷◌, slice_index_or, refl, sym, ap, subst, ◌∙◌, List}
-use Rattle.portal_store.proofs.Base.{map, column, bytes, Row, Trees, Database, number_in, Phase, Setup, Choosing}
-use Rattle.portal_store.proofs.Base.{Ranking, Published, Round, First, Second, is_setup, lecturer_key, Change, changed}
-use Rattle.portal_store.proofs.Base.{Good, Key, portal_tree, second_tree, version, number_of_phase, Office, IsNow}
-use Rattle.portal_store.proofs.Base.{portal_row, second_row, row_key, world_in, world_of, phase_numbered, phase_in}
-use Rattle.portal_store.proofs.Base.{round_in, lecturer_stored, HasSecond, IsConsistent, IsConsistentIn, HasGoodWorld}
-use Rattle.portal_store.proofs.Base.{HasGoodWorldIn, HasChanged, IsTransitionFrom, IsTransitionIn, map_alike, map_twice}
-use Rattle.portal_store.proofs.Base.{round_by, IsJudged, AreEmpty}
+use Rattle.portal_store.proofs.Base.{◌≡◌, ℕ, if◌then◌else◌, pos, true, false, [], ◌∷◌, slice_index_or, refl, sym, ap}
+use Rattle.portal_store.proofs.Base.{subst, ◌∙◌, List, map, column, bytes, Row, Trees, Database, number_in, Phase}
+use Rattle.portal_store.proofs.Base.{Setup, Choosing, Ranking, Published, Round, First, Second, is_setup, lecturer_key}
+use Rattle.portal_store.proofs.Base.{Change, changed, Good, Key, portal_tree, second_tree, version, number_of_phase}
+use Rattle.portal_store.proofs.Base.{Office, IsNow, portal_row, second_row, row_key, world_in, world_of, phase_numbered}
+use Rattle.portal_store.proofs.Base.{phase_in, round_in, lecturer_stored, HasSecond, IsConsistent, IsConsistentIn}
+use Rattle.portal_store.proofs.Base.{HasGoodWorld, HasGoodWorldIn, HasChanged, IsTransitionFrom, IsTransitionIn}
+use Rattle.portal_store.proofs.Base.{map_alike, map_twice, IsJudged, AreEmpty}
+use Rattle.std.specs.Prelude.{◌==◌}
+
+abbrev round_by : ℕ → Round
+round_by n = if n == 0 then First else Second
 
 -- a phase other than setup is that of a second round
 by_phase : (p : Phase) → is_setup p ≡ false

@@ -6,14 +6,19 @@ use Rattle.portal_store.proofs.Base.{first_version, IsFirstSchema, Upgrades, has
 use Rattle.portal_store.proofs.Base.{number_of_phase, portal_row, apart_one, current_own, world_in, world_of}
 use Rattle.portal_store.proofs.Base.{phase_numbered, IsConsistentIn, IsUnopened, HasGoodWorld, HasGoodFirst, IsKept}
 use Rattle.portal_store.proofs.Base.{AdmitsAs, AllZip, first_schema, SameTable, HasFirstSchema, take, length, Upgraded}
-use Rattle.portal_store.proofs.Base.{has_name, is_named_table, is_named_view, HasCleanDisk, IsConsistent, State}
-use Rattle.portal_store.proofs.Base.{Survives, IsAfter, clean_before, survives_then, IsUpgradedFrom, LeavesUpgraded}
-use Rattle.portal_store.proofs.Base.{HasEntries}
+use Rattle.portal_store.proofs.Base.{has_name, stands_for_table, HasCleanDisk, IsConsistent, State, Survives, IsAfter}
+use Rattle.portal_store.proofs.Base.{clean_before, survives_then, IsUpgradedFrom, LeavesUpgraded, HasEntries}
 use Rattle.sqlite_trees.specs.Tree.{Trees}
 use Rattle.sqlite.specs.Table.{Table}
 use Rattle.sqlite.specs.Schema.{Schema}
 use Rattle.sqlite_tied.specs.Compute.{everything}
 use Rattle.portal_tables.specs.Tables.{SameSchema}
+use Rattle.sqlite_schema.specs.declared.schema.View.{View}
+use Rattle.std.specs.Prelude.{◌&&◌}
+use Rattle.portal_tables.specs.inner.Named as named
+use Rattle.portal_tables.specs.inner.Schema.{first_written}
+use Rattle.portal_tables.proofs.Named.{named_is}
+use Rattle.portal_tables.proofs.Defined.{first_as_written}
 use Rattle.portal_tables.specs.declared.names.Names.{Names}
 use Rattle.portal_list.specs.inner.Rows.{AllEntries}
 use Rattle.portal_store.specs.inner.Upgrading.{UpgradesWithEntries}
@@ -102,32 +107,28 @@ module _ (old mid new : State) (looks : Survives old mid (λ _. ⊥)) (upgrades 
 
 -- a schema has the names of the portal's tables that its pattern has: the six have none of the second round's
 
+abbrev is_named_table : Names → Table → Bool
+is_named_table names t = has_name names t.name
+
+abbrev is_named_view : Names → View → Bool
+is_named_view names v = has_name names v.name && stands_for_table v.name v.foreign
+
 named_alike : (names : Names) (ts us : List Table) → AllZip SameTable ts us
     → list_any (is_named_table names) ts ≡ list_any (is_named_table names) us
 named_alike names [] [] h = refl
 named_alike names [] (u ∷ us) h = absurd h
 named_alike names (t ∷ ts) [] h = absurd h
-named_alike names (t ∷ ts) (u ∷ us) h = λ i. has_name names (h.0.name i) || named_alike names ts us h.1 i
+named_alike names (t ∷ ts) (u ∷ us) h = λ i. has_name names ((h.0 i).name) || named_alike names ts us h.1 i
 
 pub named_as : (names : Names) (s pattern : Schema) → SameSchema s pattern → has_names names s ≡ has_names names pattern
-named_as names s pattern h = λ i. named_alike names s.tables pattern.tables h.tables i || list_any (is_named_view names) ((h.no_views ∙ sym h.no_views_there) i)
+named_as names s pattern h = λ i. named_alike names s.tables pattern.tables h.tables i || list_any (is_named_view names) (h.views i)
 
-none_named : has_names OfSecond first_schema ≡ false
+none_computed : (list_any (named.is_named_table OfSecond) first_written.tables || list_any (named.is_named_view OfSecond) first_written.views) ≡ false
 unfolding everything
-none_named = refl
+none_computed = refl
 
 pub first_untaken : (s : Schema) → IsFirstSchema s → has_names OfSecond s ≡ false
-first_untaken s h = named_as OfSecond s first_schema h ∙ none_named
-
--- the six tables are read as those of the first round
-
-all_taken : (ts us : List Table) → AllZip SameTable ts us → AllZip SameTable (take (length us) ts) us
-all_taken ts [] h = tt
-all_taken [] (u ∷ us) h = absurd h
-all_taken (t ∷ ts) (u ∷ us) h = (h.0, all_taken ts us h.1)
-
-pub first_own : (s : Schema) → IsFirstSchema s → HasFirstSchema s
-first_own s h = record { tables = all_taken s.tables first_schema.tables h.tables; no_views = h.no_views }
+first_untaken s h = named_as OfSecond s first_schema h ∙ ap (has_names OfSecond) first_as_written ∙ sym (named_is OfSecond first_written) ∙ none_computed
 
 -- a store over them
 module _

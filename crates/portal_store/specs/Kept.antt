@@ -1,9 +1,9 @@
 -- What a store keeps true between calls, and what a change of the world does to the tables.
 use Rattle.portal_store.specs.Base.{Trees, Database, IsDatabase, Phase, Published, Round, First, Second, World}
 use Rattle.portal_store.specs.Base.{is_setup, Change, changed, Good, tree_of, portal_tree, lecturer_tree, student_tree}
-use Rattle.portal_store.specs.Base.{second_tree, choice2_tree, ranked2_tree, ranking2_tree, assigned2_tree, own_trees}
-use Rattle.portal_store.specs.Base.{version, HasFirstSchema, IsCurrentSchema, RowNumbersDiffer, row_key, second_row}
-use Rattle.portal_store.specs.Base.{HasOffice, number_of_phase, of_key, IsWhole, choice_table, ranking_table}
+use Rattle.portal_store.specs.Base.{second_tree, later_trees, own_trees, version, HasFirstSchema, IsCurrentSchema}
+use Rattle.portal_store.specs.Base.{RowNumbersDiffer, row_key, second_row, HasOffice, number_of_phase, of_key, IsWhole}
+use Rattle.portal_store.specs.Base.{choice_table, ranking_table}
 use Rattle.std.specs.Prelude.{◌≡◌, ◌⊎◌, ℕ, pos, ◌+◌, ◌-◌, ◌^◌, ◌≤◌, min, Bool, false, List, [], ◌∷◌, IsTrue}
 use Rattle.std.specs.List.{AllByRecursion}
 use Rattle.sqlite.specs.State.{State, HasCleanDisk}
@@ -20,21 +20,11 @@ pub record Whole (round : Round) (db : Trees) : Type 0 where
   pub rankings : AllByRecursion (λ r. IsWhole (of_key (row_key r) (db (tree_of (ranking_table round))))) (db lecturer_tree)
   pub ranked : AllByRecursion (λ r. is_ranked round db r ≡ false → of_key (row_key r) (db (tree_of (ranking_table round))) ≡ []) (db lecturer_tree)
 
-abbrev pub later_trees : List ℕ
-later_trees = choice2_tree ∷ ranked2_tree ∷ ranking2_tree ∷ assigned2_tree ∷ []
-
--- there are no lists, rankings or placements of a second round
-abbrev pub AreEmpty : Trees → Type 0
-AreEmpty db = AllByRecursion (λ t. db t ≡ []) later_trees
-
--- the row numbers differ within each of these tables
-abbrev pub AllNumbersDiffer : List ℕ → Trees → Type 0
-AllNumbersDiffer trees db = AllByRecursion (λ t. RowNumbersDiffer (db t)) trees
-
--- the row of `second` says that there is no second round, and nothing of one is there
+-- the row of `second` says that there is no second round, and there are no lists, rankings or
+-- placements of one
 pub record IsUnopened (db : Trees) : Type 0 where
   pub is : db second_tree ≡ second_row (pos 0) ∷ []
-  pub says : AreEmpty db
+  pub says : AllByRecursion (λ t. db t ≡ []) later_trees
 
 -- the row of `second` has the phase of a second round, and the first round is published
 pub record IsOpened (db : Trees) : Type 0 where
@@ -74,7 +64,7 @@ pub record IsConsistentIn (round : Round) (db : Database) : Type 0 where
   pub current : IsCurrentSchema db.schema
   pub own : HasFirstSchema db.schema
   pub sound : IsDatabase db
-  pub apart : AllNumbersDiffer own_trees db.trees
+  pub apart : AllByRecursion (λ t. RowNumbersDiffer (db.trees t)) own_trees
   pub office : HasOffice version (db.trees portal_tree)
   pub second : HasSecond round db.trees
   pub whole : AreWhole round db.trees
@@ -125,10 +115,6 @@ LastsInMemory =
 -- the disk of a store has returned what was written so far
 abbrev pub HasDisk : {S : Type 0} → Ghosts S → Seen S → Type 0
 HasDisk g s = HasCleanDisk (state g s.conn)
-
--- if the disk is clean after a call, it was before, and then a clean store stayed clean
-abbrev pub KeepsClean : {S : Type 0} → Ghosts S → Seen S → Seen S → Type 0
-KeepsClean g old new = HasDisk g new → HasDisk g old × (IsCleanStore g old → IsCleanStore g new)
 
 -- the disk of a store in memory is always clean, since there is none
 abbrev pub DiskInMemory : Type 0

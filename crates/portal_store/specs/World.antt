@@ -14,11 +14,8 @@ office_row db = slice_index_or (db portal_tree) 0 []
 abbrev pub second_phase : Trees → ℕ
 second_phase db = number_in (column (slice_index_or (db second_tree) 0 []) 2)
 
-abbrev pub round_by : ℕ → Round
-round_by n = if n == 0 then First else Second
-
 abbrev pub round_in : Trees → Round
-round_in db = round_by (second_phase db)
+round_in db = if second_phase db == 0 then First else Second
 
 -- what the tables hold of a single round
 

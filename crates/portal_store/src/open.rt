@@ -9,10 +9,11 @@ ghost use Rattle.portal_rules.specs.declared.phase.Round.TheVariants.{First, Sec
 ghost use Rattle.portal_rules.specs.declared.phase.Phase.TheVariants.{Published};
 ghost use Rattle.portal_tables.specs.Tables.{HasFirstSchema, version};
 ghost use Rattle.portal_tables.specs.inner.Queries.{round_asked};
-ghost use Rattle.portal_tables.specs.Steps.{Reads, Gives, IsCommitted, OnlyLooks};
-ghost use Rattle.portal_tables.specs.inner.Reads.{Always, GivesOrFails};
+ghost use Rattle.portal_tables.specs.inner.Reads.{Always, GivesOrFails, Gives, IsCommitted};
+ghost use Rattle.portal_tables.specs.inner.Reads.{OnlyLooks, Reads};
 ghost use Rattle.portal_list.specs.inner.Rows.{HasEntries};
-ghost use Rattle.portal_store.specs.Kept.{AreEmpty, HasSecond, HasGoodWorld, HasGoodWorldIn};
+ghost use Rattle.portal_store.specs.Kept.{HasSecond, HasGoodWorld, HasGoodWorldIn};
+ghost use Rattle.portal_store.specs.inner.Keeping.{AreEmpty};
 ghost use Rattle.portal_store.specs.World.{phase_in, round_in, world_of};
 ghost use Rattle.portal_store.specs.Calls.{OpensStore, RefusesToOpen};
 ghost use Rattle.portal_store.specs.Crash.{Explains, HasVersion, Refutes, ShowsVersion};

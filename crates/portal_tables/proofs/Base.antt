@@ -1,4 +1,5 @@
 -- Names from below that the proofs use.
+unfoldable pub use Rattle.portal_tables.specs.Tables.{first_schema, portal_schema, with_created}
 unfoldable pub use Rattle.sqlite.specs.Listing.{understood}
 unfoldable pub use Rattle.sqlite.specs.Ops.{binary, unary}
 unfoldable pub use Rattle.sqlite.specs.Order.{value_cmp}
@@ -41,20 +42,15 @@ pub use Rattle.portal_rules.proofs.Keys.{all_unmap, is_own, is_same, not_before_
 pub use Rattle.portal_rules.proofs.Puts.{after_other, before_trans, rise_put, less_of}
 pub use Rattle.portal_rules.specs.Words.{is_empty}
 pub use Rattle.portal_tables.specs.Making.{Creates, IsFresh, Upgrades}
-pub use Rattle.portal_tables.specs.Rows.{RowNumbersDiffer, has_text, row_key, Assigned, portal_cells, portal_row}
-pub use Rattle.portal_tables.specs.Rows.{second_cells, second_row, CountUp, IsWhole, by_place, chosen, list_in_order}
-pub use Rattle.portal_tables.specs.Rows.{named_by, of_key, place_key, place_of, placed_project, second_placement}
+pub use Rattle.portal_tables.specs.Rows.{RowNumbersDiffer, has_text, row_key, portal_row, second_row, CountUp, IsWhole}
+pub use Rattle.portal_tables.specs.Rows.{by_place, chosen, named_by, of_key, place_key, place_of, second_placement}
 pub use Rattle.portal_tables.specs.Rows.{HasOffice, number_of_phase}
-pub use Rattle.portal_tables.specs.Steps.{Commits, IsAfter, IsCommitted, IsUnchangedOrUndone, OnlyLooks, Stays, Reading}
-pub use Rattle.portal_tables.specs.Steps.{Anyhow, Gives}
-pub use Rattle.portal_tables.specs.Tables.{tree_of, HasRound, IsCurrentSchema, IsFirstSchema, HasFirstSchema, SameTable}
-pub use Rattle.portal_tables.specs.Tables.{assigned2, assigned2_tree, choice, choice2, choice2_names, choice2_tree}
-pub use Rattle.portal_tables.specs.Tables.{choice_names, choice_tree, column_of, first_schema, first_trees}
-pub use Rattle.portal_tables.specs.Tables.{first_version, lecturer_schema, lecturer_tree, list_table, no_schema}
-pub use Rattle.portal_tables.specs.Tables.{own_trees, portal, portal_schema, portal_tree, project_schema, project_tree}
-pub use Rattle.portal_tables.specs.Tables.{ranked2, ranked2_tree, ranking, ranking2, ranking2_names, ranking2_tree}
-pub use Rattle.portal_tables.specs.Tables.{ranking_names, ranking_tree, second, second_tree, second_trees}
-pub use Rattle.portal_tables.specs.Tables.{student_schema, student_tree, schema_of, version}
+pub use Rattle.portal_tables.specs.Steps.{Commits, IsAfter, Stays}
+pub use Rattle.portal_tables.specs.Tables.{tree_of, IsCurrentSchema, IsFirstSchema, HasFirstSchema, SameSchema}
+pub use Rattle.portal_tables.specs.Tables.{SameTable, assigned2_tree, choice2_tree, choice_tree, first_texts}
+pub use Rattle.portal_tables.specs.Tables.{first_trees, first_version, later_trees, lecturer_tree, no_schema, own_trees}
+pub use Rattle.portal_tables.specs.Tables.{portal_tree, project_tree, ranked2_tree, ranking2_tree, ranking_tree}
+pub use Rattle.portal_tables.specs.Tables.{second_texts, second_tree, student_tree, version}
 pub use Rattle.portal_tables.specs.declared.fault.TableFault.{TableFault}
 pub use Rattle.portal_tables.specs.declared.fault.TableFault.TheVariants.{Damaged, Memory}
 pub use Rattle.portal_tables.specs.declared.insert.lists.NewPlace.{NewPlace}
@@ -84,28 +80,38 @@ pub use Rattle.portal_tables.specs.inner.Changes.{AreNew, Becomes, Drops, ListsB
 pub use Rattle.portal_tables.specs.inner.Changes.{has_number, with_rows}
 pub use Rattle.portal_tables.specs.inner.Decoding.{FindsAny, FindsRow, IsPlainIfAny, Leaves, ReadsEach, ShowsAs}
 pub use Rattle.portal_tables.specs.inner.Decoding.{Refuses}
-pub use Rattle.portal_tables.specs.inner.MakingSteps.{Grown, Grows, Makes, MakesFirst, MakesSecond, with_second}
-pub use Rattle.portal_tables.specs.inner.Owners.{IsRead, entry, with_list, AreEntriesOf, IsFine, IsListOf}
-pub use Rattle.portal_tables.specs.inner.Placements.{pair_shown, first_pair, HasPairKeys, HasPlacementAsked}
+pub use Rattle.portal_tables.specs.inner.MakingSteps.{Grown, Grows, Makes, MakesFirst, MakesSecond, second_trees}
+pub use Rattle.portal_tables.specs.inner.MakingSteps.{with_second}
+pub use Rattle.portal_tables.specs.inner.Owners.{IsRead, entry, list_in_order, with_list, AreEntriesOf, IsFine}
+pub use Rattle.portal_tables.specs.inner.Owners.{IsListOf}
+pub use Rattle.portal_tables.specs.inner.Placements.{pair_shown, placed_project, first_pair, HasPairKeys}
+pub use Rattle.portal_tables.specs.inner.Placements.{HasPlacementAsked}
 pub use Rattle.portal_tables.specs.inner.Putting.{PutsList, PutsPlacements, RanksSecond, list_cells, numbered, placed}
 pub use Rattle.portal_tables.specs.inner.Queries.{columns_of, given, roll_tree, round_asked, selection, table_round}
 pub use Rattle.portal_tables.specs.inner.Queries.{table_tree, query_text}
-pub use Rattle.portal_tables.specs.inner.Reads.{IfOpen, Always, Blames}
+pub use Rattle.portal_tables.specs.inner.Reads.{IfOpen, Always, Blames, IsCommitted, IsUnchangedOrUndone, OnlyLooks}
+pub use Rattle.portal_tables.specs.inner.Reads.{Reading, Anyhow, Gives, HasRound}
 pub use Rattle.portal_tables.specs.inner.Rising.{is_above, rises}
 pub use Rattle.portal_tables.specs.inner.Rolls.{by_key}
-pub use Rattle.portal_tables.specs.inner.RowChanges.{IsOffice, IsSecond, Adds, AddsBy, Assigns, Clears, IsOfVersion}
-pub use Rattle.portal_tables.specs.inner.RowChanges.{MovesSecond, MovesTo, MarksRanked, assigned_by, lecturer_cells}
-pub use Rattle.portal_tables.specs.inner.RowChanges.{lecturer_new, lecturer_values, pair_new, place_cells, place_new}
-pub use Rattle.portal_tables.specs.inner.RowChanges.{project_new, student_new, student_columns, student_values}
-pub use Rattle.portal_tables.specs.inner.RowChanges.{text_or_null_cell, with_assigned}
+pub use Rattle.portal_tables.specs.inner.RowChanges.{IsOffice, IsSecond, Adds, AddsBy, Assigned, Assigns, portal_cells}
+pub use Rattle.portal_tables.specs.inner.RowChanges.{second_cells, Clears, IsOfVersion, MovesSecond, MovesTo}
+pub use Rattle.portal_tables.specs.inner.RowChanges.{MarksRanked}
+pub use Rattle.portal_tables.specs.inner.RowChanges.{assigned_by, lecturer_cells, lecturer_new, lecturer_values}
+pub use Rattle.portal_tables.specs.inner.RowChanges.{pair_new, place_cells, place_new, project_new, student_new}
+pub use Rattle.portal_tables.specs.inner.RowChanges.{student_columns, student_values, text_or_null_cell, with_assigned}
 pub use Rattle.portal_tables.specs.inner.Running.{Does, GoesOn, Made, Ran}
+pub use Rattle.portal_tables.specs.inner.Schema.{assigned2, choice, choice2, choice2_names, choice_names, column_of}
+pub use Rattle.portal_tables.specs.inner.Schema.{first_written, lecturer_schema, list_table, portal, portal_written}
+pub use Rattle.portal_tables.specs.inner.Schema.{project_schema, ranked2, ranking, ranking2, ranking2_names}
+pub use Rattle.portal_tables.specs.inner.Schema.{ranking_names, schema_of, second, student_schema}
 pub use Rattle.portal_tables.specs.inner.Shown.{as_list, first_cell, shown_name, shown_rank, shown_student}
 pub use Rattle.portal_tables.specs.inner.Texts.{add_eight_text, add_text, clear_text, names, place_among, round_of}
-pub use Rattle.portal_tables.specs.inner.Texts.{assigned2_text, lecturer_text, list_table_text, portal_text}
-pub use Rattle.portal_tables.specs.inner.Texts.{project_text, ranked2_text, second_text, student_text}
-pub use Rattle.sqlite.proofs.Callers.{EndsIn, IsPlain, begins_shown, command_of, given_begin, memory_is_clean}
-pub use Rattle.sqlite.proofs.Callers.{one_permutation, one_step, reads_as, runs_as, statement_of, survives_begin}
-pub use Rattle.sqlite.proofs.Callers.{unchanged_then}
+pub use Rattle.portal_tables.specs.inner.Texts.{assigned2_text, choice2_text, choice_text, lecturer_text, portal_text}
+pub use Rattle.portal_tables.specs.inner.Texts.{project_text, ranked2_text, ranking2_text, ranking_text, second_text}
+pub use Rattle.portal_tables.specs.inner.Texts.{student_text}
+pub use Rattle.sqlite.proofs.Callers.{EndsIn, IsPlain, begins_shown, command_of, given_begin}
+pub use Rattle.sqlite.proofs.Callers.{memory_is_clean, one_permutation, one_step, reads_as, runs_as, statement_of}
+pub use Rattle.sqlite.proofs.Callers.{survives_begin, unchanged_then}
 pub use Rattle.sqlite.proofs.InsideLemmas.{keeps_then as kept_then}
 pub use Rattle.sqlite.proofs.StateLemmas.{survives_then, survives_weaker, unchanged}
 pub use Rattle.sqlite.proofs.StreamLemmas.{rolled_back_since}

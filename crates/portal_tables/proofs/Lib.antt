@@ -2,6 +2,7 @@ pub mod Base
 pub mod Lists
 pub mod Query
 pub mod Tests
+pub mod Defined
 pub mod Weak
 pub mod Runs
 pub mod Writes
@@ -13,6 +14,8 @@ pub mod Shows
 pub mod Repeated
 pub mod Keeping
 pub mod Owned
+pub mod Compared
+pub mod Named
 pub mod Fresh
 pub mod InTurn
 pub mod Decoded

@@ -6,11 +6,15 @@ use Rattle.portal_tables.proofs.Base.{Error, Transaction, Database, understood, 
 use Rattle.portal_tables.proofs.Base.{statement_of, runs_as, everything, zip-append, all-append, all-map, no_schema}
 use Rattle.portal_tables.proofs.Base.{first_schema, portal_schema, portal, portal_text, lecturer_schema, lecturer_text}
 use Rattle.portal_tables.proofs.Base.{project_schema, project_text, student_schema, student_text, choice, ranking}
-use Rattle.portal_tables.proofs.Base.{choice_names, ranking_names, list_table_text, second, second_text, choice2}
-use Rattle.portal_tables.proofs.Base.{choice2_names, ranked2, ranked2_text, ranking2, ranking2_names, assigned2}
+use Rattle.portal_tables.proofs.Base.{second, second_text, choice2, ranked2, ranked2_text, ranking2, assigned2}
 use Rattle.portal_tables.proofs.Base.{assigned2_text, first_trees, second_trees, SameTable, IsCurrentSchema}
 use Rattle.portal_tables.proofs.Base.{IsFirstSchema, Grows, Grown, MakesFirst, MakesSecond, Makes, with_second, Ran}
-use Rattle.portal_tables.proofs.Base.{Made, Does}
+use Rattle.portal_tables.proofs.Base.{Made, Does, choice_text, ranking_text, choice2_text, ranking2_text, first_written}
+use Rattle.portal_tables.proofs.Base.{portal_written, SameSchema}
+use Rattle.portal_tables.proofs.Defined.{one, two, three, four, five, first_full, full_is, first_as_written}
+use Rattle.portal_tables.proofs.Defined.{portal_as_written, portal_defined, lecturer_defined, project_defined}
+use Rattle.portal_tables.proofs.Defined.{student_defined, choice_defined, ranking_defined, second_defined}
+use Rattle.portal_tables.proofs.Defined.{choice2_defined, ranked2_defined, ranking2_defined, assigned2_defined}
 use Rattle.portal_tables.proofs.Owned.{same_tables, first_self}
 use Rattle.portal_tables.proofs.Runs.{made_then, does_more, does_then}
 use Rattle.portal_tables.proofs.Sorted.{all_two}
@@ -85,53 +89,34 @@ pub grown_then : {S A B I : Type 0} (g : Ghosts S) (a b c : I → Schema) (kept 
 grown_then g a b c kept x y u r old mid new p q =
     does_then g _ _ _ u r old mid new p q (λ p q. made_then (GrowsBy a b kept x) (GrowsBy b c (kept ++ x) y) (GrowsBy a c kept (x ++ y)) _ _ _ p q (λ f h i. grows_then (a i) (b i) (c i) kept x y _ _ _ (f i) (h i)))
 
-abbrev one : Schema
-one = created no_schema (portal 0)
-
-abbrev two : Schema
-two = created one (lecturer_schema 0)
-
-abbrev three : Schema
-three = created two (project_schema 0)
-
-abbrev four : Schema
-four = created three (student_schema 0)
-
-abbrev five : Schema
-five = created four (choice 0)
-
 pub portal_made : Defines no_schema portal_text (portal 0) [] 0
 unfolding understood everything
-portal_made = record { defined = refl; command = refl; statement = refl; plain = (refl, refl); uncounted = refl; trees = refl; tree = refl }
+portal_made = record { defined = portal_defined; command = refl; statement = refl; plain = (refl, refl); uncounted = refl; trees = refl; tree = refl }
 
 pub lecturer_made : Defines one lecturer_text (lecturer_schema 0) (0 ∷ []) 1
 unfolding understood everything
-lecturer_made = record { defined = refl; command = refl; statement = refl; plain = (refl, refl); uncounted = refl; trees = refl; tree = refl }
+lecturer_made = record { defined = lecturer_defined; command = refl; statement = refl; plain = (refl, refl); uncounted = refl; trees = refl; tree = refl }
 
 pub project_made : Defines two project_text (project_schema 0) (0 ∷ 1 ∷ []) 4
 unfolding understood everything
-project_made = record { defined = refl; command = refl; statement = refl; plain = (refl, refl); uncounted = refl; trees = refl; tree = refl }
+project_made = record { defined = project_defined; command = refl; statement = refl; plain = (refl, refl); uncounted = refl; trees = refl; tree = refl }
 
 pub student_made : Defines three student_text (student_schema 0) (0 ∷ 1 ∷ 4 ∷ []) 6
 unfolding understood everything
-student_made = record { defined = refl; command = refl; statement = refl; plain = (refl, refl); uncounted = refl; trees = refl; tree = refl }
+student_made = record { defined = student_defined; command = refl; statement = refl; plain = (refl, refl); uncounted = refl; trees = refl; tree = refl }
 
-pub choice_made : Defines four (list_table_text choice_names) (choice 0) (0 ∷ 1 ∷ 4 ∷ 6 ∷ []) 9
+pub choice_made : Defines four choice_text (choice 0) (0 ∷ 1 ∷ 4 ∷ 6 ∷ []) 9
 unfolding understood everything
-choice_made = record { defined = refl; command = refl; statement = refl; plain = (refl, refl); uncounted = refl; trees = refl; tree = refl }
+choice_made = record { defined = choice_defined; command = refl; statement = refl; plain = (refl, refl); uncounted = refl; trees = refl; tree = refl }
 
-pub ranking_made : Defines five (list_table_text ranking_names) (ranking 0) (0 ∷ 1 ∷ 4 ∷ 6 ∷ 9 ∷ []) 12
+pub ranking_made : Defines five ranking_text (ranking 0) (0 ∷ 1 ∷ 4 ∷ 6 ∷ 9 ∷ []) 12
 unfolding understood everything
-ranking_made = record { defined = refl; command = refl; statement = refl; plain = (refl, refl); uncounted = refl; trees = refl; tree = refl }
-
-first_full : created five (ranking 0) ≡ first_schema
-unfolding understood everything
-first_full = refl
+ranking_made = record { defined = ranking_defined; command = refl; statement = refl; plain = (refl, refl); uncounted = refl; trees = refl; tree = refl }
 
 pub first_made : {S A : Type 0} (g : Ghosts S) (r : Result A Error) (old new : Transaction S)
     → Does g (Made (GrowsBy {I = ⊤} (λ _. no_schema) (λ _. created five (ranking 0)) [] first_trees)) r old new → Does g (Made MakesFirst) r old new
 first_made g r old new does =
-    does_more g _ _ r old new does (λ made. record { shown = made.shown; changed = subst (λ s. Grows no_schema s [] first_trees (state g old.conn.now).now (state g new.conn.now).now) first_full (made.changed tt) })
+    does_more g _ _ r old new does (λ made. record { shown = made.shown; changed = subst (λ s. Grows no_schema s [] first_trees (state g old.conn.now).now (state g new.conn.now).now) (first_full ∙ sym first_as_written) (made.changed tt) })
 
 -- behind the six the five, whatever the terms of the six
 abbrev Terms : Type 0
@@ -155,35 +140,35 @@ module _ (terms : Terms) where
 
   pub second_made : Defines six second_text (second 0) first_trees 15
   unfolding understood everything
-  second_made = record { defined = refl; command = refl; statement = refl; plain = (refl, refl); uncounted = refl; trees = refl; tree = refl }
+  second_made = record { defined = second_defined; command = refl; statement = refl; plain = (refl, refl); uncounted = refl; trees = refl; tree = refl }
 
-  pub choice2_made : Defines seven (list_table_text choice2_names) (choice2 0) (first_trees ++ (15 ∷ [])) 16
+  pub choice2_made : Defines seven choice2_text (choice2 0) (first_trees ++ (15 ∷ [])) 16
   unfolding understood everything
-  choice2_made = record { defined = refl; command = refl; statement = refl; plain = (refl, refl); uncounted = refl; trees = refl; tree = refl }
+  choice2_made = record { defined = choice2_defined; command = refl; statement = refl; plain = (refl, refl); uncounted = refl; trees = refl; tree = refl }
 
   pub ranked2_made : Defines eight ranked2_text (ranked2 0) (first_trees ++ (15 ∷ 16 ∷ [])) 19
   unfolding understood everything
-  ranked2_made = record { defined = refl; command = refl; statement = refl; plain = (refl, refl); uncounted = refl; trees = refl; tree = refl }
+  ranked2_made = record { defined = ranked2_defined; command = refl; statement = refl; plain = (refl, refl); uncounted = refl; trees = refl; tree = refl }
 
-  pub ranking2_made : Defines nine (list_table_text ranking2_names) (ranking2 0) (first_trees ++ (15 ∷ 16 ∷ 19 ∷ [])) 21
+  pub ranking2_made : Defines nine ranking2_text (ranking2 0) (first_trees ++ (15 ∷ 16 ∷ 19 ∷ [])) 21
   unfolding understood everything
-  ranking2_made = record { defined = refl; command = refl; statement = refl; plain = (refl, refl); uncounted = refl; trees = refl; tree = refl }
+  ranking2_made = record { defined = ranking2_defined; command = refl; statement = refl; plain = (refl, refl); uncounted = refl; trees = refl; tree = refl }
 
   pub assigned2_made : Defines ten assigned2_text (assigned2 0) (first_trees ++ (15 ∷ 16 ∷ 19 ∷ 21 ∷ [])) 24
   unfolding understood everything
-  assigned2_made = record { defined = refl; command = refl; statement = refl; plain = (refl, refl); uncounted = refl; trees = refl; tree = refl }
+  assigned2_made = record { defined = assigned2_defined; command = refl; statement = refl; plain = (refl, refl); uncounted = refl; trees = refl; tree = refl }
 
   all_same : (ts : List Table) → AllZip SameTable (map (with_checks terms.0 terms.1) ts) ts
   all_same [] = tt
   all_same (t ∷ ts) = (same_with (terms.0 t.tree) (terms.1 t.tree) t, all_same ts)
 
-  is_current : IsCurrentSchema (with_second six)
+  is_current : SameSchema (with_second six) portal_written
   unfolding understood everything
-  is_current = record { tables = zip-append SameTable (map (with_checks terms.0 terms.1) first_schema.tables) (drop 6 portal_schema.tables) first_schema.tables (drop 6 portal_schema.tables) (all_same first_schema.tables) (same_tables (drop 6 portal_schema.tables)); indexes = refl; no_views = refl; no_views_there = refl }
+  is_current = record { tables = zip-append SameTable (map (with_checks terms.0 terms.1) first_written.tables) (drop 6 portal_written.tables) first_written.tables (drop 6 portal_written.tables) (all_same first_written.tables) (same_tables (drop 6 portal_written.tables)); indexes = refl; views = refl }
 
 -- beside the six of version 1 they make all
 pub second_current : (s : Schema) → IsFirstSchema s → IsCurrentSchema (with_second s)
-second_current s own = let w = first_is s own in subst (λ x. IsCurrentSchema (with_second x)) (sym w.is) (is_current (w.checks, w.terms))
+second_current s own = let w = first_is s own in subst (λ x. IsCurrentSchema (with_second x)) (sym w.is) (subst (SameSchema (with_second (six (w.checks, w.terms)))) (sym portal_as_written) (is_current (w.checks, w.terms)))
 
 pub five_made : {S A : Type 0} (g : Ghosts S) (r : Result A Error) (old new : Transaction S)
     → Does g (Made (GrowsBy six (λ terms. with_second (six terms)) first_trees second_trees)) r old new → Does g (Made MakesSecond) r old new
@@ -194,10 +179,6 @@ five_made g r old new does = does_more g _ _ r old new does (λ made. record {
       subst (λ s. Grown (with_second s) first_trees second_trees (state g old.conn.now).now (state g new.conn.now).now) (sym w.is) (made.changed (w.checks, w.terms) w.is);
 })
 
-full_is : with_second first_schema ≡ portal_schema
-unfolding understood everything
-full_is = refl
-
 -- over no table all
 pub all_made : {S A : Type 0} (g : Ghosts S) (r : Result A Error) (old mid new : Transaction S)
     → Does g (Made MakesFirst) (Ok (tt {0})) old mid → Does g (Made MakesSecond) r mid new
@@ -205,4 +186,4 @@ pub all_made : {S A : Type 0} (g : Ghosts S) (r : Result A Error) (old mid new :
 all_made g r old mid new first second = does_then g _ _ _ _ r old mid new first second (λ p q. made_then MakesFirst MakesSecond Makes _ _ _ p q (λ first second has.
     let was = first has in
     let is = second (subst IsFirstSchema (sym was.schema_is) first_self) in
-    grows_then no_schema first_schema portal_schema [] first_trees second_trees _ _ _ first (λ _. record { schema_is = is.schema_is ∙ ap with_second was.schema_is ∙ full_is; same = is.same; empty = is.empty; sound = is.sound }) has))
+    grows_then no_schema first_schema portal_schema [] first_trees second_trees _ _ _ first (λ _. record { schema_is = is.schema_is ∙ ap with_second (was.schema_is ∙ first_as_written) ∙ full_is ∙ sym portal_as_written; same = is.same; empty = is.empty; sound = is.sound }) has))

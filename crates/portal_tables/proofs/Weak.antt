@@ -1,22 +1,15 @@
 -- Schemas that are the portal's own but for their checks and the terms of their defaults.
 use Rattle.portal_tables.proofs.Base.{◌≡◌, ◌&&◌, ◌∷◌, ◌++◌, ℕ, Bool, true, false, not, cond, eqb, take, drop, List, []}
 use Rattle.portal_tables.proofs.Base.{map, refl, sym, ap, ap₂, ◌∙◌, AllZip, list_all, and_parts, eq-eqb}
-use Rattle.portal_tables.proofs.Base.{take-append-drop, Term, Table, Schema, Index, Round, First, Second, first_schema}
-use Rattle.portal_tables.proofs.Base.{portal_schema, SameTable, IsFirstSchema, HasRound}
+use Rattle.portal_tables.proofs.Base.{take-append-drop, Term, Table, Schema, Index, Round, First, Second, first_written}
+use Rattle.portal_tables.proofs.Base.{portal_written, SameSchema, SameTable, IsFirstSchema, HasRound, subst}
+use Rattle.portal_tables.proofs.Defined.{first_as_written, portal_as_written}
 
 abbrev pub with_terms : List Term → List Term → Table → Table
 with_terms checks terms t = record t { checks = checks; stamps = record t.stamps { terms = terms } }
 
 pub same_with : (checks terms : List Term) (t : Table) → SameTable (with_terms checks terms t) t
-same_with checks terms t = record {
-  name = refl;
-  tree = refl;
-  columns = refl;
-  key = refl;
-  is_counted = refl;
-  rules = record { primary = refl; uniques = refl; orders = refl; references = refl };
-  defaults = record { computed = refl; places = refl; formats = refl };
-}
+same_with checks terms t = refl
 
 abbrev pub with_checks : (ℕ → List Term) → (ℕ → List Term) → Table → Table
 with_checks checks terms t = with_terms (checks t.tree) (terms t.tree) t
@@ -30,13 +23,13 @@ pub record Open : Type 0 where
 
 -- all tables, those of the first round, and those with whatever stands behind them
 abbrev pub portal_with : (ℕ → List Term) → (ℕ → List Term) → Schema
-portal_with checks terms = record portal_schema { tables = map (with_checks checks terms) portal_schema.tables }
+portal_with checks terms = record portal_written { tables = map (with_checks checks terms) portal_written.tables }
 
 abbrev pub first_with : (ℕ → List Term) → (ℕ → List Term) → Schema
-first_with checks terms = record first_schema { tables = map (with_checks checks terms) first_schema.tables }
+first_with checks terms = record first_written { tables = map (with_checks checks terms) first_written.tables }
 
 abbrev pub schema_with : Round → Open → Schema
-schema_with First o = record { tables = map (with_checks o.checks o.terms) first_schema.tables ++ o.tables; indexes = o.indexes; views = [] }
+schema_with First o = record { tables = map (with_checks o.checks o.terms) first_written.tables ++ o.tables; indexes = o.indexes; views = [] }
 schema_with Second o = portal_with o.checks o.terms
 
 pub record IsWith (round : Round) (s : Schema) : Type 0 where
@@ -49,20 +42,7 @@ pub record IsFirstWith (s : Schema) : Type 0 where
   pub is : s ≡ first_with checks terms
 
 table_is : (t u : Table) → SameTable t u → t ≡ with_terms t.checks t.stamps.terms u
-table_is t u s = λ i. record {
-  name = s.name i;
-  tree = s.tree i;
-  columns = s.columns i;
-  key = s.key i;
-  primary = s.rules.primary i;
-  uniques = s.rules.uniques i;
-  orders = s.rules.orders i;
-  checks = t.checks;
-  references = s.rules.references i;
-  computed = s.defaults.computed i;
-  stamps = record { places = s.defaults.places i; terms = t.stamps.terms; formats = s.defaults.formats i };
-  is_counted = s.is_counted i;
-}
+table_is t u s = ap (with_terms t.checks t.stamps.terms) s
 
 -- what one tree has, and what others have
 abbrev with_one : ℕ → List Term → (ℕ → List Term) → ℕ → List Term
@@ -106,19 +86,21 @@ zipped (t ∷ ts) (u ∷ us) h apart =
 
 pub own_is : (round : Round) (s : Schema) → HasRound round s → IsWith round s
 own_is First s h =
-    let z = zipped (take 6 s.tables) first_schema.tables h.tables refl in
+    let z = zipped (take 6 s.tables) first_written.tables (subst (λ (f : Schema). AllZip SameTable (take 6 s.tables) f.tables) first_as_written h.tables) refl in
     record {
       o = record { checks = z.checks; terms = z.terms; tables = drop 6 s.tables; indexes = s.indexes };
       is = λ i. record { tables = (sym (take-append-drop 6 s.tables) ∙ ap (λ ts. ts ++ drop 6 s.tables) z.is) i; indexes = s.indexes; views = h.no_views i };
     }
 own_is Second s h =
-    let z = zipped s.tables portal_schema.tables h.tables refl in
+    let w : SameSchema s portal_written = subst (SameSchema s) portal_as_written h in
+    let z = zipped s.tables portal_written.tables w.tables refl in
     record {
       o = record { checks = z.checks; terms = z.terms; tables = []; indexes = [] };
-      is = λ i. record { tables = z.is i; indexes = h.indexes i; views = h.no_views i };
+      is = λ i. record { tables = z.is i; indexes = w.indexes i; views = w.views i };
     }
 
 pub first_is : (s : Schema) → IsFirstSchema s → IsFirstWith s
 first_is s h =
-    let z = zipped s.tables first_schema.tables h.tables refl in
-    record { checks = z.checks; terms = z.terms; is = λ i. record { tables = z.is i; indexes = h.indexes i; views = h.no_views i } }
+    let w : SameSchema s first_written = subst (SameSchema s) first_as_written h in
+    let z = zipped s.tables first_written.tables w.tables refl in
+    record { checks = z.checks; terms = z.terms; is = λ i. record { tables = z.is i; indexes = w.indexes i; views = w.views i } }

@@ -1,44 +1,29 @@
 -- Which schemas use a name of the portal's tables, and how its tables are made and upgraded.
 use Rattle.std.specs.Prelude.{◌||◌, ◌&&◌, ◌≡◌, ◌≢◌, ◌∷◌}
-use Rattle.portal_tables.specs.Base.{ℕ, Bool, true, List, codes, Option, Some, None, bytes_eq, list_any, View}
+use Rattle.portal_tables.specs.Base.{ℕ, Bool, true, List, Option, Some, None, bytes_eq, list_any, drop}
 use Rattle.portal_tables.specs.Base.{same_name, ℤ, pos, [], AllByRecursion, Database, IsDatabase}
-use Rattle.sqlite_schema.specs.declared.schema.Table.{Table}
 use Rattle.sqlite_schema.specs.declared.schema.Schema.{Schema}
 use Rattle.portal_tables.specs.declared.names.Names.{Names}
 use Rattle.portal_tables.specs.declared.names.Names.TheVariants.{All, OfSecond}
-use Rattle.portal_tables.specs.Tables.{no_schema, portal_schema, portal_tree, second_tree, choice2_tree, ranked2_tree}
-use Rattle.portal_tables.specs.Tables.{ranking2_tree, assigned2_tree, first_trees, own_trees, version, first_version}
-use Rattle.portal_tables.specs.Tables.{IsFirstSchema, IsCurrentSchema}
+use Rattle.portal_tables.specs.Tables.{no_schema, portal_schema, portal_tree, second_tree, first_trees, later_trees}
+use Rattle.portal_tables.specs.Tables.{own_trees, version, first_version, IsFirstSchema, IsCurrentSchema}
 use Rattle.portal_tables.specs.Rows.{portal_row, second_row}
 
--- a name of a table of the first round, or below of the second, ignoring the case of letters
-abbrev pub has_first_name : List ℕ → Bool
-has_first_name n =
-    same_name n (codes "portal") || (same_name n (codes "lecturer") || (same_name n (codes "project") || (same_name n (codes "student") || (same_name n (codes "choice") || same_name n (codes "ranking")))))
-
-abbrev pub has_second_name : List ℕ → Bool
-has_second_name n =
-    same_name n (codes "second") || (same_name n (codes "choice2") || (same_name n (codes "ranked2") || (same_name n (codes "ranking2") || same_name n (codes "assigned2"))))
-
--- a name of any of the portal's tables, or of the second round's alone
+-- a name of any of the portal's tables, or of the second round's alone, ignoring the case of letters
 abbrev pub has_name : Names → List ℕ → Bool
-has_name All n = has_first_name n || has_second_name n
-has_name OfSecond n = has_second_name n
+has_name All n = list_any (λ t. same_name n t.name) portal_schema.tables
+has_name OfSecond n = list_any (λ t. same_name n t.name) (drop 6 portal_schema.tables)
 
 -- an object without readable rows counts if it is a view (no table) or a table (its own name)
 abbrev pub stands_for_table : List ℕ → Option (List ℕ) → Bool
 stands_for_table name None = true
 stands_for_table name (Some table) = bytes_eq table name
 
-abbrev pub is_named_table : Names → Table → Bool
-is_named_table names t = has_name names t.name
-
-abbrev pub is_named_view : Names → View → Bool
-is_named_view names v = has_name names v.name && stands_for_table v.name v.foreign
-
 -- a table or a view has one of these names
 abbrev pub has_names : Names → Schema → Bool
-has_names names schema = list_any (is_named_table names) schema.tables || list_any (is_named_view names) schema.views
+has_names names schema =
+    list_any (λ t. has_name names t.name) schema.tables
+    || list_any (λ v. has_name names v.name && stands_for_table v.name v.foreign) schema.views
 
 -- the portal's tables in setup: the office's row, the row of no second round, and no other rows
 pub record IsFresh (office : List ℕ) (db : Database) : Type 0 where
@@ -58,7 +43,7 @@ pub record Upgraded (phase : ℤ) (office : List ℕ) (old new : Database) : Typ
   pub portal : new.trees portal_tree ≡ portal_row (pos version) phase office ∷ []
   pub others : AllByRecursion (λ t. t ≢ portal_tree → new.trees t ≡ old.trees t) first_trees
   pub second : new.trees second_tree ≡ second_row (pos 0) ∷ []
-  pub empty : AllByRecursion (λ t. new.trees t ≡ []) (choice2_tree ∷ ranked2_tree ∷ ranking2_tree ∷ assigned2_tree ∷ [])
+  pub empty : AllByRecursion (λ t. new.trees t ≡ []) later_trees
   pub sound : IsDatabase new
 
 -- a database of version 1 is upgraded, whatever its phase and the office's code

@@ -1,32 +1,21 @@
--- What the rows of the tables say, what the statements put into them, and the lists that they hold.
+-- What the rows of the tables say, and the lists that they hold.
 use Rattle.std.specs.Prelude.{◌∷◌, ◌≡◌, if◌then◌else◌, ◌==◌, ◌+◌}
 use Rattle.portal_tables.specs.Base.{ℕ, ℤ, pos, List, [], Option, Null, Int, Words, Row, column, bytes, Key, Some, None}
-use Rattle.portal_tables.specs.Base.{Value, Real, Blob, Bool, false, ⊤, AllByRecursion, is_eq, value_cmp, id_in, rowid}
-use Rattle.portal_tables.specs.Base.{Phase, Setup, Choosing, Ranking, Published, map, filter, number_in, put_all}
-use Rattle.portal_tables.specs.Base.{option_map, find, Trees, equals}
+use Rattle.portal_tables.specs.Base.{Value, Bool, false, ⊤, AllByRecursion, is_eq, value_cmp, id_in, rowid, Phase}
+use Rattle.portal_tables.specs.Base.{Setup, Choosing, Ranking, Published, map, filter, number_in, put_all, option_map}
+use Rattle.portal_tables.specs.Base.{find, Trees, equals}
 use Rattle.portal_rules.specs.declared.rows.LecturerRow.{LecturerRow}
 use Rattle.portal_rules.specs.declared.rows.ProjectRow.{ProjectRow}
 use Rattle.portal_rules.specs.declared.rows.StudentRow.{StudentRow}
 use Rattle.portal_tables.specs.Tables.{assigned2_tree}
 
--- the cells of the row of `portal` after its number; the number is the id, whose own cell is empty
-abbrev pub portal_cells : ℤ → ℤ → List ℕ → Row
-portal_cells version phase office = Null ∷ Int version ∷ Int phase ∷ Words office ∷ []
-
--- the row of `portal`, with the id 1
+-- the row of `portal`, of number 1; the number is the id, whose own cell is empty
 abbrev pub portal_row : ℤ → ℤ → List ℕ → Row
-portal_row version phase office = Int (pos 1) ∷ portal_cells version phase office
+portal_row version phase office = Int (pos 1) ∷ Null ∷ Int version ∷ Int phase ∷ Words office ∷ []
 
--- the same for the row of `second`, also with the id 1
-abbrev pub second_cells : ℤ → Row
-second_cells phase = Null ∷ Int phase ∷ []
-
+-- the row of `second`, likewise
 abbrev pub second_row : ℤ → Row
-second_row phase = Int (pos 1) ∷ second_cells phase
-
--- a student's key, and the project to assign to the student, or none
-abbrev pub Assigned : Type 0
-Assigned = List ℕ × Option (List ℕ)
+second_row phase = Int (pos 1) ∷ Null ∷ Int phase ∷ []
 
 -- the key in a row of a roll
 abbrev pub row_key : Row → Key
@@ -45,10 +34,8 @@ student_at n r = record { key = bytes (column r n); name = bytes (column r (n + 
 -- the text in a cell, or none for NULL; any other value counts as the empty text
 abbrev pub text_or_none : Value → Option Key
 text_or_none Null = None
-text_or_none (Int n) = Some []
-text_or_none (Real x) = Some []
-text_or_none (Blob b) = Some []
 text_or_none (Words t) = Some t
+text_or_none _ = Some []
 
 -- each row has a number, and the numbers differ
 abbrev pub RowNumbersDiffer : List Row → Type 0
@@ -96,12 +83,9 @@ place_key r = place_of r ∷ []
 abbrev pub by_place : List Row → List Row
 by_place rows = put_all place_key rows []
 
-abbrev pub list_in_order : List Row → List Key
-list_in_order rows = map named_by (by_place rows)
-
 -- the list of one owner, from the rows of all owners
 abbrev pub chosen : List Row → Key → List Key
-chosen rows key = list_in_order (of_key key rows)
+chosen rows key = map named_by (by_place (of_key key rows))
 
 -- the numbers are n, n + 1 and so on
 abbrev pub CountUp : ℕ → List ℕ → Type 0
@@ -112,10 +96,6 @@ CountUp n (m ∷ ms) = (m ≡ n) × CountUp (n + 1) ms
 abbrev pub IsWhole : List Row → Type 0
 IsWhole rows = CountUp 1 (map place_of (by_place rows))
 
--- the project in a row of `assigned2`
-abbrev pub placed_project : Row → Key
-placed_project a = bytes (column a 2)
-
--- the project in the second round of the student with this key
+-- the project in the second round of the student with this key, by the row of `assigned2`
 abbrev pub second_placement : Trees → Key → Option Key
-second_placement db k = option_map placed_project (find (λ a. equals (row_key a) k) (db assigned2_tree))
+second_placement db k = option_map (λ a. bytes (column a 2)) (find (λ a. equals (row_key a) k) (db assigned2_tree))

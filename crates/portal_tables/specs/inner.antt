@@ -1,4 +1,7 @@
 pub mod Base
+pub mod Comparing
+pub mod Named
+pub mod Schema
 pub mod Texts
 pub mod Changes
 pub mod Running

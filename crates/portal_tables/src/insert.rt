@@ -5,7 +5,7 @@ ghost use Rattle.std.specs.Prelude.{◌≡◌, ◌<◌, ◌≤◌, ◌++◌, ◌
 ghost use Rattle.portal_tables.specs.inner.Base.{ℕ, [], pos, map, OnOk, flat_map, Row, bound};
 ghost use Rattle.portal_tables.specs.inner.Running.{Does, Ran, Made, GoesOn};
 ghost use Rattle.portal_tables.specs.Tables.{portal_tree, second_tree, version};
-ghost use Rattle.portal_tables.specs.Rows.{portal_cells, second_cells};
+ghost use Rattle.portal_tables.specs.inner.RowChanges.{portal_cells, second_cells};
 ghost use Rattle.portal_tables.specs.inner.RowChanges.{Adds, AddsBy};
 
 mod lists;

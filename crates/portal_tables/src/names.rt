@@ -3,9 +3,9 @@
 ghost use Rattle.std.specs.Prelude.{◌≡◌, ◌↔◌};
 ghost use Rattle.portal_tables.specs.inner.Base.{IsTrue, list_any};
 ghost use Rattle.portal_tables.specs.Tables.{no_schema};
-ghost use Rattle.portal_tables.specs.Making.{has_first_name, has_second_name, has_name};
-ghost use Rattle.portal_tables.specs.Making.{stands_for_table, is_named_table, is_named_view};
-ghost use Rattle.portal_tables.specs.Making.{has_names};
+ghost use Rattle.portal_tables.specs.Making.{has_names, stands_for_table};
+ghost use Rattle.portal_tables.specs.inner.Named.{has_first_name, has_second_name, is_name};
+ghost use Rattle.portal_tables.specs.inner.Named.{is_named_table, is_named_view};
 
 use sqlite_schema::names::same_name;
 use sqlite_schema::schema::{Schema, Table, View};
@@ -45,7 +45,7 @@ fn is_second_name(name: &[u8]) -> bool
 impl Names {
     /// Returns whether this is one of the names, ignoring case.
     fn has(self, name: &[u8]) -> bool
-        ensures { result ≡ has_name self name.now }
+        ensures { result ≡ is_name self name.now }
     {
         match self {
             Names::All => is_first_name(name) || is_second_name(name),

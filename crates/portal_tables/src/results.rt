@@ -25,7 +25,7 @@ pub struct Assignment<'a> {
 
 impl<'a> Model for Assignment<'a> {
     ghost use Rattle.std.specs.Prelude.{option_map};
-    ghost use Rattle.portal_tables.specs.Rows.{Assigned};
+    ghost use Rattle.portal_tables.specs.inner.RowChanges.{Assigned};
 
     ghost Value = { Assigned };
 

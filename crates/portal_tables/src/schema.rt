@@ -1,11 +1,11 @@
 //! Compares a schema with the portal's own, except for the terms of CHECK and DEFAULT.
 
 ghost use Rattle.std.specs.Prelude.{◌≡◌, ◌↔◌};
-ghost use Rattle.portal_tables.specs.inner.Base.{IsTrue, [], false, OnOk};
+ghost use Rattle.portal_tables.specs.inner.Base.{IsTrue, false, OnOk};
 ghost use Rattle.portal_tables.specs.inner.Base.{AllZip};
-ghost use Rattle.portal_tables.specs.Tables.{no_schema, portal_schema, SameRules, SameDefaults};
-ghost use Rattle.portal_tables.specs.Tables.{SameTable, SameSchema, IsCurrentSchema, IsFirstSchema};
-ghost use Rattle.portal_tables.specs.Tables.{HasFirstSchema};
+ghost use Rattle.portal_tables.specs.Tables.{no_schema, portal_schema};
+ghost use Rattle.portal_tables.specs.Tables.{HasFirstSchema, IsCurrentSchema, IsFirstSchema};
+ghost use Rattle.portal_tables.specs.inner.Comparing.{HasParts, SameDefaults, SameParts, SameRules};
 
 use crate::make::make_tables;
 use sqlite::{Alter, Connection, Error, MemStore};
@@ -115,7 +115,7 @@ fn has_same_defaults(a: &Table, b: &Table) -> bool
 
 /// Returns whether two tables are the same, except for the terms of CHECK and DEFAULT.
 fn is_same_table(a: &Table, b: &Table) -> bool
-    ensures { IsTrue result ↔ SameTable a.now b.now }
+    ensures { IsTrue result ↔ SameParts a.now b.now }
 {
     a.name.as_slice() == b.name.as_slice()
         && a.tree == b.tree
@@ -128,7 +128,7 @@ fn is_same_table(a: &Table, b: &Table) -> bool
 
 /// Returns whether two lists of tables are the same, except for the terms of CHECK and DEFAULT.
 fn are_same_tables(a: &[Table], b: &[Table]) -> bool
-    ensures { IsTrue result ↔ AllZip SameTable a.now b.now }
+    ensures { IsTrue result ↔ AllZip SameParts a.now b.now }
 {
     if a.len() != b.len() {
         return false;
@@ -144,9 +144,7 @@ fn are_same_tables(a: &[Table], b: &[Table]) -> bool
 /// Returns whether the schema has these tables and indexes and no view. The terms of CHECK and
 /// DEFAULT are not compared.
 fn is_same_schema(schema: &Schema, tables: &[Table], indexes: &[Index]) -> bool
-    ensures { IsTrue result
-        ↔ SameSchema schema.now
-        (record { tables = tables.now; indexes = indexes.now; views = [] }) }
+    ensures { IsTrue result ↔ HasParts schema.now tables.now indexes.now }
 {
     are_same_tables(schema.tables.as_slice(), tables)
         && are_same(schema.indexes.as_slice(), indexes)

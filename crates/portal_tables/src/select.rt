@@ -6,8 +6,8 @@ ghost use Rattle.portal_tables.specs.inner.Base.{AllByRecursion, Cells, bound, s
 ghost use Rattle.portal_tables.specs.inner.Decoding.{ShowsAs, FindsAny};
 ghost use Rattle.portal_tables.specs.inner.Queries.{QueryShows, round_asked, query_text, given};
 ghost use Rattle.portal_tables.specs.inner.Queries as texts;
-ghost use Rattle.portal_tables.specs.Steps.{Gives, HasAnswer, HasRefusal, IsStoreError, Reads};
-ghost use Rattle.portal_tables.specs.inner.Reads.{Always, GivesOrFails, Blames};
+ghost use Rattle.portal_tables.specs.Steps.{HasAnswer, HasRefusal, IsStoreError};
+ghost use Rattle.portal_tables.specs.inner.Reads.{Always, GivesOrFails, Blames, Reads, Gives};
 ghost use Rattle.portal_tables.specs.inner.Shown.{as_list};
 
 use crate::decode::FromCells;

@@ -43,9 +43,8 @@ pub use Rattle.portal_tables.proofs.Texts.{key_texts}
 pub use Rattle.portal_tables.proofs.Weak.{Open, own_is, schema_with, with_checks}
 pub use Rattle.portal_tables.specs.Rows.{RowNumbersDiffer, has_text, row_key, by_place, chosen, named_by, of_key}
 pub use Rattle.portal_tables.specs.Rows.{place_key, IsWhole, CountUp, place_of}
-pub use Rattle.portal_tables.specs.Steps.{Reading, Gives}
 pub use Rattle.portal_tables.specs.Tables.{choice_table, ranking_table, tree_of, assigned2_tree, lecturer_tree}
-pub use Rattle.portal_tables.specs.Tables.{project_tree, student_tree, HasRound, IsCurrentSchema, HasFirstSchema}
+pub use Rattle.portal_tables.specs.Tables.{project_tree, student_tree, IsCurrentSchema, HasFirstSchema}
 pub use Rattle.portal_tables.specs.declared.fault.TableFault.{TableFault}
 pub use Rattle.portal_tables.specs.declared.list_table.Lists.{Lists}
 pub use Rattle.portal_tables.specs.declared.list_table.Lists.TheVariants.{Choices, Rankings, SecondChoices}
@@ -59,7 +58,7 @@ pub use Rattle.portal_tables.specs.inner.Owners.{AreOwned, choice_shown, has_lis
 pub use Rattle.portal_tables.specs.inner.Placements.{HasPlacement, HasPlacementAsked, HasSecondPlace, placement_before}
 pub use Rattle.portal_tables.specs.inner.Placements.{HasFirstPlace, first_pairs}
 pub use Rattle.portal_tables.specs.inner.Queries.{columns_of, roll_tree}
-pub use Rattle.portal_tables.specs.inner.Reads.{MayRead, Always}
+pub use Rattle.portal_tables.specs.inner.Reads.{MayRead, Always, Reading, Gives, HasRound}
 pub use Rattle.portal_tables.specs.inner.Rolls.{by_key, lecturers_shown, projects_shown, roll_columns, students_shown}
 pub use Rattle.portal_tables.specs.inner.Rolls.{RollRises}
 pub use Rattle.portal_tables.specs.inner.Shown.{first_cell, shown_lecturer, shown_project, shown_student}

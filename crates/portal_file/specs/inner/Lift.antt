@@ -8,13 +8,23 @@ use Rattle.sqlite_wal.specs.Reads.{AreClean}
 use Rattle.sqlite_wal.specs.Recovery.{Image}
 use Rattle.sqlite.specs.Held.{Held}
 use Rattle.sqlite.specs.State.{State, HasCleanDisk}
-use Rattle.sqlite.specs.Files.{file_state, IsOpened}
+use Rattle.sqlite.specs.Tree.{Trees}
+use Rattle.sqlite.specs.Files.{file_state, HoldsDatabase, IsOpened}
 use Rattle.sqlite.specs.Start.{FindsIn}
 use Rattle.portal_rules.specs.World.{World}
 use Rattle.portal_store.specs.declared.store.OpenFault.{OpenFault}
-use Rattle.portal_file.specs.Tables.{Work, work_of, Current}
+use Rattle.portal_file.specs.Tables.{Work, Current}
 use Rattle.portal_file.specs.Jobs.{IsOfStore}
-use Rattle.portal_file.specs.Files.{ComesOf}
+use Rattle.portal_file.specs.inner.Connected.{work_of}
+
+-- the files hold a database that a stop of the connection may leave
+abbrev pub HoldsLeft : State → Image → Type 0
+HoldsLeft s image = ∥ ((db : Trees) × s.may_leave db × HoldsDatabase image db) ∥₁
+
+-- if the disk is clean, it was so before, and what is left holds what a stop of the connection leaves
+pub record ComesOf (s : State) (Clean : Type 0) (Leaves : Image → Type 0) : Type 0 where
+  pub clean : Clean → HasCleanDisk s
+  pub holds : Clean → (image : Image) → Leaves image → HoldsLeft s image
 
 -- a connection that was just opened over files with these contents
 abbrev pub OpensOver : {D : Type 0} {g : Ghosts D} → Image → Held (FileStore D g) → Type 0

@@ -2,11 +2,11 @@
 use Rattle.std.specs.Prelude.{ℕ, ◌++◌}
 use Rattle.sqlite.specs.Tree.{Trees}
 use Rattle.portal_rules.specs.Good.{Good}
-use Rattle.portal_tables.specs.Tables.{portal_tree, first_trees, own_trees, version}
+use Rattle.portal_tables.specs.Tables.{portal_tree, first_trees, later_trees, own_trees, version}
 use Rattle.portal_tables.specs.Rows.{HasOffice}
 use Rattle.portal_store.specs.World.{round_in, world_of}
-use Rattle.portal_store.specs.Kept.{AllNumbersDiffer, AreWhole, HasGoodWorld, HasGoodFirst, later_trees}
-use Rattle.portal_store.specs.inner.Keeping.{early_trees}
+use Rattle.portal_store.specs.Kept.{AreWhole, HasGoodWorld, HasGoodFirst}
+use Rattle.portal_store.specs.inner.Keeping.{AllNumbersDiffer, early_trees}
 use Rattle.portal_store.specs.declared.store.OpenFault.{OpenFault}
 use Rattle.portal_store.specs.declared.store.OpenFault.TheVariants as opening
 

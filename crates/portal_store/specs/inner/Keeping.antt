@@ -1,5 +1,6 @@
 -- What a store keeps true between two calls, and what a change of the world is to the tables.
 use Rattle.std.specs.Prelude.{◌≡◌, ℕ, Bool, false, List, [], ◌∷◌, Option, IfSome, IsTrue, refl}
+use Rattle.std.specs.List.{AllByRecursion}
 use Rattle.std.specs.Coded.{Coded, code_by, coded×, coded_bool, coded_ℕ}
 use Rattle.sqlite.specs.Effect.{Database}
 use Rattle.sqlite.specs.State.{State, HasCleanDisk}
@@ -12,14 +13,28 @@ use Rattle.portal_rules.specs.Good.{Good}
 use Rattle.portal_rules.specs.inner.ViewCache.{IsCacheOf}
 use Rattle.portal_rules.specs.declared.view_cache.ViewCache.{ViewCache}
 use Rattle.portal_list.specs.inner.Rows.{AllEntries, HasEntries}
-use Rattle.portal_tables.specs.Tables.{lecturer_tree, project_tree, student_tree, choice_tree, ranking_tree}
+use Rattle.portal_tables.specs.Tables.{lecturer_tree, project_tree, student_tree, choice_tree, later_trees}
+use Rattle.portal_tables.specs.Tables.{ranking_tree}
+use Rattle.portal_tables.specs.Rows.{RowNumbersDiffer}
 use Rattle.portal_store.specs.World.{world_in, world_of}
-use Rattle.portal_store.specs.Kept.{AreConsistent, IsConsistentIn, IsConsistent, Seen}
+use Rattle.portal_store.specs.Kept.{AreConsistent, HasDisk, IsCleanStore, IsConsistentIn, IsConsistent, Seen}
 
 -- the tables of many rows: the rolls and the lists of the first round, and the lists and places of
 -- the second
 abbrev pub early_trees : List ℕ
 early_trees = lecturer_tree ∷ project_tree ∷ student_tree ∷ choice_tree ∷ ranking_tree ∷ []
+
+-- there are no lists, rankings or placements of a second round
+abbrev pub AreEmpty : Trees → Type 0
+AreEmpty db = AllByRecursion (λ t. db t ≡ []) later_trees
+
+-- the row numbers differ within each of these tables
+abbrev pub AllNumbersDiffer : List ℕ → Trees → Type 0
+AllNumbersDiffer trees db = AllByRecursion (λ t. RowNumbersDiffer (db t)) trees
+
+-- if the disk is clean after a call, it was before, and then a clean store stayed clean
+abbrev pub KeepsClean : {S : Type 0} → Ghosts S → Seen S → Seen S → Type 0
+KeepsClean g old new = HasDisk g new → HasDisk g old × (IsCleanStore g old → IsCleanStore g new)
 
 -- the same of tables that stay in their round
 pub record HasChangedIn (round : Round) (change : Change) (old new : Database) : Type 0 where

@@ -6,7 +6,8 @@ use Rattle.portal_rules.specs.Words.{Key}
 use Rattle.portal_rules.specs.World.{Placements, placement_in}
 use Rattle.portal_tables.specs.Tables.{student_tree}
 use Rattle.portal_tables.specs.inner.Changes.{ListsBy, every, columns}
-use Rattle.portal_tables.specs.Rows.{Assigned, text_or_none}
+use Rattle.portal_tables.specs.Rows.{text_or_none}
+use Rattle.portal_tables.specs.inner.RowChanges.{Assigned}
 use Rattle.portal_tables.specs.inner.Shown.{first_cell}
 use Rattle.std.specs.List.{filter_map}
 use Rattle.portal_rules.specs.declared.phase.Round.{Round}

@@ -5,10 +5,14 @@ use Rattle.portal_tables.specs.inner.Base.{AllByRecursion, Global, Row, column, 
 use Rattle.portal_tables.specs.inner.Base.{has, Rise}
 pub use Rattle.portal_tables.specs.Tables.{tree_of}
 use Rattle.portal_tables.specs.Tables.{choice_table, ranking_table, ranked2_tree}
-use Rattle.portal_tables.specs.Rows.{row_key, IsWhole, chosen, of_key}
+use Rattle.portal_tables.specs.Rows.{row_key, IsWhole, by_place, chosen, named_by, of_key}
 use Rattle.portal_tables.specs.inner.Shown.{first_cell}
 use Rattle.portal_tables.specs.declared.list_table.Lists.{Lists}
 use Rattle.portal_tables.specs.declared.list_table.Lists.TheVariants.{Choices, Rankings, SecondChoices, SecondRankings}
+
+-- the items of an owner's rows, in the order of their places
+abbrev pub list_in_order : List Row → List Key
+list_in_order rows = map named_by (by_place rows)
 
 -- Each student has a list. A lecturer has one where a ranking is there: in the first round the own
 -- row says so, in the second a row of `ranked2`.

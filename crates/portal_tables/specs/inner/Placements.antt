@@ -2,13 +2,17 @@
 -- the second in `assigned2`.
 use Rattle.std.specs.Prelude.{◌≡◌, ◌≤◌, ◌∷◌, if◌then◌else◌, is_none}
 use Rattle.portal_tables.specs.inner.Base.{List, [], map, filter_map, Option, Some, None, option_map, IfSome, true}
-use Rattle.portal_tables.specs.inner.Base.{length, Row, column, Trees, Round, First, Second, Phase, Key, is_key}
+use Rattle.portal_tables.specs.inner.Base.{length, Row, bytes, column, Trees, Round, First, Second, Phase, Key, is_key}
 use Rattle.portal_tables.specs.inner.Base.{is_published}
 use Rattle.portal_tables.specs.Rows.{of_key, second_placement, text_or_none}
 use Rattle.portal_tables.specs.inner.Shown.{first_cell}
 use Rattle.portal_tables.specs.Tables.{student_tree, assigned2_tree}
 use Rattle.portal_tables.specs.inner.Changes.{columns}
 use Rattle.portal_tables.specs.inner.Rolls.{by_key}
+
+-- the project in a row of `assigned2`
+abbrev pub placed_project : Row → Key
+placed_project a = bytes (column a 2)
 
 -- the place in a round of the student whose row is shown
 abbrev pub placement_shown : Round → Trees → Row → Option Key

@@ -6,8 +6,19 @@ use Rattle.portal_tables.specs.inner.Base.{Ghosts, Held, state, Key, LecturerRow
 use Rattle.portal_tables.specs.declared.insert.lists.NewPlace.{NewPlace}
 use Rattle.portal_tables.specs.Tables.{portal_tree, lecturer_tree, student_tree, second_tree, IsCurrentSchema}
 use Rattle.portal_tables.specs.inner.Running.{Ran, Made}
-use Rattle.portal_tables.specs.Rows.{RowNumbersDiffer, has_text, portal_row, second_row, Assigned, number_of_phase}
+use Rattle.portal_tables.specs.Rows.{RowNumbersDiffer, has_text, portal_row, second_row, number_of_phase}
 use Rattle.portal_tables.specs.inner.Changes.{InsertsRows, Drops, Sets, Alters, Becomes, columns}
+
+-- the cells of the one row of `portal` and of `second` after its number
+abbrev pub portal_cells : ℤ → ℤ → List ℕ → Row
+portal_cells version phase office = Null ∷ Int version ∷ Int phase ∷ Words office ∷ []
+
+abbrev pub second_cells : ℤ → Row
+second_cells phase = Null ∷ Int phase ∷ []
+
+-- a student's key, and the project to assign to the student, or none
+abbrev pub Assigned : Type 0
+Assigned = List ℕ × Option (List ℕ)
 
 abbrev pub lecturer_cells : List ℕ → List ℕ → List ℕ → ℤ → ℤ → Row
 lecturer_cells key name code capacity ranked = Words key ∷ Words name ∷ Words code ∷ Int capacity ∷ Int ranked ∷ []

@@ -1,50 +1,44 @@
--- The portal's tables: their texts, and what is understood of them. Six are those of the first
--- round, and five behind them of the second.
-use Rattle.std.specs.Prelude.{◌++◌}
-use Rattle.portal_tables.specs.inner.Base.{codes, List, ℕ, Round, First, Second}
-use Rattle.portal_tables.specs.Tables.{ListTable, choice_names, ranking_names, choice2_names, ranking2_names}
+-- The texts that create the portal's tables one by one, and those of the tables of lists.
+use Rattle.std.specs.Prelude.{◌++◌, slice_index_or}
+use Rattle.portal_tables.specs.Tables.{first_texts, second_texts}
+use Rattle.portal_tables.specs.inner.Base.{[], codes, List, ℕ, Round, First, Second}
+use Rattle.portal_tables.specs.inner.Schema.{ListTable, choice_names, ranking_names, choice2_names, ranking2_names}
 use Rattle.portal_tables.specs.declared.list_table.Lists.{Lists}
 use Rattle.portal_tables.specs.declared.list_table.Lists.TheVariants.{Choices, Rankings, SecondChoices, SecondRankings}
 
+-- the texts that create the tables
 abbrev pub portal_text : List ℕ
-portal_text = codes "CREATE TABLE portal (id INTEGER NOT NULL PRIMARY KEY CHECK (id = 1), version INTEGER NOT NULL, "
-    ++ codes "phase INTEGER NOT NULL, office TEXT NOT NULL) STRICT"
+portal_text = slice_index_or first_texts 0 []
 
 abbrev pub lecturer_text : List ℕ
-lecturer_text =
-    codes "CREATE TABLE lecturer (key TEXT NOT NULL PRIMARY KEY, name TEXT NOT NULL, code TEXT NOT NULL UNIQUE, "
-    ++ codes "capacity INTEGER NOT NULL CHECK (capacity >= 1 AND capacity <= 200), "
-    ++ codes "ranked INTEGER NOT NULL CHECK (ranked = 0 OR ranked = 1)) STRICT"
+lecturer_text = slice_index_or first_texts 1 []
 
 abbrev pub project_text : List ℕ
-project_text =
-    codes "CREATE TABLE project (key TEXT NOT NULL PRIMARY KEY, lecturer TEXT NOT NULL REFERENCES lecturer (key), "
-    ++ codes "title TEXT NOT NULL, capacity INTEGER NOT NULL CHECK (capacity >= 1 AND capacity <= 200)) STRICT"
+project_text = slice_index_or first_texts 2 []
 
 abbrev pub student_text : List ℕ
-student_text =
-    codes "CREATE TABLE student (key TEXT NOT NULL PRIMARY KEY, name TEXT NOT NULL, code TEXT NOT NULL UNIQUE, "
-    ++ codes "assigned TEXT REFERENCES project (key)) STRICT"
+student_text = slice_index_or first_texts 3 []
 
-abbrev pub list_table_text : ListTable → List ℕ
-list_table_text t =
-    codes "CREATE TABLE " ++ t.name ++ codes " (" ++ t.owner ++ codes " TEXT NOT NULL REFERENCES " ++ t.owner
-    ++ codes " (key), place INTEGER NOT NULL, " ++ t.item ++ codes " TEXT NOT NULL REFERENCES " ++ t.item
-    ++ codes " (key), PRIMARY KEY (" ++ t.owner ++ codes ", place), UNIQUE (" ++ t.item ++ codes ", " ++ t.owner ++ codes ")) STRICT"
+abbrev pub choice_text : List ℕ
+choice_text = slice_index_or first_texts 4 []
 
--- the phase of the second round, 0 where there is none
+abbrev pub ranking_text : List ℕ
+ranking_text = slice_index_or first_texts 5 []
+
 abbrev pub second_text : List ℕ
-second_text = codes "CREATE TABLE second (id INTEGER NOT NULL PRIMARY KEY CHECK (id = 1), "
-    ++ codes "phase INTEGER NOT NULL CHECK (phase >= 0 AND phase <= 3)) STRICT"
+second_text = slice_index_or second_texts 0 []
 
--- who has a ranking in the second round
+abbrev pub choice2_text : List ℕ
+choice2_text = slice_index_or second_texts 1 []
+
 abbrev pub ranked2_text : List ℕ
-ranked2_text = codes "CREATE TABLE ranked2 (lecturer TEXT NOT NULL PRIMARY KEY REFERENCES lecturer (key)) STRICT"
+ranked2_text = slice_index_or second_texts 2 []
 
--- the result of the second round
+abbrev pub ranking2_text : List ℕ
+ranking2_text = slice_index_or second_texts 3 []
+
 abbrev pub assigned2_text : List ℕ
-assigned2_text = codes "CREATE TABLE assigned2 (student TEXT NOT NULL PRIMARY KEY REFERENCES student (key), "
-    ++ codes "project TEXT NOT NULL REFERENCES project (key)) STRICT"
+assigned2_text = slice_index_or second_texts 4 []
 
 -- the round, the names, the place among the tables, and the tree
 abbrev pub round_of : Lists → Round

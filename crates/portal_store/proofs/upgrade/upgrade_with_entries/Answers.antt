@@ -4,7 +4,8 @@ use Rattle.portal_store.proofs.Asked.{blames_none}
 use Rattle.portal_store.proofs.Calls.{looked_at, never_exists, not_upgraded}
 use Rattle.portal_store.proofs.Explained.{explains_said}
 use Rattle.portal_store.proofs.Keeps.{not_both}
-use Rattle.portal_store.proofs.Upgraded.{first_own, first_untaken, leaves_upgraded, leaves_world}
+use Rattle.portal_tables.proofs.Owned.{first_own}
+use Rattle.portal_store.proofs.Upgraded.{first_untaken, leaves_upgraded, leaves_world}
 use Rattle.portal_store.proofs.upgrade.upgrade_with_entries.Goals as goal
 
 -- what was examined bars an upgrade

@@ -1,4 +1,5 @@
-use Rattle.portal_tables.proofs.Base.{sym, subst₂, take, AllZip, SameTable, arith}
+use Rattle.portal_tables.proofs.Base.{sym, subst₂, take, AllZip, arith}
+use Rattle.portal_tables.specs.inner.Comparing.{SameParts}
 use Rattle.std.proofs.lemmas.Slice.Zip.{all_zipped_more}
 use Rattle.portal_tables.proofs.InTurn.{next_item}
 use Rattle.portal_tables.proofs.schema.are_same_tables.Goals as goal
@@ -11,6 +12,6 @@ loop-i-preserved c =
     let here = next_item a i c.index-a-i.result c.index-a-i.is c.loop-i-test.true in
     let there = next_item b i c.index-b-i.result c.index-b-i.is (omega arith) in
     record {
-      so_far = subst₂ (AllZip SameTable) (sym here) (sym there) (all_zipped_more SameTable (take i a) (take i b) _ _ c.loop-i.invariant.so_far (c.is_same_table.ensures.0 c.if-not-is_same_table.false));
+      so_far = subst₂ (AllZip SameParts) (sym here) (sym there) (all_zipped_more SameParts (take i a) (take i b) _ _ c.loop-i.invariant.so_far (c.is_same_table.ensures.0 c.if-not-is_same_table.false));
       lengths = c.loop-i.invariant.lengths;
     }

@@ -6,7 +6,8 @@ use Rattle.portal_store.specs.declared.store.CreateFault.TheVariants.{Exists}
 use Rattle.portal_rules.specs.Good.{Good}
 use Rattle.portal_store.specs.World.{first_world}
 use Rattle.portal_tables.proofs.InTurn.{clean_before}
-use Rattle.portal_file.specs.Tables.{AllStand, Current}
+use Rattle.portal_file.specs.Tables.{Current}
+use Rattle.portal_file.specs.inner.Connected.{AllStand}
 use Rattle.portal_file.proofs.Made.{fresh_world, none_free, none_taken, shows_none}
 use Rattle.portal_file.proofs.Served.{unserved}
 use Rattle.portal_file.proofs.making.MakeTablesJob.run.Goals as goal

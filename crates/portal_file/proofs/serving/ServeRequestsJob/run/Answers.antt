@@ -1,6 +1,6 @@
 use Rattle.std.proofs.Common.{None, [], refl, sym, subst}
 use Rattle.portal_store.specs.Calls.{OpensStore}
-use Rattle.portal_file.specs.Tables.{ClosesAs}
+use Rattle.portal_file.specs.inner.Connected.{ClosesAs}
 use Rattle.portal_file.proofs.Served.{disk_before, serves}
 use Rattle.portal_file.proofs.serving.ServeRequestsJob.run.Goals as goal
 
