@@ -98,6 +98,6 @@ fn texts(rt: HostRuntime) -> Result<(), Fail> {
 fn version(rt: HostRuntime) -> Result<(), Fail> {
     let words = ["portal", "--version"].as_slice();
     let found = command_of(rt.alloc(), words)?;
-    assert_eq!(rt; shown(&rt, &found, words, 0), "portal 1.0.0\n");
+    assert_eq!(rt; shown(&rt, &found, words, 0), "portal 1.1.0\n");
     Ok(())
 }
