@@ -1,8 +1,8 @@
 -- Students who submit no list harm nobody else: of worlds.
 use Rattle.portal_rules.proofs.Base.{◌≡◌, ℕ, ◌<◌, true, false, List, [], map, length, get_or, sym, ◌∙◌, ap, subst}
 use Rattle.portal_rules.proofs.Base.{arith, filter, AllByRecursion, get_or-map, length-map, AllZip-get_or, AllZip-long}
-use Rattle.portal_rules.proofs.Base.{IsOn, IsAcceptable, IsAsGood, choices_of, project_of, number_in, number_is, Round}
-use Rattle.portal_rules.proofs.Base.{First, Second, Key, has, World, project_key, student_key, is_left, is_published}
+use Rattle.portal_rules.proofs.Base.{IsOn, IsAcceptable, IsAsGood, choices_of, project_of, number_in, number_is}
+use Rattle.portal_rules.proofs.Base.{Key, has, World, project_key, student_key, is_left, is_published}
 use Rattle.portal_rules.proofs.Base.{students_in, in_play, instance_of, places_of, project_keys, student_keys}
 use Rattle.portal_rules.proofs.Base.{StudentSees, view, Good, alone, alone_student, ◌∷◌}
 use Rattle.portal_core.specs.Honest.{HasBest, DifferInLists, ListAlike, IsNoWorse}
@@ -16,6 +16,8 @@ use Rattle.portal_core.proofs.HonestLists.{has_number, key_of, no_student, IsBes
 use Rattle.portal_core.proofs.HonestLists.{stable_alone, world_ranked, differ_by_number, differ_alone}
 use Rattle.portal_rules.proofs.Zips.{zip_same}
 use Rattle.portal_core.proofs.HonestGroups.{was_key, of_group, gains_nothing, own_group, one_gains_nothing, if_playing}
+use Rattle.portal_rules.specs.declared.phase.Round.{Round}
+use Rattle.portal_rules.specs.declared.phase.Round.TheVariants.{First, Second}
 
 module _ (w v : World) (group : List Key) (other : Good w) (one : HasBest v) (differ : DifferInLists w v (λ k. has group k ≡ true)) (none : AllByRecursion (λ s. has group s.row.key ≡ true → s.choice ≡ []) v.students) where
   best : IsBestRound (alone (in_play v))

@@ -1,13 +1,13 @@
 -- From each good world each call has a step, and requests that have replies have a run without a 503.
 use Rattle.portal_rules.proofs.Base.{◌≡◌, ◌≢◌, ◌∙◌, false, List, [], ◌∷◌, refl, sym, ap, subst, inl, inr, arith}
 use Rattle.portal_rules.proofs.Base.{AllByRecursion, Key, World, is_setup, is_from_ranking, is_still_to_rank, in_play}
-use Rattle.portal_rules.proofs.Base.{changed, Round, First, Second, Choices, Ranks, Lecturers, Projects, Students, To}
-use Rattle.portal_rules.proofs.Base.{Placements, Fill, SecondRound, Choosing, Ranking, Caller, NoCaller, OfficeCaller}
+use Rattle.portal_rules.proofs.Base.{changed, Choices, Ranks, Lecturers, Projects, Students, To}
+use Rattle.portal_rules.proofs.Base.{Placements, Fill, SecondRound, Caller, NoCaller, OfficeCaller}
 use Rattle.portal_rules.proofs.Base.{LecturerCaller, StudentCaller, caller, sight_of, view, office_sees, lecturer_sees}
 use Rattle.portal_rules.proofs.Base.{student_sees, AbstractCall, Answer, Decision, refuses, decision, answer, Good}
 use Rattle.portal_rules.proofs.Base.{Sound, IsBest, instance, instance_of, matching_of, student_keys, project_keys}
 use Rattle.portal_rules.proofs.Base.{StepLeaves, Step, HasForm, Wish, Calls, NoCall, Request, Answers, Serves, Run}
-use Rattle.portal_rules.proofs.Base.{AllAnswered, unavailable, Sight, pairs_by}
+use Rattle.portal_rules.proofs.Base.{AllAnswered, unavailable, pairs_by}
 use Rattle.portal_core.specs.Replies.{HasReply}
 use Rattle.spa_honest.proofs.Exists.{best_of}
 use Rattle.spa_student.specs.inner.Machine.{IsRanked}
@@ -19,6 +19,10 @@ use Rattle.portal_rules.specs.Alone.{alone}
 use Rattle.portal_core.proofs.HonestLists.{world_ranked}
 use Rattle.portal_rules.proofs.Published.{pairs_place}
 use Rattle.portal_rules.proofs.Steps.{step_good}
+use Rattle.portal_rules.specs.declared.phase.Round.{Round}
+use Rattle.portal_rules.specs.declared.phase.Round.TheVariants.{First, Second}
+use Rattle.portal_rules.specs.declared.phase.Phase.TheVariants.{Choosing, Ranking}
+use Rattle.portal_rules.specs.declared.view.View.{View as Sight}
 
 -- where nobody is still to rank, the instance is ranked
 ranked_now : (w : World) → Sound w → is_setup w.phase ≡ false

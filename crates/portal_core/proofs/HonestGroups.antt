@@ -2,7 +2,7 @@
 use Rattle.portal_rules.proofs.Base.{◌≡◌, ℕ, zero, suc, ◌<◌, Bool, true, false, List, [], ◌∷◌, map, length, get_or}
 use Rattle.portal_rules.proofs.Base.{refl, sym, ◌∙◌, ap, subst, arith, Option, Some, None, option_map, filter, find}
 use Rattle.portal_rules.proofs.Base.{AllByRecursion, AllZip, get_or-map, length-map, get_or_default, project_of, IsOn}
-use Rattle.portal_rules.proofs.Base.{number_in, number_is, Rise, Round, First, Second, StudentRow, Key, has, World}
+use Rattle.portal_rules.proofs.Base.{number_in, number_is, Rise, Key, has, World}
 use Rattle.portal_rules.proofs.Base.{project_key, student_key, is_left, is_second, is_published, students_in, in_play}
 use Rattle.portal_rules.proofs.Base.{alone, alone_student, instance_of, places_of, project_keys, student_keys}
 use Rattle.portal_rules.proofs.Base.{StudentSees, view, student_with, student_sees, Good, Sound}
@@ -22,6 +22,9 @@ use Rattle.portal_core.proofs.LeftOver.{is_none_of}
 use Rattle.portal_core.proofs.HonestLists.{has_number, on_number, key_of, no_student, IsBestRound, IsStableRound}
 use Rattle.portal_core.proofs.HonestLists.{best_alone, stable_alone, world_ranked, differ_by_number, differ_alone}
 use Rattle.portal_core.proofs.HonestLists.{no_worse_by_number, shown, shown_student, find_left}
+use Rattle.portal_rules.specs.declared.phase.Round.{Round}
+use Rattle.portal_rules.specs.declared.phase.Round.TheVariants.{First, Second}
+use Rattle.portal_rules.specs.declared.rows.StudentRow.{StudentRow}
 
 -- what is kept of a list of keys stands on it and passes, and what does so is kept
 pub kept_key : (f : Key → Bool) (ks : List Key) (k : Key) → has ks k ≡ true → f k ≡ true → has (filter f ks) k ≡ true

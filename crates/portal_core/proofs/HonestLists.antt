@@ -4,11 +4,11 @@ use Rattle.portal_rules.proofs.Base.{map, length, get_or, refl, sym, ◌∙◌, 
 use Rattle.portal_rules.proofs.Base.{option_map, unwrap_or, is_none, nat_lt, ◌&&◌, filter, AllByRecursion, AllZip}
 use Rattle.portal_rules.proofs.Base.{list_any, find, eqb-true, get_or-map, length-map, AllZip-get_or, AllZip-long}
 use Rattle.portal_rules.proofs.Base.{list_any_at, IsBest, IsStable, place, project_of, lecturer_of, IsOn, IsAcceptable}
-use Rattle.portal_rules.proofs.Base.{number_in, number_is, number_known, ProjectRow, Key, equals, has, is_empty}
+use Rattle.portal_rules.proofs.Base.{number_in, number_is, number_known, Key, equals, has, is_empty}
 use Rattle.portal_rules.proofs.Base.{AreDistinct, World, lecturer_key, project_key, student_key, projects_of}
 use Rattle.portal_rules.proofs.Base.{applicants_of, is_published, is_left, given_with, lowered_lecturer}
 use Rattle.portal_rules.proofs.Base.{lowered_project, lecturers_left, students_left, lecturers_in, projects_in}
-use Rattle.portal_rules.proofs.Base.{students_in, in_play, alone, alone_lecturer, alone_student, Round, First, Second}
+use Rattle.portal_rules.proofs.Base.{students_in, in_play, alone, alone_lecturer, alone_student}
 use Rattle.portal_rules.proofs.Base.{instance, instance_of, places_of, lecturer_keys, project_keys, student_keys}
 use Rattle.portal_rules.proofs.Base.{student_with, view, student_sees, Good, Sound, IsChoice, IsRanking, StudentSees}
 use Rattle.portal_rules.proofs.Base.{cases_lt, get_or_past, choices_of, ranking_of, IsAsGood, IsDistinct, and_from}
@@ -25,6 +25,9 @@ use Rattle.portal_rules.proofs.Published.{number_back}
 use Rattle.portal_rules.proofs.Capacities.{first_plays, number_has}
 use Rattle.portal_rules.proofs.Zips.{zip_same, zip_mapped, zip_kept, zip_in, zip_lecturers, zip_projects}
 use Rattle.portal_rules.proofs.Alone.{played_alone, rows_alone, places_alone}
+use Rattle.portal_rules.specs.declared.rows.ProjectRow.{ProjectRow}
+use Rattle.portal_rules.specs.declared.phase.Round.{Round}
+use Rattle.portal_rules.specs.declared.phase.Round.TheVariants.{First, Second}
 
 -- numbers of keys
 

@@ -6,7 +6,7 @@ use Rattle.portal_rules.proofs.Base.{list_any_at, IsStable, IsAcceptable, is_pro
 use Rattle.portal_rules.proofs.Base.{at_lecturer, lecturer_of, project_of, number_in, number_is, count_by-map, Key}
 use Rattle.portal_rules.proofs.Base.{equals, has, World, lecturer_key, project_key, is_at, is_left, is_published}
 use Rattle.portal_rules.proofs.Base.{is_second, given_to, given_with, lowered_lecturer, lowered_project, lecturers_left}
-use Rattle.portal_rules.proofs.Base.{in_play, first, first_placed, first_published, First, Second, Listing, ProjectRow}
+use Rattle.portal_rules.proofs.Base.{in_play, first, first_placed, first_published}
 use Rattle.portal_rules.proofs.Base.{instance, instance_of, matching_of, places_of, lecturer_keys, project_keys}
 use Rattle.portal_rules.proofs.Base.{in_catalogue, catalogue, Good, IsRound, Sound, IsChoice, placed_to, placed_with}
 use Rattle.portal_rules.proofs.Base.{count_at, count_with, ne_eqb, capacity_of, limit_of, All-from_get_or}
@@ -22,6 +22,9 @@ use Rattle.portal_rules.proofs.Opened.{the_second}
 use Rattle.portal_rules.proofs.InRound.{catalogue_whole}
 use Rattle.portal_core.proofs.HonestLists.{no_student, no_project, no_lecturer, has_number, on_number, lecturer_at}
 use Rattle.portal_core.proofs.HonestLists.{lecturer_known, choice, choices, given}
+use Rattle.portal_rules.specs.declared.phase.Round.TheVariants.{First, Second}
+use Rattle.portal_rules.specs.declared.rows.Listing.{Listing}
+use Rattle.portal_rules.specs.declared.rows.ProjectRow.{ProjectRow}
 
 -- lists and tests
 

@@ -2,17 +2,18 @@
 use Rattle.portal_rules.proofs.Base.{◌≡◌, inl, inr, ℕ, zero, suc, ◌+◌, ◌<◌, ◌≤◌, Bool, true, false, List, [], ◌∷◌, map}
 use Rattle.portal_rules.proofs.Base.{length, get_or, refl, sym, ◌∙◌, ap, subst, arith, Option, Some, None, option_map}
 use Rattle.portal_rules.proofs.Base.{is_none, filter, count_by, ◌&&◌, ◌||◌, AllByRecursion, list_any, get_or-map}
-use Rattle.portal_rules.proofs.Base.{length-map, length-filter, cases_lt, IsOn, project_of, number_in, Second, Phase}
+use Rattle.portal_rules.proofs.Base.{length-map, length-filter, cases_lt, IsOn, project_of, number_in}
 use Rattle.portal_rules.proofs.Base.{Key, equals, has, World, project_key, is_at, is_left, is_published, is_second}
 use Rattle.portal_rules.proofs.Base.{shown_placement, students_in, in_play, first, first_placed, first_published}
 use Rattle.portal_rules.proofs.Base.{instance_of, places_of, project_keys, student_keys, view, student_sees, Good}
 use Rattle.portal_rules.proofs.Base.{Sound, at_lecturer, count_with, KeepsCapacities, given_to, given_with, placed_to}
-use Rattle.portal_rules.proofs.Base.{placed_with, limit_of, First, IsBest, StudentSees}
+use Rattle.portal_rules.proofs.Base.{placed_with, limit_of, IsBest, StudentSees}
 use Rattle.portal_core.specs.Honest.{HasBest, DifferInLists, ListAlike, IsNoWorse, OneGainsNothing, DifferInOneList}
 use Rattle.spa_honest.proofs.Gains.{no_group_gains_over_both as no_group_over_by_number}
 use Rattle.spa_honest.specs.inner.ByNumber as instances
 use Rattle.portal_rules.specs.declared.view.View.TheVariants as sees
-use Rattle.portal_rules.specs.World.{Lecturer, Student, ProjectRow}
+use Rattle.portal_rules.specs.World.{Lecturer, Student}
+use Rattle.portal_rules.specs.declared.rows.ProjectRow.{ProjectRow}
 use Rattle.portal_rules.proofs.Keys.{all_unmap}
 use Rattle.portal_rules.proofs.AllLaws.{all_at, all_weaker, all_both, each_one, map_same}
 use Rattle.portal_rules.proofs.Named.{students_named}
@@ -25,6 +26,8 @@ use Rattle.portal_core.proofs.HonestGroups.{kept_key, of_group, IsShown, of_numb
 use Rattle.portal_core.proofs.HonestGroups.{one_gains_nothing, found_has}
 use Rattle.portal_core.proofs.LeftOver.{few_at, few_with, none_at, none_with, placed_known, plays_known, stable_rows}
 use Rattle.portal_rules.proofs.Zips.{zip_same}
+use Rattle.portal_rules.specs.declared.phase.Round.TheVariants.{Second, First}
+use Rattle.portal_rules.specs.declared.phase.Phase.{Phase}
 
 -- ---- what is shown of both rounds
 

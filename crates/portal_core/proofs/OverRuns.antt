@@ -1,7 +1,7 @@
 -- From a published first round a run reaches that world, or a second round that opened from it.
 use Rattle.portal_rules.proofs.Base.{has, student_keys, ◌≡◌, ◌⊎◌, inl, inr, true, false, List, refl, sym, ◌∙◌, ap}
 use Rattle.portal_rules.proofs.Base.{subst, AllByRecursion, Key, World, is_second, first, SecondRound, changed}
-use Rattle.portal_rules.proofs.Base.{Published, First, StudentSees, Caller, caller, sight_of, view, AbstractCall}
+use Rattle.portal_rules.proofs.Base.{StudentSees, Caller, caller, sight_of, view, AbstractCall}
 use Rattle.portal_rules.proofs.Base.{Answer, Decision, decision, Good, StepLeaves, Step, Request, Run, arith}
 use Rattle.portal_core.specs.Honest.{DifferInLists, OneGainsNothing, HasBest, DifferInOneList, IsNoWorse}
 use Rattle.portal_rules.specs.declared.view.View.TheVariants as sees
@@ -10,6 +10,8 @@ use Rattle.portal_rules.proofs.Opened.{opens_to, first_stays}
 use Rattle.portal_rules.proofs.Opening.{first_kept}
 use Rattle.portal_rules.proofs.AllLaws.{all_weaker}
 use Rattle.portal_core.proofs.OverGroups.{honest_over_both, no_group_gains_over_both}
+use Rattle.portal_rules.specs.declared.phase.Phase.TheVariants.{Published}
+use Rattle.portal_rules.specs.declared.phase.Round.TheVariants.{First}
 
 module _ (w u : World) (out : w.phase ≡ Published) where
   -- nothing changed, or the second round opened

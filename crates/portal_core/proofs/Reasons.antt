@@ -2,7 +2,7 @@
 use Rattle.portal_rules.proofs.Base.{◌≡◌, ◌⊎◌, inl, inr, ℕ, ◌<◌, true, List, [], map, length, get_or, refl, sym, ◌∙◌}
 use Rattle.portal_rules.proofs.Base.{ap, subst, arith, Option, Some, None, option_map, unwrap_or, ◌&&◌, AllByRecursion}
 use Rattle.portal_rules.proofs.Base.{list_any, get_or-map, length-map, IsOn, IsAcceptable, lecturer_of, place}
-use Rattle.portal_rules.proofs.Base.{project_of, choices_of, ranking_of, number_in, First, ProjectRow, Key, equals}
+use Rattle.portal_rules.proofs.Base.{project_of, choices_of, ranking_of, number_in, Key, equals}
 use Rattle.portal_rules.proofs.Base.{World, lecturer_key, project_key, student_key, is_at, is_published, instance_of}
 use Rattle.portal_rules.proofs.Base.{places_of, lecturer_keys, project_keys, student_keys, Good, IsBefore, Improves}
 use Rattle.portal_rules.proofs.Base.{Wants, IsWith, and_parts}
@@ -14,6 +14,8 @@ use Rattle.portal_rules.proofs.Published.{number_back}
 use Rattle.portal_core.proofs.HonestLists.{no_student, no_project, no_lecturer, choices, known_key, lecturer_at, given}
 use Rattle.portal_core.proofs.HonestLists.{place_number, on_number, number_on, world_ranked, IsStableRound}
 use Rattle.portal_core.proofs.LeftOver.{any_place, all_from, few_at, few_with, placed_known, stable_rows}
+use Rattle.portal_rules.specs.declared.phase.Round.TheVariants.{First}
+use Rattle.portal_rules.specs.declared.rows.ProjectRow.{ProjectRow}
 
 at_is : (p : Key) (o : Option Key) → is_at p o ≡ true → o ≡ Some p
 at_is p None e = absurd (cc)

@@ -1,9 +1,10 @@
 -- Two worlds that differ in some students' lists, and what these students are shown.
-use Rattle.portal_rules.specs.Base.{list_any, AllZip, AllByRecursion, IsBest, number_in, Published, First}
+use Rattle.portal_rules.specs.Base.{list_any, AllZip, AllByRecursion, IsBest, number_in}
 use Rattle.std.specs.Prelude.{◌≡◌, ◌⊎◌, ◌&&◌, ◌<◌, ◌≤◌, true, false, List, [], Option, Some, unwrap_or}
 use Rattle.portal_rules.specs.declared.view.View.TheVariants as sees
 use Rattle.portal_rules.specs.Words.{Key, equals, has}
-use Rattle.portal_rules.specs.World.{World, Lecturer, ProjectRow, Student, is_at, first, is_left, is_second}
+use Rattle.portal_rules.specs.declared.rows.ProjectRow.{ProjectRow}
+use Rattle.portal_rules.specs.World.{World, Lecturer, Student, is_at, first, is_left, is_second}
 use Rattle.portal_rules.specs.World.{is_published, in_play}
 use Rattle.portal_rules.specs.Good.{instance, matching_of, student_keys, placed_to, placed_with, Good}
 use Rattle.portal_rules.specs.Sight.{StudentSees}
@@ -11,6 +12,8 @@ use Rattle.portal_rules.specs.View.{catalogue, view}
 use Rattle.portal_rules.specs.Faults.{in_catalogue}
 use Rattle.portal_rules.specs.Answer.{Answer}
 use Rattle.portal_rules.specs.Run.{Request, Run}
+use Rattle.portal_rules.specs.declared.phase.Phase.TheVariants.{Published}
+use Rattle.portal_rules.specs.declared.phase.Round.TheVariants.{First}
 
 -- a good world in published, whose result is student-optimal
 pub record HasBest (w : World) : Type 0 where

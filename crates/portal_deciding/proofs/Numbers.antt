@@ -1,11 +1,14 @@
 -- Each body is JSON with whole numbers, or a sheet.
 use Rattle.portal_rules.proofs.Base.{◌≡◌, ℕ, Bool, false, List, [], ◌∷◌, refl, sym, subst, Option, Some, None, map}
-use Rattle.portal_rules.proofs.Base.{codes, Data, string, Phase, Round, Person, Key, has_result, StudentSees}
+use Rattle.portal_rules.proofs.Base.{codes, Data, string, Key, has_result, StudentSees}
 use Rattle.portal_rules.proofs.Base.{LecturerSees, OfficeSees, AbstractCall, dictionary, several, person, phase_body}
 use Rattle.portal_rules.proofs.Base.{Said, Act, Decision, to_student, to_lecturer, to_office, arith, items_of}
 use Rattle.portal_rules.proofs.Base.{texts_or_null, text_or_null, members, listing, round_member, status_body}
 use Rattle.portal_rules.proofs.Base.{applicants_body, placed_body, allocation_body, unwritten, emptied, HasWholeNumbers}
 use Rattle.serde_json.specs.Written.{has_float, items_have_float, members_have_float}
+use Rattle.portal_rules.specs.declared.phase.Phase.{Phase}
+use Rattle.portal_rules.specs.declared.phase.Round.{Round}
+use Rattle.portal_rules.specs.declared.rows.Person.{Person}
 
 -- no body has a number that is not whole
 

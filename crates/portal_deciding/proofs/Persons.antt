@@ -1,8 +1,9 @@
 -- Persons by project, as loops read them.
 use Rattle.portal_rules.proofs.Base.{◌≡◌, ℕ, ◌+◌, ◌<◌, Bool, true, List, take, Vec, Global, length, get_or, sym, ◌∙◌}
-use Rattle.portal_rules.proofs.Base.{ap, ◌||◌, list_any, list_any_at, list_any_more, Person, by_project}
+use Rattle.portal_rules.proofs.Base.{ap, ◌||◌, list_any, list_any_at, list_any_more, by_project}
 use Rattle.spa_rows.specs.declared.key.Key.{Key}
 use Rattle.portal_rules.proofs.AllLaws.{any_map}
+use Rattle.portal_rules.specs.declared.rows.Person.{Person}
 
 -- what the persons of one project pass is passed at some project
 pub passed_at : (test : List Person → Bool) (ps : List (Key × Vec Person Global)) (i : ℕ) (p : Key × Vec Person Global)

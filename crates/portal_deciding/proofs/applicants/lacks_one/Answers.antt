@@ -1,7 +1,8 @@
-use Rattle.portal_rules.proofs.Base.{List, ap, sym, ◌∙◌, arith, ◌||◌, not, list_any, has, Person}
+use Rattle.portal_rules.proofs.Base.{List, ap, sym, ◌∙◌, arith, ◌||◌, not, list_any, has}
 use Rattle.portal_deciding.proofs.Persons.{passed_at, passed_more}
 use Rattle.portal_rules.proofs.Tables.{left_out}
 use Rattle.portal_deciding.proofs.applicants.lacks_one.Goals as goal
+use Rattle.portal_rules.specs.declared.rows.Person.{Person}
 
 pub returns-then-leaves_out : goal.returns-then-leaves_out
 returns-then-leaves_out c =

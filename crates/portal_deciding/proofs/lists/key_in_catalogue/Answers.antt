@@ -1,6 +1,7 @@
-use Rattle.portal_rules.proofs.Base.{◌≡◌, true, sym, ◌∙◌, ap, arith, list_any_at, equals, Listing}
+use Rattle.portal_rules.proofs.Base.{◌≡◌, true, sym, ◌∙◌, ap, arith, list_any_at, equals}
 use Rattle.portal_rules.proofs.Keys.{is_same}
 use Rattle.portal_deciding.proofs.lists.key_in_catalogue.Goals as goal
+use Rattle.portal_rules.specs.declared.rows.Listing.{Listing}
 
 pub returns-then-eq-clause-some : goal.returns-then-eq-clause-some
 returns-then-eq-clause-some c =

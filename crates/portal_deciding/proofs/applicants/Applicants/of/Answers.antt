@@ -1,8 +1,9 @@
-use Rattle.portal_rules.proofs.Base.{List, take, arith, sym, ap, ◌∙◌, ◌||◌, list_any, equals, Person, is_applicant}
+use Rattle.portal_rules.proofs.Base.{List, take, arith, sym, ap, ◌∙◌, ◌||◌, list_any, equals, is_applicant}
 use Rattle.portal_rules.proofs.Base.{by_project}
 use Rattle.portal_deciding.proofs.Persons.{passed_more}
 use Rattle.portal_rules.proofs.Tables.{known_alike}
 use Rattle.portal_deciding.proofs.applicants.Applicants.of.Goals as goal
+use Rattle.portal_rules.specs.declared.rows.Person.{Person}
 
 pub loop-persons-preserved : goal.loop-persons-preserved
 loop-persons-preserved c =
