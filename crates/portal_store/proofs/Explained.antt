@@ -77,15 +77,15 @@ explains_office (Err Store) of rows s shown none other judged = tt
 explains_office (Err Memory) of rows s shown none other judged = tt
 
 -- an error that is handed on, and one that is converted
-pub handed : {V : Type 0} {fault : OpenFault} {r : Result V OpenFault} {Says : OpenFault → Type 0}
+pub handed : {V : Type 0} {fault : OpenFault} (r : Result V OpenFault) (Says : OpenFault → Type 0)
     → IsErrAnd r (λ f. f ≡ fault) → Says fault → IfErr r Says
-handed {r = Ok v} is h = absurd is
-handed {r = Err f} {Says} is h = subst Says (sym is) h
+handed (Ok v) Says is h = absurd is
+handed (Err f) Says is h = subst Says (sym is) h
 
-pub converted : {V : Type 0} {r : Result V OpenFault} {Given Says : OpenFault → Type 0} → IsErrAnd r Given
+pub converted : {V : Type 0} {Given Says : OpenFault → Type 0} (r : Result V OpenFault) → IsErrAnd r Given
     → ((fault : OpenFault) → Given fault → Says fault) → IfErr r Says
-converted {r = Ok v} is so = absurd is
-converted {r = Err f} is so = so f is
+converted (Ok v) is so = absurd is
+converted (Err f) is so = so f is
 
 -- where more is asked
 pub explains_wide : (fault : OpenFault) (of : ℕ) (few many : List Query) (s : State)

@@ -10,4 +10,4 @@ returns-clause-reads g c =
     (λ own sound told. MatchResult-weaker r told.1 (λ e it. (record { apart = first_apart c.args.version (state g.S.Store c.args.conn.now).now.trees it.0.office told.0; stands = it.0 }, it.1)) (λ f no. no))
 
 pub returns-in_err-see_first_numbers-clause-refused : goal.returns-in_err-see_first_numbers-clause-refused
-returns-in_err-see_first_numbers-clause-refused g c = handed c.from_residual.ensures.1 (of_rows _ _ c.in_err-see_first_numbers.ensures.refused)
+returns-in_err-see_first_numbers-clause-refused g c = handed _ _ c.from_residual.ensures.1 (of_rows _ _ c.in_err-see_first_numbers.ensures.refused)

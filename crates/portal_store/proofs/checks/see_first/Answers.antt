@@ -15,7 +15,7 @@ returns-clause-version g c settled first clean =
 pub returns-in_err-see_tables-clause-explained : goal.returns-in_err-see_tables-clause-explained
 returns-in_err-see_tables-clause-explained g c settled clean =
     let f = c.in_err-see_tables in
-    handed c.from_residual.ensures.1
+    handed _ _ c.from_residual.ensures.1
     (explains_tables (Err f.field-0.0) c.args.version first_queries (state g.S.Store c.args.conn.now) f.ensures.damaged f.ensures.version (f.ensures.refused settled clean))
 
 pub returns-clause-explained : goal.returns-clause-explained

@@ -16,7 +16,7 @@ returns-clause-reads g c =
     (λ e it. (record { office = loads.office; whole = loads.whole; good = it.0 }, it.1)) (λ f. denies_more f _ _ (λ stands. stands.good)))
 
 pub returns-in_err-rows-clause-refused : goal.returns-in_err-rows-clause-refused
-returns-in_err-rows-clause-refused g c = converted c.from_residual.ensures.1 (λ f so. of_told f _ so.1.1 so.0)
+returns-in_err-rows-clause-refused g c = converted _ c.from_residual.ensures.1 (λ f so. of_told f _ so.1.1 so.0)
 
 pub returns-clause-refused : goal.returns-clause-refused
 returns-clause-refused g c = IfErr-weaker c.judge_rows.result _ _ of_judged c.judge_rows.ensures.judged

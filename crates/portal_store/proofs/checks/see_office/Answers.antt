@@ -36,4 +36,4 @@ returns-clause-explained g c clean =
     explains_office c.judge_office.result c.args.version c.deref.result.now old shown judged.none.0 judged.other judged.judged
 
 pub returns-in_err-rows-clause-explained : goal.returns-in_err-rows-clause-explained
-returns-in_err-rows-clause-explained g c clean = converted c.from_residual.ensures.1 (λ f so. explains_said f _ _ _ so.0)
+returns-in_err-rows-clause-explained g c clean = converted c.from_residual.result c.from_residual.ensures.1 (λ f so. explains_said f _ _ _ so.0)

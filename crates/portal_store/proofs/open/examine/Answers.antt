@@ -5,6 +5,7 @@ use Rattle.portal_store.proofs.Base.{reads_open, reads_then_of, subst, world_of,
 use Rattle.portal_store.proofs.Base.{looks_by, looks_then, on_ok_weaker, settled_still, state, version}
 use Rattle.portal_store.specs.Crash.{first_queries, later_queries, own_queries}
 use Rattle.portal_store.proofs.Asked.{blamed, blames_more}
+use Rattle.portal_store.proofs.Base.{IsCommitted}
 use Rattle.portal_store.proofs.Explained.{explains_rows, explains_so, explains_tables, explains_wide, handed}
 use Rattle.portal_store.proofs.Explained.{refused_first, refused_later, version_so, version_still}
 use Rattle.portal_store.proofs.open.examine.Goals as goal
@@ -54,7 +55,7 @@ pub returns-in_err-see_first-clause-explained : goal.returns-in_err-see_first-cl
 returns-in_err-see_first-clause-explained g c settled clean =
     let f = c.in_err-see_first in
     let old = state g.S.Store c.args.conn.now in
-    handed c.from_residual.ensures.1
+    handed _ _ c.from_residual.ensures.1
     (explains_wide f.field-0.0 version first_queries own_queries old (refused_first first_queries later_queries old) (f.ensures.explained settled clean))
 
 pub returns-in_err-see_tables-clause-explained : goal.returns-in_err-see_tables-clause-explained
@@ -64,9 +65,9 @@ returns-in_err-see_tables-clause-explained g c settled clean =
     let mid = state g.S.Store c.see_first.new.conn in
     let early = clean_before mid (state g.S.Store c.see_tables.new.conn) _ c.see_tables.ensures.looks.crash clean in
     let first = c.see_first.ensures.looks in
-    let rest = λ on. settled_still old mid settled (first.stays settled early on) in
+    let rest : IsCommitted mid = λ on. settled_still old mid settled (first.stays settled early on) in
     let told = explains_tables (Err f.field-0.0) version later_queries mid f.ensures.damaged f.ensures.version (f.ensures.refused rest clean) in
-    handed c.from_residual-in_err-see_tables.ensures.1
+    handed _ _ c.from_residual-in_err-see_tables.ensures.1
     (explains_so old mid settled first early f.field-0.0 version own_queries (explains_wide f.field-0.0 version later_queries own_queries mid (refused_later first_queries later_queries mid) told))
 
 pub returns-clause-explained : goal.returns-clause-explained

@@ -21,4 +21,4 @@ returns-clause-reads g c =
     (λ f no. no told.0))
 
 pub returns-in_err-see_numbers-clause-refused : goal.returns-in_err-see_numbers-clause-refused
-returns-in_err-see_numbers-clause-refused g c = handed c.from_residual.ensures.1 (of_rows _ _ c.in_err-see_numbers.ensures.refused)
+returns-in_err-see_numbers-clause-refused g c = handed _ _ c.from_residual.ensures.1 (of_rows _ _ c.in_err-see_numbers.ensures.refused)

@@ -15,4 +15,4 @@ returns-else-found-clause-reads g c =
     reads_more (reads_any c.in_ok-found.ensures) (λ own all told. found_none c.args.query (state g.S.Store c.args.conn.now).now.trees c.in_ok-found.found all told c.if-found.false)
 
 pub returns-in_err-found-clause-refused : goal.returns-in_err-found-clause-refused
-returns-in_err-found-clause-refused g c = converted c.from_residual.ensures.1 (λ f so. of_rows f _ so.0)
+returns-in_err-found-clause-refused g c = converted _ c.from_residual.ensures.1 (λ f so. of_rows f _ so.0)

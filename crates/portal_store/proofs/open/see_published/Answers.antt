@@ -8,4 +8,4 @@ returns-in_err-first_phase-clause-reads g c =
     reads_said c.from_residual.ensures.1 c.in_err-first_phase.ensures (λ own sound told f so. denied_of f _ _ so.1.1 so.0 (told Second))
 
 pub returns-in_err-first_phase-clause-refused : goal.returns-in_err-first_phase-clause-refused
-returns-in_err-first_phase-clause-refused g c = converted c.from_residual.ensures.1 (λ f so. of_told f _ so.1.1 so.0)
+returns-in_err-first_phase-clause-refused g c = converted _ c.from_residual.ensures.1 (λ f so. of_told f _ so.1.1 so.0)

@@ -29,4 +29,4 @@ returns-else-is_setup-clause-reads g c =
     (λ fault. denies_more fault _ _ (λ s. stands_in Second db s (second_by db phase (told.0 sound) other))))
 
 pub returns-in_err-second_in-clause-refused : goal.returns-in_err-second_in-clause-refused
-returns-in_err-second_in-clause-refused g c = converted c.from_residual.ensures.1 (λ f so. of_told f _ so.1.1 so.0)
+returns-in_err-second_in-clause-refused g c = converted _ c.from_residual.ensures.1 (λ f so. of_told f _ so.1.1 so.0)

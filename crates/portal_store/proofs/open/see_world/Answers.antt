@@ -20,7 +20,7 @@ returns-clause-reads g c =
     (λ f no apart. denies_more f _ _ (λ stands. subst Good (sym (world_told stands.0 _ stands.1.second)) stands.1.good) no))
 
 pub returns-in_err-rows-clause-refused : goal.returns-in_err-rows-clause-refused
-returns-in_err-rows-clause-refused g c = converted c.from_residual.ensures.1 (λ f so. of_told f _ so.1.1 so.0)
+returns-in_err-rows-clause-refused g c = converted _ c.from_residual.ensures.1 (λ f so. of_told f _ so.1.1 so.0)
 
 pub returns-clause-refused : goal.returns-clause-refused
 returns-clause-refused g c = IfErr-weaker c.judge_rows.result _ _ of_judged c.judge_rows.ensures.judged

@@ -27,7 +27,7 @@ returns-clause-judged g c settled first live clean =
     told_before c.judge_first.result _ _ _ (λ (db : Database). HasGoodFirst first_version db.trees) settled c.see_first.ensures.looks c.judge_first.ensures.reads clean first (λ on _. (live on).0) (λ e it. it.0.stands)
 
 pub returns-in_err-see_first-clause-explained : goal.returns-in_err-see_first-clause-explained
-returns-in_err-see_first-clause-explained g c settled clean = handed c.from_residual.ensures.1 (c.in_err-see_first.ensures.explained settled clean)
+returns-in_err-see_first-clause-explained g c settled clean = handed _ _ c.from_residual.ensures.1 (c.in_err-see_first.ensures.explained settled clean)
 
 pub returns-clause-explained : goal.returns-clause-explained
 returns-clause-explained g c settled clean =
