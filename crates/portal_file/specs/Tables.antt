@@ -1,5 +1,5 @@
 -- The portal's tables, as a database stands for a world, and what work over them finds and leaves.
-use Rattle.std.specs.Prelude.{◌≡◌, ◌⊎◌, List, Option, IfSome}
+use Rattle.std.specs.Prelude.{◌≡◌, ◌⊎◌, ℕ, List, Option, IfSome}
 use Rattle.sqlite.specs.Effect.{Database, IsDatabase}
 use Rattle.portal_rules.specs.World.{World}
 use Rattle.portal_rules.specs.Good.{Good}
