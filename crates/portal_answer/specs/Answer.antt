@@ -83,7 +83,9 @@ abbrev pub refused_matching : MatchingFault → ℕ → Output
 refused_matching fault row = refused_row (matching_word fault) row
 
 abbrev pub block_line : Spa → Block → Text
-block_line i b = codes "block " ++ slice_index_or i.student_keys b.student [] ++ codes " " ++ slice_index_or i.project_keys b.project [] ++ codes " " ++ text_of b.letter ++ codes "\n"
+block_line i b =
+    codes "block " ++ slice_index_or i.student_keys b.student [] ++ codes " "
+    ++ slice_index_or i.project_keys b.project [] ++ codes " " ++ text_of b.letter ++ codes "\n"
 
 -- a line for each blocking pair, then their number; the status is 0 if there is none, otherwise 1
 abbrev pub blocking : Spa → List Block → Output
@@ -106,7 +108,8 @@ assign_line i student (Some p) =
 abbrev pub assignment : Spa → List (Option ℕ) → Output
 assignment i m = record {
   text = flat_map (λ e. assign_line i e.0 e.1) (zip i.student_keys m)
-      ++ (codes "assigned " ++ decimal (count_by is_some m) ++ codes " unassigned " ++ decimal (count_by is_none m) ++ codes "\n");
+      ++ (codes "assigned " ++ decimal (count_by is_some m)
+      ++ codes " unassigned " ++ decimal (count_by is_none m) ++ codes "\n");
   status = 0;
 }
 

@@ -58,24 +58,28 @@ DifferInOneList w v key = DifferInLists w v (λ k. k ≡ key)
 -- on this list, `mine` is no later than `other`; a project off the list is worse than none
 abbrev pub IsNoWorse : List Key → Option Key → Option Key → Type 0
 IsNoWorse list mine other =
-    (p : Key) → other ≡ Some p → has list p ≡ true → (q : Key) × (mine ≡ Some q) × (has list q ≡ true) × (number_in list q ≤ number_in list p)
+    (p : Key) → other ≡ Some p → has list p ≡ true → (q : Key) × (mine ≡ Some q) × (has list q ≡ true)
+    × (number_in list q ≤ number_in list p)
 
 -- by the list in w, the student-optimal result of w is no worse for the student than what v shows
 abbrev pub HonestIsBest : Type 0
 HonestIsBest =
-    (w v : World) (code : Key) (a b : StudentSees) → HasBest w → Good v → view w code ≡ sees.Student a → view v code ≡ sees.Student b
+    (w v : World) (code : Key) (a b : StudentSees) → HasBest w → Good v → view w code ≡ sees.Student a
+    → view v code ≡ sees.Student b
     → DifferInOneList w v a.me.key → IsNoWorse a.choices a.result b.result
 
 -- in the second round, the catalogue has nothing that an unplaced student listed in the first
 abbrev pub LeftFindsNone : Type 0
 LeftFindsNone =
     (w : World) → Good w → is_second w.round ≡ true
-    → AllByRecursion (λ s. is_left s ≡ true → AllByRecursion (λ p. in_catalogue (catalogue w) p ≡ false) s.earlier_choice) w.students
+    → AllByRecursion (λ s. is_left s ≡ true
+    → AllByRecursion (λ p. in_catalogue (catalogue w) p ≡ false) s.earlier_choice) w.students
 
 -- if u's first round differs from w in the caller's list, u shows nothing better by the list in w
 abbrev pub HonestOverBoth : Type 0
 HonestOverBoth =
-    (w u : World) (code : Key) (a b : StudentSees) → HasBest w → Good u → is_second u.round ≡ true → DifferInOneList w (first u) a.me.key
+    (w u : World) (code : Key) (a b : StudentSees) → HasBest w → Good u → is_second u.round ≡ true
+    → DifferInOneList w (first u) a.me.key
     → view w code ≡ sees.Student a → view u code ≡ sees.Student b → IsNoWorse a.choices a.result b.result
 
 -- the same of each second round that a run reaches from a published first round v
@@ -84,7 +88,8 @@ HonestOverRuns =
     (w v : World) (code : Key) (a : StudentSees) (asked : List Request) (told : List Answer) (after : List World)
     → HasBest w → Good v → v.round ≡ First → v.phase ≡ Published → DifferInOneList w v a.me.key
     → view w code ≡ sees.Student a → Run v asked told after
-    → AllByRecursion (λ u. (b : StudentSees) → is_second u.round ≡ true → view u code ≡ sees.Student b → IsNoWorse a.choices a.result b.result) after
+    → AllByRecursion (λ u. (b : StudentSees) → is_second u.round ≡ true → view u code ≡ sees.Student b
+    → IsNoWorse a.choices a.result b.result) after
 
 -- a student of the group to whom v shows nothing better than w, by the list in w
 pub record OneGainsNothing (w v : World) (group : List Key) : Type 0 where
@@ -106,7 +111,8 @@ NoGroupGains =
 -- nothing over both rounds of u
 abbrev pub NoGroupGainsOverBoth : Type 0
 NoGroupGainsOverBoth =
-    (w u : World) (group : List Key) (key : Key) → HasBest w → Good u → is_second u.round ≡ true → DifferInLists w (first u) (λ k. has group k ≡ true)
+    (w u : World) (group : List Key) (key : Key) → HasBest w → Good u → is_second u.round ≡ true
+    → DifferInLists w (first u) (λ k. has group k ≡ true)
     → has group key ≡ true → has (student_keys w) key ≡ true → OneGainsNothing w u group
 
 -- the same of each second round that a run reaches from a published first round v
@@ -120,9 +126,11 @@ NoGroupGainsOverRuns =
 -- if the group has no list in v, its best result shows nobody else worse than w, by the own list
 abbrev pub FewerNeverHarm : Type 0
 FewerNeverHarm =
-    (w v : World) (group : List Key) (code : Key) (a b : StudentSees) → Good w → HasBest v → DifferInLists w v (λ k. has group k ≡ true)
+    (w v : World) (group : List Key) (code : Key) (a b : StudentSees) → Good w → HasBest v
+    → DifferInLists w v (λ k. has group k ≡ true)
     → AllByRecursion (λ s. has group s.row.key ≡ true → s.choice ≡ []) v.students
-    → view v code ≡ sees.Student a → view w code ≡ sees.Student b → has group a.me.key ≡ false → IsNoWorse a.choices a.result b.result
+    → view v code ≡ sees.Student a → view w code ≡ sees.Student b → has group a.me.key ≡ false
+    → IsNoWorse a.choices a.result b.result
 
 -- the project is on the student's list, before the one that this round's result gives, if any
 abbrev pub Prefers : Student → Key → Type 0
@@ -131,15 +139,20 @@ Prefers s p = (has s.choice p ≡ true) × ((q : Key) → s.placed ≡ Some q �
 -- p is full, and its lecturer l ranks each student there above the student with the key
 pub record IsTaken (w : World) (l : Lecturer) (p : ProjectRow) (key : Key) : Type 0 where
   pub full : p.capacity ≤ placed_to w.students p.key
-  pub above : AllByRecursion (λ t. t.placed ≡ Some p.key → StandsBefore (unwrap_or l.ranking []) t.row.key key) w.students
+  pub above : AllByRecursion (λ t. t.placed ≡ Some p.key
+      → StandsBefore (unwrap_or l.ranking []) t.row.key key) w.students
 
 -- l is full, and ranks each own student above the student with the key
 pub record IsBusy (w : World) (l : Lecturer) (key : Key) : Type 0 where
   pub full : l.row.capacity ≤ placed_with w.projects w.students l.row.key
-  pub above : AllByRecursion (λ t. list_any (λ p. equals p.lecturer l.row.key && is_at p.key t.placed) w.projects ≡ true → StandsBefore (unwrap_or l.ranking []) t.row.key key) w.students
+  pub above : AllByRecursion (λ t.
+      list_any (λ p. equals p.lecturer l.row.key && is_at p.key t.placed) w.projects ≡ true
+      → StandsBefore (unwrap_or l.ranking []) t.row.key key) w.students
 
 -- in a published round, each project that a student prefers is taken, or its lecturer is busy
 abbrev pub WhyNot : Type 0
 WhyNot =
     (w : World) → Good w → w.round ≡ First → is_published w.phase ≡ true
-    → AllByRecursion (λ s. AllByRecursion (λ p. Prefers s p.key → AllByRecursion (λ l. l.row.key ≡ p.lecturer → IsTaken w l p s.row.key ⊎ IsBusy w l s.row.key) w.lecturers) w.projects) w.students
+    → AllByRecursion (λ s. AllByRecursion (λ p. Prefers s p.key
+    → AllByRecursion (λ l. l.row.key ≡ p.lecturer → IsTaken w l p s.row.key ⊎ IsBusy w l s.row.key) w.lecturers)
+    w.projects) w.students

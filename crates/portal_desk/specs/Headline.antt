@@ -57,7 +57,8 @@ replies_in c vs = texts_to c (exchanges_of vs)
 -- texts without a student's list are equal, up to and including the first move to published
 abbrev pub AlikeTexts : List Exchange → List Exchange → Type 0
 AlikeTexts (e ∷ es) (f ∷ fs) =
-    Unless (has_places e.request.wish) (exchange_text e ≡ exchange_text f) × Unless (moves_to_published e.request.wish e.reply) (AlikeTexts es fs)
+    Unless (has_places e.request.wish) (exchange_text e ≡ exchange_text f)
+    × Unless (moves_to_published e.request.wish e.reply) (AlikeTexts es fs)
 AlikeTexts _ _ = Unit {0}
 
 -- the visit describes the call of `serve`, and ends in the world that the keeper then has
@@ -120,7 +121,8 @@ pub record IsUpheld (w : World) (visits : List Visit) : Type 0 where
 abbrev pub AreEqual : World → World → List Visit → List Visit → Type 0
 AreEqual w v first second =
     (c : Key) (items : List HeardItem) → view w c ≡ view v c → Hears c w first items → Hears c v second items
-    → (replies_in c first ≡ replies_in c second) × (view (end_of w (worlds_of first)) c ≡ view (end_of v (worlds_of second)) c)
+    → (replies_in c first ≡ replies_in c second)
+    × (view (end_of w (worlds_of first)) c ≡ view (end_of v (worlds_of second)) c)
 
 -- any other visits without a 503 give a caller who starts alike and hears the same the same replies
 abbrev pub IsLikeAll : World → List Visit → Type 0

@@ -46,7 +46,8 @@ FailsByCount false true old new = new ≡ old + 1
 abbrev pub MayReach : World → List Exchange → World → Type 0
 MayReach old es w =
     Reaches old es w
-    ⊎ ((front back : List Exchange) × (e : Exchange) × (other : Answer) × (es ≡ front ++ e ∷ back) × (e.reply ≡ unavailable)
+    ⊎ ((front back : List Exchange) × (e : Exchange) × (other : Answer) × (es ≡ front ++ e ∷ back)
+    × (e.reply ≡ unavailable)
     × Reaches old (front ++ record e { reply = other } ∷ back) w)
 
 -- a stop may leave the world after this request, of a keeper that was not broken; if it is now, the
@@ -64,13 +65,14 @@ pub record Acted (old new : KeeperState) (r : Request) (reply : Answer) : Type 0
   pub serves : new.clean → Serves old.world r reply new.world
   -- a clean keeper is clean still if the reply is not 503, on a clean disk
   pub lasts : reply ≢ unavailable → StaysClean old new
-  -- in any case it is clean or broken
+  -- in any case, on a clean disk: a clean keeper stays clean or breaks, a broken one stays broken
   pub breaks : LastsOrBreaks old new
-  -- if the keeper is broken now, the reply is one that leaves every world as it is: 503 or a refusal
+  -- on a clean disk, if the keeper is broken now, the reply leaves every world as it is: it is 503
+  -- or the refusal of a route, method or body
   pub broken : new.disk → new.broken → (w : World) → Serves w r reply w
-  -- a stop leaves only the keeper's world, if it did before
+  -- a stop leaves only the world of a keeper that is clean now, if it did before
   pub settled : IsSettled old → new.clean → IsSettled new
-  -- it may also leave the world after this request
+  -- on a clean disk, a stop leaves what one before did, or the world after this request
   pub leaves : LeavesBy old new (MayLeave old new r reply)
 
 -- what these exchanges did to a keeper, whatever is known of their bytes
@@ -81,9 +83,9 @@ pub record Moves (old new : KeeperState) (es : List Exchange) : Type 0 where
   pub reaches : new.clean → Reaches old.world es new.world
   -- it is clean still if no reply is 503, on a clean disk
   pub lasts : AllAnswered (replies_of es) → StaysClean old new
-  -- in any case it is clean or broken
+  -- in any case, on a clean disk: a clean keeper stays clean or breaks, a broken one stays broken
   pub breaks : LastsOrBreaks old new
-  -- a stop leaves only its world, if it did before
+  -- a stop leaves only the world of a keeper that is clean now, if it did before
   pub settled : IsSettled old → new.clean → IsSettled new
   -- if it was broken, the exchanges leave every world as it is, and a stop leaves what one before did
   pub still : new.disk → old.broken → (w : World) → Reaches w es w × (new.leaves w → old.leaves w)

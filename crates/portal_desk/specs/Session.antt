@@ -104,14 +104,26 @@ Settles (Err fault) old new = SettlesBy fault.cause old new
 
 -- what a call of `serve` does, with this result: `source` and `left` are what the source has to give
 -- before and after it, `before` and `after` what the sink holds, where that is known
-pub record ServesOne {K : Type 0} (state : K → KeeperState) (r : Result Served ServeFault) (old new : Kept K) (source left before after : Option (List ℕ)) : Type 0 where
+pub record ServesOne {K : Type 0} (state : K → KeeperState) (r : Result Served ServeFault) (old new : Kept K)
+    (source left before after : Option (List ℕ)) : Type 0 where
   -- the desk moves, whatever is known of the bytes
   pub worked : Worked state old new
   -- if the bytes are known, the exchanges are those of the stream
-  pub served : IfSome source (λ bytes. (exchanges : List Exchange) × IsSession state (record { old = old.keeper; new = new.keeper; bytes = bytes; before = before; after = after; count = count_of r; finish = finish_of r new.failed left; exchanges = exchanges }))
+  pub served : IfSome source (λ bytes. (exchanges : List Exchange)
+      × IsSession state (record {
+        old = old.keeper;
+        new = new.keeper;
+        bytes = bytes;
+        before = before;
+        after = after;
+        count = count_of r;
+        finish = finish_of r new.failed left;
+        exchanges = exchanges;
+      }))
   -- the source gives no more than so many of the longest requests
   pub taken : TakesAtMost taken_limit source left
   -- a desk that had failed is as before, and ends the stream at its first request
   pub stays : old.failed ≡ true → (new ≡ old) × TakesFirst r
-  -- it fails in a call whose cause is the store
+  -- it has failed after a fault of the store; `Ok` or a fault of the source leaves that as it was;
+  -- after one of the sink or of memory, nothing is said of it
   pub settles : Settles r old.failed new.failed

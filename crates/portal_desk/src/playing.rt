@@ -74,8 +74,9 @@ fn decide_whole(alloc: Global, view: &View, call: &Call) -> Result<Decision, Kee
     Ok(Decision { reply, act })
 }
 
-/// Gets the view of the caller with this code from the keeper, and decides the call. It changes
-/// nothing; the reply has its sheet written, and is not 503.
+/// Gets the view of the caller with this code from the keeper, and decides the call, with the text
+/// of any sheet. It performs no act: the world of a keeper that is still clean is unchanged, but a
+/// failing disk may break the keeper. The reply is not 503.
 fn ask<K: Keeper>(
     alloc: Global,
     keeper: &mut K,
@@ -157,7 +158,9 @@ fn perform_act<K: Keeper>(alloc: Global, keeper: &mut K, act: Act) -> Result<(),
 ///
 /// # Errors
 ///
-/// Memory runs out, or the store fails. The world of a keeper that is still clean is unchanged.
+/// Memory runs out, or the store fails. The world of a keeper that is still clean is unchanged. If
+/// a clean and settled one breaks, and the disk is clean, a stop leaves the world before the call
+/// or after it.
 pub fn play<K: Keeper>(
     alloc: Global,
     keeper: &mut K,

@@ -9,7 +9,8 @@ pub enum Cause {
     Read,
     /// The sink failed.
     Write,
-    /// There was not enough memory.
+    /// Memory ran out while a request was read or the bytes of a reply were made. Where it runs
+    /// out in acting on a request, the reply is 503, and serving goes on.
     Memory,
     /// The store failed; a 503 reply was written before serving stopped.
     Store,
@@ -27,6 +28,6 @@ pub struct Served {
 #[derive(Clone, Copy, Debug, PartialEq, Eq, Drop)]
 pub struct ServeFault {
     pub cause: Cause,
-    /// How many requests acted. The reply to the last one may be missing or incomplete.
+    /// How many requests the desk took. The reply to the last one may be missing or incomplete.
     pub requests: u32,
 }

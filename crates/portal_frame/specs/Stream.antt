@@ -149,33 +149,25 @@ abbrev pub plain_refusal : ℕ → List ℕ → RefusalContent
 plain_refusal status word = record { status = status; word = word; allow = []; row = None }
 
 -- the five refusals of framing
-unfoldable pub bad_head : RefusalContent
-bad_head = plain_refusal 400 (codes "bad_head")
+unfoldable pub refusal_of_fault : Fault → RefusalContent
+refusal_of_fault BadHead = plain_refusal 400 (codes "bad_head")
+refusal_of_fault BadHost = plain_refusal 400 (codes "bad_host")
+refusal_of_fault CodedBody = plain_refusal 501 (codes "coded_body")
+refusal_of_fault BadLength = plain_refusal 400 (codes "bad_length")
+refusal_of_fault TooLarge = plain_refusal 413 (codes "too_large")
 
-unfoldable pub bad_host : RefusalContent
-bad_host = plain_refusal 400 (codes "bad_host")
+abbrev pub bad_head : RefusalContent
+bad_head = refusal_of_fault BadHead
 
-unfoldable pub coded_body : RefusalContent
-coded_body = plain_refusal 501 (codes "coded_body")
-
-unfoldable pub bad_length : RefusalContent
-bad_length = plain_refusal 400 (codes "bad_length")
-
-unfoldable pub too_large : RefusalContent
-too_large = plain_refusal 413 (codes "too_large")
-
-abbrev pub refusal_of_fault : Fault → RefusalContent
-refusal_of_fault BadHead = bad_head
-refusal_of_fault BadHost = bad_host
-refusal_of_fault CodedBody = coded_body
-refusal_of_fault BadLength = bad_length
-refusal_of_fault TooLarge = too_large
+abbrev pub bad_length : RefusalContent
+bad_length = refusal_of_fault BadLength
 
 -- the body length by the values of Content-Length, at most 1,048,576 bytes
 abbrev pub length_of : List (List ℕ) → Result ℕ Fault
 length_of [] = Ok 0
 length_of (value ∷ []) =
-    if is_length value then (if nat_lt body_limit (digits_value 10 value) then Err TooLarge else Ok (digits_value 10 value))
+    if is_length value
+    then (if nat_lt body_limit (digits_value 10 value) then Err TooLarge else Ok (digits_value 10 value))
     else Err BadLength
 length_of (value ∷ other ∷ values) = Err BadLength
 
@@ -273,7 +265,8 @@ Framed bytes ended (frame.Bad refusal head_only) =
 abbrev pub IsDue : List ℕ → Bool → Frame → Type 0
 IsDue bytes ended (frame.Bad refusal head_only) =
     ((h : RequestHead) × (rest : List ℕ) × Takes bytes h rest)
-    ⊎ (IsTrue ended ⊎ ((head_limit ≤ length bytes) ⊎ ((is_overlong bytes ≡ true) ⊎ NeverHasRequest (take head_limit bytes))))
+    ⊎ (IsTrue ended
+    ⊎ ((head_limit ≤ length bytes) ⊎ ((is_overlong bytes ≡ true) ⊎ NeverHasRequest (take head_limit bytes))))
 IsDue bytes ended frame.Need = Unit {0}
 IsDue bytes ended frame.End = Unit {0}
 IsDue bytes ended (frame.Request request used) = Unit {0}

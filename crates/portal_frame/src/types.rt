@@ -74,7 +74,7 @@ pub(crate) enum Fault {
 
 impl Fault {
     /// Returns the refusal for this fault of framing.
-    #[tactic(auto, unfolding(crate::specs::Stream::bad_head, crate::specs::Stream::bad_host, crate::specs::Stream::coded_body, crate::specs::Stream::bad_length, crate::specs::Stream::too_large))]
+    #[tactic(auto, unfolding(crate::specs::Stream::refusal_of_fault))]
     pub(crate) fn refusal(self) -> Refusal
         ensures { refusal_content result ≡ refusal_of_fault self }
     {

@@ -61,13 +61,17 @@ mark_of _ = None
 abbrev pub line_at : Option Mark → ℕ → Text → Text → Text → Result Line RollFault
 line_at None row key value list = Err (fault.BadField row 1)
 line_at (Some mark.Lecturer) row key value list =
-    unless (is_number value) (fault.BadField row 3) (Ok (variant.Lecturer (record { row = row; key = key; capacity = digits_value value; list = list_of list })))
+    unless (is_number value) (fault.BadField row 3)
+    (Ok (variant.Lecturer (record { row = row; key = key; capacity = digits_value value; list = list_of list })))
 line_at (Some mark.Project) row key value list =
-    unless (is_number value) (fault.BadField row 3) (Ok (variant.Project (record { row = row; key = key; capacity = digits_value value; lecturer = list })))
+    unless (is_number value) (fault.BadField row 3)
+    (Ok (variant.Project (record { row = row; key = key; capacity = digits_value value; lecturer = list })))
 line_at (Some mark.Student) row key value list =
-    unless (length value == 0) (fault.BadField row 3) (Ok (variant.Student (record { row = row; key = key; list = list_of list })))
+    unless (length value == 0) (fault.BadField row 3)
+    (Ok (variant.Student (record { row = row; key = key; list = list_of list })))
 line_at (Some mark.Pair) row key value list =
-    unless (length list == 0) (fault.BadField row 4) (Ok (variant.Pair (record { row = row; student = key; project = value })))
+    unless (length list == 0) (fault.BadField row 4)
+    (Ok (variant.Pair (record { row = row; student = key; project = value })))
 
 abbrev pub says : ℕ → Record → Result Line RollFault
 says row (kind ∷ key ∷ value ∷ list ∷ []) = line_at (mark_of kind) row key value list

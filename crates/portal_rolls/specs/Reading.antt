@@ -35,7 +35,8 @@ same_record _ _ = false
 -- what record `row` says; its number of fields is checked first, then that each is UTF-8
 abbrev pub line_of : {X : Type 0} → Format X → ℕ → Record → Result X RollFault
 line_of format row r =
-    unless (length r == length format.header) (fault.FieldCount row) (unless (list_all is_utf8 r) (fault.NotText row) (format.says row r))
+    unless (length r == length format.header) (fault.FieldCount row)
+    (unless (list_all is_utf8 r) (fault.NotText row) (format.says row r))
 
 -- the same, but a record past the limit is one too many
 abbrev pub reading : {X : Type 0} → Format X → ℕ × Record → Result X RollFault

@@ -74,7 +74,9 @@ abbrev pub open_where : Bool → Decision → Decision
 open_where now d = if now then d else wrong_phase
 
 abbrev pub bad_list : ListFault → Answer
-bad_list fault = answered 422 (dictionary ((codes "at", count fault.at) ∷ (codes "error", string (codes "bad_list")) ∷ (codes "fault", string fault.word) ∷ []))
+bad_list fault =
+    answered 422 (dictionary ((codes "at", count fault.at)
+    ∷ (codes "error", string (codes "bad_list")) ∷ (codes "fault", string fault.word) ∷ []))
 
 -- a list is accepted if it has no fault
 abbrev pub unless_faulty : Option ListFault → Decision → Decision
@@ -93,7 +95,9 @@ to_student v AbstractCall.Catalogue = shows (catalogue_body v.catalogue)
 to_student v AbstractCall.ShowChoices = shows (projects_body v.choices)
 to_student v (AbstractCall.SetChoices list) =
     open_where (is_choosing v.phase) (
-    if is_none v.result then unless_faulty (choice_fault v.catalogue list) (applies (projects_body list) (Choices v.me.key list)) else already_placed)
+    if is_none v.result
+    then unless_faulty (choice_fault v.catalogue list) (applies (projects_body list) (Choices v.me.key list))
+    else already_placed)
 to_student v AbstractCall.Result = open_where (has_result v.round v.phase) (shows (project_body v.result))
 to_student v _ = not_yours
 
@@ -105,7 +109,8 @@ to_lecturer v AbstractCall.Catalogue = shows (catalogue_body v.catalogue)
 to_lecturer v AbstractCall.Applicants = open_where (is_from_ranking v.phase) (shows (applicants_body v.applicants))
 to_lecturer v AbstractCall.ShowRanking = open_where (is_from_ranking v.phase) (shows (students_body v.ranking))
 to_lecturer v (AbstractCall.SetRanking list) =
-    open_where (is_ranking v.phase) (unless_faulty (ranking_fault v.applicants list) (applies (students_body (Some list)) (Ranks v.me.key list)))
+    open_where (is_ranking v.phase) (
+    unless_faulty (ranking_fault v.applicants list) (applies (students_body (Some list)) (Ranks v.me.key list)))
 to_lecturer v AbstractCall.Result = open_where (has_result v.round v.phase) (shows (placed_body v.placed))
 to_lecturer v _ = not_yours
 

@@ -36,7 +36,8 @@ texts_or_null (Some ks) = texts ks
 
 abbrev pub listing : Listing → Data
 listing l =
-    dictionary ((codes "capacity", count l.capacity) ∷ (codes "id", string l.key) ∷ (codes "lecturer", string l.lecturer)
+    dictionary ((codes "capacity", count l.capacity)
+    ∷ (codes "id", string l.key) ∷ (codes "lecturer", string l.lecturer)
     ∷ (codes "lecturer_name", string l.lecturer_name) ∷ (codes "title", string l.title) ∷ [])
 
 abbrev pub person : Person → Data
@@ -53,11 +54,19 @@ students_body o = dictionary ((codes "students", texts_or_null o) ∷ [])
 
 abbrev pub applicants_body : List (Key × List Person) → Data
 applicants_body ps =
-    dictionary ((codes "projects", several (map (λ p. dictionary ((codes "applicants", several (map person p.1)) ∷ (codes "id", string p.0) ∷ [])) ps)) ∷ [])
+    dictionary ((
+      codes "projects",
+      several (map (λ p.
+          dictionary ((codes "applicants", several (map person p.1)) ∷ (codes "id", string p.0) ∷ [])) ps),
+    ) ∷ [])
 
 abbrev pub placed_body : List (Key × List Person) → Data
 placed_body ps =
-    dictionary ((codes "projects", several (map (λ p. dictionary ((codes "id", string p.0) ∷ (codes "students", several (map person p.1)) ∷ [])) ps)) ∷ [])
+    dictionary ((
+      codes "projects",
+      several (map (λ p.
+          dictionary ((codes "id", string p.0) ∷ (codes "students", several (map person p.1)) ∷ [])) ps),
+    ) ∷ [])
 
 abbrev pub project_body : Option Key → Data
 project_body o = dictionary ((codes "project", text_or_null o) ∷ [])
@@ -83,7 +92,9 @@ lecturer_me v =
     ∷ (codes "phase", string (phase_word v.phase)) ∷ (codes "role", string (codes "lecturer")) ∷ round_member v.round)
 
 abbrev pub office_me : OfficeSees → Data
-office_me v = dictionary ((codes "phase", string (phase_word v.phase)) ∷ (codes "role", string (codes "office")) ∷ round_member v.round)
+office_me v =
+    dictionary ((codes "phase", string (phase_word v.phase))
+    ∷ (codes "role", string (codes "office")) ∷ round_member v.round)
 
 -- replies to the office
 
@@ -101,8 +112,10 @@ abbrev pub status_body : OfficeSees → Data
 status_body v =
     dictionary (
     (if has_result v.round v.phase then (codes "assigned", count (length v.pairs)) ∷ [] else [])
-    ++ (codes "lecturers", count (length v.lecturers)) ∷ (codes "phase", string (phase_word v.phase)) ∷ (codes "projects", count (length v.projects)) ∷ []
-    ++ round_member v.round ++ (codes "still_to_rank", texts v.still_to_rank) ∷ (codes "students", count (length v.students)) ∷ []
+    ++ (codes "lecturers", count (length v.lecturers)) ∷ (codes "phase", string (phase_word v.phase))
+    ∷ (codes "projects", count (length v.projects)) ∷ []
+    ++ round_member v.round ++ (codes "still_to_rank", texts v.still_to_rank)
+    ∷ (codes "students", count (length v.students)) ∷ []
     ++ (if has_result v.round v.phase then (codes "unassigned", texts (unassigned v)) ∷ [] else [])
     ++ (codes "without_list", texts v.without_list) ∷ [])
 
@@ -178,7 +191,8 @@ students_at pairs p = count_by (λ (x : Key × Key). equals x.1 p) pairs
 
 abbrev pub project_line : OfficeSees → ProjectRow → List ℕ
 project_line v p =
-    padded_left 16 p.key ++ padded_right 4 (decimal (students_at v.pairs p.key)) ++ codes " of " ++ padded_right 4 (decimal p.capacity) ++ line_feed
+    padded_left 16 p.key ++ padded_right 4 (decimal (students_at v.pairs p.key)) ++ codes " of "
+    ++ padded_right 4 (decimal p.capacity) ++ line_feed
 
 abbrev pub assigned_line : OfficeSees → List ℕ
 assigned_line v =
@@ -186,4 +200,6 @@ assigned_line v =
 
 -- the lines of students, the lines of projects and the totals, with an empty line between them
 abbrev pub report_text : OfficeSees → List ℕ
-report_text v = flat_map (student_line v) v.students ++ line_feed ++ flat_map (project_line v) v.projects ++ line_feed ++ assigned_line v
+report_text v =
+    flat_map (student_line v) v.students ++ line_feed ++ flat_map (project_line v) v.projects ++ line_feed
+    ++ assigned_line v

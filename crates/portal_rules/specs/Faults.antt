@@ -69,7 +69,8 @@ with_row row New (Took new same) = Took (row ∷ new) same
 abbrev pub take_rows : {X : Type 0} → RollRules X → ℕ → List X → List X → Taken X
 take_rows rules at there [] = Took [] 0
 take_rows rules at there (row ∷ rows) =
-    with_row row (verdict rules at there row) (take_rows rules (at + 1) (there_after there row (verdict rules at there row)) rows)
+    with_row row (verdict rules at there row)
+    (take_rows rules (at + 1) (there_after there row (verdict rules at there row)) rows)
 
 -- the code of a new person must not be in use by anybody
 abbrev pub lecturer_roll : OfficeSees → RollRules LecturerRow
@@ -87,7 +88,8 @@ abbrev pub project_roll : OfficeSees → RollRules ProjectRow
 project_roll v =
     record {
       key = λ r. r.key;
-      same = λ a b. equals a.key b.key && equals a.lecturer b.lecturer && equals a.title b.title && (a.capacity == b.capacity);
+      same = λ a b.
+          equals a.key b.key && equals a.lecturer b.lecturer && equals a.title b.title && (a.capacity == b.capacity);
       is_bad = λ there r. not (has (map (λ l. l.key) v.lecturers) r.lecturer);
       fault = bad_row_at;
       limit = 1000;
@@ -132,7 +134,8 @@ wrong_choice catalogue earlier k =
 -- the error word for the student who comes next in a ranking, if that is wrong
 abbrev pub wrong_rank : List (Key × List Person) → List Key → Key → Option (List ℕ)
 wrong_rank applicants earlier k =
-    if not (is_applicant applicants k) then Some (codes "not_an_applicant") else if has earlier k then Some (codes "repeated") else None
+    if not (is_applicant applicants k) then Some (codes "not_an_applicant")
+    else if has earlier k then Some (codes "repeated") else None
 
 -- the fault at this position, if there is an error word, and else the later fault
 abbrev pub or_later : ℕ → Option (List ℕ) → Option ListFault → Option ListFault
@@ -162,7 +165,8 @@ ranking_fault applicants list = or_missing (lacks_one applicants list) (first_wr
 abbrev pub AreFresh : {X : Type 0} → RollRules X → List X → List X → Type 0
 AreFresh roll there [] = Unit {0}
 AreFresh roll there (r ∷ rs) =
-    (list_any (λ x. equals (roll.key x) (roll.key r)) there ≡ false) × (roll.is_bad there r ≡ false) × (length there < roll.limit) × AreFresh roll (r ∷ there) rs
+    (list_any (λ x. equals (roll.key x) (roll.key r)) there ≡ false) × (roll.is_bad there r ≡ false)
+    × (length there < roll.limit) × AreFresh roll (r ∷ there) rs
 
 -- no key of the list is wrong, given the keys before it
 abbrev pub NoneWrong : (List Key → Key → Option (List ℕ)) → List Key → Type 0

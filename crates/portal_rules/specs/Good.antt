@@ -97,7 +97,8 @@ pub record Sound (w : World) : Type 0 where
   pub choices : AllByRecursion (λ s. IsChoice (project_keys (in_play w)) s.choice) w.students
   pub no_choices_yet : is_setup w.phase ≡ true → AllByRecursion (λ s. s.choice ≡ []) w.students
   pub no_rankings_yet : is_from_ranking w.phase ≡ false → AllByRecursion (λ l. l.ranking ≡ None) w.lecturers
-  pub rankings : AllByRecursion (λ l. IfSome l.ranking (IsRanking (map student_key (applicants_of w l.row.key)))) w.lecturers
+  pub rankings : AllByRecursion (λ l.
+      IfSome l.ranking (IsRanking (map student_key (applicants_of w l.row.key)))) w.lecturers
   pub no_result_yet : is_published w.phase ≡ false → AllByRecursion (λ s. s.placed ≡ None) w.students
   pub all_ranked : is_published w.phase ≡ true → AllByRecursion (λ l. is_still_to_rank w l ≡ false) w.lecturers
   -- the first round has no earlier lists, rankings or placements
@@ -138,4 +139,6 @@ placed_with = count_with (λ s. s.placed)
 -- the results of both rounds together keep within the capacities of the rolls
 pub record KeepsCapacities (w : World) : Type 0 where
   pub projects : AllByRecursion (λ p. given_to w.students p.key + placed_to w.students p.key ≤ p.capacity) w.projects
-  pub lecturers : AllByRecursion (λ l. given_with w.projects w.students l.row.key + placed_with w.projects w.students l.row.key ≤ l.row.capacity) w.lecturers
+  pub lecturers : AllByRecursion (λ l.
+      given_with w.projects w.students l.row.key + placed_with w.projects w.students l.row.key ≤ l.row.capacity)
+      w.lecturers

@@ -58,7 +58,7 @@ pub record Uses {A E : Type 0} (r : Result A E) (old new : KeeperState) (makes :
   pub clean : new.clean → old.clean
   -- if it succeeds, a clean keeper stays clean, on a clean disk
   pub lasts : OnOk r (StaysClean old new)
-  -- in any case a clean keeper stays clean or breaks
+  -- in any case, on a clean disk: a clean keeper stays clean or breaks, a broken one stays broken
   pub breaks : LastsOrBreaks old new
   -- if the keeper is clean, a stop after it leaves only its world
   pub settled : new.clean → IsSettled new

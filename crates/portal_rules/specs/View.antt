@@ -46,7 +46,8 @@ lecturer_sees w l =
       me = record { key = l.row.key; name = l.row.name };
       capacity = l.row.capacity;
       catalogue = catalogue w;
-      applicants = map (λ p. (p.key, if is_from_ranking w.phase then persons (applicants_to w p.key) else [])) (projects_of w l.row.key);
+      applicants =
+          map (λ p. (p.key, if is_from_ranking w.phase then persons (applicants_to w p.key) else [])) (projects_of w l.row.key);
       ranking = l.ranking;
       placed = map (λ p. (p.key, persons (placed_at w p.key))) (projects_of w l.row.key);
     }

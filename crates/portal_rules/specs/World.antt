@@ -147,7 +147,9 @@ lecturers_left ls ps ss = filter (λ l. nat_lt 0 l.row.capacity) (map (lowered_l
 
 -- the projects with room left, which becomes their capacity, if their lecturers have room left
 abbrev pub projects_left : List Lecturer → List ProjectRow → List Student → List ProjectRow
-projects_left ls ps ss = filter (λ p. nat_lt 0 p.capacity && has (map lecturer_key (lecturers_left ls ps ss)) p.lecturer) (map (lowered_project ss) ps)
+projects_left ls ps ss =
+    filter (λ p. nat_lt 0 p.capacity && has (map lecturer_key (lecturers_left ls ps ss)) p.lecturer)
+    (map (lowered_project ss) ps)
 
 abbrev pub students_left : List Student → List Student
 students_left ss = filter is_left ss
@@ -179,11 +181,22 @@ abbrev pub first_published : Lecturer → Lecturer
 first_published l = record { row = l.row; ranking = l.earlier_ranking; earlier_ranking = None }
 
 abbrev pub first_placed : Student → Student
-first_placed s = record { row = s.row; choice = s.earlier_choice; placed = s.earlier_placement; earlier_choice = []; earlier_placement = None }
+first_placed s = record {
+  row = s.row;
+  choice = s.earlier_choice;
+  placed = s.earlier_placement;
+  earlier_choice = [];
+  earlier_placement = None;
+}
 
 -- for a world of the second round: the world in which the first round was published
 abbrev pub first : World → World
-first w = record w { round = First; phase = Published; lecturers = map first_published w.lecturers; students = map first_placed w.students }
+first w = record w {
+  round = First;
+  phase = Published;
+  lecturers = map first_published w.lecturers;
+  students = map first_placed w.students;
+}
 
 -- a change; `Placements` publishes pairs of student and project, `Fill` adds the missing rankings
 pub data Change : Type 0 where
@@ -242,7 +255,12 @@ placed_before s =
 
 -- the second round opens only after a published first; any other world stays as it is
 abbrev pub opened : Round → Phase → World → World
-opened First Published w = record w { round = Second; phase = Choosing; lecturers = map ranked_before w.lecturers; students = map placed_before w.students }
+opened First Published w = record w {
+  round = Second;
+  phase = Choosing;
+  lecturers = map ranked_before w.lecturers;
+  students = map placed_before w.students;
+}
 opened _ _ w = w
 
 -- only the first round takes new rows; a world of the second stays as it is

@@ -10,7 +10,9 @@ ConsumesAtMost most old new = (taken : Text) × (length taken ≤ most) × Consu
 
 -- the answer to the whole input is written, and `status` is its exit status
 abbrev pub WritesAnswer : Task → Option Text → ℕ → Option Text → Option Text → Type 0
-WritesAnswer task input status old new = IfSome input (λ bytes. (told : Output) × IsAnswer task bytes told × (status ≡ told.status) × Appends old new told.text)
+WritesAnswer task input status old new =
+    IfSome input (λ bytes. (told : Output) × IsAnswer task bytes told × (status ≡ told.status)
+    × Appends old new told.text)
 
 -- the same for some bytes, since those of a named file are not known here
 abbrev pub AnswersSome : Task → ℕ → Option Text → Option Text → Type 0

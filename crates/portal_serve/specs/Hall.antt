@@ -46,7 +46,8 @@ pub record StillWorks (outcome : Outcome) : Type 0 where
 -- after a fault of the store the desk has failed at the last outcome alone, otherwise at none
 abbrev pub EndsBy : Ended → List Outcome → Type 0
 EndsBy StoreFault outcomes =
-    (before : List Outcome) × (last : Outcome) × (outcomes ≡ before ++ last ∷ []) × All StillWorks before × (last.failed ≡ true)
+    (before : List Outcome) × (last : Outcome) × (outcomes ≡ before ++ last ∷ []) × All StillWorks before
+    × (last.failed ≡ true)
 EndsBy _ outcomes = All StillWorks outcomes
 
 -- the hall counts one outcome for each accepted connection, and those with a fault of their own

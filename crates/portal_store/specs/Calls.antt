@@ -24,8 +24,10 @@ use Rattle.portal_store.specs.declared.store.OpenFault.{OpenFault}
 use Rattle.portal_store.specs.declared.store.UpgradeFault.{UpgradeFault}
 use Rattle.portal_store.specs.declared.store.UpgradeFault.TheVariants as upgrading
 
--- a store was made of the connection; `Own` says that its schema was as expected
-pub record MakesStore {S : Type 0} (g : Ghosts S) (Own : Type 0) (After : Trees → Type 0) (old : Held S) (s : Seen S) : Type 0 where
+-- a store was made of the connection; `Own` says that its schema was as expected, and `After` which
+-- tables a crash may newly leave
+pub record MakesStore {S : Type 0} (g : Ghosts S) (Own : Type 0) (After : Trees → Type 0) (old : Held S)
+    (s : Seen S) : Type 0 where
   -- the tables are the portal's own exactly in that case
   pub own : IsTrue s.own ↔ Own
   -- no fault is counted yet
@@ -34,16 +36,16 @@ pub record MakesStore {S : Type 0} (g : Ghosts S) (Own : Type 0) (After : Trees 
   pub good : KeepsGood (kept_state g s)
   -- and a stop leaves only this world
   pub settled : IsCleanStore g s → IsSettled (kept_state g s)
-  -- a crash leaves what one before the call left, or such tables
+  -- on a clean disk, a crash leaves what one before the call left, or tables of which `After` holds
   pub crash : Survives (state g old) (state g s.conn) After
 
--- no store was made, and the connection is handed back
+-- no store was made, and the connection is handed back; `After` is as above
 pub record HandsBack {S : Type 0} (g : Ghosts S) (After : Trees → Type 0) (old new : Held S) : Type 0 where
   -- it is in no transaction
   pub idle : new.in_transaction ≡ false
   -- if it is open, over a clean disk, its tables are as they were
   pub stays : HasCleanDisk (state g new) → IsTrue (state g new).is_open → Stays (state g old) (state g new)
-  -- a crash leaves what one before the call left, or such tables
+  -- on a clean disk, a crash leaves what one before the call left, or tables of which `After` holds
   pub crash : Survives (state g old) (state g new) After
 
 -- the portal's tables were made, with this office code
@@ -59,7 +61,8 @@ pub record CreatesStore {S : Type 0} (g : Ghosts S) (office : Key) (old : Held S
   pub durable : HasDisk g s → LeavesOnly (state g s.conn)
 
 -- they were not, for this fault
-pub record RefusesToCreate {S : Type 0} (g : Ghosts S) (office : Key) (fault : CreateFault) (old new : Held S) : Type 0 where
+pub record RefusesToCreate {S : Type 0} (g : Ghosts S) (office : Key) (fault : CreateFault)
+    (old new : Held S) : Type 0 where
   pub back : HandsBack g (IsAfter (Creates office) (state g old)) old new
   -- `Exists` means that a table or view has one of the eleven names
   pub exists : IsTrue (has_names All old.schema) ↔ (fault ≡ creating.Exists)
@@ -130,7 +133,8 @@ pub record StaysStore {S : Type 0} (g : Ghosts S) (old new : Seen S) : Type 0 wh
   pub lasts : Lasts g old new
 
 -- what a change does to own tables
-pub record ChangesTables {S V E : Type 0} (g : Ghosts S) (change : Change) (r : Result V E) (old new : Seen S) : Type 0 where
+pub record ChangesTables {S V E : Type 0} (g : Ghosts S) (change : Change) (r : Result V E)
+    (old new : Seen S) : Type 0 where
   -- if it succeeds, it is made in one commit
   pub commits : IsTrue old.own → HasDisk g new
       → OnOk r (Commits (IsTransition change) (state g old.conn) (state g new.conn))

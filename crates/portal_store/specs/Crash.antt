@@ -138,7 +138,8 @@ abbrev pub OpensAgain : Type 0
 OpensAgain =
     (change : Change) (old found : Database) → IsConsistent old → Good (world_of old.trees)
     → Good (changed (world_of old.trees) change) → IsLeft change old found.trees → IsDatabase found
-    → Reopens found × ((world_of found.trees ≡ world_of old.trees) ⊎ (world_of found.trees ≡ changed (world_of old.trees) change))
+    → Reopens found × ((world_of found.trees ≡ world_of old.trees)
+    ⊎ (world_of found.trees ≡ changed (world_of old.trees) change))
 
 -- what `create` makes opens with the empty world in setup
 abbrev pub OpensFresh : Type 0
@@ -152,4 +153,5 @@ UpgradesAgain =
     (old found : Database) → IsFirstSchema old.schema → IsDatabase old → HasGoodFirst first_version old.trees
     → IsDatabase found
     → (found.trees ≡ old.trees → UpgradesYet found × (world_in First found.trees ≡ world_in First old.trees))
-    × ((after : Database) → Upgrades old after → found.trees ≡ after.trees → Reopens found × (world_of found.trees ≡ world_in First old.trees))
+    × ((after : Database) → Upgrades old after → found.trees ≡ after.trees → Reopens found
+    × (world_of found.trees ≡ world_in First old.trees))

@@ -17,8 +17,10 @@ use Rattle.portal_store.specs.World.{world_in, world_of, is_ranked, phase_in}
 -- in a round no list has a gap, and a lecturer without a ranking has no rows of one
 pub record Whole (round : Round) (db : Trees) : Type 0 where
   pub choices : AllByRecursion (λ r. IsWhole (of_key (row_key r) (db (tree_of (choice_table round))))) (db student_tree)
-  pub rankings : AllByRecursion (λ r. IsWhole (of_key (row_key r) (db (tree_of (ranking_table round))))) (db lecturer_tree)
-  pub ranked : AllByRecursion (λ r. is_ranked round db r ≡ false → of_key (row_key r) (db (tree_of (ranking_table round))) ≡ []) (db lecturer_tree)
+  pub rankings : AllByRecursion (λ r. IsWhole (of_key (row_key r) (db (tree_of (ranking_table round)))))
+      (db lecturer_tree)
+  pub ranked : AllByRecursion (λ r. is_ranked round db r ≡ false
+      → of_key (row_key r) (db (tree_of (ranking_table round))) ≡ []) (db lecturer_tree)
 
 -- the row of `second` says that there is no second round, and there are no lists, rankings or
 -- placements of one

@@ -47,7 +47,11 @@ earlier Second none before = before
 -- the world that the tables hold in a round
 
 abbrev pub lecturer_stored : Round → Trees → Row → Lecturer
-lecturer_stored round db r = record { row = lecturer_at 1 r; ranking = ranking_in round db r; earlier_ranking = earlier round None (ranking_in First db r) }
+lecturer_stored round db r = record {
+  row = lecturer_at 1 r;
+  ranking = ranking_in round db r;
+  earlier_ranking = earlier round None (ranking_in First db r);
+}
 
 abbrev pub student_stored : Round → Trees → Row → Student
 student_stored round db r =

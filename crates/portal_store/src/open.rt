@@ -166,8 +166,9 @@ fn examine<S: Alter>(
 }
 
 impl<S: Alter> Store<S> {
-    /// Opens the portal in a database whose tables represent a good world; only of own tables does
-    /// `Ok` promise one. It checks the version before it queries the tables of the second round.
+    /// Opens the portal in a database. If `Ok` is returned on a clean disk, own tables represent a
+    /// good world; of other tables, this is not said. It checks the version before it queries the
+    /// tables of the second round, which no clause says.
     /// Whatever the tables are, it changes nothing if the disk is clean and the connection open,
     /// and a crash right after it leaves only what one before left. Tables of which the first six
     /// are the portal's are opened only in version 2. A store that is clean is settled, too.

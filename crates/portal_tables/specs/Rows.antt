@@ -23,10 +23,20 @@ row_key r = bytes (column r 1)
 
 -- what the cells of a row of a roll say, where the key stands in this column
 abbrev pub lecturer_at : ℕ → Row → LecturerRow
-lecturer_at n r = record { key = bytes (column r n); name = bytes (column r (n + 1)); code = bytes (column r (n + 2)); capacity = number_in (column r (n + 3)) }
+lecturer_at n r = record {
+  key = bytes (column r n);
+  name = bytes (column r (n + 1));
+  code = bytes (column r (n + 2));
+  capacity = number_in (column r (n + 3));
+}
 
 abbrev pub project_at : ℕ → Row → ProjectRow
-project_at n r = record { key = bytes (column r n); lecturer = bytes (column r (n + 1)); title = bytes (column r (n + 2)); capacity = number_in (column r (n + 3)) }
+project_at n r = record {
+  key = bytes (column r n);
+  lecturer = bytes (column r (n + 1));
+  title = bytes (column r (n + 2));
+  capacity = number_in (column r (n + 3));
+}
 
 abbrev pub student_at : ℕ → Row → StudentRow
 student_at n r = record { key = bytes (column r n); name = bytes (column r (n + 1)); code = bytes (column r (n + 2)) }

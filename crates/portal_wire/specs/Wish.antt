@@ -71,7 +71,8 @@ phase_among count d = option_and_then phase_named (member_among count (codes "ph
 -- the phase and the round, if the object has exactly these two members
 abbrev pub phase_and_round : Data → Option (Phase × Option Round)
 phase_and_round d =
-    option_and_then (λ phase. option_map (λ round. (phase, Some round)) (option_and_then round_named (member_among 2 (codes "round") d))) (phase_among 2 d)
+    option_and_then (λ phase. option_map (λ round. (phase, Some round))
+    (option_and_then round_named (member_among 2 (codes "round") d))) (phase_among 2 d)
 
 -- the phase and perhaps the round of a move: the object has `phase` alone, or `phase` and `round`
 abbrev pub move_named : Data → Option (Phase × Option Round)

@@ -47,13 +47,15 @@ HasRoom i m p = (at_project m p < capacity_of i p) × (at_lecturer i m (lecturer
 -- a statement that does not hold: whatever lists a group submits in j, no member gains
 abbrev pub NobodyGains : Type 0
 NobodyGains =
-    (i j : Spa) (group : List ℕ) (m n : List (Option ℕ)) → IsLawful i → IsLawful j → DifferInLists i j (IsOn group) → IsBest i m → IsBest j n
+    (i j : Spa) (group : List ℕ) (m n : List (Option ℕ)) → IsLawful i → IsLawful j → DifferInLists i j (IsOn group)
+    → IsBest i m → IsBest j n
     → (s : ℕ) → IsOn group s → IsNoWorse i s (project_of m s) (project_of n s)
 
 -- by the list in i, no list of the same projects, or of some of them, gives s a better one
 abbrev pub OrderHonestly : Type 0
 OrderHonestly =
-    (i j : Spa) (s : ℕ) (m n : List (Option ℕ)) → IsLawful i → IsLawful j → DifferInOneList i j s → ((p : ℕ) → IsAcceptable j s p → IsAcceptable i s p)
+    (i j : Spa) (s : ℕ) (m n : List (Option ℕ)) → IsLawful i → IsLawful j → DifferInOneList i j s
+    → ((p : ℕ) → IsAcceptable j s p → IsAcceptable i s p)
     → IsBest i m → IsStable j n → IsAsGood i s (project_of m s) (project_of n s)
 
 -- p is full, and its lecturer ranks each student there above s
@@ -95,11 +97,13 @@ pub record GivesRoom (i j : Spa) : Type 0 where
 -- then nobody gets worse in j's best than in a stable matching of i
 abbrev pub MoreRoomNeverHarms : Type 0
 MoreRoomNeverHarms =
-    (i : Spa) (capacities limits : List ℕ) (m n : List (Option ℕ)) → IsLawful i → IsLawful (with_room i capacities limits) → GivesRoom i (with_room i capacities limits)
+    (i : Spa) (capacities limits : List ℕ) (m n : List (Option ℕ)) → IsLawful i
+    → IsLawful (with_room i capacities limits) → GivesRoom i (with_room i capacities limits)
     → IsStable i m → IsBest (with_room i capacities limits) n → (s : ℕ) → IsAsGood i s (project_of n s) (project_of m s)
 
 -- a statement that does not hold: more places, with the same limits, harm nobody
 abbrev pub MorePlacesNeverHarm : Type 0
 MorePlacesNeverHarm =
-    (i : Spa) (capacities : List ℕ) (m n : List (Option ℕ)) → IsLawful i → IsLawful (with_room i capacities i.limits) → ((p : ℕ) → capacity_of i p ≤ capacity_of (with_room i capacities i.limits) p)
+    (i : Spa) (capacities : List ℕ) (m n : List (Option ℕ)) → IsLawful i → IsLawful (with_room i capacities i.limits)
+    → ((p : ℕ) → capacity_of i p ≤ capacity_of (with_room i capacities i.limits) p)
     → IsBest i m → IsBest (with_room i capacities i.limits) n → (s : ℕ) → IsAsGood i s (project_of n s) (project_of m s)

@@ -25,7 +25,8 @@ StandsStudent i x = (s : ℕ) × HasKey i.student_keys s x.key × (keys_at i.pro
 
 abbrev pub StandsProject : Spa → ProjectWithLecturer → Type 0
 StandsProject i x =
-    (p : ℕ) × HasKey i.project_keys p x.key × (capacity_of i p ≡ x.capacity) × (slice_index_or i.lecturer_keys (lecturer_of i p) [] ≡ x.lecturer)
+    (p : ℕ) × HasKey i.project_keys p x.key × (capacity_of i p ≡ x.capacity)
+    × (slice_index_or i.lecturer_keys (lecturer_of i p) [] ≡ x.lecturer)
 
 abbrev pub StandsLecturer : Spa → LecturerWithList → Type 0
 StandsLecturer i x =
@@ -70,9 +71,11 @@ HasPairFault i lines NotAcceptable r =
 HasPairFault i lines StudentTwice r =
     BadAt lines (λ x. x.row) (λ j x. Any (λ y. y.student ≡ x.student) (take j lines)) r
 HasPairFault i lines ProjectOver r =
-    BadAt lines (λ x. x.row) (λ j x. capacity_of i (project_in i x) < count_by (λ y. project_in i y == project_in i x) (take (j + 1) lines)) r
+    BadAt lines (λ x. x.row) (λ j x.
+    capacity_of i (project_in i x) < count_by (λ y. project_in i y == project_in i x) (take (j + 1) lines)) r
 HasPairFault i lines LecturerOver r =
-    BadAt lines (λ x. x.row) (λ j x. limit_of i (lecturer_in i x) < count_by (λ y. lecturer_in i y == lecturer_in i x) (take (j + 1) lines)) r
+    BadAt lines (λ x. x.row) (λ j x.
+    limit_of i (lecturer_in i x) < count_by (λ y. lecturer_in i y == lecturer_in i x) (take (j + 1) lines)) r
 HasPairFault i lines Memory r = ⊥
 
 -- the order of the faults: the least number is reported

@@ -109,7 +109,8 @@ Blocks i m s p A =
     Wants i m s p × (at_project m p < capacity_of i p)
     × (at_lecturer i m (lecturer_of i p) < limit_of i (lecturer_of i p))
 Blocks i m s p B =
-    Wants i m s p × (at_project m p < capacity_of i p) × (at_lecturer i m (lecturer_of i p) ≡ limit_of i (lecturer_of i p))
+    Wants i m s p × (at_project m p < capacity_of i p)
+    × (at_lecturer i m (lecturer_of i p) ≡ limit_of i (lecturer_of i p))
     × (IsWith i m (lecturer_of i p) s ⊎ SomeWorseWith i m (lecturer_of i p) s)
 Blocks i m s p C = Wants i m s p × (at_project m p ≡ capacity_of i p) × SomeWorseAt i m p s
 

@@ -69,10 +69,12 @@ abbrev pub HasFault : Rows → InstanceFault → ℕ → Type 0
 HasFault rows TooMany r =
     (r ≡ 0) × ((300 < length rows.lecturers) ⊎ ((1000 < length rows.projects) ⊎ (2000 < length rows.students)))
 HasFault rows BadKey r =
-    BadLecturer rows (λ _ x. is_key x.key ≡ false) r ⊎ (BadProject rows (λ _ x. is_key x.key ≡ false) r ⊎ BadStudent rows (λ _ x. is_key x.key ≡ false) r)
+    BadLecturer rows (λ _ x. is_key x.key ≡ false) r
+    ⊎ (BadProject rows (λ _ x. is_key x.key ≡ false) r ⊎ BadStudent rows (λ _ x. is_key x.key ≡ false) r)
 HasFault rows KeyTwice r =
     BadLecturer rows (λ j x. IsEarlierKey rows.lecturers (λ y. y.key) j x.key) r
-    ⊎ (BadProject rows (λ j x. IsEarlierKey rows.projects (λ y. y.key) j x.key) r ⊎ BadStudent rows (λ j x. IsEarlierKey rows.students (λ y. y.key) j x.key) r)
+    ⊎ (BadProject rows (λ j x. IsEarlierKey rows.projects (λ y. y.key) j x.key) r
+    ⊎ BadStudent rows (λ j x. IsEarlierKey rows.students (λ y. y.key) j x.key) r)
 HasFault rows BadCapacity r =
     BadLecturer rows (λ _ x. IsBadCapacity x.capacity) r ⊎ BadProject rows (λ _ x. IsBadCapacity x.capacity) r
 HasFault rows NoSuchLecturer r = BadProject rows (λ _ x. IsKeyOf rows.lecturers (λ y. y.key) x.lecturer → ⊥) r

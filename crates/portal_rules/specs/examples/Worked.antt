@@ -81,10 +81,13 @@ pub record TellsApplicants : Type 0 where
   pub to_lee : reply listed (codes "lee-code-01") AbstractCall.Applicants ≡ body ((
     codes "projects",
     several (
-        dictionary ((codes "applicants", worked_persons ((codes "S1", codes "Ann") ∷ (codes "S2", codes "Roe, Bea") ∷ [])) ∷ (codes "id", string (codes "P1")) ∷ [])
-        ∷ dictionary ((codes "applicants", worked_persons ((codes "S1", codes "Ann") ∷ [])) ∷ (codes "id", string (codes "P2")) ∷ []) ∷ []),
+        dictionary ((codes "applicants", worked_persons ((codes "S1", codes "Ann") ∷ (codes "S2", codes "Roe, Bea") ∷ []))
+        ∷ (codes "id", string (codes "P1")) ∷ [])
+        ∷ dictionary ((codes "applicants", worked_persons ((codes "S1", codes "Ann") ∷ []))
+        ∷ (codes "id", string (codes "P2")) ∷ []) ∷ []),
   ) ∷ [])
-  pub in_another_order : reply (changed listed (Choices (codes "S1") (codes "P2" ∷ codes "P1" ∷ []))) (codes "lee-code-01") AbstractCall.Applicants
+  pub in_another_order : reply (changed listed (Choices (codes "S1") (codes "P2" ∷ codes "P1" ∷ [])))
+      (codes "lee-code-01") AbstractCall.Applicants
       ≡ reply listed (codes "lee-code-01") AbstractCall.Applicants
   pub to_ann : reply listed (codes "ann-code-1") AbstractCall.Applicants ≡ refusal 403 (codes "not_yours") []
   pub to_nobody : reply listed [] AbstractCall.Applicants ≡ refusal 403 (codes "no_caller") []
@@ -93,11 +96,13 @@ pub record TellsApplicants : Type 0 where
 pub record TellsMoves : Type 0 where
   pub too_early : reply half_ranked (codes "office-code-0") (AbstractCall.Move Published None)
       ≡ refusal 409 (codes "still_to_rank") ((codes "lecturers", texts (codes "L2" ∷ [])) ∷ [])
-  pub published : reply ranked (codes "office-code-0") (AbstractCall.Move Published None) ≡ body ((codes "phase", string (codes "published")) ∷ [])
+  pub published : reply ranked (codes "office-code-0") (AbstractCall.Move Published None)
+      ≡ body ((codes "phase", string (codes "published")) ∷ [])
 
 -- the result, as each sees it
 pub record TellsResult : Type 0 where
-  pub to_ann : reply worked (codes "ann-code-1") AbstractCall.Result ≡ body ((codes "project", string (codes "P2")) ∷ [])
+  pub to_ann : reply worked (codes "ann-code-1") AbstractCall.Result
+      ≡ body ((codes "project", string (codes "P2")) ∷ [])
   pub to_cyr : reply worked (codes "cyr-code-3") AbstractCall.Result ≡ body ((codes "project", null) ∷ [])
   pub csv : reply worked (codes "office-code-0") AbstractCall.AllocationCsv
       ≡ sheet (Csv (codes "student,name,project,title,lecturer\nS1,Ann,P2,Kites,L1\nS2,\"Roe, Bea\",P1,Tides,L1\nS3,Cyr,,,\n"))
@@ -112,8 +117,10 @@ pub record TellsOpening : Type 0 where
   pub catalogue : reply again (codes "cyr-code-3") AbstractCall.Catalogue ≡ body ((
     codes "projects",
     several (
-        dictionary ((codes "capacity", count 1) ∷ (codes "id", string (codes "P3")) ∷ (codes "lecturer", string (codes "L2"))
+        dictionary ((codes "capacity", count 1)
+        ∷ (codes "id", string (codes "P3")) ∷ (codes "lecturer", string (codes "L2"))
         ∷ (codes "lecturer_name", string (codes "Moe")) ∷ (codes "title", string (codes "Bells")) ∷ []) ∷ []),
   ) ∷ [])
   pub to_ann : reply again (codes "ann-code-1") (AbstractCall.SetChoices []) ≡ refusal 409 (codes "already_placed") []
-  pub to_cyr : reply again (codes "cyr-code-3") (AbstractCall.SetChoices (codes "P3" ∷ [])) ≡ body ((codes "projects", texts (codes "P3" ∷ [])) ∷ [])
+  pub to_cyr : reply again (codes "cyr-code-3") (AbstractCall.SetChoices (codes "P3" ∷ []))
+      ≡ body ((codes "projects", texts (codes "P3" ∷ [])) ∷ [])
