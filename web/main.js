@@ -90,8 +90,8 @@ async function enter(typed) {
   const code = asCode(typed);
   if (!isCode(code)) return words.noCodeForm;
   const made = madeCodeOf(code);
-  const fault = await tryCode(code);
-  return fault === words.noSuchCode && made !== null && made !== code ? tryCode(made) : fault;
+  const fault = await tryCode(made ?? code);
+  return fault === words.noSuchCode && made !== null && made !== code ? tryCode(code) : fault;
 }
 
 /** @param {string} code */

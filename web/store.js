@@ -1,5 +1,5 @@
-// What this browser keeps: for longer than a tab is open the language, and titles and names; for as long as the tab is open, drafts of
-// lists and rankings that are not saved. Never a code.
+// What this browser keeps: for longer than a tab is open the language, titles and names, who saved or filled in rankings, and how many students
+// a lecturer takes; for as long as the tab is open, drafts of lists and rankings that are not saved. Never a code.
 
 /**
  * What was kept under this name, or `otherwise`. A browser may forbid to keep anything: then nothing was kept.

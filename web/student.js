@@ -257,7 +257,7 @@ function listMaking(of, state) {
 const roomText = (projects) => words.roomLeft(projects.reduce((sum, { capacity }) => sum + capacity, 0), projects.length);
 
 /**
- * How it is decided, in three sentences: open until a list is saved, a line afterwards. How to order the list, and who sees it, is folded in it.
+ * How it is decided, in three points: open until a list is saved, a line afterwards. How to order the list, and who sees it, is folded in it.
  * @param {Me} me
  * @param {boolean} isOpen
  */

@@ -222,7 +222,7 @@ export const words = texts({
   nothing: 'Kein Projekt',
   usage: 'Belegte Plätze',
   usageOf: (taken, count) => `Belegte Plätze: ${number(taken)} (${projects(count)})`,
-  used: (taken, all) => `${taken} von ${places(all)}`,
+  used: (taken, all) => `${taken} von ${many(all, 'Platz', 'Plätzen')}`,
   downloadCsv: 'CSV herunterladen',
   printReport: 'Bericht drucken',
   report: 'Bericht als Text',

@@ -124,7 +124,7 @@ export const words = texts({
   catalogue: 'Projekte',
   searchProjects: 'Projekte suchen',
   columns: { title: 'Titel', lecturer: 'Lehrperson', places: 'Plätze', list: 'Ihre Liste' },
-  shown: (shown, all) => (shown === all ? projects(all) : `${number(shown)} von ${projects(all)}`),
+  shown: (shown, all) => (shown === all ? projects(all) : `${number(shown)} von ${many(all, 'Projekt', 'Projekten')}`),
   noProjects: 'Keine Projekte zu sehen.',
   noProjectsSecond: 'In dieser Runde hat kein Projekt mehr einen Platz. Fragen Sie das Studienbüro, wie es weitergeht.',
   showProjects: (count) => `Alle ${projects(count)} zeigen`,
