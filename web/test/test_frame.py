@@ -37,6 +37,7 @@ class SigningIn(PageCase):
             self.browser.sign_in(typed)
             self.browser.in_phase("Setup")
             self.browser.sign_out()
+        self.assertNotIn('"status":403', self.door.log(), "a refused code counts against the whole campus")
         self.browser.sign_in(GENERATED[:-1] + "e")
         self.browser.warns("We don’t know this code")
 
