@@ -11,8 +11,9 @@ import struct
 import subprocess
 import time
 
+from within import ROOT, end, health, holds, run, waits_for
+
 STATE, CONF = "/var/lib/portal/chem", "/etc/portal/chem.conf"
-ROOT = "/var/lib/caddy/.local/share/caddy/pki/authorities/local/root.crt"
 # The capability to listen below 1024; see capabilities(7).
 NET_BIND_SERVICE = 1 << 10
 CONNECT = "import socket; socket.create_connection(('127.0.0.1', {port}), 5)"
@@ -22,17 +23,6 @@ TAKE = "import socket; server = socket.create_server(('127.0.0.1', {port})); pri
 GROWS = "#!/usr/bin/python3\nheld = []\nwhile True:\n    held.append(b'a' * 10**7)\n"
 # The request that gives an interface an IPv6 address; see netdevice(7).
 SIOCSIFADDR = 0x8916
-counts = {True: 0, False: 0}
-
-
-def holds(what, true, seen=""):
-    counts[bool(true)] += 1
-    print(f"ok      {what}" if true else f"FAILED  {what}: {str(seen)[:600]}", flush=True)
-
-
-def run(line):
-    done = subprocess.run(["bash", "-c", line], stdout=subprocess.PIPE, stderr=subprocess.STDOUT, text=True)
-    return done.returncode, done.stdout
 
 
 def as_user(user, script, port):
@@ -61,22 +51,6 @@ def own_port():
         return int(re.search("^PORT=([0-9]+)$", file.read(), re.M)[1])
 
 
-def waits_for(true, seconds):
-    """Whether something becomes true within so many seconds."""
-    end = time.monotonic() + seconds
-    while not true():
-        if time.monotonic() > end:
-            return False
-        time.sleep(0.5)
-    return True
-
-
-def health():
-    """What portal-health says, once the portal answers."""
-    waits_for(lambda: run("portal-health chem")[0] != 2, 120)
-    return run("portal-health chem")
-
-
 class Browser:
     """One connection to the reverse proxy, over TLS, from one of this machine's addresses."""
 
@@ -100,7 +74,7 @@ def own_rights():
     """The portal listens below 1024 with the one capability for that, and nobody takes its port while it is stopped."""
     port = own_port()
     holds("the department has a port of 801 to 899", 801 <= port <= 899, port)
-    holds("portal-health tells nothing of its port", "can take the port" not in health()[1], health())
+    holds("portal-health tells nothing of its port", "can take the port" not in health("chem")[1], health("chem"))
     process = run("systemctl show --property=MainPID --value portal@chem")[1].strip()
     with open(f"/proc/{process}/status") as file:
         status = dict(line.split(":\t", 1) for line in file.read().splitlines())
@@ -111,7 +85,7 @@ def own_rights():
     holds("nobody else takes its port while it is stopped", tries("nobody", LISTEN, port) == "PermissionError", tries("nobody", LISTEN, port))
     holds("though others are free", tries("nobody", LISTEN, 8081) == "", tries("nobody", LISTEN, 8081))
     run("systemctl start portal@chem")
-    holds("it comes back", "answers in" in health()[1], health())
+    holds("it comes back", "answers in" in health("chem")[1], health("chem"))
 
 
 def planted():
@@ -132,13 +106,13 @@ def upgraded():
     """A department of an earlier version has a port that everybody can take: an upgrade tells the lines that give it another."""
     port = own_port()
     run(f"sed -i 's/^PORT={port}$/PORT=8081/' {CONF}; sed -i 's/portal {port} /portal 8081 /' /etc/portal/sites/chem.caddy; systemctl restart portal@chem caddy")
-    told = health()
+    told = health("chem")
     holds("portal-health warns of a port that everybody can take", told[0] == 1 and "everybody on this machine can take the port 8081" in told[1], told)
     status, said = run("dpkg --install /root/portal_*.deb")
     moves = re.findall("^  ((?:sed|caddy) .*)$", said, re.M)
-    holds("an upgrade goes on with that port, and tells three lines", status == 0 and len(moves) == 3 and "answers in" in health()[1], said)
+    holds("an upgrade goes on with that port, and tells three lines", status == 0 and len(moves) == 3 and "answers in" in health("chem")[1], said)
     done = [run(line) for line in moves]
-    told = health()
+    told = health("chem")
     holds("with these lines the department has a better one", 801 <= own_port() <= 899 and all(not one[0] for one in done), done)
     holds("and portal-health is content with it", "answers in" in told[1] and "can take the port" not in told[1], told)
     holds("the reverse proxy has followed", waits_for(lambda: Browser("127.0.0.1").status() == 403, 60))
@@ -159,7 +133,7 @@ def guarded():
     with held(port):
         holds("nobody blocks it", Browser("127.0.0.1", 6).status() == 403)
     holds("everybody connects to the reverse proxy", tries("nobody", CONNECT, 443) == "", tries("nobody", CONNECT, 443))
-    holds("callers are served", Browser("127.0.0.1").status() == 403 and "answers in" in health()[1], health())
+    holds("callers are served", Browser("127.0.0.1").status() == 403 and "answers in" in health("chem")[1], health("chem"))
     run("systemctl enable --now nftables && systemctl restart nftables")
     told = waits_for(lambda: tries("nobody", CONNECT, port) == "ConnectionRefusedError", 20)
     holds("it goes on when nftables flushes all rules", told, run("nft list ruleset"))
@@ -212,12 +186,12 @@ def own_ports():
 def flushed():
     """Somebody flushes all rules: portal-health tells."""
     run("systemctl start portal-guard")
-    holds("portal-health is content with the guard", "portal-guard" not in health()[1], health())
+    holds("portal-health is content with the guard", "portal-guard" not in health("chem")[1], health("chem"))
     run("nft flush ruleset")
-    told = health()
+    told = health("chem")
     holds("and warns where its rules are gone", told[0] == 1 and "the rules of portal-guard are gone" in told[1], told)
     run("systemctl restart portal-guard")
-    holds("until it is started again", "portal-guard" not in health()[1], health())
+    holds("until it is started again", "portal-guard" not in health("chem")[1], health("chem"))
 
 
 def backed_up():
@@ -298,7 +272,7 @@ def removed():
     run("cp /root/portal_*.deb /tmp && dpkg --remove portal")
     holds("the rule goes with the package", "table inet portal" not in run("nft list ruleset")[1], run("nft list ruleset"))
     run("dpkg --install /tmp/portal_*.deb && systemctl restart portal-guard portal@chem")
-    holds("and comes with it", tries("nobody", CONNECT, own_port()) == "ConnectionRefusedError" and "answers in" in health()[1], health())
+    holds("and comes with it", tries("nobody", CONNECT, own_port()) == "ConnectionRefusedError" and "answers in" in health("chem")[1], health("chem"))
 
 
 try:
@@ -313,5 +287,4 @@ try:
     removed()
 except Exception as fault:
     holds("the trial comes to its end", False, repr(fault))
-print(f"{counts[True]} passed, {counts[False]} failed", flush=True)
-subprocess.run(["systemctl", "poweroff", "--no-block"])
+end()

@@ -1,52 +1,13 @@
 """What test/server runs on a server that has only Debian and the package: the lines of RUNNING.md, and a year with the package's own files."""
-import http.client
 import json
 import os
 import re
-import ssl
-import subprocess
 import time
+
+from within import ask, end, health, holds, run
 
 EXAMPLES = "/usr/share/doc/portal/examples"
 STATE, YEAR = "/var/lib/portal/chem", "/var/lib/portal/chem/year.db"
-ROOT = "/var/lib/caddy/.local/share/caddy/pki/authorities/local/root.crt"
-counts = {True: 0, False: 0}
-
-
-def holds(what, true, seen=""):
-    counts[bool(true)] += 1
-    print(f"ok      {what}" if true else f"FAILED  {what}: {str(seen)[:600]}", flush=True)
-
-
-def run(line):
-    done = subprocess.run(["bash", "-c", line], stdout=subprocess.PIPE, stderr=subprocess.STDOUT, text=True)
-    return done.returncode, done.stdout
-
-
-def ask(code, method, path, body=None):
-    """The status and the body of a reply through the reverse proxy, over TLS. A portal that is being started is waited for."""
-    end = time.monotonic() + 180
-    while True:
-        link = http.client.HTTPSConnection("localhost", timeout=60, context=ssl.create_default_context(cafile=ROOT))
-        try:
-            link.request(method, path, body if isinstance(body, (bytes, type(None))) else json.dumps(body).encode(), {"Portal-Code": code} if code else {})
-            reply = link.getresponse()
-            told = reply.status, reply.read().decode()
-        except ConnectionError as fault:
-            told = 503, str(fault)
-        finally:
-            link.close()
-        if told[0] != 503 or time.monotonic() > end:
-            return told
-        time.sleep(0.2)
-
-
-def is_well():
-    """What portal-health says, once the portal answers."""
-    end = time.monotonic() + 180
-    while (told := run("portal-health chem"))[0] == 2 and time.monotonic() < end:
-        time.sleep(0.5)
-    return told
 
 
 def from_nothing():
@@ -56,7 +17,7 @@ def from_nothing():
         for line in file:
             told = run(line)
             if line.startswith("portal-health"):
-                told = is_well()
+                told = health("chem")
             holds(line.strip(), told[0] == 0, told)
             if found := re.search("^The office's code: (.*)$", told[1], re.M):
                 office = found[1]
@@ -121,9 +82,9 @@ def tools(office):
     holds("portal-restore", told[0] == 0 and '"name":"Ada Ames"' in ask(code[1], "GET", "/me")[1], told)
 
 
-def health():
+def watched():
     run("systemctl kill --signal=KILL portal@chem")
-    told = is_well()
+    told = health("chem")
     holds("a portal that was killed is started again, and portal-health tells", told[0] == 0 and " 1 restarts today" in told[1], told)
     run("systemctl stop portal@chem")
     told = run("portal-health chem")
@@ -149,9 +110,8 @@ try:
     owned()
     first_round(office)
     tools(office)
-    health()
+    watched()
     package(office)
 except Exception as fault:
     holds("the trial comes to its end", False, repr(fault))
-print(f"{counts[True]} passed, {counts[False]} failed", flush=True)
-subprocess.run(["systemctl", "poweroff", "--no-block"])
+end()

@@ -4,22 +4,12 @@ import http.client
 import json
 import os
 import re
-import subprocess
 import time
+
+from within import end, holds, run, waits_for
 
 EXAMPLES = "/usr/share/doc/portal/examples"
 KEPT = "/root/moves.json"
-counts = {True: 0, False: 0}
-
-
-def holds(what, true, seen=""):
-    counts[bool(true)] += 1
-    print(f"ok      {what}" if true else f"FAILED  {what}: {str(seen)[:600]}", flush=True)
-
-
-def run(line):
-    done = subprocess.run(["bash", "-c", line], stdout=subprocess.PIPE, stderr=subprocess.STDOUT, text=True)
-    return done.returncode, done.stdout
 
 
 def ask(year, code, method, path, body=None):
@@ -42,16 +32,6 @@ def ask(year, code, method, path, body=None):
 
 def phase(year):
     return ask(year, year["office"], "GET", "/me")[1]["phase"]
-
-
-def waits_for(true, seconds):
-    """Whether something becomes true within so many seconds."""
-    end = time.monotonic() + seconds
-    while not true():
-        if time.monotonic() > end:
-            return False
-        time.sleep(0.2)
-    return True
 
 
 def minute(ahead):
@@ -130,5 +110,4 @@ try:
             json.dump(year, file)
 except Exception as fault:
     holds("the moves come to their end", False, repr(fault))
-print(f"{counts[True]} passed, {counts[False]} failed", flush=True)
-subprocess.run(["systemctl", "poweroff", "--no-block"])
+end()
