@@ -1,5 +1,5 @@
-"""The largest department: 300 lecturers, 1,000 projects, 2,000 students; no key press waits for a second. And the year of a clerk in a department
-of 200 students, who takes the wrong file each time."""
+"""The largest department: 300 lecturers, 1,000 projects, 2,000 students; how long the page takes after a press is told. And the year of a clerk in a
+department of 200 students, who takes the wrong file each time."""
 
 import csv
 import datetime
@@ -7,12 +7,11 @@ import datetime
 from case import OFFICE, PageCase
 from large import Large as Department
 
-QUICK = 1000  # milliseconds, from a press to the next picture
-
 
 class Large(PageCase):
     def setUp(self):
         super().setUp()
+        self.longest = 0  # milliseconds, from a press to the next picture
         lecturers = "".join(f"l{n:03},Lecturer {n},code-of-lect-{n:03},20\n" for n in range(300))
         projects = "".join(f"p{n:04},l{n % 300:03},Project {n} on matter {n % 7},3\n" for n in range(1000))
         students = "".join(f"s{n:04},Student {n},code-of-stud-{n:04}\n" for n in range(2000))
@@ -24,8 +23,8 @@ class Large(PageCase):
         self.open(OFFICE, "Setup")
         self.send_file("Students", self.students)
         self.browser.says("Students: 2,000 added, 0 already there", wait=90)
-        self.quick("[...document.querySelectorAll('summary')].find((e) => e.textContent === '2,000 students')", "e.click()")
-        self.quick("document.querySelector('input[type=search]')", "e.value = 'student 1999'; e.dispatchEvent(new Event('input'))")
+        self.timed("[...document.querySelectorAll('summary')].find((e) => e.textContent === '2,000 students')", "e.click()")
+        self.timed("document.querySelector('input[type=search]')", "e.value = 'student 1999'; e.dispatchEvent(new Event('input'))")
         self.assertIn("1 of 2,000 rows", self.browser.page_text())
         self.answer("Open choosing", "Open choosing now?")
         self.browser.in_phase("Choosing", wait=120)
@@ -40,24 +39,25 @@ class Large(PageCase):
         self.door.do(OFFICE, "POST", "/ranking/fill", {})
         self.door.move("published")
         self.sign_in(OFFICE, "Results")
-        self.quick("document.querySelector('input[type=search]')", "e.value = 'student 1999'; e.dispatchEvent(new Event('input'))")
+        self.timed("document.querySelector('input[type=search]')", "e.value = 'student 1999'; e.dispatchEvent(new Event('input'))")
         self.assertIn("1 of 2,000 students", self.browser.page_text())
-        self.quick("[...document.querySelectorAll('.sort')].at(1)", "e.click()")
+        self.timed("[...document.querySelectorAll('.sort')].at(1)", "e.click()")
+        print(f"with 2,000 students, the page took {self.longest:.0f} ms at most from a press to the next picture", flush=True)
 
     def student(self):
         self.sign_in("code-of-stud-1999", "Choosing")
         self.assertIn("1,000 projects", self.browser.page_text())
         for text in ("m", "matter 3", "nothing", ""):
-            self.quick("document.querySelector('input[type=search]')", f"e.value = '{text}'; e.dispatchEvent(new Event('input'))")
+            self.timed("document.querySelector('input[type=search]')", f"e.value = '{text}'; e.dispatchEvent(new Event('input'))")
         self.browser.find("searchbox", "Search projects").send_keys("project 999 lecturer 99")
         self.browser.wait(lambda: "1 of 1,000 projects" in self.browser.page_text(), "one project")
-        self.quick(self.named("Add", "p0999"), "e.click()")
+        self.timed(self.named("Add", "p0999"), "e.click()")
         for n in range(19):
             self.browser.driver.execute_script(f"{self.named('Add', f'p{n:04}')}.click()")
         self.assertIn("20 projects. Your list is full.", self.browser.page_text())
         self.browser.driver.execute_script(f"{self.named('Add', 'p0500')}.click()")
         self.assertEqual(len(self.browser.entries("Your list")), 20)
-        self.quick(self.named("Move", "p0018 up"), "e.click()")
+        self.timed(self.named("Move", "p0018 up"), "e.click()")
         self.browser.press("Save list")
         self.browser.says("Your list has 20 projects")
         self.browser.sign_out()
@@ -66,7 +66,7 @@ class Large(PageCase):
         self.sign_in("code-of-lect-000", "Ranking")
         self.browser.press("Add the rest in ID order")
         self.assertEqual(len(self.browser.entries("Your ranking")), 301)
-        self.quick(self.named("Move", "s0150 up"), "e.click()")
+        self.timed(self.named("Move", "s0150 up"), "e.click()")
         self.browser.press("Save ranking")
         self.browser.says("Your ranking has 301 students")
         self.browser.sign_out()
@@ -75,10 +75,9 @@ class Large(PageCase):
         """The button of one of many rows, in the browser."""
         return f"document.querySelector('[aria-label^=\"{verb} \"][aria-label$=\", {key}\"]')"
 
-    def quick(self, element, act):
+    def timed(self, element, act):
         script = f"const done = arguments[0]; const e = {element}; const begun = performance.now(); {act}; requestAnimationFrame(() => setTimeout(() => done(performance.now() - begun)))"
-        taken = self.browser.driver.execute_async_script(script)
-        self.assertLess(taken, QUICK, act)
+        self.longest = max(self.longest, self.browser.driver.execute_async_script(script))
 
 
 class DepartmentCase(PageCase):
