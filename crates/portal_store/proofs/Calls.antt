@@ -5,13 +5,13 @@ use Rattle.portal_store.proofs.Base.{Good, HasFirstSchema, IsCurrentSchema, IsFi
 use Rattle.portal_store.proofs.Base.{version, Creates, IsFresh, has_names, Commits, IsAfter, LeavesOnly, IsCommitted}
 use Rattle.portal_store.proofs.Base.{OnlyLooks, HasGoodFirst, HasGoodWorld, IsCleanStore, Seen, world_of, OpenFault}
 use Rattle.portal_store.proofs.Base.{HasVersion, IsUpgradedFrom, LeavesUpgraded, RefusalSays, Refutes, IsKept, Admits}
-use Rattle.portal_store.proofs.Base.{survives_weaker, Ok, Second, Reads, GivesOrFails, HasEntries, IsSoundIfOpen}
+use Rattle.portal_store.proofs.Base.{[], survives_weaker, Ok, Second, Reads, GivesOrFails, HasEntries, IsSoundIfOpen}
 use Rattle.portal_list.specs.inner.Rows.{AllEntries}
 use Rattle.portal_tables.proofs.Runs.{survives_same}
 use Rattle.portal_tables.specs.declared.names.Names.TheVariants.{All}
 use Rattle.portal_store.specs.Calls.{CreatesStore, HandsBack, MakesStore, OpensStore, RefusesToCreate, RefusesToUpgrade}
 use Rattle.portal_store.specs.Calls.{UpgradesStore}
-use Rattle.portal_store.specs.Crash.{Explains, ShowsVersion, as_upgrading, first_queries}
+use Rattle.portal_store.specs.Crash.{Explains, ShowsVersion, as_upgrading}
 use Rattle.portal_store.specs.declared.store.CreateFault.{CreateFault}
 use Rattle.portal_store.specs.declared.store.CreateFault.TheVariants as creating
 use Rattle.portal_store.specs.declared.store.OpenFault.TheVariants as opening
@@ -180,7 +180,7 @@ as_once a b same = sym (as_back a) ∙ ap opening_of same ∙ as_back b
 pub not_upgraded : {S : Type 0} (g : Ghosts S) (fault : UpgradeFault) (found : OpenFault) (old new : Held S)
     → fault ≡ as_upgrading found
     → HandsBack g (LeavesUpgraded (state g old)) old new
-    → (HasCleanDisk (state g new) → Explains found first_version first_queries (state g old))
+    → (HasCleanDisk (state g new) → Explains found first_version [] (state g old))
     → (IsFirstSchema old.schema → HasCleanDisk (state g new)
     → RefusalSays found first_version (HasGoodFirst first_version (state g old).now.trees) (state g old).now.trees)
     → (IsFirstSchema old.schema → Survives (state g old) (state g new) (IsUpgradedFrom (state g old).now.trees))
@@ -190,7 +190,7 @@ not_upgraded g fault found old new is back so said left =
     record {
       back = back;
       explained = λ other same clean.
-          subst (λ f. Explains f first_version first_queries (state g old)) (as_once found other (sym is ∙ same)) (so clean);
+          subst (λ f. Explains f first_version [] (state g old)) (as_once found other (sym is ∙ same)) (so clean);
       barred = λ first clean. (found, is, said first clean);
       taken = λ e. absurd (never e);
       order = λ e. absurd (never e);

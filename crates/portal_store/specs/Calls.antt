@@ -1,5 +1,5 @@
 -- What the calls of a store promise: those that make one, those that refuse to, and those of a keeper.
-use Rattle.std.specs.Prelude.{◌≡◌, ◌↔◌, Result, false, OnOk, IsTrue}
+use Rattle.std.specs.Prelude.{◌≡◌, ◌↔◌, [], Result, false, OnOk, IsTrue}
 use Rattle.sqlite.specs.Held.{Held, state}
 use Rattle.sqlite.specs.State.{HasCleanDisk, IsUnchanged, Survives}
 use Rattle.sqlite.specs.Store.{Ghosts}
@@ -17,7 +17,7 @@ use Rattle.portal_store.specs.World.{first_world, world_in}
 use Rattle.portal_store.specs.Kept.{HasDisk, HasGoodFirst, HasGoodWorld, IsCleanStore, IsTransition, Lasts, Seen}
 use Rattle.portal_store.specs.Kept.{kept_state, kept_world}
 use Rattle.portal_store.specs.Crash.{Bars, Explains, HasVersion, IsLeft, IsUpgradedFrom, LeavesUpgraded, Refutes}
-use Rattle.portal_store.specs.Crash.{ShowsVersion, as_upgrading, first_queries, own_queries}
+use Rattle.portal_store.specs.Crash.{ShowsVersion, as_upgrading, later_queries}
 use Rattle.portal_store.specs.declared.store.CreateFault.{CreateFault}
 use Rattle.portal_store.specs.declared.store.CreateFault.TheVariants as creating
 use Rattle.portal_store.specs.declared.store.OpenFault.{OpenFault}
@@ -87,7 +87,7 @@ pub record OpensStore {S : Type 0} (g : Ghosts S) (old : Held S) (s : Seen S) : 
 pub record RefusesToOpen {S : Type 0} (g : Ghosts S) (fault : OpenFault) (old new : Held S) : Type 0 where
   pub back : HandsBack g (λ _. ⊥) old new
   -- of any tables, the fault tells what the queries of the eleven tables show, or that one is refused
-  pub explained : HasCleanDisk (state g new) → Explains fault version own_queries (state g old)
+  pub explained : HasCleanDisk (state g new) → Explains fault version later_queries (state g old)
   -- the fault tells why own tables were refused
   pub refuted : IsCurrentSchema old.schema → HasCleanDisk (state g new) → Refutes fault (state g old).now.trees
 
@@ -112,7 +112,7 @@ pub record RefusesToUpgrade {S : Type 0} (g : Ghosts S) (fault : UpgradeFault) (
   pub back : HandsBack g (LeavesUpgraded (state g old)) old new
   -- of any tables, a fault of opening tells what the first six queries show, or that one is refused
   pub explained : (found : OpenFault) → fault ≡ as_upgrading found → HasCleanDisk (state g new)
-      → Explains found first_version first_queries (state g old)
+      → Explains found first_version [] (state g old)
   -- the fault tells why own tables were refused
   pub barred : IsFirstSchema old.schema → HasCleanDisk (state g new) → Bars fault (state g old).now.trees
   -- `Exists` means that a table or view has one of the five new names

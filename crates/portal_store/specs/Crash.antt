@@ -8,7 +8,7 @@ use Rattle.portal_tables.specs.declared.select.Query.{Query}
 use Rattle.portal_tables.specs.declared.select.Query.TheVariants.{AllLists, Office, Second, SecondPlacements}
 use Rattle.portal_tables.specs.declared.select.Query.TheVariants.{SecondRanked, Whole}
 use Rattle.portal_tables.specs.declared.select.RollTable.TheVariants.{Lecturers, Projects, Students}
-use Rattle.std.specs.Prelude.{◌≡◌, ◌≢◌, ℕ, List, [], ◌∷◌, ◌++◌, pos, ◌⊎◌, IsTrue, false}
+use Rattle.std.specs.Prelude.{◌≡◌, ◌≢◌, ℕ, List, [], ◌∷◌, pos, ◌⊎◌, IsTrue, false}
 use Rattle.sqlite.specs.declared.types.Value.TheVariants.{Int}
 use Rattle.portal_store.specs.Kept.{HasGoodWorld, HasGoodFirst, IsConsistent, HasChanged}
 use Rattle.portal_store.specs.declared.store.OpenFault.{OpenFault}
@@ -48,16 +48,13 @@ pub record ShowsOther (of : ℕ) (s : State) : Type 0 where
   pub shown : ShowsOffice s (row ∷ rest)
   pub other : column row 1 ≢ Int (pos of)
 
--- the queries of the first round's tables, of the second's, and of all eleven, by which `open` and
--- `upgrade` see whether tables can be queried
+-- the queries of the first round's tables, and of the second's, by which `open` and `upgrade` see
+-- whether tables can be queried
 abbrev pub first_queries : List Query
 first_queries = Office ∷ Whole Lecturers ∷ Whole Projects ∷ Whole Students ∷ AllLists Choices ∷ AllLists Rankings ∷ []
 
 abbrev pub later_queries : List Query
 later_queries = Second ∷ AllLists SecondChoices ∷ SecondRanked ∷ AllLists SecondRankings ∷ SecondPlacements ∷ []
-
-abbrev pub own_queries : List Query
-own_queries = first_queries ++ later_queries
 
 -- the query is rejected, with an error that is not the store's
 pub record IsRejected (query : Query) (s : State) : Type 0 where
@@ -70,14 +67,15 @@ abbrev pub RefusesOne : List Query → State → Type 0
 RefusesOne [] s = ⊥
 RefusesOne (query ∷ queries) s = IsRejected query s ⊎ RefusesOne queries s
 
--- what a refusal says of any tables, own or not, that should be of this version and answer these
--- queries; a fault of the store or want of memory says nothing
+-- what a refusal says of any tables, own or not, that should answer the first six queries, be of this
+-- version, and only then answer the later ones; a fault of the store or want of memory says nothing
 abbrev pub Explains : OpenFault → ℕ → List Query → State → Type 0
-Explains opening.NotPortal of queries s = RefusesOne queries s ⊎ ShowsOffice s []
-Explains opening.OtherVersion of queries s = ShowsOther of s
-Explains opening.Damaged of queries s = ShowsVersion of s
-Explains opening.Store of queries s = Unit {0}
-Explains opening.Memory of queries s = Unit {0}
+Explains opening.NotPortal of later s =
+    RefusesOne first_queries s ⊎ (ShowsOffice s [] ⊎ (ShowsVersion of s × RefusesOne later s))
+Explains opening.OtherVersion of later s = ShowsOther of s
+Explains opening.Damaged of later s = ShowsVersion of s
+Explains opening.Store of later s = Unit {0}
+Explains opening.Memory of later s = Unit {0}
 
 -- what a refusal says of own tables that should have the schema version `of` and satisfy `so`
 abbrev pub RefusalSays : OpenFault → ℕ → Type 0 → Trees → Type 0

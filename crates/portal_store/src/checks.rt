@@ -22,7 +22,7 @@ ghost use Rattle.portal_store.specs.inner.Keeping.{early_trees};
 ghost use Rattle.portal_store.specs.inner.Loads.{HasNothingBefore};
 ghost use Rattle.portal_store.specs.World.{world_in};
 ghost use Rattle.portal_store.specs.Crash.{Explains, HasVersion, RefusalSays};
-ghost use Rattle.portal_store.specs.Crash.{RefusesOne, ShowsVersion, first_queries};
+ghost use Rattle.portal_store.specs.Crash.{RefusesOne, ShowsVersion};
 ghost use Rattle.portal_store.specs.inner.Asked.{AdmitsAs, SaysNot, IsOfRows, SaysNothing};
 ghost use Rattle.portal_store.specs.inner.Reading.{IsSoundIfOpen};
 
@@ -115,7 +115,7 @@ pub(crate) fn see_first<S: Alter>(
         (λ db fault. RefusalSays fault version (Unit {0}) db.trees))
         result conn.old conn.new }
     ensures explained { IsCommitted (state S.Store conn.old) → HasCleanDisk (state S.Store conn.new)
-        → IfErr result (λ fault. Explains fault version first_queries (state S.Store conn.old)) }
+        → IfErr result (λ fault. Explains fault version [] (state S.Store conn.old)) }
 {
     let queries = [
         Query::Office,

@@ -17,7 +17,7 @@ ghost use Rattle.portal_store.specs.inner.Keeping.{AreEmpty};
 ghost use Rattle.portal_store.specs.World.{phase_in, round_in, world_of};
 ghost use Rattle.portal_store.specs.Calls.{OpensStore, RefusesToOpen};
 ghost use Rattle.portal_store.specs.Crash.{Explains, HasVersion, Refutes, ShowsVersion};
-ghost use Rattle.portal_store.specs.Crash.{own_queries};
+ghost use Rattle.portal_store.specs.Crash.{later_queries};
 ghost use Rattle.portal_store.specs.inner.Asked.{Admits, SaysNot, IsJudged, IsOfRows};
 ghost use Rattle.portal_store.specs.inner.Asked.{NumbersDiffer, SaysNothing};
 ghost use Rattle.portal_store.specs.inner.Reading.{ReadsAll, IsSoundIfOpen, queried_rows};
@@ -151,7 +151,7 @@ fn examine<S: Alter>(
         (λ db fault. Refutes fault db.trees))
         result conn.old conn.new }
     ensures explained { IsCommitted (state S.Store conn.old) → HasCleanDisk (state S.Store conn.new)
-        → IfErr result (λ fault. Explains fault version own_queries (state S.Store conn.old)) }
+        → IfErr result (λ fault. Explains fault version later_queries (state S.Store conn.old)) }
 {
     see_first(conn, own, VERSION)?;
     let queries = [
@@ -167,8 +167,7 @@ fn examine<S: Alter>(
 
 impl<S: Alter> Store<S> {
     /// Opens the portal in a database. If `Ok` is returned on a clean disk, own tables represent a
-    /// good world; of other tables, this is not said. It checks the version before it queries the
-    /// tables of the second round, which no clause says.
+    /// good world; of other tables, this is not said.
     /// Whatever the tables are, it changes nothing if the disk is clean and the connection open,
     /// and a crash right after it leaves only what one before left. Tables of which the first six
     /// are the portal's are opened only in version 2. A store that is clean is settled, too.
@@ -181,8 +180,10 @@ impl<S: Alter> Store<S> {
     /// 2, and the rows represent no good world. `Store`: the store reports an error. `Memory`:
     /// memory runs out. What the first three say is proved of own tables, so that a good world in
     /// them is refused only for the latter two. Of any tables it is proved that `NotPortal` means
-    /// that one of the eleven queries fails with an error that is not the store's, or that the one
-    /// of `portal` shows no row, and that the next two tell the version in the first row shown.
+    /// that one of the first six queries fails with an error that is not the store's, that the one
+    /// of `portal` shows no row, or that its first row has version 2 and one of the five queries of
+    /// the second round fails so; the next two faults tell the version in that row. So tables of
+    /// version 1 that can be queried are refused as `OtherVersion`.
     pub fn open(alloc: Global, mut conn: Connection<S>) -> Result<Store<S>, NotOpened<OpenFault, S>>
         requires idle { conn.in_transaction ≡ false }
         ensures opens { IfOk result (OpensStore S.Store conn) }

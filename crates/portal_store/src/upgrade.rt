@@ -1,6 +1,6 @@
 //! Upgrades tables of version 1, and makes a store of them.
 
-ghost use Rattle.std.specs.Prelude.{◌≡◌, ◌↔◌, false, IfOk, IfErr, OnOk, IsTrue};
+ghost use Rattle.std.specs.Prelude.{◌≡◌, ◌↔◌, [], false, IfOk, IfErr, OnOk, IsTrue};
 ghost use Rattle.sqlite.specs.State.{HasCleanDisk};
 ghost use Rattle.sqlite.specs.Held.{state};
 ghost use Rattle.portal_rules.specs.declared.phase.Round.TheVariants.{First};
@@ -13,7 +13,6 @@ ghost use Rattle.portal_store.specs.Calls.{RefusesToUpgrade, UpgradesStore};
 ghost use Rattle.portal_store.specs.Kept.{HasGoodFirst};
 ghost use Rattle.portal_store.specs.World.{world_in};
 ghost use Rattle.portal_store.specs.Crash.{Explains, RefusalSays, ShowsVersion};
-ghost use Rattle.portal_store.specs.Crash.{first_queries};
 ghost use Rattle.portal_store.specs.inner.Asked.{AdmitsAs};
 ghost use Rattle.portal_store.specs.inner.Reading.{IsSoundIfOpen, OverLive};
 ghost use Rattle.portal_store.specs.inner.Upgrading.{UpgradesWithEntries};
@@ -47,8 +46,7 @@ fn examine_first<S: Alter>(
         (HasGoodFirst first_version db.trees) db.trees))
         result conn.old conn.new }
     ensures explained { IsCommitted (state S.Store conn.old) → HasCleanDisk (state S.Store conn.new)
-        → IfErr result (λ fault.
-        Explains fault first_version first_queries (state S.Store conn.old)) }
+        → IfErr result (λ fault. Explains fault first_version [] (state S.Store conn.old)) }
 {
     see_first(conn, own, FIRST_VERSION)?;
     judge_first(alloc, conn, FIRST_VERSION)

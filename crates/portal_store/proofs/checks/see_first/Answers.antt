@@ -1,8 +1,7 @@
 use Rattle.portal_store.proofs.Base.{[], Err, Database, HasVersion, IfErr-weaker, clean_before, looks_by, looks_then}
-use Rattle.portal_store.proofs.Base.{state}
-use Rattle.portal_store.specs.Crash.{first_queries}
+use Rattle.portal_store.proofs.Base.{inl, state}
 use Rattle.portal_store.proofs.Asked.{told_before}
-use Rattle.portal_store.proofs.Explained.{explains_so, explains_tables, explains_wide, handed}
+use Rattle.portal_store.proofs.Explained.{explains_so, explains_tables, handed}
 use Rattle.portal_store.proofs.checks.see_first.Goals as goal
 
 pub returns-clause-looks : goal.returns-clause-looks
@@ -16,7 +15,7 @@ pub returns-in_err-see_tables-clause-explained : goal.returns-in_err-see_tables-
 returns-in_err-see_tables-clause-explained g c settled clean =
     let f = c.in_err-see_tables in
     handed _ _ c.from_residual.ensures.1
-    (explains_tables (Err f.field-0.0) c.args.version first_queries (state g.S.Store c.args.conn.now) f.ensures.damaged f.ensures.version (f.ensures.refused settled clean))
+    (explains_tables (Err f.field-0.0) c.args.version [] (state g.S.Store c.args.conn.now) f.ensures.damaged f.ensures.version (λ is. inl (f.ensures.refused settled clean is)))
 
 pub returns-clause-explained : goal.returns-clause-explained
 returns-clause-explained g c settled clean =
@@ -24,5 +23,5 @@ returns-clause-explained g c settled clean =
     let mid = state g.S.Store c.see_tables.new.conn in
     let early = clean_before mid (state g.S.Store c.see_office.new.conn) _ c.see_office.ensures.reads.crash clean in
     IfErr-weaker c.see_office.result _ _
-    (λ f h. explains_so old mid settled c.see_tables.ensures.looks early f c.args.version first_queries (explains_wide f c.args.version [] first_queries mid (λ no. absurd no) h))
+    (λ f. explains_so old mid settled c.see_tables.ensures.looks early f c.args.version [])
     (c.see_office.ensures.explained clean)

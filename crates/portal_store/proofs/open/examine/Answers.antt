@@ -1,13 +1,13 @@
 use Rattle.portal_store.proofs.Base.{◌∙◌, Err, IfErr-weaker, Admits, GivesOrFails, SaysNot, HasEntries, HasGoodWorld}
-use Rattle.portal_store.proofs.Base.{Held}
+use Rattle.portal_store.proofs.Base.{[], Held, inr}
 use Rattle.portal_store.proofs.Base.{MatchResult-weaker, Second, current_own, reads_as, reads_handed, reads_of}
 use Rattle.portal_store.proofs.Base.{reads_open, reads_then_of, subst, world_of, Reads, IsSoundIfOpen, clean_before}
 use Rattle.portal_store.proofs.Base.{looks_by, looks_then, on_ok_weaker, settled_still, state, version}
-use Rattle.portal_store.specs.Crash.{first_queries, later_queries, own_queries}
+use Rattle.portal_store.specs.Crash.{later_queries}
 use Rattle.portal_store.proofs.Asked.{blamed, blames_more}
 use Rattle.portal_store.proofs.Base.{IsCommitted}
 use Rattle.portal_store.proofs.Explained.{explains_rows, explains_so, explains_tables, explains_wide, handed}
-use Rattle.portal_store.proofs.Explained.{refused_first, refused_later, version_so, version_still}
+use Rattle.portal_store.proofs.Explained.{version_so, version_still}
 use Rattle.portal_store.proofs.open.examine.Goals as goal
 
 pub returns-in_err-see_first-clause-reads : goal.returns-in_err-see_first-clause-reads
@@ -56,7 +56,7 @@ returns-in_err-see_first-clause-explained g c settled clean =
     let f = c.in_err-see_first in
     let old = state g.S.Store c.args.conn.now in
     handed _ _ c.from_residual.ensures.1
-    (explains_wide f.field-0.0 version first_queries own_queries old (refused_first first_queries later_queries old) (f.ensures.explained settled clean))
+    (explains_wide f.field-0.0 version [] later_queries old (λ no. absurd no) (f.ensures.explained settled clean))
 
 pub returns-in_err-see_tables-clause-explained : goal.returns-in_err-see_tables-clause-explained
 returns-in_err-see_tables-clause-explained g c settled clean =
@@ -66,9 +66,10 @@ returns-in_err-see_tables-clause-explained g c settled clean =
     let early = clean_before mid (state g.S.Store c.see_tables.new.conn) _ c.see_tables.ensures.looks.crash clean in
     let first = c.see_first.ensures.looks in
     let rest : IsCommitted mid = λ on. settled_still old mid settled (first.stays settled early on) in
-    let told = explains_tables (Err f.field-0.0) version later_queries mid f.ensures.damaged f.ensures.version (f.ensures.refused rest clean) in
+    let shows = c.in_ok-see_first.ensures.shows early in
+    let told = explains_tables (Err f.field-0.0) version later_queries mid f.ensures.damaged f.ensures.version (λ is. inr (inr (shows, f.ensures.refused rest clean is))) in
     handed _ _ c.from_residual-in_err-see_tables.ensures.1
-    (explains_so old mid settled first early f.field-0.0 version own_queries (explains_wide f.field-0.0 version later_queries own_queries mid (refused_later first_queries later_queries mid) told))
+    (explains_so old mid settled first early f.field-0.0 version later_queries told)
 
 pub returns-clause-explained : goal.returns-clause-explained
 returns-clause-explained g c settled clean =
@@ -77,4 +78,4 @@ returns-clause-explained g c settled clean =
     let seen = state g.S.Store c.see_tables.new.conn in
     let early = clean_before mid seen _ c.see_tables.ensures.looks.crash (clean_before seen (state g.S.Store c.judge_both.new.conn) _ c.judge_both.ensures.reads.crash clean) in
     let shows = version_so old mid settled c.see_first.ensures.looks early version (c.in_ok-see_first.ensures.shows early) in
-    IfErr-weaker c.judge_both.result _ _ (λ f. explains_rows f version own_queries old shows) c.judge_both.ensures.refused
+    IfErr-weaker c.judge_both.result _ _ (λ f. explains_rows f version later_queries old shows) c.judge_both.ensures.refused

@@ -1,7 +1,6 @@
 use Rattle.portal_store.proofs.Base.{Database, HasGoodFirst, MatchResult-weaker, first_version, IfErr-weaker, reads_any}
 use Rattle.portal_store.proofs.Base.{reads_as, reads_open, reads_then_of, clean_before, looks_by, looks_then}
-use Rattle.portal_store.proofs.Base.{on_ok_weaker, state}
-use Rattle.portal_store.specs.Crash.{first_queries}
+use Rattle.portal_store.proofs.Base.{[], on_ok_weaker, state}
 use Rattle.portal_store.proofs.Asked.{blamed, told_before}
 use Rattle.portal_store.proofs.Explained.{explains_rows, handed, version_so, version_still}
 use Rattle.portal_store.proofs.upgrade.examine_first.Goals as goal
@@ -35,4 +34,4 @@ returns-clause-explained g c settled clean =
     let mid = state g.S.Store c.see_first.new.conn in
     let early = clean_before mid (state g.S.Store c.judge_first.new.conn) _ c.judge_first.ensures.reads.crash clean in
     let shows = version_so old mid settled c.see_first.ensures.looks early first_version (c.in_ok-see_first.ensures.shows early) in
-    IfErr-weaker c.judge_first.result _ _ (λ f. explains_rows f first_version first_queries old shows) c.judge_first.ensures.refused
+    IfErr-weaker c.judge_first.result _ _ (λ f. explains_rows f first_version [] old shows) c.judge_first.ensures.refused
