@@ -1,26 +1,53 @@
 // Texts as people write them: what a search finds, the order of texts, and who is meant by a name.
 
 /**
- * Small letters without accents, so that "cafe" finds "Café".
+ * Small letters without accents, so that "cafe" finds "Café". A letter that is none with an accent stays: "ß" is "ss".
  * @param {string} text
  */
-export const plain = (text) => text.normalize('NFKD').replace(/\p{M}/gu, '').toLowerCase();
+export const plain = (text) => text.toLowerCase().normalize('NFKD').replace(/\p{M}/gu, '').replaceAll('ß', 'ss').replace(/[øłđıæœ]/g, (letter) => OTHERS[letter]);
 
-/** @param {string} search */
-export const wordsOf = (search) => plain(search).split(/\s+/);
+/** @type {Record<string, string>} Letters that are not made of another one and an accent. */
+const OTHERS = { ø: 'o', ł: 'l', đ: 'd', ı: 'i', æ: 'ae', œ: 'oe' };
 
 /**
+ * The same with the letters that stand for an umlaut where a keyboard has none, so that "mueller" finds "Müller".
  * @param {string} text
- * @param {string[]} wanted
  */
-export const hasAll = (text, wanted) => wanted.every((word) => text.includes(word));
+const spelled = (text) => plain(text.toLowerCase().normalize('NFC').replace(/[äöüæøå]/g, (letter) => UMLAUTS[letter]));
+
+/** @type {Record<string, string>} */
+const UMLAUTS = { ä: 'ae', ö: 'oe', ü: 'ue', æ: 'ae', ø: 'oe', å: 'aa' };
+
+/**
+ * The ways in which a text may be written in a search, without repeats.
+ * @param {string} text
+ */
+const ways = (text) => [...new Set([plain(text), spelled(text)])];
+
+/**
+ * What a search looks in.
+ * @param {string} text
+ */
+export const searched = (text) => ways(text).join('\n');
+
+/**
+ * The words of a search, each with the ways in which it may be written.
+ * @param {string} search
+ */
+export const wordsOf = (search) => search.trim().split(/\s+/).map(ways);
+
+/**
+ * @param {string} text that was made by `searched`
+ * @param {string[][]} wanted
+ */
+export const hasAll = (text, wanted) => wanted.every((word) => word.some((way) => text.includes(way)));
 
 /**
  * Every word of the search stands somewhere in the text.
  * @param {string} text
  * @param {string} search
  */
-export const isFound = (text, search) => hasAll(plain(text), wordsOf(search));
+export const isFound = (text, search) => hasAll(searched(text), wordsOf(search));
 
 /** Orders texts as people do, numbers by their value. */
 export const { compare } = new Intl.Collator(undefined, { numeric: true });
@@ -32,15 +59,32 @@ const TITLES = 'prof dr pd ing dipl herr frau mr mrs ms'.split(' ');
 const nameWords = (text) => plain(text).split(/[^\p{L}]+/u).filter((word) => word !== '' && !TITLES.includes(word));
 
 /**
+ * The same, where "ue" may stand for "ü": both are "u" then.
+ * @param {string} text
+ */
+const looseWords = (text) => nameWords(spelled(text)).map((word) => word.replace(/([aou])e/g, '$1'));
+
+/**
  * Finds who is meant by a text: the only person whose whole name stands in it, or else the only one whose name has all its words, where a
- * letter alone is an initial.
+ * letter alone is an initial. Where nobody is meant as it is written, "Mueller" may be "Müller".
  * @param {Iterable<[string, string]>} names by key
  * @returns {(text: string) => string | null}
  */
 export function meantBy(names) {
-  const people = [...names].map(([key, name]) => ({ key, own: nameWords(name) })).filter(({ own }) => own.length > 0);
+  const all = [...names];
+  const [strict, loose] = [nameWords, looseWords].map((split) => meantIn(all, split));
+  return (text) => strict(text) ?? loose(text);
+}
+
+/**
+ * @param {[string, string][]} names
+ * @param {(text: string) => string[]} split
+ * @returns {(text: string) => string | null}
+ */
+function meantIn(names, split) {
+  const people = names.map(([key, name]) => ({ key, own: split(name) })).filter(({ own }) => own.length > 0);
   return (text) => {
-    const wanted = nameWords(text);
+    const wanted = split(text);
     const isIn = (/** @type {string[]} */ some, /** @type {string[]} */ all) => some.every((word) => all.includes(word));
     const whole = people.filter(({ own }) => isIn(own, wanted)).sort((a, b) => b.own.length - a.own.length);
     const [best, next] = whole;

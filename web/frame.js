@@ -105,8 +105,8 @@ const SLOW = 700;
 const SHOWN = 5_000;
 
 /**
- * What was done, and what went wrong, said once: `say` tells an outcome, in one line that goes by itself; `warn` a refusal, which stays
- * until it is closed or something else is begun, whatever is said meanwhile. `announce` speaks to screen readers alone.
+ * What was done, and what went wrong, said once: `say` tells an outcome, which goes by itself; `warn` a refusal, which stays until it is
+ * closed or something else is begun, whatever is said meanwhile. `announce` speaks to screen readers alone.
  */
 export class Messages {
   #status = make('p', { role: 'status', class: 'says' });
@@ -114,6 +114,8 @@ export class Messages {
   #spoken = make('p', { 'aria-live': 'polite', class: 'spoken' });
   #close = button('✕', () => this.#shut(), { name: words.closeMessage, class: 'close', hidden: true });
   #goes = 0;
+  // What can be tried again is not done yet, whatever else is.
+  #isOpen = false;
   /** @type {Element | null} */
   #from = null;
   element = make('div', { class: 'messages' }, [this.#alert, this.#close, this.#status, this.#spoken]);
@@ -150,6 +152,11 @@ export class Messages {
     this.#show([]);
   }
 
+  /** Something was done: what went wrong before is over, unless it can be tried again. */
+  settle() {
+    if (!this.#isOpen) this.#show([]);
+  }
+
   /** Says that a moment is needed, if it comes to that, until the function is called that is answered here. */
   waiting() {
     const timer = setTimeout(() => {
@@ -173,7 +180,7 @@ export class Messages {
     if (again !== undefined) parts.push(button(again, press));
     // what is still waited for goes on
     if (this.#status.textContent !== words.loading) this.#tell('');
-    this.#show(parts);
+    this.#show(parts, again !== undefined);
   }
 
   /** @param {string} text */
@@ -184,7 +191,8 @@ export class Messages {
   }
 
   /** @param {Node[]} alert */
-  #show(alert) {
+  #show(alert, isOpen = false) {
+    this.#isOpen = isOpen;
     if (!this.element.contains(document.activeElement)) this.#from = document.activeElement;
     this.#alert.replaceChildren(...alert);
     this.#close.hidden = alert.length === 0;

@@ -1,5 +1,6 @@
 // A lecturer's page: the own projects, one ranking of everybody who chose one of them, and in the end who has which project.
 
+import { answersFold } from './answers.js';
 import { descriptionOf } from './described.js';
 import { make, part, titled } from './dom.js';
 import { savedLines, unsavedPart } from './list.js';
@@ -33,7 +34,7 @@ export async function lecturerPage(of) {
   const middle = ranking === null ? [] : [ranking.element];
   // what is to be done stands first
   const parts = me.phase === 'ranking' ? [...middle, ...result] : [...result, ...middle];
-  return { isChanged: () => false, year: yearOf(me, state), ...ranking, element: make('div', {}, [...parts, projectsPart(of, state)]) };
+  return { isChanged: () => false, ...ranking, year: { ...ranking?.year, ...yearOf(me, state) }, element: make('div', {}, [answersFold('lecturer', words.decidedAndSeen), ...parts, projectsPart(of, state)]) };
 }
 
 /**
@@ -45,7 +46,7 @@ function yearOf(me, { open, applied }) {
   if (me.phase === 'published') return {};
   if (roundOf(me) === 2 && open.size === 0) return { now: words.noRoom, next: words.noRoomNext };
   const isIdle = me.phase === 'ranking' && everybody(applied ?? []).size === 0;
-  return isIdle ? { now: words.nothingToDo, next: words.nothingNext } : {};
+  return isIdle ? { now: roundOf(me) === 2 ? words.nothingToDoSecond : words.nothingToDo, next: words.nothingNext } : {};
 }
 
 /**
@@ -80,7 +81,7 @@ function rankingContent(of, state) {
 function savedPart(of, { saved, placed }, { people, tools }) {
   const { me, known } = of;
   const { label } = words.ofRanking;
-  if (people.size === 0) return part(label, [make('p', { text: words.noApplicants })]);
+  if (people.size === 0) return part(label, [make('p', { text: roundOf(me) === 2 ? words.noApplicantsSecond : words.noApplicants })]);
   const keys = saved ?? [];
   const titles = new Map(placed.flatMap(({ id, students }) => students.map(({ key }) => [key, known.titleOf(id)])));
   const nameOf = (/** @type {string} */ key) => people.get(key) ?? { key, name: key, projects: [] };
@@ -92,7 +93,7 @@ function savedPart(of, { saved, placed }, { people, tools }) {
     fixedList(label, keys.map(entry)),
     make('div', { class: 'buttons' }, [receiptButton({ title: label, me, entries: () => keys.map(entry), lines: () => savedLines(me, keys) }), tools]),
   ]);
-  return make('div', {}, [...unsavedPart(of, saved, { show: (key) => shownApplicant(nameOf(key), known), name: (key) => nameOf(key).name }), own]);
+  return make('div', {}, [own, ...unsavedPart(of, saved, { show: (key) => shownApplicant(nameOf(key), known), name: (key) => nameOf(key).name })]);
 }
 
 /**

@@ -8,10 +8,14 @@ import { Refused, told } from './requests.js';
 import { receiptButton } from './paper.js';
 import { draftOf, forgetDraft, keepDraft } from './store.js';
 import { words } from './words.js';
-import { isSameStep, roundOf } from './year.js';
+import { isSameStep, roundOf, soonText } from './year.js';
 
 // So many changes can be taken back.
 const STEPS = 200;
+// How often it is looked how near the end of the stage is; and how often, and how many times, whether what got no reply was saved. In milliseconds.
+const NEAR = 20_000;
+const LOOK = 3_000;
+const LOOKS = 20;
 
 /** @param {Me} me */
 const draftName = (me) => `${me.role} ${me.key} ${roundOf(me)}`;
@@ -41,6 +45,8 @@ export class ListEditor {
   /** @type {string[]} */
   #base;
   #isSaving = false;
+  // No reply came, so that it may be saved or not.
+  #isUnsure = false;
   #list;
   /** @type {string[][]} */
   #earlier = [];
@@ -50,6 +56,7 @@ export class ListEditor {
   #undo = button(words.undo, () => isUsable(this.#undo) && this.#takeBack(), { class: 'undo' });
   #back = button(words.backToSaved, () => isUsable(this.#back) && this.#goBackToSaved());
   #receipt;
+  #show;
   #how = make('details', {}, [make('summary', { text: words.orderHow }), make('p', { class: 'quiet', text: words.orderHint })]);
   /** The row that saves the list, and takes changes back. It stays in view. */
   bar;
@@ -65,18 +72,22 @@ export class ListEditor {
     this.#base = draft?.base ?? [];
     this.#list = new OrderedList({
       label: texts.label,
-      keys: draft?.keys.filter(of.isThere) ?? of.saved ?? [],
+      keys: draft?.keys.filter(of.isThere) ?? of.saved ?? of.first ?? [],
       show: of.show,
       name: of.name,
       changed: (before) => this.#changed(before),
       announce: (text) => page.messages.announce(text),
+      skip: { text: texts.skip, aim: () => (this.#save.disabled ? this.#undo : this.#save) },
     });
     if (draft !== null && this.isChanged()) page.messages.say(words.draftBack);
     else this.#begin(of.saved ?? []);
+    const gone = draft?.keys.filter((key) => !of.isThere(key)) ?? [];
+    if (gone.length > 0) page.messages.warn(words.draftLess(words.listed(gone.map(of.name))));
     this.#save = button(texts.save, () => isUsable(this.#save) && this.#press(), { class: 'main' });
     this.#receipt = receiptButton({ title: texts.label, me: page.me, entries: () => (this.#saved ?? []).map(of.show), lines: () => this.#savedLines() });
-    const show = button(texts.show, () => this.#look(), { class: 'show' });
-    this.bar = make('div', { class: 'save-row' }, [this.#save, this.#undo, this.#state, this.#count, show]);
+    this.#show = this.#showButton();
+    this.bar = make('div', { class: 'save-row' }, [this.#save, this.#undo, this.#state, this.#count, this.#show]);
+    const timer = setInterval(() => (this.bar.isConnected ? this.#showState() : clearInterval(timer)), NEAR);
     this.tools = make('div', { class: 'tools' }, [make('div', { class: 'buttons' }, [this.#back, this.#receipt]), this.#how]);
   }
 
@@ -92,32 +103,59 @@ export class ListEditor {
     return !isSame(this.keys, this.#saved ?? []);
   }
 
+  /** Something would be lost by leaving: what the page has made by itself would not. */
+  isAtRisk() {
+    return this.isChanged() && !this.#isFirst;
+  }
+
   get saveButton() {
     return this.#save;
   }
 
   /** Shows what can be done now. The page calls it once, when it is put together. */
   update() {
-    const left = this.#of.missing(this.keys);
-    const isSaved = this.#saved !== null && !this.isChanged();
-    this.#save.disabled = left > 0 || isSaved;
+    this.#save.disabled = this.#left > 0 || this.#isSaved;
     setUsable(this.#save, !this.#isSaving);
-    this.#state.textContent = this.#stateText(isSaved, left);
+    this.#showState();
     this.#count.textContent = this.#of.texts.count(this.keys.length);
-    this.bar.classList.toggle('unsaved', !isSaved);
     setUsable(this.#undo, this.#earlier.length > 0);
     setUsable(this.#back, this.isChanged());
-    this.#back.hidden = this.keys.length === 0 && !this.isChanged();
+    this.#back.hidden = this.#isFirst || (this.keys.length === 0 && !this.isChanged());
     this.#how.hidden = this.keys.length < 2;
     this.#receipt.hidden = (this.#saved ?? []).length === 0;
     this.#of.changed(this.keys);
   }
 
-  /** @param {boolean} isSaved @param {number} left */
-  #stateText(isSaved, left) {
+  get #left() {
+    return this.#of.missing(this.keys);
+  }
+
+  get #isSaved() {
+    return this.#saved !== null && !this.isChanged();
+  }
+
+  // The page has made it, and nobody has changed or saved anything.
+  get #isFirst() {
+    return this.#saved === null && this.#of.first !== undefined && isSame(this.keys, this.#of.first);
+  }
+
+  // What is not saved is told with how near the end of the stage is.
+  #showState() {
+    const isOpen = !this.#isSaved || this.keys.length === 0;
+    const soon = isOpen && !this.#isSaving ? soonText(this.#of.page.me, this.#of.page.until) : '';
+    const wasSoon = this.bar.classList.contains('soon');
+    this.bar.classList.toggle('unsaved', !this.#isSaved);
+    this.bar.classList.toggle('soon', soon !== '');
+    this.#state.textContent = [this.#stateText(), soon].filter((text) => text !== '').join(' – ');
+    if (soon !== '' && !wasSoon && this.bar.isConnected) this.#of.page.messages.announce(this.#state.textContent);
+  }
+
+  #stateText() {
     if (this.#isSaving) return words.saving;
-    if (!isSaved) return left > 0 ? this.#of.texts.missing(left) : words.isChanged;
-    return this.#savedLines()[0] ?? (this.keys.length === 0 ? this.#of.texts.none : undefined) ?? words.isSaved;
+    if (this.#isSaved) return this.#savedLines()[0] ?? (this.keys.length === 0 ? this.#of.texts.none : undefined) ?? words.isSaved;
+    if (this.#left > 0) return this.#of.texts.missing(this.#left);
+    if (this.#isFirst) return words.notYetSaved;
+    return this.#isUnsure ? words.perhapsSaved : words.isChanged;
   }
 
   #savedLines() {
@@ -129,13 +167,27 @@ export class ListEditor {
     await this.#press();
   }
 
-  #look() {
-    this.#list.element.focus();
-    this.#list.element.scrollIntoView();
+  // In a narrow window it leads to the list, and from there back to what the list is made of.
+  #showButton() {
+    const { texts, back } = this.#of;
+    let isThere = false;
+    const show = button(texts.show, () => {
+      const aim = isThere && back ? back.aim() : this.#list.element;
+      aim?.focus({ preventScroll: true });
+      aim?.scrollIntoView();
+    }, { class: 'show' });
+    const see = (/** @type {IntersectionObserverEntry[]} */ entries) => {
+      isThere = back !== undefined && entries.at(-1)?.isIntersecting === true;
+      show.textContent = isThere && back ? back.short : texts.show;
+      show.ariaLabel = isThere && back ? back.text : null;
+    };
+    new IntersectionObserver(see, { rootMargin: '0px 0px -40% 0px' }).observe(this.#list.element);
+    return show;
   }
 
   /** @param {string[]} before */
   #changed(before) {
+    this.#of.page.messages.settle();
     this.#earlier = [...this.#earlier.slice(1 - STEPS), before];
     this.#keepDraft();
     this.update();
@@ -172,12 +224,17 @@ export class ListEditor {
       refused: (/** @type {Refused} */ fault) => ({ text: told(fault, keys.map(this.#of.name)) }),
       lost: () => ({ text: words.lost, again: words.tryAgain, press: () => this.#press() }),
     };
+    this.#isUnsure = false;
     /** @type {string[] | null} */
     let other = null;
     await this.#whileSaving(async () => {
       if (!(await attempt(async () => { other = await this.#savedElsewhere(keys); }, how))) return;
       if (other !== null && !(await this.#isMineKept(keys, other))) return;
-      await attempt(() => this.#store(keys), { ...how, goesOn: true });
+      const lost = () => {
+        this.#lookWhether(keys);
+        return { ...how.lost(), text: words.lostSave };
+      };
+      await attempt(() => this.#store(keys), { ...how, lost, goesOn: true });
     });
   }
 
@@ -236,6 +293,39 @@ export class ListEditor {
     this.update();
     if (hadFocus) this.#list.element.focus({ preventScroll: true });
     page.messages.say(texts.saved(keys.length));
+  }
+
+  /**
+   * The portal may have saved what it gave no reply to: that is looked for until it is known.
+   * @param {string[]} keys
+   */
+  async #lookWhether(keys) {
+    const { path, member, page } = this.#of;
+    this.#isUnsure = true;
+    for (let looks = 0; looks < LOOKS && this.#isUnsure; looks++) {
+      await new Promise((resolve) => setTimeout(resolve, LOOK));
+      if (!this.bar.isConnected || !this.#isUnsure || this.#isSaving) return;
+      try {
+        const now = (await page.portal.get(path))[member];
+        if (this.#isUnsure && !this.#isSaving) this.#isKnown(keys, now);
+      } catch {
+        // it is looked for again
+      }
+    }
+  }
+
+  /** @param {string[]} keys that were sent @param {string[] | null} now */
+  #isKnown(keys, now) {
+    const { page, texts, stored } = this.#of;
+    this.#isUnsure = false;
+    if (now !== null && isSame(now, keys)) {
+      this.#isNow(now);
+      keepDraft(savingName(page.me), { keys, at: Date.now() });
+      stored?.();
+      page.messages.clear();
+      page.messages.say(texts.saved(keys.length));
+    } else if (isSame(now ?? [], this.#base)) page.messages.warn(words.notSaved, { again: words.tryAgain, press: () => this.#press() });
+    this.update();
   }
 
   /** @param {string[]} saved */

@@ -11,15 +11,14 @@ import { forgetDrafts } from './store.js';
 import { chooseLanguage, firstLanguage, offeredLanguages, speak, words } from './words.js';
 import { yearPart } from './year.js';
 
-/** The page of each role: what no other role needs is loaded for it alone. */
+/**
+ * The page of each role: what no other role needs is loaded for it alone.
+ * @type {Record<Role, () => Promise<(of: PageOf) => Promise<Content>>>}
+ */
 const PAGES = {
   student: async () => (await import('./student.js')).studentPage,
   lecturer: async () => (await import('./lecturer.js')).lecturerPage,
-  office: async () => {
-    const [page, isSpoken] = await Promise.all([import('./office.js'), speak(words.language, true)]);
-    if (!isSpoken) throw new Error('no texts');
-    return page.officePage;
-  },
+  office: async () => (await import('./office.js')).officePage,
 };
 
 /** @type {Department} */
@@ -30,6 +29,8 @@ let page;
 let tellOtherTabs;
 let isChanged = () => false;
 let isKept = false;
+// What the names of the drafts of whoever is signed in begin with.
+let owner = '';
 // Counts what was shown, so that a reply that comes late is not shown over something newer.
 let shown = 0;
 
@@ -43,7 +44,7 @@ async function start() {
   // a file that is dropped beside its field is not opened in place of the page
   for (const name of ['dragover', 'drop']) addEventListener(name, (event) => /** @type {DragEvent} */ (event).dataTransfer?.types.includes('Files') && event.preventDefault());
   addEventListener('beforeunload', (event) => isChanged() && event.preventDefault());
-  tellOtherTabs = watch({ elsewhere: () => leave(words.signedOutElsewhere), idle: () => signIn({ message: words.signedOutIdle }), soon: askWhoIsThere });
+  tellOtherTabs = watch({ elsewhere: leaveToo, idle: () => signIn({ message: words.signedOutIdle }), soon: askWhoIsThere });
   show(forgetIdle() ? words.signedOutIdle : '');
 }
 
@@ -123,8 +124,16 @@ async function signOut() {
 
 /** @param {string} message */
 function leave(message) {
-  forgetDrafts();
+  forgetDrafts(owner);
   signIn({ message });
+}
+
+/** Somebody signed out in another tab. What is not saved here is kept for whoever signs in here again, or else is asked about. */
+async function leaveToo() {
+  if (!isChanged()) return leave(words.signedOutElsewhere);
+  if (isKept) return signIn({ message: words.signedOutKept });
+  dismiss();
+  if (await ask({ title: words.signedOutAsk, risk: words.unsavedLost, verb: words.signOut, stay: words.stay })) leave(words.signedOutElsewhere);
 }
 
 /**
@@ -145,6 +154,7 @@ async function open(portal, { me = null, tell = () => {} } = {}) {
   await attempt(async () => {
     const caller = me ?? /** @type {Me} */ (await portal.get('/me'));
     if (!isCurrent()) return;
+    owner = `${caller.role} ${caller.key} `;
     page.showWho(caller);
     const known = await knownProjects(portal);
     const content = await (await pageOf(caller.role))({ portal, me: caller, messages, attempt, reload, known, until: own.until ?? {} });
@@ -161,7 +171,9 @@ async function open(portal, { me = null, tell = () => {} } = {}) {
  */
 async function pageOf(role) {
   try {
-    return await PAGES[role]();
+    const [pageOfRole, isSpoken] = await Promise.all([PAGES[role](), speak(words.language, role)]);
+    if (!isSpoken) throw new Error('no texts');
+    return pageOfRole;
   } catch {
     throw new Lost('no module', () => location.reload());
   }

@@ -1,6 +1,7 @@
 // A list in an order, best first: put in order by buttons, by keys, by the number of a position and by dragging; and the same to look at.
 
-import { button, isUsable, make, setUsable } from './dom.js';
+import { button, isUsable, make, setUsable, skipLink } from './dom.js';
+import { isFound } from './found.js';
 import { words } from './words.js';
 
 // Lists of keys, best first. Each function answers a new list.
@@ -43,13 +44,24 @@ export class OrderedList {
   /** @type {Map<string, HTMLElement>} */
   #entries = new Map();
   #of;
+  #search = '';
   element;
 
   /** @param {ListOf} of */
   constructor(of) {
     this.#of = of;
     this.element = make('ol', { class: 'ordered', role: 'list', tabindex: '-1', 'aria-label': of.label });
+    if (of.skip) this.#leadOut(skipLink(of.skip.text, of.skip.aim));
     this.#show(of.keys);
+  }
+
+  // From each entry what saves the list is near.
+  /** @param {HTMLElement} link */
+  #leadOut(link) {
+    this.element.addEventListener('focusin', (event) => {
+      const entry = /** @type {Element} */ (event.target).closest('li');
+      if (entry !== null && !entry.contains(link)) entry.append(link);
+    });
   }
 
   get keys() {
@@ -105,6 +117,17 @@ export class OrderedList {
     this.#entries.get(key)?.scrollIntoView({ block: 'center' });
   }
 
+  /**
+   * Shows those entries alone that a search finds, with their positions, and answers how many.
+   * @param {string} search
+   */
+  find(search) {
+    this.#search = search;
+    this.element.classList.toggle('searched', search.trim() !== '');
+    for (const [key, entry] of this.#entries) entry.hidden = !isFound(`${this.#of.name(key)} ${key}`, search);
+    return [...this.#entries.values()].filter((entry) => !entry.hidden).length;
+  }
+
   /** @param {string} key */
   #sayPlace(key) {
     this.#of.announce(words.isAt(this.#of.name(key), this.#keys.indexOf(key) + 1, this.#keys.length));
@@ -124,9 +147,19 @@ export class OrderedList {
     }
     this.#keys = [...keys];
     this.#number();
+    this.#tellApart();
+    if (this.#search !== '') this.find(this.#search);
     if (!(focused instanceof HTMLElement) || !this.element.contains(focused)) return;
     focused.focus();
     focused.scrollIntoView({ block: 'nearest' });
+  }
+
+  // Where two entries are called alike, what else is known of them stays in sight in a long list too.
+  #tellApart() {
+    /** @type {Map<string, number>} */
+    const counts = new Map();
+    for (const key of this.#keys) counts.set(this.#of.name(key), (counts.get(this.#of.name(key)) ?? 0) + 1);
+    for (const key of this.#keys) this.#entries.get(key)?.classList.toggle('alike', /** @type {number} */ (counts.get(this.#of.name(key))) > 1);
   }
 
   /** @param {string} key */
@@ -165,6 +198,7 @@ export class OrderedList {
     const place = make('input', { type: 'number', class: 'place', min: '1', 'aria-label': words.moveTo(name), title: words.moveTo(name) });
     place.addEventListener('change', () => this.#moveTo(key, place));
     place.addEventListener('wheel', () => place.blur());
+    selectsAll(place);
     const entry = make('li', {}, [
       make('span', { class: 'handle', 'aria-hidden': 'true', text: '⠿' }),
       place,
@@ -172,7 +206,7 @@ export class OrderedList {
       make('span', { class: 'buttons' }, [
         button('↑', press(-1), { name: words.moveUp(name), class: 'up' }),
         button('↓', press(1), { name: words.moveDown(name), class: 'down' }),
-        button('✕', () => this.remove(key), { name: words.remove(name), class: 'remove' }),
+        ...(this.#of.isWhole ? [] : [button('✕', () => this.remove(key), { name: words.remove(name), class: 'remove' })]),
       ]),
     ]);
     entry.dataset.key = key;
@@ -203,7 +237,8 @@ export class OrderedList {
   #drag(down, key, entry) {
     const pressed = /** @type {Element} */ (down.target);
     const isHandle = pressed.classList.contains('handle');
-    if (down.button !== 0 || pressed.closest('button, input') || (down.pointerType === 'touch' && !isHandle)) return;
+    if (this.element.classList.contains('searched')) return;
+    if (down.button !== 0 || pressed.closest('button, input, a') || (down.pointerType === 'touch' && !isHandle)) return;
     const before = this.#keys;
     follow(down, {
       moved: (y) => {
@@ -228,6 +263,22 @@ export class OrderedList {
       return top + height / 2 < y;
     }).length;
   }
+}
+
+/**
+ * What is typed takes the place of the number that stands there, also where the field was clicked: the click would take the selection away.
+ * @param {HTMLInputElement} field
+ */
+function selectsAll(field) {
+  let isNew = false;
+  field.addEventListener('focus', () => {
+    isNew = true;
+    field.select();
+  });
+  field.addEventListener('click', () => {
+    if (isNew) field.select();
+    isNew = false;
+  });
 }
 
 /**

@@ -1,12 +1,12 @@
 // One ranking of everybody who chose a project of a lecturer: who is not ranked yet stands beside it, until it is saved.
 
 import { button, given, labelled, make, measure, part } from './dom.js';
+import { elsewherePart, orderFold } from './elsewhere.js';
 import { compare, isFound } from './found.js';
-import { ask } from './frame.js';
 import { ListEditor } from './list.js';
-import { orderOf } from './orderfile.js';
+import { Lost } from './requests.js';
 import { forget, keep, kept } from './store.js';
-import { words } from './words.js';
+import { speak, words } from './words.js';
 import { roundOf } from './year.js';
 
 /**
@@ -42,8 +42,15 @@ export function shownApplicant({ key, name, projects }, known, more = []) {
   return make('span', { class: 'titled' }, [given(name), chosen, ...more]);
 }
 
-// From so many applicants on they are better put in order in a spreadsheet.
+// From so many applicants on they are better put in order in a spreadsheet, and the ranking can be searched.
 const MANY = 20;
+
+/** A file that did not come once may not be asked for again before the whole page is; what is not saved is kept. */
+async function orderAsking() {
+  const [asking, isSpoken] = await Promise.all([import('./orderask.js').catch(() => null), speak(words.language, 'order')]);
+  if (asking === null || !isSpoken) throw new Lost('no module', () => location.reload());
+  return asking;
+}
 
 // Which rankings this browser has saved, by lecturer and round.
 const RANKED = 'portal-ranked';
@@ -66,7 +73,7 @@ export function filledHint(me, saved) {
 }
 
 export class RankingMaking {
-  #messages;
+  #of;
   #people;
   #known;
   #editor;
@@ -82,6 +89,8 @@ export class RankingMaking {
   // What helps to add applicants, and what adds all at once, as long as one is missing.
   #adding = make('div', { class: 'adding' });
   #rest = make('div', { class: 'last-resort' });
+  #find = make('input', { type: 'search', autocomplete: 'off', spellcheck: 'false' });
+  #found = make('p', { class: 'quiet', 'aria-live': 'polite' });
   /** What the page shows. */
   content;
 
@@ -91,7 +100,7 @@ export class RankingMaking {
    *   take, in words; `tools` stand with the applicants
    */
   constructor(of, { people, saved, places, tools }) {
-    this.#messages = of.messages;
+    this.#of = of;
     this.#people = people;
     this.#known = of.known;
     const hint = make('div', {}, filledHint(of.me, saved));
@@ -105,6 +114,8 @@ export class RankingMaking {
       name: (key) => people.get(key)?.name ?? key,
       isThere: (key) => people.has(key),
       missing: (keys) => people.size - keys.length,
+      first: people.size === 1 ? [...people.keys()] : undefined,
+      back: people.size === 1 ? undefined : { short: words.applicants, text: words.showApplicants, aim: () => this.#missing },
       changed: (keys) => this.#update(keys),
       stored: () => {
         keep(RANKED, [...new Set([...kept(RANKED, []), rankedName(of.me)])]);
@@ -114,13 +125,15 @@ export class RankingMaking {
     this.#waiting = new Map([...people.keys()].map((key) => [key, this.#waitingEntry(key)]));
     this.#missing.append(...this.#waiting.values());
     const own = this.#rankingPart(places, hint);
+    const others = people.size === 1 ? [] : [this.#applicantsPart(tools)];
     const aims = [{ text: words.skipToRanking, aim: () => own }, { text: words.skipToSaveRanking, aim: () => this.#editor.saveButton }];
     this.content = {
-      element: make('div', { class: 'columns' }, [this.#applicantsPart(tools), make('div', { class: 'own-side' }, [own])]),
+      element: make('div', { class: 'columns' }, [...others, make('div', { class: 'own-side' }, [own])]),
       bar: this.#editor.bar,
       aims,
-      isChanged: () => this.#editor.isChanged(),
+      isChanged: () => this.#editor.isAtRisk(),
       isKept: true,
+      year: { saves: true, ...(people.size === 1 ? { now: words.oneApplicant } : {}) },
     };
     this.#editor.update();
   }
@@ -161,7 +174,7 @@ export class RankingMaking {
     this.#editor.saveButton.focus({ preventScroll: true });
     // in the picture after the next one the style sheet knows the new height
     requestAnimationFrame(() => requestAnimationFrame(() => this.#editor.list.look(rest[0])));
-    this.#messages.say(words.restAdded);
+    this.#of.messages.say(words.restAdded);
   }
 
   async #addRestAndSave() {
@@ -177,22 +190,9 @@ export class RankingMaking {
     const isMany = this.#people.size > MANY;
     const hint = make('p', { class: 'quiet', text: isMany ? words.oneByOne : words.applicantsHint });
     this.#adding.append(hint, this.#filters(), this.#noMatch, this.#missing);
-    return part(words.applicants, isMany ? [this.#elsewhere(tools), this.#none, this.#adding, tools] : [this.#none, this.#adding, this.#orderFold(words.orderTitle, words.orderOpenHow), tools]);
-  }
-
-  /**
-   * The way by a spreadsheet, step by step. It takes the first of the tools, the file of the applicants.
-   * @param {Element} tools
-   */
-  #elsewhere(tools) {
-    const { file, button: opener } = this.#orderFile();
-    const presses = [[/** @type {Element} */ (tools.firstElementChild)], [], [opener, file]];
-    const ways = words.ways.map((text, at) => make('li', {}, [make('p', { text }), make('div', { class: 'buttons' }, presses[at])]));
-    return make('div', { class: 'elsewhere' }, [
-      make('h3', { text: words.elsewhere(this.#people.size) }),
-      make('ol', { class: 'ways', role: 'list' }, ways),
-      this.#orderFold(words.orderPaste, words.orderPasteHow),
-    ]);
+    const use = (/** @type {Uint8Array} */ bytes) => this.#useOrder(bytes);
+    if (isMany) return part(words.applicants, [elsewherePart(this.#people.size, tools, use), this.#none, this.#adding, tools]);
+    return part(words.applicants, [this.#none, this.#adding, orderFold({ title: words.orderTitle, how: words.orderOpenHow, hasFile: true, use }), tools]);
   }
 
   /** The last resort: all others behind, in the order of their keys. */
@@ -224,56 +224,38 @@ export class RankingMaking {
     this.#missing.append(...people.map(({ key }) => /** @type {HTMLElement} */ (this.#waiting.get(key))));
   }
 
-  /** A file with an order that was made elsewhere. */
-  #orderFile() {
-    const file = make('input', { type: 'file', accept: '.csv,.txt,text/csv,text/plain', 'aria-label': words.orderFile });
-    file.addEventListener('change', async () => {
-      const [chosen] = file.files ?? [];
-      if (chosen) this.#useOrder(new Uint8Array(await chosen.arrayBuffer()));
-      file.value = '';
-    });
-    file.hidden = true;
-    return { file, button: button(words.orderFile, () => file.click()) };
-  }
-
-  /**
-   * A field for such an order, folded; for few applicants with the file.
-   * @param {string} title
-   * @param {string} how
-   */
-  #orderFold(title, how) {
-    const field = make('textarea', { rows: '6', spellcheck: 'false' });
-    const { file, button: opener } = this.#orderFile();
-    const use = button(words.useOrder, () => this.#useOrder(new TextEncoder().encode(field.value)));
-    return make('details', {}, [
-      make('summary', { text: title }),
-      make('p', { class: 'quiet', text: how }),
-      make('label', { class: 'field' }, [make('span', { text: words.orderField }), field]),
-      make('div', { class: 'buttons' }, this.#people.size > MANY ? [use] : [use, opener, file]),
-    ]);
-  }
-
   /** @param {Uint8Array} bytes */
   async #useOrder(bytes) {
-    const { keys, others } = orderOf(bytes, this.#people);
-    if (keys.length === 0) {
-      this.#messages.warn(words.orderEmpty);
-      return;
-    }
-    const gone = this.#editor.keys.filter((key) => !keys.includes(key)).length;
-    if (gone > 0 && !(await ask({ title: words.orderShorter, risk: words.orderLoses(gone), lines: [others.length > 0 ? words.orderOthers(words.listed(others)) : ''], verb: words.useOrder, stay: words.orderKeep }))) return;
+    /** @type {typeof import('./orderask.js') | undefined} */
+    let asking;
+    // few need it, so that it comes when it is asked for
+    if (!(await this.#of.attempt(async () => { asking = await orderAsking(); })) || asking === undefined) return;
+    const keys = await asking.orderFrom(bytes, this.#people, this.#editor.keys);
+    if (keys === null) return;
+    if (keys.length === 0) return this.#of.messages.warn(asking.whyNobody(bytes));
     this.#editor.list.set(keys);
-    if (others.length > 0) this.#messages.warn(`${words.orderUsed(keys.length)} ${words.orderOthers(words.listed(others))}`);
-    else this.#messages.say(words.orderUsed(keys.length));
+    this.#of.messages.say(words.orderUsed(keys.length));
   }
 
   /** @param {string} places @param {Node} hint */
   #rankingPart(places, hint) {
     const { list, tools } = this.#editor;
-    const parts = [make('p', { text: places }), make('p', { class: 'quiet', text: words.rankingHint }), hint, this.#empty, list.element, tools, this.#restPart()];
+    const hints = this.#people.size === 1 ? [] : [make('p', { class: 'quiet', text: words.rankingHint })];
+    const parts = [make('p', { text: places }), ...hints, hint, this.#empty, this.#finder(), this.#found, list.element, tools, this.#restPart()];
     const own = part(words.ofRanking.label, parts, { class: 'own', tabindex: '-1' });
     measure(own, '--own');
     return own;
+  }
+
+  /** A search in the ranking, where that is long: those who are found stand there with their positions. */
+  #finder() {
+    this.#find.addEventListener('input', () => this.#showFound());
+    return labelled(words.searchRanking, this.#find);
+  }
+
+  #showFound() {
+    const count = this.#editor.list.find(this.#find.value);
+    this.#found.textContent = this.#find.value.trim() === '' ? '' : words.foundInRanking(count);
   }
 
   /** @param {string[]} keys */
@@ -294,5 +276,9 @@ export class RankingMaking {
     this.#rest.hidden = isWhole;
     this.#noMatch.hidden = shown > 0;
     this.#empty.hidden = ranked.size > 0;
+    const isLong = keys.length > MANY;
+    if (!isLong && this.#find.value !== '') this.#find.value = '';
+    if (this.#find.parentElement) this.#find.parentElement.hidden = !isLong;
+    this.#showFound();
   }
 }

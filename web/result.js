@@ -36,31 +36,33 @@ export function usage(report) {
 }
 
 /**
- * The places stand first: they are what the next step is decided by.
- * @param {Result} result
- * @param {(project: string) => string} titleOf
- * @param {(lecturer: string) => string | undefined} nameOf
+ * The files of the result: to keep, and to print.
+ * @param {Shown} shown
+ * @param {Status} status
  */
-export function resultPart(result, titleOf, nameOf) {
-  const titles = new Map(result.rows.map(({ project, title }) => [project, title]));
-  /** @type {Shown} */
-  const shown = { ...result, titleOf: (key) => titles.get(key) ?? titleOf(key), nameOf: (key) => nameOf(key) ?? key };
+export function resultFiles(shown, status) {
   const paper = make('div', { class: 'paper' });
   const printed = () => {
     paper.replaceChildren(...paperOf(shown));
     print(paper);
   };
-  return part(words.result, [
+  // the first round's result is another file than that of both
+  const name = roundOf(status) === 2 && status.phase === 'published' ? 'allocation-2.csv' : 'allocation.csv';
+  return part(words.files, [
     make('div', { class: 'buttons' }, [
-      button(words.downloadCsv, () => download('allocation.csv', forSpreadsheets(result.csv), 'text/csv')),
+      button(words.downloadCsv, () => download(name, forSpreadsheets(shown.csv), 'text/csv')),
       button(words.printReport, printed),
     ]),
-    usageFold(shown),
-    resultTable(shown),
-    make('details', {}, [make('summary', { text: words.report }), make('pre', { class: 'report', text: result.report })]),
+    make('details', {}, [make('summary', { text: words.report }), make('pre', { class: 'report', text: shown.report })]),
     paper,
-  ]);
+  ], { class: 'files' });
 }
+
+/**
+ * Who has what. The places stand first: they are what the next step is decided by.
+ * @param {Shown} shown
+ */
+export const resultPart = (shown) => part(words.result, [usageFold(shown), resultTable(shown)]);
 
 /**
  * The portal's own text, as long as a spreadsheet of the reader's language opens it in columns.
@@ -79,34 +81,35 @@ function usageFold(shown) {
 }
 
 /** @param {Shown} shown */
-function resultTable({ rows, nameOf }) {
+function resultTable(shown) {
+  const { rows } = shown;
   const { element } = new SearchTable({
     label: words.result,
     search: words.searchResult,
     shown: words.resultShown,
     columns: COLUMNS.map((name) => ({ title: words.resultColumns[name], isSorted: true, style: STYLES[name] })),
-    rows: rows.map((row) => ({ cells: cells(row, nameOf), texts: texts(row, nameOf) })),
+    rows: rows.map((row) => ({ cells: cells(row, shown), texts: texts(row, shown) })),
   });
   return element;
 }
 
 /**
  * @param {GivenRow} row
- * @param {Shown['nameOf']} nameOf
+ * @param {Shown} shown
  */
-function cells({ student, name, project, title, lecturer }, nameOf) {
+function cells({ student, name, project, title, lecturer }, { nameOf, noneOf }) {
   const who = titled(name, student);
-  if (project === '') return [who, make('em', { text: words.nothing }), make('span')];
+  if (project === '') return [who, make('em', { text: noneOf(student) }), make('span')];
   const under = make('span', { class: 'owner' }, [given(nameOf(lecturer))]);
   return [who, titled(title, project, [under]), titled(nameOf(lecturer), lecturer)];
 }
 
 /**
  * @param {GivenRow} row
- * @param {Shown['nameOf']} nameOf
+ * @param {Shown} shown
  */
-function texts({ student, name, project, title, lecturer }, nameOf) {
-  if (project === '') return [`${name} ${student}`, words.nothing, ''];
+function texts({ student, name, project, title, lecturer }, { nameOf, noneOf }) {
+  if (project === '') return [`${name} ${student}`, noneOf(student), ''];
   return [`${name} ${student}`, `${title} ${project}`, `${nameOf(lecturer)} ${lecturer}`];
 }
 
@@ -122,7 +125,7 @@ function usageList({ used, titleOf }) {
  */
 function paperOf(shown) {
   const heads = COLUMNS.map((name) => make('th', { scope: 'col', text: words.resultColumns[name] }));
-  const rows = shown.rows.map((row) => make('tr', {}, cells(row, shown.nameOf).map((cell) => make('td', {}, [cell]))));
+  const rows = shown.rows.map((row) => make('tr', {}, cells(row, shown).map((cell) => make('td', {}, [cell]))));
   const count = shown.rows.filter(({ project }) => project !== '').length;
   return [
     make('h1', {}, [given(pageTitle)]),
@@ -142,7 +145,11 @@ export class DataPart {
 
   /** @param {OfficeData} data */
   show(data) {
-    const folds = /** @type {Roll[]} */ (['lecturers', 'projects', 'students']).map((roll) => this.#fold(roll, data));
+    /** @type {Roll[]} */
+    const rolls = ['lecturers', 'projects', 'students'];
+    // what is not there need not be looked at
+    if (rolls.every((roll) => data.status[roll] === 0)) return this.element.replaceChildren();
+    const folds = rolls.map((roll) => this.#fold(roll, data));
     this.element.replaceChildren(part(words.data, [make('p', { class: 'quiet', text: words.dataHint }), ...folds], { class: 'screen' }));
   }
 
@@ -197,13 +204,18 @@ function lecturersTable(data) {
  * @param {OfficeData} data
  * @returns {[string, (lecturer: string) => string | number][]}
  */
-function lecturerColumns({ status, projects, used }) {
+function lecturerColumns({ status, projects, used, rankers }) {
   const { projects: own, places, ranking, has } = words.dataColumns;
   const [toRank, taken] = [new Set(status.still_to_rank), new Map(used.map((one) => [one.key, one.taken]))];
   const sum = (/** @type {string} */ key, /** @type {(project: Project) => number} */ count) =>
     projects.filter(({ lecturer }) => lecturer === key).reduce((all, project) => all + count(project), 0);
   if (takesRolls(status)) return [[own, (key) => sum(key, () => 1)], [places, (key) => sum(key, ({ capacity }) => capacity)]];
-  if (status.phase === 'ranking') return [[ranking, (key) => (toRank.has(key) ? words.standsRanking.missing : words.standsRanking.done)]];
+  const standOf = (/** @type {string} */ key) => {
+    if (toRank.has(key)) return words.standsRanking.missing;
+    if (rankers?.keys.has(key)) return words.standsRanking.done;
+    return rankers?.isWhole || sum(key, () => 1) === 0 ? words.standsRanking.none : words.standsRanking.unknown;
+  };
+  if (status.phase === 'ranking') return [[ranking, standOf]];
   return roundOf(status) === 1 ? [[has, (key) => sum(key, ({ id }) => taken.get(id) ?? 0)]] : [];
 }
 

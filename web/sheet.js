@@ -1,6 +1,5 @@
 // A small table that a lecturer takes along: to print, to copy for a mail or a spreadsheet, or to download.
 
-import { writtenForSpreadsheets } from './csv.js';
 import { button, download, given, make } from './dom.js';
 import { paper } from './paper.js';
 import { words } from './words.js';
@@ -21,13 +20,20 @@ export function tableButtons({ texts, title, header, fileHeader, rows, file, mes
   const copy = async () => {
     try {
       await navigator.clipboard.writeText(rows().map((row) => row.join('\t')).join('\n'));
+      messages.settle();
       messages.say(words.copiedLines(rows().length));
     } catch {
       messages.warn(words.notCopied);
     }
   };
+  const keepFile = async () => {
+    // what writes files comes when somebody wants one
+    const csv = await import('./csv.js').catch(() => null);
+    if (csv === null) return messages.warn(words.lost);
+    download(file, csv.writtenForSpreadsheets([fileHeader, ...rows()], words.separator), 'text/csv');
+  };
   return make('div', { class: 'buttons' }, [
-    button(texts.download, () => download(file, writtenForSpreadsheets([fileHeader, ...rows()], words.separator), 'text/csv')),
+    button(texts.download, keepFile),
     button(texts.copy, copy),
     button(texts.print, () => printed([make('h3', { text: title }), printedTable(header, rows())])),
     sheet,

@@ -43,9 +43,12 @@ export function forgetDraft(name) {
   sessionStorage.removeItem(DRAFT + name);
 }
 
-/** Forgets the drafts of everybody who used this tab. */
-export function forgetDrafts() {
-  for (const name of Object.keys(sessionStorage)) if (name.startsWith(DRAFT)) sessionStorage.removeItem(name);
+/**
+ * Forgets the drafts of one person who used this tab: those of others stay for them.
+ * @param {string} owner what their names begin with
+ */
+export function forgetDrafts(owner) {
+  for (const name of Object.keys(sessionStorage)) if (name.startsWith(DRAFT + owner)) sessionStorage.removeItem(name);
 }
 
 /**

@@ -64,7 +64,7 @@ function partsOf(of, state) {
   const top = me.phase === 'published' ? [resultPart(of, state, state.saved)] : [];
   const lost = unsavedPart(of, state.saved, { show: entryOf(known), name: (key) => known.titleOf(key) });
   const own = me.phase === 'published' ? savedPart(of, state.saved, words.yourList, marksOf(of, state, state.saved)) : savedPart(of, state.saved, words.yourList);
-  return [...top, ...lost, own, ...firstPart(of, state), catalogue];
+  return [...top, own, ...lost, ...firstPart(of, state), catalogue];
 }
 
 /**
@@ -216,7 +216,7 @@ function listMaking(of, state) {
   const aims = [{ text: words.skipToList, aim: () => own }, { text: words.skipToSave, aim: () => editor.saveButton }];
   /** @type {Making} */
   const making = { add: (key) => editor.list.add(key), take: (key) => editor.list.take(key), full: () => of.messages.say(words.listFull), aims };
-  const decided = decidedPart(me, saved.length === 0);
+  const decided = decidedPart(me, saved.length === 0 && roundOf(me) === 1);
   const catalogue = new Catalogue(projects, known, { isSecond: roundOf(me) === 2, making });
   const empty = make('p', { class: 'quiet', text: words.listEmpty });
   const editor = new ListEditor({
@@ -235,6 +235,7 @@ function listMaking(of, state) {
     },
     stored: () => { decided.open = false; },
     look: (key) => catalogue.look(key),
+    back: { short: words.catalogue, text: words.showProjectsAgain, aim: () => catalogue.element },
   });
   const own = part(words.yourList, [empty, editor.list.element, editor.tools], { class: 'own', tabindex: '-1' });
   measure(own, '--own');
@@ -245,8 +246,7 @@ function listMaking(of, state) {
     aims,
     isChanged: () => editor.isChanged(),
     isKept: true,
-    // when the list can be changed is said with how it is decided
-    year: roundOf(me) === 2 ? { now: words.chooseAgain, next: `${words.adviceSecond} ${roomText(projects)}` } : { next: '' },
+    year: roundOf(me) === 2 ? { now: words.chooseAgain, next: `${roomText(projects)} ${words.canChange}`, saves: true } : { next: words.canChange, saves: true },
   };
 }
 
@@ -257,19 +257,20 @@ function listMaking(of, state) {
 const roomText = (projects) => words.roomLeft(projects.reduce((sum, { capacity }) => sum + capacity, 0), projects.length);
 
 /**
- * How it is decided, in three points: open until a list is saved, a line afterwards. How to order the list, and who sees it, is folded in it.
+ * How it is decided, in three points: open until a list is saved, a line afterwards and in the second round. How to order the list, and who
+ * sees it, is folded in it.
  * @param {Me} me
  * @param {boolean} isOpen
  */
 function decidedPart(me, isOpen) {
   const isSecond = roundOf(me) === 2;
-  const parts = isSecond ? words.adviceParts : [...words.adviceParts, words.adviceWait];
+  const parts = isSecond ? [words.adviceSecond, ...words.adviceParts] : [...words.adviceParts, words.adviceWait];
   const when = (isSecond ? words.nextSecond : words.next).student.choosing ?? '';
   /** @param {string[]} texts */
   const items = (texts) => make('ul', {}, texts.map((text) => make('li', { text })));
   return make('details', { class: 'decided', open: isOpen }, [
     make('summary', { text: words.decided }),
     items(words.decidedParts),
-    make('details', {}, [make('summary', { text: words.about }), ...textsOf([words.secret, words.advice]), items(parts), ...textsOf([when])]),
+    make('details', {}, [make('summary', { text: words.about }), ...textsOf([words.secret, words.secretCodes, words.advice]), items([...parts, words.filledByID]), ...textsOf([when])]),
   ]);
 }

@@ -1,7 +1,7 @@
 // A table with a search field, for up to some thousand rows: they are made once, and a search only hides and shows them.
 
 import { labelled, make } from './dom.js';
-import { compare, hasAll, plain, wordsOf } from './found.js';
+import { compare, hasAll, searched, wordsOf } from './found.js';
 import { words } from './words.js';
 
 // So many rows are shown at once, and so many more in each moment after, so that no key press has to wait for all of them.
@@ -33,7 +33,7 @@ export class SearchTable {
   constructor({ label, search, columns, rows, shown, tools = [] }) {
     this.#shown = shown;
     this.#heads = columns.map((column, at) => head(column, () => this.#sort(at)));
-    this.#rows = rows.map(({ cells, texts, more = '', key = '' }) => ({ line: lineOf(cells, columns), texts, found: plain(`${texts.join(' ')} ${more}`), key }));
+    this.#rows = rows.map(({ cells, texts, more = '', key = '' }) => ({ line: lineOf(cells, columns), texts, found: searched(`${texts.join(' ')} ${more}`), key }));
     this.#body.append(...this.#rows.map((row) => row.line));
     this.#filter();
     const table = make('table', { 'aria-label': label }, [make('thead', {}, [make('tr', {}, this.#heads)]), this.#body]);

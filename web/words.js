@@ -1,18 +1,34 @@
-// Every text of the page, in the language that was chosen. Each language has its texts in files of their own, words-LANGUAGE.js and
-// words-LANGUAGE-office.js, with the same keys. No browser loads another language, and the office's alone loads the second file. English is
-// the source: a new text is written there. A new language is one more line of LANGUAGES.
+// Every text of the page, in the language that was chosen. Each language has its texts in files of their own: words-LANGUAGE.js for everybody,
+// and words-LANGUAGE-PART.js for each role, and for what comes when it is asked for, with the same keys. No browser loads another language, or
+// what another role alone sees. English is the source: a new text is written there. A new language is one more line of LANGUAGES.
 
 import { keep, kept } from './store.js';
 
 const KEPT = 'portal-language';
 
 /**
- * The languages, each by what it is called in itself, and where its texts and those of the office are.
- * @type {Record<string, { name: string, texts: () => Promise<{ words: object }>, office: () => Promise<{ words: object }> }>}
+ * The languages, each by what it is called in itself, and where its texts are: those of everybody and the other parts.
+ * @type {Record<string, { name: string, all: () => Promise<{ words: object }> } & Record<TextPart, () => Promise<{ words: object }>>>}
  */
 export const LANGUAGES = {
-  en: { name: 'English', texts: () => import('./words-en.js'), office: () => import('./words-en-office.js') },
-  de: { name: 'Deutsch', texts: () => import('./words-de.js'), office: () => import('./words-de-office.js') },
+  en: {
+    name: 'English',
+    all: () => import('./words-en.js'),
+    student: () => import('./words-en-student.js'),
+    lecturer: () => import('./words-en-lecturer.js'),
+    office: () => import('./words-en-office.js'),
+    order: () => import('./words-en-order.js'),
+    answers: () => import('./words-en-answers.js'),
+  },
+  de: {
+    name: 'Deutsch',
+    all: () => import('./words-de.js'),
+    student: () => import('./words-de-student.js'),
+    lecturer: () => import('./words-de-lecturer.js'),
+    office: () => import('./words-de-office.js'),
+    order: () => import('./words-de-order.js'),
+    answers: () => import('./words-de-answers.js'),
+  },
 };
 
 /**
@@ -21,20 +37,21 @@ export const LANGUAGES = {
  */
 export const words = Object.create(null);
 
-// The office has asked for its texts.
-let withOffice = false;
+/** @type {Set<TextPart>} The parts that were asked for. */
+const asked = new Set();
 
 /**
  * From now on the texts are those of this language. Where its files do not come, they stay as they are.
  * @param {string} language
- * @param {boolean} isOffice those of the office are wanted too
+ * @param {TextPart[]} parts that are wanted too, from now on
  * @returns whether they came
  */
-export async function speak(language, isOffice = withOffice) {
-  const { texts: all, office } = LANGUAGES[language];
+export async function speak(language, ...parts) {
+  const of = LANGUAGES[language];
   try {
-    for (const part of await Promise.all(isOffice ? [all(), office()] : [all()])) Object.assign(words, part.words);
-    withOffice = isOffice;
+    const wanted = [...new Set([...asked, ...parts])];
+    for (const part of await Promise.all([of.all(), ...wanted.map((one) => of[one]())])) Object.assign(words, part.words);
+    for (const one of wanted) asked.add(one);
     return true;
   } catch {
     return false;

@@ -6,9 +6,13 @@ import { words } from './words.js';
 // The end of a stage comes nearer while the page is open.
 const AGAIN = 30_000;
 
+// So many milliseconds before the end of a stage what is not saved is warned of.
+const SOON = 30 * 60_000;
+
 /**
  * @param {Me} me who is signed in
- * @param {{ now?: string, next?: string }} own what is said to this person, where the phase alone does not tell it
+ * @param {{ now?: string, next?: string, saves?: boolean }} own what is said to this person, where the phase alone does not tell it; `saves`:
+ *   this person has something to save
  * @param {Record<string, End>} until the end of a stage, by the stage's name
  */
 export function yearPart(me, own = {}, until = {}) {
@@ -16,10 +20,11 @@ export function yearPart(me, own = {}, until = {}) {
   const now = own.now ?? textOf(me, words.now, words.nowSecond);
   const next = own.next ?? textOf(me, words.next, words.nextSecond);
   return make('section', { 'aria-label': words.year, class: 'stages' }, [
-    ...(isSecond ? [make('p', { class: 'round', text: words.round(2) }), make('p', { text: words.roundFor })] : []),
+    ...(isSecond ? [make('p', { class: 'round', text: words.round(2) })] : []),
+    ...(isSecond && !own.saves ? [make('p', { text: words.roundFor })] : []),
     make('ol', { class: 'year', role: 'list', 'aria-label': words.year }, steps(me).map(step)),
     make('p', { class: 'now', text: now }),
-    ...deadlinePart(me, until),
+    ...deadlinePart(me, until, own.saves),
     ...(next === '' ? [] : [make('p', { class: 'quiet', text: next })]),
   ]);
 }
@@ -39,13 +44,14 @@ function step({ phase, isCurrent, isPast }) {
 /**
  * @param {Me} me
  * @param {Record<string, End>} until
+ * @param {boolean} [saves]
  */
-function deadlinePart(me, until) {
+function deadlinePart(me, until, saves) {
   const end = until[stageOf(me)];
   if (end === undefined) return [];
   const element = make('p', { class: 'deadline' });
   const show = () => {
-    const text = deadlineText(me, end, new Date());
+    const text = deadlineText(me, end, new Date(), saves);
     if (text !== element.textContent) element.textContent = text;
     element.hidden = text === '';
   };
@@ -55,16 +61,42 @@ function deadlinePart(me, until) {
 }
 
 /**
- * Until when the stage lasts; once that is over, the office is told that it should be closed, and nobody else anything.
+ * Until when the stage lasts; once that is over, the office is told that it should be closed, and others that the time is over, and whether
+ * they can still save.
  * @param {Me} me
  * @param {End} end
  * @param {Date} now
+ * @param {boolean} [saves] this person has something to save
  */
-export function deadlineText(me, end, now) {
+export function deadlineText(me, end, now, saves = false) {
   const phase = words.phases[me.phase];
   const left = ahead(end, now);
   if (left !== null) return words.closes(phase, left.when, left.away);
-  return me.role === 'office' ? words.overdue(phase) : '';
+  if (me.role === 'office') return words.overdue(phase);
+  const { choosing, ranking } = words.pastSaving;
+  return saves ? (me.phase === 'choosing' ? choosing : ranking) : words.past(phase);
+}
+
+/**
+ * That the end of the stage is near or over, for what is not saved yet; an empty text where it is not.
+ * @param {Me} me
+ * @param {Record<string, End>} until
+ */
+export function soonText(me, until, now = new Date()) {
+  const end = until[stageOf(me)];
+  const left = end === undefined ? Infinity : end.at.getTime() - now.getTime();
+  if (left > SOON) return '';
+  return left > 0 ? words.soon(words.phases[me.phase], awayIn(left)) : words.over;
+}
+
+/**
+ * The stage was announced to end, and that is over.
+ * @param {Step} me
+ * @param {Record<string, End>} until
+ */
+export function isOver(me, until, now = new Date()) {
+  const end = until[stageOf(me)];
+  return end !== undefined && end.at <= now;
 }
 
 const MINUTE = 60_000;

@@ -11,12 +11,13 @@ import { Known } from '../known.js';
 import { added, isSame, moved, removed, step } from '../ordered.js';
 import { everybody } from '../ranking.js';
 import { Lost, Portal, Refused, told } from '../requests.js';
-import { canOpenSecond, countOfChoosers, deadlineText, endOf, hasResult, isSameStep, makesList, placeOf, roundOf, secondRound, stageOf, steps, takesRolls } from '../year.js';
+import { canOpenSecond, countOfChoosers, deadlineText, endOf, hasResult, isOver, isSameStep, makesList, placeOf, roundOf, secondRound, soonText, stageOf, steps, takesRolls } from '../year.js';
 import { isFound, meantBy } from '../found.js';
-import { orderOf } from '../orderfile.js';
+import { readOrder } from '../orderfile.js';
+import { BY_LINES, isAsGiven, orderBy, usualBy } from '../orderranks.js';
 import { LANGUAGES, speak, words } from '../words.js';
 
-await speak('en', true);
+await speak('en', 'student', 'lecturer', 'office', 'order', 'answers');
 
 const web = new URL('../', import.meta.url);
 const sources = readdirSync(web).filter((name) => name.endsWith('.js'));
@@ -40,11 +41,14 @@ test('lists are the same in the same order alone', () => {
   assert.ok(!isSame(['a'], ['a', 'b']));
 });
 
-/** The keys that a text tells of these applicants, and what is not understood. */
+/** The keys that a text tells of these applicants, in the order that is usual, and what is not understood. */
 const PEOPLE = new Map(Object.entries({ s01: 'Ann Roe', s02: 'Anton Roe', s03: 'Zoë Sim', s04: 'Jo Anders', S05: 'Ann Maria Roe', 2: 'Cyr' }).map(([key, name]) => [key, { name }]));
-const order = (text) => {
-  const { keys, others } = orderOf(new TextEncoder().encode(text), PEOPLE);
-  return `${keys.join(' ')}${others.length > 0 ? ` | ${others.join(' | ')}` : ''}`;
+const readAll = (text, people = PEOPLE) => readOrder(new TextEncoder().encode(text), people);
+const usual = (text, people = PEOPLE) => usualBy(readAll(text, people), people.keys());
+const made = (text, people = PEOPLE) => orderBy(readAll(text, people), usual(text, people) ?? BY_LINES);
+const order = (text, people = PEOPLE) => {
+  const { others } = readAll(text, people);
+  return `${made(text, people).keys.join(' ')}${others.length > 0 ? ` | ${others.join(' | ')}` : ''}`;
 };
 
 test('an order is understood as people write one', () => {
@@ -56,7 +60,7 @@ test('an order is understood as people write one', () => {
   assert.equal(order('Zoe Sim\n2) Roe, Anton\nAnders\n'), 's03 s02 s04');
   assert.equal(order('Ann Maria Roe\nAnn Roe\n'), 'S05 s01');
   assert.equal(order('Zoë Sim, Jo Anders'), 's03 s04');
-  assert.equal(order('name,Student ID\nZoë,S03\nAnn,s09\n'), 's03 | s09');
+  assert.equal(order('name,Student ID\nZoë,S03\nAnn,s09\n'), 's03 | Ann, s09');
   assert.equal(order('id;name\ns04;"Anders; Jo"\n'), 's04');
   // 2 is an ID here, and in another line a rank
   assert.equal(order('2\ns01\n'), '2 s01');
@@ -69,9 +73,59 @@ test('what of an order is not understood is listed', () => {
   assert.equal(order(''), '');
 });
 
+test('an order with a column of ranks is ordered by it, whatever it is called in English or German', () => {
+  for (const head of ['rank', 'Rang', 'place', 'Platz', 'position', 'Note', 'Nr.', '#', 'my own view']) {
+    assert.equal(order(`id,name,${head}\ns01,Ann Roe,2\ns02,Anton Roe,3\ns03,Zoë Sim,1\n`), 's03 s01 s02', head);
+    assert.equal(order(`${head};id;name\n2;s01;Ann Roe\n3;s02;Anton Roe\n1;s03;Zoë Sim\n`), 's03 s01 s02', head);
+  }
+  assert.equal(order('rank,name\n3,Ann Roe\n1,Zoë Sim\n2,Jo Anders\n'), 's03 s04 s01');
+  assert.equal(order('3. Ann Roe\n1. Zoe Sim\n2. Jo Anders'), 's03 s04 s01');
+  assert.equal(order('Note;id\n1,7;s01\n1,3;s02\n2,0;s03\n'), 's02 s01 s03');
+  assert.equal(order('id,points\ns01,10\ns02,30\ns03,20\n'), 's02 s03 s01');
+});
+
+test('where numbers may be anything, a person is asked; stale running numbers do not undo an order', () => {
+  assert.equal(usual('id,name,ECTS\ns01,Ann,30\ns02,Anton,60\ns03,Zoë,45\n'), null);
+  assert.equal(usual('id,name,ECTS\ns01,Ann,30\ns02,Anton,45\ns03,Zoë,60\n'), BY_LINES);
+  assert.equal(order('Nr.;id;name\n3;s03;Zoë\n1;s01;Ann\n2;s02;Anton\n'), 's03 s01 s02');
+  assert.equal(usual('id\ns03\ns01\n'), BY_LINES);
+});
+
+test('who shares a rank, has none, or stands there twice is told', () => {
+  const { keys, ties, unranked, twice } = made('id,Rang\ns01,2\ns02,1\ns03,2\ns04,\ns02,5\n');
+  assert.deepEqual([keys, ties, unranked, twice], [['s02', 's01', 's03', 's04'], [{ number: 2, keys: ['s01', 's03'] }], ['s04'], ['s02']]);
+  assert.deepEqual(made('1. Ann Roe, Zoë Sim\n2. Jo Anders\n').ties, [{ number: 1, keys: ['s01', 's03'] }]);
+});
+
+test('the order in which the portal gave the applicants is known', () => {
+  const given = ['a', 'b', 'c', 'd'];
+  assert.ok(isAsGiven(given, given) && isAsGiven(['a', 'c', 'd'], given));
+  assert.ok(!isAsGiven(['b', 'a', 'c'], given) && !isAsGiven(['a', 'b'], given));
+});
+
+/** Applicants with IDs of digits, two of whom have the same name. */
+const NUMBERED = new Map(Object.entries({ '00123456': 'Ann Roe', '01234567': 'Ben Bode', '123': 'Cem Can', '0123': 'Dora Dorn', '09999999': 'Ann Roe' }).map(([key, name]) => [key, { name }]));
+
+test('an ID that lost its zeros is known where one alone is meant, and then the name', () => {
+  assert.equal(order('id;name\n1234567;Ben Bode\n123456;Ann Roe\n9999999;Ann Roe\n', NUMBERED), '01234567 00123456 09999999');
+  assert.equal(order('id;name\n123;Cem Can\n0123;Dora Dorn\n', NUMBERED), '123 0123');
+  assert.equal(order('id;name\n00000123;Dora Dorn\n00123;Roe\n', NUMBERED), '0123 | 00123, Roe');
+  assert.equal(order('id;name\n1234567;Cem Can\n', NUMBERED), ' | 1234567, Cem Can');
+  assert.equal(order('1234567 Ben Bode\n123456 Ann Roe\n', NUMBERED), '01234567 00123456');
+});
+
+test('names beside the IDs of others are told: one column may have been sorted alone', () => {
+  assert.deepEqual(readAll('id,name\ns01,Zoë Sim\ns03,Ann Roe\ns04,Jo Anders\n').crossed, ['s01', 's03']);
+});
+
 test('who is meant by a name', () => {
   const meant = meantBy([['a', 'Ann Roe'], ['b', 'Anton Roe'], ['c', 'Zoë Sim'], ['d', '李 明']]);
   assert.deepEqual(['Roe, Ann', 'Prof. Dr. Zoe Sim (Physics)', 'Sim', 'Z. Sim', 'A. Roe', 'Roe', 'Z.', '', '李 明', 'Ann Roe, Zoë Sim'].map(meant), ['a', 'c', 'c', 'c', null, null, null, null, 'd', null]);
+});
+
+test('a name with an umlaut is meant by its other spelling too, unless somebody is called so', () => {
+  const meant = meantBy([['a', 'Anna Müller'], ['b', 'Max Groß'], ['c', 'Jo Bauer'], ['d', 'Jo Baur']]);
+  assert.deepEqual(['Mueller, Anna', 'Gross', 'Jo Bauer', 'Baur, Jo', 'Muller'].map(meant), ['a', 'b', 'c', 'd', 'a']);
 });
 
 test('a code by chance has four groups of four signs without look-alikes, 80 bits', () => {
@@ -232,6 +286,8 @@ test('each applicant stands once, by key, with the projects that were chosen', (
 test('a search finds every word, without accents', () => {
   assert.ok(isFound('Café Müller 3', 'mull CAFE'));
   assert.ok(isFound('Tides', ' '));
+  for (const [text, search] of [['Anna Müller', 'mueller'], ['Anna Mueller', 'müller'], ['Jan Groß', 'gross'], ['Jan Gross', 'groß'], ['Ida Østergaard', 'ostergaard'], ['Ida Østergaard', 'oestergaard']]) assert.ok(isFound(text, search), search);
+  assert.ok(!isFound('Jo Bauer', 'baur'));
   assert.ok(!isFound('tides', 'tides kites'));
 });
 
@@ -353,7 +409,14 @@ test('the end of a stage is told in the reader’s zone, and to the office once 
   assert.equal(told('lecturer', '2027-05-11T11:59+02:00'), 'Choosing closes on Wednesday 12 May at 12:00 (in 24 hours).');
   assert.equal(told('office', '2027-05-12T11:50+02:00'), 'Choosing closes on Wednesday 12 May at 12:00 (in 10 minutes).');
   assert.equal(told('office', '2027-05-12T12:00+02:00'), 'Choosing should be closed by now.');
-  assert.equal(told('student', '2027-05-12T12:01+02:00'), '');
+  assert.equal(told('student', '2027-05-12T12:01+02:00'), 'The time announced for “Choosing” has passed.');
+  const saving = (role, phase, now) => deadlineText({ role, phase }, end, new Date(now), true);
+  assert.equal(saving('student', 'choosing', '2027-05-12T12:00+02:00'), 'The announced time has passed; saving works until the office closes choosing.');
+  assert.equal(saving('lecturer', 'ranking', '2027-05-12T12:00+02:00'), 'The announced time has passed; saving works until the office publishes the results.');
+  const soon = (now) => soonText({ role: 'student', phase: 'choosing' }, until, new Date(now));
+  assert.deepEqual(['2027-05-12T11:29+02:00', '2027-05-12T11:50+02:00', '2027-05-12T12:00+02:00'].map(soon), ['', 'Choosing closes in 10 minutes', 'the announced time has passed']);
+  assert.deepEqual(['2027-05-12T11:59+02:00', '2027-05-12T12:00+02:00'].map((now) => isOver({ phase: 'choosing' }, until, new Date(now))), [false, true]);
+  assert.ok(!isOver({ phase: 'ranking' }, until, new Date('2027-05-13T12:00+02:00')) && soonText({ phase: 'ranking' }, until) === '');
   process.env.TZ = 'America/New_York';
   assert.equal(told('student', '2027-05-09T11:00+02:00'), 'Choosing closes on Wednesday 12 May at 06:00 GMT-4 (in 3 days).');
   // another zone with the same clock needs no name
@@ -402,11 +465,11 @@ function needed(name, found = new Set()) {
 
 /** All files that a browser loads for a role, in a language. */
 const loaded = (role, language) => {
-  const texts = role === 'office' ? [`words-${language}.js`, `words-${language}-office.js`] : [`words-${language}.js`];
-  return new Set(['index.html', 'style.css', 'icon.svg', ...['main.js', `${role}.js`, ...texts].flatMap((name) => [...needed(name)])]);
+  const texts = [`words-${language}.js`, `words-${language}-${role}.js`];
+  return new Set(['index.html', 'style.css', ...(role === 'office' ? ['office.css'] : []), 'icon.svg', ...['main.js', `${role}.js`, ...texts].flatMap((name) => [...needed(name)])]);
 };
 
-test('all that a browser loads has at most 60,000 bytes for a student or a lecturer and 90,000 for the office, compressed, in each language', () => {
+test('all that a browser loads before anything is pressed has at most 60,000 bytes for a student or a lecturer and 90,000 for the office, compressed, in each language', () => {
   const size = (name) => gzipSync(readFileSync(new URL(name, web)), { level: 9 }).length;
   for (const language of Object.keys(LANGUAGES)) {
     for (const [role, most] of Object.entries({ student: 60_000, lecturer: 60_000, office: 90_000 })) {
@@ -416,10 +479,18 @@ test('all that a browser loads has at most 60,000 bytes for a student or a lectu
   }
 });
 
+/** What comes later for a role, when it is asked for: modules, and the texts of an order and of the answers. */
+function later(role, language) {
+  const own = [...needed(`${role}.js`)].flatMap((name) => [...source(name).matchAll(/import\('\.\/(.+?)'\)/g)].map(([, other]) => other));
+  const modules = own.filter((name) => !name.startsWith('words')).flatMap((name) => [...needed(name)]);
+  const spoken = ['order', 'answers'].filter((part) => [...needed(`${role}.js`)].some((name) => source(name).includes(`speak(words.language, '${part}')`)));
+  return [...modules, ...spoken.map((part) => `words-${language}-${part}.js`)];
+}
+
 test('no file is left that no browser loads, and students and lecturers load nothing of the office', () => {
-  const all = new Set(Object.keys(LANGUAGES).flatMap((language) => ['student', 'lecturer', 'office'].flatMap((role) => [...loaded(role, language)])));
+  const all = new Set(Object.keys(LANGUAGES).flatMap((language) => ['student', 'lecturer', 'office'].flatMap((role) => [...loaded(role, language), ...later(role, language)])));
   assert.deepEqual(readdirSync(web).filter((name) => /\.(js|css|html|svg)$/.test(name) && !all.has(name)), []);
-  for (const role of ['student', 'lecturer']) assert.deepEqual([...loaded(role, 'en')].filter((name) => /office|roll|columns|result/.test(name)), []);
+  for (const role of ['student', 'lecturer']) assert.deepEqual([...loaded(role, 'en'), ...later(role, 'en')].filter((name) => /office|roll|columns|result/.test(name)), []);
 });
 
 test('every module that the page needs at first is fetched at once', () => {

@@ -6,7 +6,10 @@ import test from 'node:test';
 import { table } from '../csv.js';
 import { Known } from '../known.js';
 import { Names, thereOf } from '../names.js';
-import { bars, lacksOf, missing, placesFor, placesLeft, stepsFrom } from '../office.js';
+import { lacksOf, placesFor, placesLeft } from '../lacks.js';
+import { stepsFrom } from '../office.js';
+import { bars, missing } from '../progress.js';
+import { forgetRankers, learnRankers, rankingOpened } from '../rankers.js';
 import { Refused, told } from '../requests.js';
 import { usage } from '../result.js';
 import { columnsOf, entriesOf, extraOf, missingOf, rollOf } from '../columns.js';
@@ -14,7 +17,7 @@ import { RollFile, doubtsOf, faultsOf, fileText, likeness, rollText, sorted } fr
 import { codesFile, toldOfRoll } from '../rollsend.js';
 import { speak, words } from '../words.js';
 
-await speak('en', true);
+await speak('en', 'student', 'lecturer', 'office', 'order', 'answers');
 
 const rows = (...lines) => lines.map((line, at) => ({ row: at + 1, fields: line.split(',') }));
 const entries = (roll, ...lines) => entriesOf(rows(...lines), columnsOf(roll, lines[0].split(',')));
@@ -382,7 +385,8 @@ test('the report’s counts of the projects', () => {
 
 test('the bars and who is missing, in each phase; a bar’s text tells the numbers of the bar', () => {
   const status = { lecturers: 3, projects: 5, students: 5, still_to_rank: [], without_list: ['emil'] };
-  const shown = (of) => bars(of).map(({ text, part, whole }) => {
+  const rankers = { keys: new Set(['bell', 'noether', 'turing']), isWhole: true };
+  const shown = (of) => bars(of, rankers, 3).map(({ text, part, whole }) => {
     assert.match(text, new RegExp(`\\b${part} of ${whole}\\b`));
     return [part, whole];
   });
@@ -391,6 +395,8 @@ test('the bars and who is missing, in each phase; a bar’s text tells the numbe
   assert.deepEqual(shown({ ...status, phase: 'choosing' }), [[4, 5]]);
   assert.deepEqual(shown({ ...status, phase: 'ranking', still_to_rank: ['bell'] }), [[4, 5], [2, 3]]);
   assert.deepEqual(missing({ ...status, phase: 'ranking', still_to_rank: ['bell'] }).keys, ['bell']);
+  const [, left] = bars({ ...status, phase: 'ranking', still_to_rank: ['bell'] }, { keys: new Set(['bell']), isWhole: false }, 2);
+  assert.deepEqual([left.text, left.whole], [words.rankingsMissing(1), undefined]);
   const published = { ...status, phase: 'published', assigned: 4, unassigned: ['emil'] };
   assert.deepEqual(shown(published), [[4, 5]]);
   assert.deepEqual(missing(published).keys, ['emil']);
@@ -399,6 +405,22 @@ test('the bars and who is missing, in each phase; a bar’s text tells the numbe
   assert.deepEqual(missing({ ...second, phase: 'choosing' }).keys, ['b']);
   assert.deepEqual(missing({ ...second, phase: 'published' }).keys, ['a', 'b']);
 });
+
+test('who has to rank is known where the ranking was opened here; else those who were seen to be missing', () => withStorage(() => {
+  const status = (...keys) => ({ phase: 'ranking', still_to_rank: keys });
+  const known = (of, now) => (({ keys, isWhole }) => [[...keys], isWhole])(learnRankers(of, now));
+  assert.deepEqual(known(status('a', 'b'), 0), [['a', 'b'], false]);
+  assert.deepEqual(known(status('b', 'c'), 0), [['a', 'b', 'c'], false]);
+  rankingOpened(1, 1000);
+  assert.deepEqual(known(status('a', 'b'), 2000), [['a', 'b'], true]);
+  assert.deepEqual(known(status('b'), 9_000_000), [['a', 'b'], true]);
+  assert.deepEqual(known({ ...status('d'), round: 2 }, 9_000_000), [['d'], false]);
+  // whoever looks an hour after it was opened does not see all
+  rankingOpened(2, 1000);
+  assert.deepEqual(known({ ...status('d'), round: 2 }, 3_600_000), [['d'], false]);
+  forgetRankers();
+  assert.deepEqual(known(status(), 9_000_000), [[], false]);
+}));
 
 const project = (id, lecturer, capacity) => ({ id, lecturer, capacity });
 
@@ -432,14 +454,14 @@ test('what stands in the way of each step', () => {
   assert.deepEqual(lacks('openChoosing', { status: { ...status, projects: 0, students: 0, lecturers: 0 }, projects: [] }), [{ text: words.lacks.projects, ends: true }]);
   assert.equal(lacks('openChoosing', { status: { ...status, students: 0 } })[0].ends, true);
   assert.deepEqual(lacks('openRanking')[0], { text: words.lacks.lists, isRisk: true });
-  assert.deepEqual(lacks('openRanking', { status: { ...status, without_list: ['a'] } })[0], { text: words.withoutList(1), isRisk: true });
+  assert.deepEqual(lacks('openRanking', { status: { ...status, without_list: ['a'] } })[0], { text: words.withoutList(1), isRisk: true, isAskedOnly: true });
   assert.deepEqual(lacks('publish', { toRank: ['Lee (l)'] }), [{ text: words.publishMissing(1), ends: true }]);
   const unknown = { text: words.filledElsewhere, isAskedOnly: true };
-  assert.deepEqual(lacks('publish'), [{ text: words.noListNoProject(3) }, unknown]);
+  assert.deepEqual(lacks('publish'), [{ text: words.noListNoProject(3), isAskedOnly: true }, unknown]);
   assert.deepEqual(lacks('publish', { end: 'Later.', filled: ['Lee (l)'] }), [
     { text: 'Later.', isRisk: true, isAskedOnly: true },
     { text: words.filledHere(1, '\u2068Lee (l)\u2069') },
-    { text: words.noListNoProject(3) },
+    { text: words.noListNoProject(3), isAskedOnly: true },
     unknown,
   ]);
   assert.ok(lacks('fill')[0].ends);

@@ -60,7 +60,7 @@ class SigningOut(PageCase):
         self.open(code, "Choosing")
 
     def test_every_tab(self):
-        """Who signs out is signed out in each tab, and nothing of a draft is left."""
+        """Who signs out is signed out in each tab; what was not saved in another one is kept there for the same person."""
         self.open(ADA, "Choosing")
         first = self.browser.driver.current_window_handle
         self.browser.press("Add *, rings")
@@ -71,10 +71,19 @@ class SigningOut(PageCase):
         self.browser.driver.switch_to.window(first)
         self.browser.find("textbox", "Your code")
         self.browser.says("you signed out in another tab")
+        self.browser.says("What you hadn’t saved here is kept in this tab")
         self.assertFalse(self.browser.has("dialog", "Leave without saving?"))
-        self.assertEqual(self.browser.script("sessionStorage.length"), 0)
         self.browser.driver.refresh()
         self.browser.find("textbox", "Your code")
+        self.sign_in(BEN, "Choosing")
+        self.assertEqual(self.browser.entries("Your list"), [])
+        self.browser.sign_out()
+        self.sign_in(ADA, "Choosing")
+        self.assertEqual(self.browser.entries("Your list"), ["rings"])
+        self.browser.press("Sign out")
+        self.browser.press("Leave")  # who signs out here leaves nothing
+        self.browser.find("textbox", "Your code")
+        self.assertEqual(self.browser.script("sessionStorage.length"), 0)
 
     def test_after_idle_minutes(self):
         """After 30 idle minutes the page signs out, and who signs in next sees nothing of it."""
@@ -89,7 +98,7 @@ class SigningOut(PageCase):
         self.assertEqual(self.browser.entries("Your list"), [])
         self.browser.sign_out()
         self.sign_in(ADA, "Choosing")
-        self.assertEqual(self.browser.entries("Your list"), [])  # Ben has signed out himself, and left nothing
+        self.assertEqual(self.browser.entries("Your list"), ["rings"])  # what Ada did not save is hers, whoever was here meanwhile
 
     def test_the_draft_after_idle_minutes(self):
         self.open(ADA, "Choosing")
@@ -228,7 +237,7 @@ class Telling(PageCase):
         return self.browser.page_text()
 
     def test_deadlines(self):
-        """Everybody reads until when the stage lasts, in the own zone and language; once it is over the office is told, and nobody else."""
+        """Everybody reads until when the stage lasts, in the own zone and language; once it is over that is told, and who can still save."""
         now = datetime.datetime.now(datetime.timezone.utc).replace(second=0, microsecond=0)
         end = now + datetime.timedelta(days=3, hours=2)
         self.until(choosing=end, ranking=now - datetime.timedelta(hours=1))
@@ -248,7 +257,7 @@ class Telling(PageCase):
         self.door.move("ranking")
         for code in (ADA, BELL, OFFICE):
             self.sign_in(code, "Ranking")
-            self.assertEqual("Ranking should be closed by now." in self.text(), code == OFFICE)
+            self.assertIn("Ranking should be closed by now." if code == OFFICE else "The time announced for “Ranking” has passed.", self.text())
             self.assertNotIn("closes on", self.text())
             self.browser.sign_out()
         self.until(ranking=end)
@@ -258,6 +267,28 @@ class Telling(PageCase):
         self.browser.find("textbox", "Ihr Code").send_keys(BELL, Keys.ENTER)
         self.browser.wait(lambda: "„Rangfolgen“ endet am" in self.text() and "(in 3 Tagen)" in self.text(), "the end in German")
         self.browser.choose("Sprache", "English")
+
+    def test_what_is_not_saved_near_the_end(self):
+        """The dock warns of it in the last half hour, and after the time that was announced, when saving still works."""
+        now = datetime.datetime.now(datetime.timezone.utc).replace(second=0, microsecond=0)
+        self.until(choosing=now + datetime.timedelta(minutes=20))
+        self.door.move("choosing")
+        state = "document.querySelector('.state').textContent"
+        self.open(ADA, "Choosing")
+        self.browser.press("Add *, rings")
+        self.assertRegex(self.browser.script(state), r"^Unsaved changes – Choosing closes in \d+ minutes$")
+        for width, height in SIZES:
+            self.browser.resize(width, height)
+            self.assertTrue(self.browser.script("(({ scrollWidth, clientWidth }) => scrollWidth <= clientWidth)(document.querySelector('.state'))"))
+        self.browser.press("Save list")
+        self.browser.says("Saved")
+        self.until(choosing=now - datetime.timedelta(minutes=1))
+        self.browser.open(self.door.address)
+        self.browser.in_phase("Choosing")
+        self.assertIn("The announced time has passed; saving works until the office closes choosing.", self.text())
+        self.assertRegex(self.browser.script(state), "^Saved at")
+        self.browser.press("Add *, comets")
+        self.assertEqual(self.browser.script(state), "Unsaved changes – the announced time has passed")
 
     def test_notices(self):
         """The notice of a stage stands in that stage alone, in the place of the general one."""
@@ -372,20 +403,21 @@ class Messages(PageCase):
         self.browser.unfold("details:has(textarea)")
         keys = self.browser.entries("Your ranking")
         field = self.browser.find("textbox", "IDs or names, best first")
-        self.browser.driver.execute_script("arguments[0].value = arguments[1]", field, "\n".join([*keys, "nobody at all"]))
+        self.assertGreater(len(keys), 0)
+        self.browser.driver.execute_script("arguments[0].value = arguments[1]", field, "nobody at all")
         self.door.portal.send_signal(signal.SIGSTOP)
         try:
             self.browser.driver.execute_script("document.querySelector('.save-row .main').click()")
             self.browser.press("Use this order")
-            self.browser.warns("Not understood: nobody at all.")
+            self.browser.warns("No applicant was found in it.")
             self.browser.says("One moment…")
-            self.browser.warns("Not understood: nobody at all.")
+            self.browser.warns("No applicant was found in it.")
         finally:
             self.door.portal.send_signal(signal.SIGCONT)
         self.browser.says("Saved. Your ranking has")
-        self.browser.warns("Not understood: nobody at all.")
+        self.browser.warns("No applicant was found in it.")
         time.sleep(6)
-        self.browser.warns("Not understood: nobody at all.")
+        self.browser.warns("No applicant was found in it.")
         self.browser.press("Close message")
         self.assertEqual(self.browser.text("alert"), "")
 
@@ -465,7 +497,7 @@ class Questions(PageCase):
         self.open(OFFICE, "Choosing")
         said = f"closes on {end:%A} {end.day} {end:%B} at {end:%H:%M}. That is in 9 days."
         self.assertIn("1 of 5 students", self.browser.page_text())
-        self.assertIn("4 missing", self.browser.page_text())
+        self.assertIn("Without a list (4)", self.browser.page_text())
         self.assertTrue(self.asked("Open ranking").startswith(f"Everybody was told that “Choosing” {said}"))
         self.browser.in_phase("Ranking")
         self.asked("Fill missing rankings")

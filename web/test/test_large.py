@@ -185,14 +185,14 @@ class ClerksYear(DepartmentCase):
         self.step("Open choosing", "117 places for 200 students: at least 83 will get no project.", "Choosing")
         self.department.save_lists(self.door.do, OFFICE, 1)
         self.refresh()
-        self.step("Open ranking", "12 students have no list and can’t save one after this.", "Ranking")
+        self.step("Open ranking", "12 students have no list and can’t save one after this.", "Ranking", "Without a list (12)")
         self.rank(leave=("l05", "l17"))
         self.step("Publish results", "You can’t undo this.", "Results")
         self.assertEqual(self.status("assigned"), [110])
         self.step("Open second round", "7 places for 90 students: at least 83 will get no project.", "Choosing")
         self.department.save_lists(self.door.do, OFFICE, 2)
         self.refresh()
-        self.step("Open ranking", "30 students have no list and can’t save one after this.", "Ranking")
+        self.step("Open ranking", "30 students have no list and can’t save one after this.", "Ranking", "Without a list (30)")
         self.rank()
         self.step("Publish results", "You can’t undo this.", "Results")
         self.sees("The second round is published. There are no further steps.")
@@ -235,9 +235,9 @@ class ClerksYear(DepartmentCase):
         self.assertIn("You can’t remove or change them later.", said)
         self.browser.says(f"{roll}: {what.split()[0]} added, 0 already there.", wait=60)
 
-    def step(self, name, risk, phase):
-        """Takes a step. What some would regret is told on the page, and is the bold line of the question; the blue button does nothing."""
-        self.sees(risk)
+    def step(self, name, risk, phase, told=None):
+        """Takes a step. What some would regret is told on the page, perhaps shorter, and is the bold line of the question; the blue button does nothing."""
+        self.sees(told or risk)
         self.browser.press(name)
         self.browser.wait(lambda: self.browser.script("document.querySelector('dialog .risk')?.textContent.includes(arguments[0])", risk), risk)
         self.assertEqual(self.browser.script("[...document.querySelectorAll('dialog button.main')].map((e) => e.textContent)"), ["Not now"])

@@ -105,8 +105,11 @@ class Rankings(LecturerCase):
         field = self.browser.find("textbox", "IDs or names, best first")
         others = [f"s99{n}" for n in range(10, 22)]
         field.send_keys(f"{keys[5]}\n\n {keys[2]} \n{keys[5]}\n" + "\n".join(others))
-        self.browser.press("Use this order")
-        self.browser.warns("Your ranking now has 2 students, in the order that you gave. Not understood: " + ", ".join(others[:10]) + " and 2 more.")
+        said = self.order()
+        for part in (f"2 of {len(keys)} applicants found.", f"Not in it, and so without a position: {len(keys) - 2}.", f"More than once in it; the first time counts: {self.people[keys[5]][0]} ({keys[5]}).",
+                     "Not understood: " + ", ".join(others[:10]) + " and 2 more."):
+            self.assertIn(part, said)
+        self.browser.says("Your ranking now has 2 students, in this order. Nothing is saved yet.")
         self.assertEqual(self.browser.entries("Your ranking"), [keys[5], keys[2]])
         field.clear()
         field.send_keys("nothing\nof\nthis")
@@ -115,10 +118,85 @@ class Rankings(LecturerCase):
         self.assertEqual(self.browser.entries("Your ranking"), [keys[5], keys[2]])
         sorted_file = self.write("sorted.csv", "\ufeffname;id;projects\r\n" + "".join(f"{self.people[key][0]};{key};\r\n" for key in keys[::-1]))
         self.browser.driver.find_element("css selector", "input[type=file]").send_keys(str(sorted_file))
-        self.browser.says(f"Your ranking now has {len(keys)} students, in the order that you gave.")
+        self.assertIn(f"{len(keys)} of {len(keys)} applicants found.", self.order(press=False))
+        self.browser.says(f"Your ranking now has {len(keys)} students, in this order.")
         self.browser.press("Save ranking")
         self.browser.says("Saved")
         self.assertEqual(self.saved(self.key), keys[::-1])
+
+    def order(self, answer="Use this order", press=True):
+        """What was understood of an order, which is taken or not."""
+        if press:
+            self.browser.press("Use this order")
+        said = self.plain(self.browser.find("dialog", "Is this your order?").text)
+        self.browser.driver.execute_script("[...document.querySelectorAll('dialog button')].find((e) => e.textContent === arguments[0]).click()", answer)
+        return said
+
+    def open_order(self, text):
+        self.browser.driver.find_element("css selector", "input[type=file]").send_keys(str(self.write("order.csv", text)))
+
+    def test_order_by_ranks(self):
+        """A column of ranks decides; who shares a rank is put in order first, and what is not clear is asked."""
+        self.open_as(self.key)
+        keys = list(self.people)
+        rows = [f"{self.people[key][0]};{key};{len(keys) - max(at, 1)}\n" for at, key in enumerate(keys)]
+        self.open_order("name;id;Rang\n" + "".join(rows))
+        dialog = self.browser.find("dialog", "Is this your order?")
+        self.assertIn("Ordered by: column “Rang”, smallest number first.", self.plain(dialog.text))
+        self.assertIn(f"2 share the number {len(keys) - 1}. Who comes first?", dialog.text)
+        self.browser.press(f"Move {self.people[keys[1]][0]}, {keys[1]} up")
+        self.order(press=False)
+        self.browser.wait(lambda: self.browser.entries("Your ranking") == [*keys[:1:-1], keys[1], keys[0]], "the order by ranks")
+        self.open_order("id;name\n" + "".join(f"{key};{self.people[key][0]}\n" for key in keys))
+        self.assertIn("This is exactly the order in which the portal gave you the applicants: by ID.", self.order("Go back", press=False))
+        self.assertEqual(self.browser.entries("Your ranking")[0], keys[-1])
+        self.open_order("id;ECTS\n" + "".join(f"{key};{30 * (at % 5)}\n" for at, key in enumerate(keys)))
+        self.browser.find("dialog", "What decides the order?")
+        self.browser.driver.execute_script("[...document.querySelectorAll('dialog button')].find((e) => e.textContent.includes('largest')).click()")
+        self.assertIn("numbers are shared. Those who share one stand as in your rows", self.order("Go back", press=False))
+
+    def test_a_ranking_is_searched(self):
+        """In a long ranking a search shows who is meant, with the positions; and what was refused goes with the next change."""
+        self.open_as(self.key)
+        keys = list(self.people)
+        self.browser.unfold("details:has(textarea)")
+        self.browser.find("textbox", "IDs or names, best first").send_keys("nobody at all")
+        self.browser.press("Use this order")
+        self.browser.warns("No applicant was found in it.")
+        self.browser.press("Add the rest in ID order")
+        self.browser.wait(lambda: self.browser.text("alert") == "", "the refusal to go")
+        field = self.browser.find("searchbox", "Search your ranking")
+        field.send_keys("mueller")
+        shown = "[...document.querySelectorAll('.own .ordered > li:not([hidden])')].map((e) => e.dataset.key)"
+        wanted = [key for key in keys if "Müller" in self.people[key][0]]
+        self.assertEqual(self.browser.script(shown), wanted)
+        place = self.browser.find("spinbutton", f"Position of {self.people[wanted[-1]][0]}, {wanted[-1]}")
+        self.assertEqual(place.get_attribute("value"), f"{keys.index(wanted[-1]) + 1}")
+        place.click()
+        place.send_keys("1\n")  # it takes the place of the number that stood there
+        self.browser.wait(lambda: self.browser.entries("Your ranking")[0] == wanted[-1], "the first position")
+        self.browser.resize(800, 900)
+        self.browser.driver.execute_script("document.querySelector('.own').scrollIntoView()")
+        bottom, top = self.browser.script("[document.querySelector('.columns > .whole').getBoundingClientRect().bottom, document.querySelector('.own').getBoundingClientRect().top]")
+        self.assertLessEqual(bottom, top)  # in a narrow window the applicants do not lie over the ranking
+
+    def test_one_applicant(self):
+        """Whoever has one applicant saves the ranking by one press: there is nothing to put in order."""
+        key = next(one["id"] for one in self.large.lecturers if len(self.applicants(one["id"])) == 1)
+        self.open_as(key)
+        self.sees("You have one applicant. Save this ranking, and you’re done.", "Not saved yet")
+        for name in ("Applicants", "Search applicants", "Last resort"):
+            self.assertNotIn(name, self.text())
+        self.browser.press("Save ranking")
+        self.browser.says("Saved. Your ranking has 1 student.")
+        self.assertEqual(self.saved(key), list(self.applicants(key)))
+
+    def test_answers(self):
+        """How it is decided and who sees what is told when it is asked for."""
+        self.open_as(self.key)
+        self.browser.driver.find_element("css selector", ".decided > summary").click()
+        self.browser.wait(lambda: "Who sees what?" in self.text(), "the answers")
+        self.sees("only the lecturer who made it sees it", "whoever keeps the file of codes could sign in as anybody", "This favours low IDs", "Not if the first list has every project that the student would take")
 
     def test_order_as_people_write_it(self):
         """IDs in another case with ranks and names beside them, or names alone; what would leave the ranking is asked first."""
@@ -132,10 +210,10 @@ class Rankings(LecturerCase):
         self.browser.unfold("details:has(textarea)")
         self.paste("\n".join(f"{at + 1}. {key.upper()} {people[key][0]}" for at, key in enumerate(keys[::-1])))
         self.browser.wait(lambda: self.browser.entries("Your ranking") == keys[::-1], "the order that was pasted")
-        self.paste("\n".join(people[key][0] for key in alone[:3]) + "\nnobody at all", "Keep my ranking")
+        self.paste("\n".join(people[key][0] for key in alone[:3]) + "\nnobody at all", "Go back")
         self.assertEqual(self.browser.entries("Your ranking"), keys[::-1])
-        self.paste("\n".join(people[key][0] for key in alone[:3]) + "\nnobody at all", "Use this order")
-        self.browser.warns("Your ranking now has 3 students, in the order that you gave. Not understood: nobody at all.")
+        self.paste("\n".join(people[key][0] for key in alone[:3]) + "\nnobody at all")
+        self.browser.says("Your ranking now has 3 students, in this order.")
         self.assertEqual(self.browser.entries("Your ranking"), alone[:3])
         self.browser.press("Undo")
         self.assertEqual(self.browser.entries("Your ranking"), keys[::-1])
@@ -146,10 +224,10 @@ class Rankings(LecturerCase):
     def paste(self, text, answer=None):
         field = self.browser.find("textbox", "IDs or names, best first")
         self.browser.driver.execute_script("arguments[0].value = arguments[1]", field, text)
-        self.browser.press("Use this order")
+        said = self.order(answer or "Use this order")
         if answer:
-            self.assertIn("of your ranking aren’t in this order, and would leave it.", self.browser.find("dialog", "Shorten your ranking?").text)
-            self.browser.driver.execute_script("[...document.querySelectorAll('dialog button')].find((e) => e.textContent === arguments[0]).click()", answer)
+            for part in ("of your ranking aren’t in this order, and would leave it.", "Not understood: nobody at all."):
+                self.assertIn(part, said)
 
     def test_drafts_and_late(self):
         """A ranking that is not whole survives a reload; one that was not saved before the results came stays to read."""
@@ -167,7 +245,7 @@ class Rankings(LecturerCase):
         self.browser.warns("What you changed after it stays on this page, to read and copy.")
         self.browser.in_phase("Results")
         for _ in self.sizes():
-            self.assertEqual(self.parts(), ["Your students", "Not saved in time", "Your ranking", "Your projects"])
+            self.assertEqual(self.parts(), ["Your students", "Your ranking", "Not saved in time", "Your projects"])
             shown = self.browser.script("[...document.querySelectorAll(\"ol[aria-label='Not saved in time'] .titled\")].map((e) => e.querySelector('bdi').textContent)")
             self.assertEqual(shown, [self.people[key][0] for key in [*keys[3:5], *keys[:3], *keys[5:]]])
             self.sees(f"{FILLED}.")
@@ -232,7 +310,7 @@ class Phases(LecturerCase):
         self.browser.sign_out()
         self.door.move("choosing")
         self.sign_in(self.large.codes["l01"], "Choosing")
-        self.assertEqual(self.browser.script("[...document.querySelectorAll('details')].map((e) => e.open)"), [False, False])
+        self.assertEqual(self.browser.script("[...document.querySelectorAll('.project details')].map((e) => e.open)"), [False, False])
 
     def test_results(self):
         """The own students stand on top. Why another applicant is not among them is told, and who has what is marked."""

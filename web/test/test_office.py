@@ -110,14 +110,14 @@ class Names(OfficeCase):
 
 class NextStep(OfficeCase):
     def test_fresh_setup(self):
-        """What is to be done is a list to tick off, in no warning's colour; the step waits for it."""
+        """What is to be done are three files, in no warning's colour; the step waits for them."""
         self.open(OFFICE, "Setup")
-        self.sees("No lecturers yet", "No projects yet", "No students yet", "Add projects first, so that students have something to choose.")
+        self.sees("0 in the portal", "Add projects first, so that students have something to choose.")
+        self.assertNotIn("Check people and projects", self.text())
         self.assertEqual(self.browser.script("document.querySelectorAll('.fault, [role=alert]:not(:empty)').length"), 0)
         self.assertFalse(self.browser.find("button", "Open choosing").is_enabled())
         self.send_rolls("Lecturers")
-        self.assertEqual(self.browser.script("[...document.querySelectorAll('.checklist li')].map((e) => [e.textContent, e.className])"),
-                         [["3 lecturers", "done"], ["No projects yet", ""], ["No students yet", ""]])
+        self.sees("3 in the portal", "Check people and projects")
         self.send_rolls("Projects")
         self.sees("Add students first.")
         self.assertFalse(self.browser.find("button", "Open choosing").is_enabled())
@@ -161,7 +161,8 @@ class NextStep(OfficeCase):
         self.door.do(BEN, "PUT", "/choices", {"projects": ["comets"]})
         self.browser.press("Refresh")
         self.browser.says("Up to date.")
-        self.sees("4 students have no list and can’t save one after this.")
+        self.sees("Without a list (4)")
+        self.assertFalse(self.is_main("Open ranking"))  # not all lists are there, and no time that was announced is over
         self.door.move("ranking")
         self.browser.press("Refresh")
         self.browser.in_phase("Ranking")
@@ -332,7 +333,8 @@ class Bars(OfficeCase):
         self.door.move("ranking")
         self.door.do(BELL, "PUT", "/ranking", {"students": ["ben", "ada"]})
         self.open(OFFICE, "Ranking")
-        self.assertEqual(self.browser.script(self.BARS), [["With a list: 4 of 5 students", 80], ["Rankings done: 1 of 3 lecturers", 33]])
+        self.assertEqual(self.browser.script(self.BARS), [["With a list: 4 of 5 students", 80]])
+        self.sees("Rankings missing: 2", "Of at most 3 lecturers: those with a project in this round.")  # this browser has not opened the ranking
 
     def test_bars_in_forced_colours(self):
         """A bar is seen where a person has chosen the colours: its filled part differs from the empty one."""

@@ -54,7 +54,7 @@ class Rounds(PageCase):
         self.sees("With a list: 1 of 1 student")
         self.answer("Open ranking", "Open ranking now?")
         self.browser.says("The portal is now at “Ranking” of the second round.")
-        self.sees("Rankings done: 2 of 3 lecturers", "Jocelyn Bell (bell)")
+        self.sees("Rankings done: 0 of 1 lecturer", "2 other lecturers have no applicants.", "Jocelyn Bell (bell)")
         self.browser.sign_out()
         self.student_with_a_project("Ranking")
         self.lecturers_in_ranking()
@@ -77,8 +77,9 @@ class Rounds(PageCase):
 
     def student_without_a_project(self):
         self.sign_in(EMIL, "Choosing")
-        self.sees("Round 2", "The second round is for students who didn’t get a project in the first.", "You didn’t get a project in the first round. Add the projects you want now to your list",
-                  "No project from your first list has a place left for you.", "At most 1 place is left, in 1 project.")
+        self.sees("Round 2", "You didn’t get a project in the first round. Add those you want now", "At most 1 place is left, in 1 project.")
+        self.browser.unfold(".decided, .decided details")
+        self.sees("No project from your first list has a place left for you.")
         self.assertNotIn("You didn’t get a project this time", self.text())
         self.assertEqual(self.browser.entries("Your list"), [])
         self.sees("1 project")
@@ -104,8 +105,7 @@ class Rounds(PageCase):
 
     def lecturers_in_ranking(self):
         self.sign_in(BELL, "Ranking")
-        self.sees("Round 2", "0 of 1 ranked", "Ben Bode")
-        self.browser.press("Add Emil Eke, emil")
+        self.sees("Round 2", "You have one applicant.", "1 of 1 ranked", "Ben Bode")
         self.browser.press("Save ranking")
         self.browser.says("Saved. Your ranking has 1 student.")
         self.assertEqual(self.door.do(BELL, "GET", "/ranking"), {"students": ["emil"]})

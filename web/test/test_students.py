@@ -118,7 +118,7 @@ class Results(StudentCase):
         self.sign_in(self.large.codes[kinds["none"][0]], "Choosing")
         self.assertEqual(self.browser.script("document.querySelector('.first-list')"), None)
         places = [one["capacity"] for one in self.ask(kinds["none"][0], "/catalogue")["projects"]]
-        self.sees("No project from your first list has a place left for you.", f"At most {sum(places)} places are left, in {len(places)} projects.")
+        self.sees(f"At most {sum(places)} places are left, in {len(places)} projects.")
         for _ in self.sizes():
             self.browser.find("button", "Places left")
             self.assertEqual(self.browser.script("[...document.querySelectorAll('thead th')].filter((e) => e.scrollWidth > e.clientWidth).map((e) => e.textContent)"), [])
@@ -201,7 +201,7 @@ class Choosing(StudentCase):
             button = self.browser.find("button", f"Add {self.name(project)}")
             middle = "((r) => [r.left + r.width / 2, r.top + r.height / 2])(arguments[0].getBoundingClientRect())"
             free = "document.querySelector('.dock').getBoundingClientRect().top"
-            while self.browser.script(middle, button)[1] > self.browser.script(free):
+            while self.browser.script(middle, button)[1] > self.browser.script(free) - 2:
                 self.browser.driver.execute_script("scrollBy(0, 200)")
             x, y = self.browser.script(middle, button)
             self.assertTrue(self.browser.script("arguments[0].contains(document.elementFromPoint(arguments[1], arguments[2]))", button, x, y))
@@ -260,7 +260,7 @@ class Choosing(StudentCase):
         self.browser.warns("Your last saved list counts. What you changed after it stays on this page, to read and copy.")
         self.browser.in_phase("Ranking")
         for _ in self.sizes():
-            self.assertEqual(self.parts(), ["Not saved in time", "Your list", "Projects"])
+            self.assertEqual(self.parts(), ["Your list", "Not saved in time", "Projects"])
             for part, keys in (("Not saved in time", ["p003", "p008", "p001"]), ("Your list", ["p003", "p001"])):
                 self.assertEqual([entry.split("\n")[0] for entry in self.entries(part)], [self.title(key) for key in keys])
         self.browser.press("Copy this")
@@ -292,7 +292,7 @@ class Choosing(StudentCase):
         self.saving_time(state)
         self.browser.unfold(".decided, .decided details")
         self.sees("Whichever projects you list, list them in your honest order: no other order of them, and no shorter list of some of them, gives you one that you like better.",
-                  "A list has room for 20; if you like more, no rule says which 20 to list.", "Waiting for a second round never pays.")
+                  "A list has room for 20; if you like more, no rule says which 20 to list.", "Waiting for a second round gains nothing if your list has every project that you would take")
 
     def saving_time(self, state):
         """It survives a reload and stands on the receipt; of a list that was saved elsewhere it is not said."""

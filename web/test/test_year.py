@@ -102,7 +102,7 @@ class YearByClicks(PageCase):
             rising = self.browser.script(column, at)
             self.browser.press(name)
             self.assertEqual(self.browser.script(column, at), rising[::-1])
-            self.assertTrue(set(rising) <= {*sorted_by_title, "No project"})
+            self.assertTrue(set(rising) <= {*sorted_by_title, "No project: no list"})
         self.browser.find("searchbox", "Search results").send_keys("noether")
         self.assertEqual(sorted(self.browser.script(column, 0)), ["ada", "cleo"])
 

@@ -7,8 +7,12 @@ type Known = import('../known.js').Known;
 type Names = import('../names.js').Names;
 type RollFile = import('../rollfile.js').RollFile;
 
+/** Texts that not everybody needs, or not at once: those of a role, of an order made elsewhere, and of the answers. */
+type TextPart = Role | 'order' | 'answers';
+
 /** Every text of the page. */
-type Words = typeof import('../words-en.js').words & typeof import('../words-en-office.js').words;
+type Words = typeof import('../words-en.js').words & typeof import('../words-en-student.js').words & typeof import('../words-en-lecturer.js').words
+  & typeof import('../words-en-office.js').words & typeof import('../words-en-order.js').words & typeof import('../words-en-answers.js').words;
 
 // ---- what the portal replies: docs/FORMATS.md
 
@@ -141,7 +145,7 @@ interface Content {
   /** what is not saved stands there again when the page is shown anew in this tab */
   isKept?: boolean;
   /** what is said to this person of the year */
-  year?: { now?: string; next?: string };
+  year?: { now?: string; next?: string; saves?: boolean };
   /** what stays in view */
   bar?: HTMLElement;
   /** where the skip links lead */
@@ -225,6 +229,30 @@ interface LecturerState {
 /** An applicant, with the keys of the own projects that this person chose. */
 type Applicant = Person & { projects: string[] };
 
+/** Finds who is meant by a text. */
+type Finder = (text: string) => string | null | undefined;
+
+/** By the ID, by an ID without its zeros, and by the name. */
+type Finders = { keyOf: Finder; bareOf: Finder; personOf: Finder };
+
+/** A line of an order: who is meant, its fields, and the number before it, if the lines have such numbers. */
+type OrderLine = { keys: string[]; fields: string[]; front: number | null };
+
+/** A column of numbers, with what it is called and its number in each line. */
+type NumberColumn = { at: number; head: string; numbers: (number | undefined)[] };
+
+/** What a text tells of an order. `crossed`: whose names stand beside another ID; `others`: what of it is not understood. */
+type OrderRead = { lines: OrderLine[]; crossed: string[]; others: string[]; columns: NumberColumn[] };
+
+/** What decides an order: a column, perhaps with the largest number first, or the lines as they stand. */
+type OrderBy = { column: NumberColumn | null; isFalling: boolean };
+
+/** People who share a number. */
+type Tie = { number: number; keys: string[] };
+
+/** An order: each person once; who stood there more than once, who has no number, and who shares one. */
+type OrderMade = { keys: string[]; twice: string[]; unranked: string[]; ties: Tie[] };
+
 /** A list that is put in order. */
 interface ListOf {
   /** the list's name */
@@ -239,6 +267,10 @@ interface ListOf {
   changed: (before: string[]) => void;
   /** tells screen readers what was done */
   announce: (text: string) => void;
+  /** nobody can be removed */
+  isWhole?: boolean;
+  /** a link out of the list, beside the entry that has the focus */
+  skip?: Aim;
 }
 
 /** The texts of a list or ranking. */
@@ -246,6 +278,8 @@ interface ListTexts {
   label: string;
   save: string;
   show: string;
+  /** leads from an entry to what saves the list */
+  skip: string;
   /** where nothing is saved */
   none?: string;
   /** which of two versions stays */
@@ -274,6 +308,10 @@ interface EditorOf {
   missing: (keys: string[]) => number;
   /** called after each change */
   changed: (keys: string[]) => void;
+  /** what it begins with where nothing is saved */
+  first?: string[];
+  /** where a narrow page leads from the list, and what that is called */
+  back?: { short: string; text: string; aim: () => HTMLElement | null };
   /** called when it is saved */
   stored?: () => void;
   /** brings into sight what was put on the list or taken off it, where it is chosen from */
@@ -337,6 +375,9 @@ type StepName = 'openChoosing' | 'openRanking' | 'fill' | 'publish' | 'openSecon
 /** A step of the year. `body` is what is sent to /phase, and a fill has none; `isMain`: the year cannot go on without it. */
 type Move = { name: StepName; body?: { phase: string; round?: number }; isMain?: boolean };
 
+/** Who has to rank, as far as it is known; `isWhole`: nobody else has applicants. */
+type Rankers = { keys: Set<string>; isWhole: boolean };
+
 /** What is known of the year before a step. */
 interface Standing {
   status: Status;
@@ -383,7 +424,8 @@ type Used = { key: string; taken: number; all: number };
 /** The result as the portal tells it, and what that says. */
 type Result = { csv: string; report: string; rows: GivenRow[]; used: Used[] };
 
-type Shown = Result & { titleOf: (project: string) => string; nameOf: (lecturer: string) => string };
+/** `noneOf`: what is said of a student without a project. */
+type Shown = Result & { titleOf: (project: string) => string; nameOf: (lecturer: string) => string; noneOf: (student: string) => string };
 
 /** What the office's tables of people and projects show. */
 interface OfficeData {
@@ -394,6 +436,8 @@ interface OfficeData {
   names: Names;
   /** how many places of each project are taken, once that is known */
   used: Used[];
+  /** who has to rank, while that is done */
+  rankers: Rankers | null;
 }
 
 type Sheet = { columns: TableColumn[]; rows: TableRow[] };

@@ -10,10 +10,10 @@ const web = new URL('../', import.meta.url);
 const sources = readdirSync(web).filter((name) => name.endsWith('.js'));
 const source = (name) => readFileSync(new URL(name, web), 'utf8');
 const textsOf = async (language) => {
-  const { texts, office } = LANGUAGES[language];
-  return { ...(await texts()).words, ...(await office()).words };
+  const parts = Object.values(LANGUAGES[language]).filter((part) => typeof part === 'function');
+  return Object.assign({}, ...(await Promise.all(parts.map((part) => part()))).map((part) => part.words));
 };
-await speak('en', true);
+await speak('en', 'student', 'lecturer', 'office', 'order', 'answers');
 
 /** Each text by the path of its keys. */
 function flat(texts, path = '') {
@@ -48,17 +48,22 @@ test('every text that is used is there, and every text that is there is used', (
   for (const name of Object.keys(words)) assert.ok(used.has(name) || byName.includes(name) || name === 'language', `${name} is not used`);
 });
 
-test('what students and lecturers see needs no text of the office', async () => {
-  const seen = new Set();
-  const walk = (name) => {
-    if (seen.has(name)) return;
-    seen.add(name);
-    for (const [, other] of source(name).matchAll(/^import .*from '\.\/(.+)';$/gm)) walk(other);
-  };
-  for (const name of ['main.js', 'student.js', 'lecturer.js']) walk(name);
-  const { words: base } = await LANGUAGES.en.texts();
-  for (const name of seen) {
-    for (const [, text] of source(name).matchAll(/(?<!\/)\bwords\.(\w+)/g)) assert.ok(text in base, `${name}: ${text}`);
+test('no role needs a text of another one', async () => {
+  const later = { student: [], lecturer: ['order', 'answers'], office: ['answers'] };
+  for (const role of ['student', 'lecturer', 'office']) {
+    const seen = new Set();
+    const walk = (name) => {
+      if (seen.has(name)) return;
+      seen.add(name);
+      for (const [, other] of source(name).matchAll(/^import .*from '\.\/(.+)';$/gm)) walk(other);
+      if (!['main.js', 'words.js'].includes(name)) for (const [, other] of source(name).matchAll(/import\('\.\/(.+?)'\)\.?/g)) walk(other);
+    };
+    for (const name of ['main.js', `${role}.js`]) walk(name);
+    const { all, ...parts } = LANGUAGES.en;
+    const own = Object.assign({}, ...(await Promise.all([all(), ...[role, ...later[role]].map((part) => parts[part]())])).map((part) => part.words));
+    for (const name of seen) {
+      for (const [, text] of source(name).matchAll(/(?<!\/)\bwords\.(\w+)/g)) assert.ok(text in own, `${role}, ${name}: ${text}`);
+    }
   }
 });
 
