@@ -1,5 +1,0 @@
-//! Tests the commands.
-#![tactic(auto)]
-
-#[cfg(test)]
-mod tests;
