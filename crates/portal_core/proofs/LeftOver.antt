@@ -1,27 +1,25 @@
--- What has room after the first round, and that nobody whom it left had listed it.
+-- What has room after the first round.
 use Rattle.portal_rules.proofs.Base.{◌≡◌, ℕ, ◌-◌, ◌<◌, ◌≤◌, Bool, true, false, List, [], map, length, get_or, refl, sym}
 use Rattle.portal_rules.proofs.Base.{◌∙◌, ap, subst, arith, Option, Some, None, option_map, is_none, nat_lt, count_by}
 use Rattle.portal_rules.proofs.Base.{◌&&◌, AllByRecursion, list_any, eqb-true, nat_tests, get_or-map, length-map}
-use Rattle.portal_rules.proofs.Base.{list_any_at, IsStable, IsAcceptable, is_project, is_lecturer, at_project}
-use Rattle.portal_rules.proofs.Base.{at_lecturer, lecturer_of, project_of, number_in, number_is, count_by-map, Key}
-use Rattle.portal_rules.proofs.Base.{equals, has, World, lecturer_key, project_key, is_at, is_left, is_published}
-use Rattle.portal_rules.proofs.Base.{is_second, given_to, given_with, lowered_lecturer, lowered_project, lecturers_left}
+use Rattle.portal_rules.proofs.Base.{list_any_at, IsStable, is_project, is_lecturer, at_project}
+use Rattle.portal_rules.proofs.Base.{at_lecturer, lecturer_of, number_in, number_is, count_by-map, Key}
+use Rattle.portal_rules.proofs.Base.{equals, has, World, lecturer_key, project_key, is_at, is_published}
+use Rattle.portal_rules.proofs.Base.{given_to, given_with, lowered_lecturer, lowered_project, lecturers_left}
 use Rattle.portal_rules.proofs.Base.{in_play, first, first_placed, first_published}
 use Rattle.portal_rules.proofs.Base.{instance, instance_of, matching_of, places_of, lecturer_keys, project_keys}
-use Rattle.portal_rules.proofs.Base.{in_catalogue, catalogue, Good, IsRound, Sound, IsChoice, placed_to, placed_with}
+use Rattle.portal_rules.proofs.Base.{in_catalogue, catalogue, IsRound, Sound, placed_to, placed_with}
 use Rattle.portal_rules.proofs.Base.{count_at, count_with, ne_eqb, capacity_of, limit_of, All-from_get_or}
 use Rattle.portal_rules.proofs.Base.{Any-from_list_any, and_from, and_parts, filter, get_or_default, recursion_from_All}
-use Rattle.spa_honest.proofs.Waits.{left_finds_none as left_by_number}
 use Rattle.spa_honest.specs.Honest.{HasRoom}
 use Rattle.portal_rules.specs.World.{Lecturer, Student}
 use Rattle.portal_rules.proofs.Keys.{is_same, is_own}
-use Rattle.portal_rules.proofs.AllLaws.{all_at, all_weaker, any_map, any_alike, filtered_any, is_sym}
+use Rattle.portal_rules.proofs.AllLaws.{all_weaker, any_map, any_alike, filtered_any, is_sym}
 use Rattle.portal_rules.proofs.Published.{number_back}
 use Rattle.portal_rules.proofs.Capacities.{count_mono, count_none, known_in, first_plays, second_plays}
-use Rattle.portal_rules.proofs.Opened.{the_second}
 use Rattle.portal_rules.proofs.InRound.{catalogue_whole}
-use Rattle.portal_core.proofs.HonestLists.{no_student, no_project, no_lecturer, has_number, on_number, lecturer_at}
-use Rattle.portal_core.proofs.HonestLists.{lecturer_known, choice, choices, given}
+use Rattle.portal_core.proofs.HonestLists.{no_project, no_lecturer, lecturer_at}
+use Rattle.portal_core.proofs.HonestLists.{lecturer_known}
 use Rattle.portal_rules.specs.declared.phase.Round.TheVariants.{First, Second}
 use Rattle.portal_rules.specs.declared.rows.Listing.{Listing}
 use Rattle.portal_rules.specs.declared.rows.ProjectRow.{ProjectRow}
@@ -220,46 +218,7 @@ module _ (w : World) (sound : Sound w) (two : w.round ≡ Second) (before : IsRo
   stays_open p there = room_by_rows p (has_rows w p two there)
 
   -- what is in the catalogue takes part
-  listed : (p : Key) → in_catalogue (catalogue w) p ≡ true → has (project_keys (in_play w)) p ≡ true
+  pub listed : (p : Key) → in_catalogue (catalogue w) p ≡ true → has (project_keys (in_play w)) p ≡ true
   listed p there =
       subst (λ ks. has ks p ≡ true) (catalogue_whole w sound)
       (any_map (equals p) (λ (l : Listing). l.key) (catalogue w) ∙ any_alike (λ (l : Listing). equals p l.key) (λ (l : Listing). equals l.key p) (λ l. is_sym p l.key) (catalogue w) ∙ there)
-
-  -- the student of this number, whom the first round left
-  none_listed : (n : ℕ) → n < length w.students → is_left (get_or w.students n no_student) ≡ true → (p : Key)
-      → has (get_or w.students n no_student).earlier_choice p ≡ true → has (project_keys w) p ≡ true
-      → has (project_keys (in_play w)) p ≡ true → ⊥
-  none_listed n n_in left p on known there =
-      let n_first : n < length (first w).students = omega (arith, length-map w.students first_placed) in
-      let low : number_in (project_keys w) p < length (project_keys w) = has_number (project_keys w) p known in
-      let row : get_or (first w).students n no_student ≡ first_placed (get_or w.students n no_student) = get_or-map first_placed w.students n no_student no_student n_in in
-      let none : project_of (places_of (first w)) n ≡ None
-      = given (first w) before.sound refl refl n no_student n_first ∙ ap (λ (s : Student). option_map (number_in (project_keys w)) s.placed) row ∙ ap (option_map (number_in (project_keys w))) (is_none_of (get_or w.students n no_student).earlier_placement left) in
-      let list_is = choices (first w) before.sound refl refl n no_student n_first ∙ ap (λ (s : Student). map (number_in (project_keys w)) s.choice) row in
-      let accepts : IsAcceptable (instance_of (first w)) n (number_in (project_keys w) p) = rw list_is (on_number (project_keys w) (get_or w.students n no_student).earlier_choice p low on) in
-      left_by_number (instance_of (first w)) (places_of (first w)) n (number_in (project_keys w) p) (stable_rows (first w) before.sound refl refl (before.stable refl)) none accepts (stays_open p there)
-
--- WHO IS LEFT FINDS NONE
-pub left_finds_none : (w : World) → Good w → is_second w.round ≡ true
-    → AllByRecursion (λ s. is_left s ≡ true → AllByRecursion (λ p. in_catalogue (catalogue w) p ≡ false) s.earlier_choice) w.students
-left_finds_none w good e = all_from _ w.students no_student each
-  where
-    each : (n : ℕ) → n < length w.students → is_left (get_or w.students n no_student) ≡ true
-        → AllByRecursion (λ p. in_catalogue (catalogue w) p ≡ false) (get_or w.students n no_student).earlier_choice
-    each n n_in left =
-        all_from _ (get_or w.students n no_student).earlier_choice []
-        (λ k k_in. by_test (get_or (get_or w.students n no_student).earlier_choice k [])
-        (list_any_at (equals (get_or (get_or w.students n no_student).earlier_choice k [])) (get_or w.students n no_student).earlier_choice k [] k_in (is_own (get_or (get_or w.students n no_student).earlier_choice k [])))
-        (all_at (λ l. has (project_keys w) l ≡ true) (get_or w.students n no_student).earlier_choice k [] known k_in)
-        (in_catalogue (catalogue w) (get_or (get_or w.students n no_student).earlier_choice k [])) refl)
-      where
-        known : AllByRecursion (λ l. has (project_keys w) l ≡ true) (get_or w.students n no_student).earlier_choice
-        known = (subst (λ (s : Student). IsChoice (project_keys w) s.choice) (get_or-map first_placed w.students n no_student no_student n_in)
-            (choice (first w) (good.before e).sound refl refl n no_student (omega (arith, length-map w.students first_placed)))).known
-
-        by_test : (p : Key) → has (get_or w.students n no_student).earlier_choice p ≡ true
-            → has (project_keys w) p ≡ true → (b : Bool) → in_catalogue (catalogue w) p ≡ b → b ≡ false
-        by_test p on low false there = refl
-        by_test p on low true there =
-            let two : w.round ≡ Second = the_second w.round e in
-            absurd (none_listed w good.sound two (good.before e) n n_in left p on low (listed w good.sound two (good.before e) p there))

@@ -5,5 +5,5 @@ mod OverRuns
 mod BestShown
 pub mod Going
 pub mod OverGroups
-pub mod FewerLists
+pub mod ShorterLists
 pub mod Reasons

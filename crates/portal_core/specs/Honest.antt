@@ -1,10 +1,11 @@
 -- Two worlds that differ in some students' lists, and what these students are shown.
 use Rattle.portal_rules.specs.Base.{list_any, AllZip, AllByRecursion, IsBest, number_in}
-use Rattle.std.specs.Prelude.{◌≡◌, ◌⊎◌, ◌&&◌, ◌<◌, ◌≤◌, true, false, List, [], Option, Some, unwrap_or}
+use Rattle.std.specs.Prelude.{◌≡◌, ◌≢◌, ◌⊎◌, ◌&&◌, ◌<◌, ◌≤◌, true, false, List, [], Option, Some, unwrap_or}
+use Rattle.spa_honest.specs.Honest.{IsCut}
 use Rattle.portal_rules.specs.declared.view.View.TheVariants as sees
 use Rattle.portal_rules.specs.Words.{Key, equals, has}
 use Rattle.portal_rules.specs.declared.rows.ProjectRow.{ProjectRow}
-use Rattle.portal_rules.specs.World.{World, Lecturer, Student, is_at, first, is_left, is_second}
+use Rattle.portal_rules.specs.World.{World, Lecturer, Student, is_at, first, is_second}
 use Rattle.portal_rules.specs.World.{is_published, in_play}
 use Rattle.portal_rules.specs.Good.{instance, matching_of, student_keys, placed_to, placed_with, Good}
 use Rattle.portal_rules.specs.Sight.{StudentSees}
@@ -68,12 +69,15 @@ HonestIsBest =
     → view v code ≡ sees.Student b
     → DifferInOneList w v a.me.key → IsNoWorse a.choices a.result b.result
 
--- in the second round, the catalogue has nothing that an unplaced student listed in the first
+-- the project is on the student's list, before the one that this round's result gives, if any
+abbrev pub Prefers : Student → Key → Type 0
+Prefers s p = (has s.choice p ≡ true) × ((q : Key) → s.placed ≡ Some q → number_in s.choice p < number_in s.choice q)
+
+-- in the second round, the catalogue has nothing that a student preferred to the first's result
 abbrev pub LeftFindsNone : Type 0
 LeftFindsNone =
     (w : World) → Good w → is_second w.round ≡ true
-    → AllByRecursion (λ s. is_left s ≡ true
-    → AllByRecursion (λ p. in_catalogue (catalogue w) p ≡ false) s.earlier_choice) w.students
+    → AllByRecursion (λ s. (p : Key) → Prefers s p → in_catalogue (catalogue w) p ≡ false) (first w).students
 
 -- if u's first round differs from w in the caller's list, u shows nothing better by the list in w
 abbrev pub HonestOverBoth : Type 0
@@ -123,18 +127,13 @@ NoGroupGainsOverRuns =
     → has group key ≡ true → has (student_keys w) key ≡ true → Run v asked told after
     → AllByRecursion (λ u. is_second u.round ≡ true → OneGainsNothing w u group) after
 
--- if the group has no list in v, its best result shows nobody else worse than w, by the own list
-abbrev pub FewerNeverHarm : Type 0
-FewerNeverHarm =
-    (w v : World) (group : List Key) (code : Key) (a b : StudentSees) → Good w → HasBest v
-    → DifferInLists w v (λ k. has group k ≡ true)
-    → AllByRecursion (λ s. has group s.row.key ≡ true → s.choice ≡ []) v.students
-    → view v code ≡ sees.Student a → view w code ≡ sees.Student b → has group a.me.key ≡ false
-    → IsNoWorse a.choices a.result b.result
-
--- the project is on the student's list, before the one that this round's result gives, if any
-abbrev pub Prefers : Student → Key → Type 0
-Prefers s p = (has s.choice p ≡ true) × ((q : Key) → s.placed ≡ Some q → number_in s.choice p < number_in s.choice q)
+-- where a student keeps the own list in v, and others are cut, v's best result shows this student
+-- nothing worse than w, by the own list
+abbrev pub ShorterNeverHarm : Type 0
+ShorterNeverHarm =
+    (w v : World) (code : Key) (a b : StudentSees) → Good w → HasBest v → view v code ≡ sees.Student a
+    → view w code ≡ sees.Student b → DifferInLists w v (λ k. k ≢ a.me.key)
+    → AllZip (λ s t. IsCut s.choice t.choice) w.students v.students → IsNoWorse a.choices a.result b.result
 
 -- p is full, and its lecturer l ranks each student there above the student with the key
 pub record IsTaken (w : World) (l : Lecturer) (p : ProjectRow) (key : Key) : Type 0 where

@@ -8,7 +8,7 @@ ghost use Rattle.portal_rules.specs.Good.{Good};
 ghost use Rattle.portal_core.specs.Honest.{HasBest, HonestIsBest, HonestOverBoth, HonestOverRuns};
 ghost use Rattle.portal_core.specs.Honest.{LeftFindsNone, NoGroupGains, ShowsBest};
 ghost use Rattle.portal_core.specs.Honest.{NoGroupGainsOverBoth, NoGroupGainsOverRuns};
-ghost use Rattle.portal_core.specs.Honest.{FewerNeverHarm, WhyNot};
+ghost use Rattle.portal_core.specs.Honest.{ShorterNeverHarm, WhyNot};
 ghost use Rattle.portal_rules.specs.Sight.{AbstractCall};
 ghost use Rattle.portal_rules.specs.Answer.{Answer};
 ghost use Rattle.portal_rules.specs.Run.{Request, Step, Run, AllAnswered};
@@ -62,8 +62,9 @@ pub fn honest_over_both()
     ensures runs { HonestOverRuns }
 {}
 
-/// Law: take a student of a good second-round world who has no project of the first round. No
-/// project of the student's first list is in the catalogue: each is full, or its lecturer is.
+/// Law: in a good second-round world, no project that a student listed in the first is in the
+/// catalogue, but for the own one and those listed below it: each other is full, or its lecturer
+/// is.
 pub fn left_finds_none()
     ensures { LeftFindsNone }
 {}
@@ -84,11 +85,12 @@ pub fn no_group_gains_over_both()
     ensures runs { NoGroupGainsOverRuns }
 {}
 
-/// Law: students who submit no list harm nobody else. By the own list, each other student is shown
-/// nothing better in a good world with their lists. The world without them is good, and published
-/// with its best result. Both worlds differ as in `no_group_gains`.
-pub fn fewer_never_harm()
-    ensures { FewerNeverHarm }
+/// Law: students whose lists lose some last entries, or all, harm nobody else. By the own list, who
+/// keeps it is shown nothing better in a good world with the whole lists. The world with the
+/// shorter ones is good, and published with its best result. Both worlds differ as in
+/// `no_group_gains`.
+pub fn shorter_never_harm()
+    ensures { ShorterNeverHarm }
 {}
 
 /// Law: in a published first round, there is a reason for each project that a student listed before

@@ -1,4 +1,5 @@
--- In any two stable matchings the same students have a project, and each lecturer has as many.
+-- In any two stable matchings the same students have a project, and each lecturer has as many; so
+-- has each project of a lecturer with room.
 use Rattle.spa_honest.proofs.Base.{◌≡◌, ◌⊎◌, inl, inr, ℕ, zero, suc, ◌+◌, ◌<◌, ◌≤◌, Bool, true, false, eqb, List, []}
 use Rattle.spa_honest.proofs.Base.{◌∷◌, length, Option, Some, None, refl, sym, ◌∙◌, ap, subst, arith, count_by}
 use Rattle.spa_honest.proofs.Base.{eqb-true, eq-eqb, ne_eqb, cases_Bool, true_from_ne_false, cases_lt, A, Spa}
@@ -6,7 +7,8 @@ use Rattle.spa_honest.proofs.Base.{is_lecturer, at_project, at_lecturer, project
 use Rattle.spa_honest.proofs.Base.{IsAsGood, Wants, IsStable, IsBest, one_if, count_by-cons, sum_below, sum_below-lt}
 use Rattle.spa_honest.proofs.Base.{IsRanked, student_in_range, count_by-le, sum_below-le, sum_below-add, sum_below-same}
 use Rattle.spa_honest.proofs.Base.{sum_below-zero, sum_below-one, share, at_lecturer-sum, count_by-lt, no_more}
-use Rattle.spa_honest.proofs.Base.{AssignTheSame}
+use Rattle.spa_honest.proofs.Base.{AssignTheSame, HasRoom, cond, limit_of, is_project, is_project-at, project_from_test, ◌↔◌}
+use Rattle.spa_model.proofs.Counts.{off_project}
 use Rattle.spa_honest.proofs.Exists.{has_project, greatest, best_of}
 
 -- who has a project
@@ -90,20 +92,33 @@ module _ (i : Spa) (law : IsRanked i) (m n : List (Option ℕ)) (best : IsBest i
   same_length : length m ≡ length n
   same_length = best.stable.matching.students ∙ sym stable.matching.students
 
+  -- where a project and its lecturer have room, who has it in the best matching has it
+  stays : (s u : ℕ) → project_of m s ≡ Some u → HasRoom i n u → project_of n s ≡ Some u
+  stays s u has room = elim (has_project u (project_of n s)) [
+    | inl there ↦ there
+    | inr apart ↦
+        let good : IsAsGood i s (Some u) (project_of n s) = subst (λ o. IsAsGood i s o (project_of n s)) has (best.best n stable s) in
+        absurd (stable.unblocked s u A (wants_best i n s u (best.stable.matching.acceptable s u has) apart (project_of n s) refl good, room.0, room.1))
+  ]
+
+  -- of a lecturer with room, no project has more in the best matching
+  no_more_there : (u : ℕ) → at_lecturer i n (lecturer_of i u) < limit_of i (lecturer_of i u)
+      → at_project m u ≤ at_project n u
+  no_more_there u room = elim (cases_lt (at_project n u) (at_project m u)) [
+    | inr least ↦ least
+    | inl more ↦
+        let one = one_there i m n u same_length more in
+        absurd (one.2 (stays one.0 u one.1 (omega (arith, more, best.stable.matching.projects u), room)))
+  ]
+
   -- no lecturer has more in the best matching
   no_more_with : (l : ℕ) → at_lecturer i m l ≤ at_lecturer i n l
   no_more_with l = elim (cases_lt (at_lecturer i n l) (at_lecturer i m l)) [
     | inr least ↦ least
-    | inl more ↦ absurd (blocked more)
+    | inl more ↦
+        let here = more_at i l m n (λ s q e. law.known s q (best.stable.matching.acceptable s q e)) (λ s q e. law.known s q (stable.matching.acceptable s q e)) more in
+        absurd (omega (arith, here.2, no_more_there here.0 (rw here.1 (omega (arith, more, best.stable.matching.lecturers l)))))
   ]
-    where
-      blocked : at_lecturer i n l < at_lecturer i m l → ⊥
-      blocked more =
-          let here = more_at i l m n (λ s q e. law.known s q (best.stable.matching.acceptable s q e)) (λ s q e. law.known s q (stable.matching.acceptable s q e)) more in
-          let u : ℕ = here.0 in
-          let one = one_there i m n u same_length here.2 in
-          let wants : Wants i n one.0 u = wants_best i n one.0 u (best.stable.matching.acceptable one.0 u one.1) one.2 (project_of n one.0) refl (subst (λ o. IsAsGood i one.0 o (project_of n one.0)) one.1 (best.best n stable one.0)) in
-          stable.unblocked one.0 u A (wants, omega (arith, here.2, best.stable.matching.projects u), rw here.1 (omega (arith, more, best.stable.matching.lecturers l)))
 
   -- whoever has a project has one in the best matching
   has_best : (s : ℕ) → has_one (project_of n s) ≡ true → has_one (project_of m s) ≡ true
@@ -146,15 +161,67 @@ module _ (i : Spa) (law : IsRanked i) (m n : List (Option ℕ)) (best : IsBest i
       in_range None e h = absurd (cc)
       in_range (Some q) e h = student_in_range i m s q e
 
+  -- nor fewer
+  pub as_many_there : (u : ℕ) → at_lecturer i n (lecturer_of i u) < limit_of i (lecturer_of i u)
+      → at_project m u ≡ at_project n u
+  as_many_there u room = elim (cases_lt (at_project m u) (at_project n u)) [
+    | inr most ↦ omega (arith, most, no_more_there u room)
+    | inl less ↦
+        let l : ℕ = lecturer_of i u in
+        let count : ℕ = length i.lecturers in
+        let one = one_there i n m u (sym same_length) less in
+        let fewer = sum_below-lt (share i m l) (share i n l) count u (λ p. by_own p (eqb (lecturer_of i p) l) (eqb-true (lecturer_of i p) l)) (law.known one.0 u (stable.matching.acceptable one.0 u one.1)) (rw (eq-eqb l l refl) (omega (arith, less))) in
+        absurd (omega (
+          arith,
+          fewer,
+          as_many l,
+          at_lecturer-sum i l count m (λ s q e. law.known s q (best.stable.matching.acceptable s q e)),
+          at_lecturer-sum i l count n (λ s q e. law.known s q (stable.matching.acceptable s q e)),
+        ))
+  ]
+    where
+      by_own : (p : ℕ) (b : Bool) → (b ≡ true → lecturer_of i p ≡ lecturer_of i u)
+          → cond b (at_project m p) 0 ≤ cond b (at_project n p) 0
+      by_own p true own = no_more_there p (rw (own refl) room)
+      by_own p false own = omega arith
+
+  -- and where a project has room too, nobody else has it
+  pub comes : (s u : ℕ) → HasRoom i n u → project_of n s ≡ Some u → project_of m s ≡ Some u
+  comes s u room has = elim (has_project u (project_of m s)) [
+    | inl there ↦ there
+    | inr apart ↦ absurd (omega (
+      arith,
+      as_many_there u room.1,
+      count_by-lt (is_project u) m n s same_length (λ t on. is_project-at u (project_of n t) (stays t u (project_from_test u (project_of m t) on) room)) (student_in_range i n s u has) (off_project u (project_of m s) apart) (is_project-at u (project_of n s) has),
+    ))
+  ]
+
+  pub both_ways : (s u : ℕ) → HasRoom i n u → project_of m s ≡ Some u ↔ project_of n s ≡ Some u
+  both_ways s u room = (λ has. stays s u has room, comes s u room)
+
+  pub room_too : (u : ℕ) → HasRoom i n u → HasRoom i m u
+  room_too u room = (omega (arith, room.0, as_many_there u room.1), omega (arith, room.1, as_many (lecturer_of i u)))
+
+  pub room_back : (u : ℕ) → HasRoom i m u → HasRoom i n u
+  room_back u room =
+      let with_l : at_lecturer i n (lecturer_of i u) < limit_of i (lecturer_of i u) = omega (arith, room.1, as_many (lecturer_of i u)) in
+      (omega (arith, room.0, as_many_there u with_l), with_l)
+
 -- ANY TWO STABLE MATCHINGS ASSIGN THE SAME
 pub same_assigned : (i : Spa) → IsRanked i → (m n : List (Option ℕ)) → IsStable i m → IsStable i n → AssignTheSame i m n
 same_assigned i law m n stable_m stable_n =
     let one = best_of i law in
     let to : (a b : List (Option ℕ)) → IsStable i a → IsStable i b → (s : ℕ) → has_one (project_of b s) ≡ true → has_one (project_of a s) ≡ true =
     λ a b sa sb s on. has_any i law one.0 a one.1 sa s (has_best i law one.0 b one.1 sb s on) in
+    let counts : (l : ℕ) → at_lecturer i m l ≡ at_lecturer i n l = λ l. sym (as_many i law one.0 m one.1 stable_m l) ∙ as_many i law one.0 n one.1 stable_n l in
     record {
       students = λ s. (none (project_of m s) (project_of n s) (to m n stable_m stable_n s), none (project_of n s) (project_of m s) (to n m stable_n stable_m s));
-      lecturers = λ l. sym (as_many i law one.0 m one.1 stable_m l) ∙ as_many i law one.0 n one.1 stable_n l;
+      lecturers = counts;
+      projects = λ p room. sym (as_many_there i law one.0 m one.1 stable_m p room) ∙ as_many_there i law one.0 n one.1 stable_n p (omega (arith, room, counts (lecturer_of i p)));
+      room = λ s p room.
+          let here = both_ways i law one.0 m one.1 stable_m s p room in
+          let there = both_ways i law one.0 n one.1 stable_n s p (room_back i law one.0 n one.1 stable_n p (room_too i law one.0 m one.1 stable_m p room)) in
+          (λ has. there.0 (here.1 has), λ has. here.0 (there.1 has));
     }
   where
     none : (a b : Option ℕ) → (has_one b ≡ true → has_one a ≡ true) → a ≡ None → b ≡ None

@@ -1,10 +1,12 @@
 -- Names from below that the proofs use.
 pub use Rattle.std.proofs.Common.{Bool, List, None, Option, Some, [], ap, arith, cond, eqb, false, get_or, inl, inr}
 pub use Rattle.std.proofs.Common.{length, length-set, refl, replicate, rules, set, subst, suc, sym, true, zero, ℕ, ◌+◌}
-pub use Rattle.std.proofs.Common.{◌<◌, ◌∙◌, ◌∷◌, ◌≡◌, ◌≢◌, ◌≤◌, ◌⊎◌, ◌-◌, ltb, ◌&&◌, ◌||◌, not, Ordering}
+pub use Rattle.std.proofs.Common.{◌<◌, ◌∙◌, ◌∷◌, ◌≡◌, ◌≢◌, ◌≤◌, ◌⊎◌, ◌↔◌, ◌-◌, ltb, ◌&&◌, ◌||◌, not, Ordering}
+pub use Rattle.std.proofs.Common.{map, take}
 pub use Rattle.std.proofs.lemmas.Bool.{cases_Bool, cases_eq, cases_lt, cases_order, eq-eqb, eqb-true, ne_eqb, ltb-true}
 pub use Rattle.std.proofs.lemmas.Bool.{ltb-false, and_parts, or_cases, lt-ltb, true_from_ne_false, false_from_ne_true}
-pub use Rattle.std.proofs.lemmas.List.{get_or-set_other, get_or-set_same, get_or_past}
+pub use Rattle.std.proofs.lemmas.List.{get_or-map, get_or-set_other, get_or-set_same, get_or-take, get_or_past}
+pub use Rattle.std.proofs.lemmas.List.{length-map, length-take}
 pub use Rattle.std.specs.Cmp.Lexicographic.{slice_cmp}
 pub use Rattle.std.specs.List.{count_by, list_all, list_any}
 pub use Rattle.std.specs.Ordering.{nat_cmp, is_lt}
@@ -12,13 +14,14 @@ pub use Rattle.std.specs.Prelude.{AllPairs}
 pub use Rattle.std.specs.declared.cmp.Ordering.TheVariants.{Less}
 pub use Rattle.spa_honest.specs.Honest.{GivesRoom, places_among, places_with, IsBusy, IsTaken, MorePlacesNeverHarm}
 pub use Rattle.spa_honest.specs.Honest.{with_room, DifferInLists, DifferInOneList, HasRoom, NobodyGains, AssignTheSame}
-pub use Rattle.spa_honest.specs.Honest.{IsNoWorse}
+pub use Rattle.spa_honest.specs.Honest.{IsNoWorse, first_with, IsAsGoodFor, with_rankings, NoRankingPays, IsCut}
 pub use Rattle.spa_honest.specs.inner.ByNumber.{AddsTo}
 pub use Rattle.spa_honest.specs.examples.Example.{ann, bells, cem, example, honest_list, kites, safe_list, short_list}
 pub use Rattle.spa_honest.specs.examples.Example.{tides}
 pub use Rattle.spa_model.proofs.Counts.{count_by-cons, count_by-lt, one_if, sum_below, sum_below-lt, count_by-le}
 pub use Rattle.spa_model.proofs.Counts.{sum_below-le, sum_below-add, sum_below-same, sum_below-zero, sum_below-one}
-pub use Rattle.spa_model.proofs.Counts.{share, at_lecturer-sum}
+pub use Rattle.spa_model.proofs.Counts.{share, at_lecturer-sum, count_by-set}
+pub use Rattle.spa_model.proofs.PairFaults.{count_by-map}
 pub use Rattle.spa_model.proofs.OneOnly.{blocks_wants}
 pub use Rattle.spa_model.proofs.Places.{place-injective, get_or-place, place-get_or-le, place-get_or}
 pub use Rattle.spa_model.specs.Spa.{Blocks, Improves, IsAcceptable, IsAsGood, IsBefore, IsBest, IsDistinct, IsLawful}

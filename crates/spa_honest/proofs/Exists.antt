@@ -5,7 +5,7 @@ use Rattle.spa_honest.proofs.Base.{get_or-set_same, get_or-set_other, eq-eqb, ne
 use Rattle.spa_honest.proofs.Base.{at_project, at_lecturer, project_of, choices_of, lecturer_of, capacity_of, limit_of}
 use Rattle.spa_honest.proofs.Base.{IsBefore, IsAcceptable, IsBest, place-injective, sum_below, sum_below-lt, IsRanked}
 use Rattle.spa_honest.proofs.Base.{rank_of, IsSpent, IsProvisional, student_in_range, put_same, put_cases, put_on}
-use Rattle.spa_honest.proofs.Base.{place_holds}
+use Rattle.spa_honest.proofs.Base.{place_holds, get_or_past, []}
 use Rattle.spa_honest.proofs.Base.{delete_holds, best_at_end, nobody_matches, acceptable_in_range, rules, ◌-◌, IsWith}
 use Rattle.spa_honest.proofs.Base.{place-get_or, swap_at_project_holds, swap_at_lecturer_holds}
 use Rattle.spa_student.proofs.Start.{none_there}
@@ -200,66 +200,75 @@ turn_of i law m c state s in_range free left =
     let here : place (choices_of i s) p ≡ c s = place-get_or (choices_of i s) (c s) 0 (law.choices_distinct s) left in
     turn i law m c state s p (record { in_range = omega (arith, in_range, state.holds.matching.students); free = free; left = left }) (omega (arith, left)) here
 
--- free, with some of the list left, and not one who keeps still
-abbrev pub HasTurn : Spa → List (Option ℕ) → (ℕ → ℕ) → (ℕ → Type 0) → ℕ → Type 0
-HasTurn i m c Still s = (Still s → ⊥) × (project_of m s ≡ None) × (c s < length (choices_of i s))
+-- a place on each list, or its end, at which its student stops
+abbrev pub AreStops : Spa → (ℕ → ℕ) → Type 0
+AreStops i stop = (s : ℕ) → stop s ≤ length (choices_of i s)
 
--- a student who has a turn, or none has
-pub next_or_done : (i : Spa) (m : List (Option ℕ)) (c : ℕ → ℕ) (Still : ℕ → Type 0)
-    → ((x : ℕ) → Still x ⊎ (Still x → ⊥))
-    → ((s : ℕ) × (s < length i.choices) × HasTurn i m c Still s) ⊎ ((x p : ℕ) → (Still x → ⊥) → project_of m x ≡ None → IsAcceptable i x p → Passed i c x p)
-next_or_done i m c Still still =
-    elim (greatest (HasTurn i m c Still) test (λ x. 0) (length i.choices)) [
+-- a free student who has not come to the stop
+abbrev pub HasTurn : List (Option ℕ) → (ℕ → ℕ) → (ℕ → ℕ) → ℕ → Type 0
+HasTurn m c stop s = (project_of m s ≡ None) × (c s < stop s)
+
+-- who has a list is a student
+lister_in_range : (i : Spa) (s : ℕ) → 0 < length (choices_of i s) → s < length i.choices
+lister_in_range i s some = elim (cases_lt s (length i.choices)) [
+  | inl low ↦ low
+  | inr past ↦ let none : choices_of i s ≡ [] = get_or_past i.choices s [] past in absurd (omega (arith, rw none at some))
+]
+
+-- a student who has a turn, or all who are free have come to their stops
+pub next_or_done : (i : Spa) (m : List (Option ℕ)) (c stop : ℕ → ℕ) → AreStops i stop
+    → ((s : ℕ) × (s < length i.choices) × HasTurn m c stop s) ⊎ ((x : ℕ) → project_of m x ≡ None → stop x ≤ c x)
+next_or_done i m c stop stops =
+    elim (greatest (HasTurn m c stop) test (λ x. 0) (length i.choices)) [
       | inl next ↦ inl (next.0, next.1, next.2)
-      | inr none ↦ inr (λ x p moves free on. (on, past x p moves free on none))
+      | inr none ↦ inr (λ x free. elim (cases_lt (c x) (stop x)) [ inr come ↦ come | inl left ↦ absurd (none x (lister_in_range i x (omega (arith, left, stops x))) (free, left)) ])
     ]
   where
-    test : (x : ℕ) → HasTurn i m c Still x ⊎ (HasTurn i m c Still x → ⊥)
-    test x = elim (still x) [
-      | inl keeps ↦ inr (λ e. e.0 keeps)
-      | inr moves ↦ elim (has_none (project_of m x)) [
-        | inr busy ↦ inr (λ e. busy e.1)
-        | inl free ↦ elim (cases_lt (c x) (length (choices_of i x))) [ inl left ↦ inl (moves, free, left) | inr over ↦ inr (λ e. omega (arith, e.2)) ]
-      ]
+    test : (x : ℕ) → HasTurn m c stop x ⊎ (HasTurn m c stop x → ⊥)
+    test x = elim (has_none (project_of m x)) [
+      | inr busy ↦ inr (λ h. busy h.0)
+      | inl free ↦ elim (cases_lt (c x) (stop x)) [ inl left ↦ inl (free, left) | inr come ↦ inr (λ h. omega (arith, h.1)) ]
     ]
 
-    past : (x p : ℕ) → (Still x → ⊥) → project_of m x ≡ None → IsAcceptable i x p
-        → ((z : ℕ) → z < length i.choices → HasTurn i m c Still z → ⊥) → place (choices_of i x) p < c x
-    past x p moves free on none = grind (arith, moves, free, acceptable_in_range)
-
--- nobody keeps still
-abbrev pub Never : ℕ → Type 0
-Never x = ⊥
-
-pub never : (x : ℕ) → Never x ⊎ (Never x → ⊥)
-never x = inr (λ e. e)
-
--- SOME KEEP STILL, and the others go on until none of them has a turn
-pub record Rested (i : Spa) (Still : ℕ → Type 0) (c : ℕ → ℕ) : Type 0 where
+-- ALL GO ON until each has a project before the stop, or has come to it
+pub record Rested (i : Spa) (stop c : ℕ → ℕ) : Type 0 where
   pub after : List (Option ℕ)
   pub cursors : ℕ → ℕ
   pub state : UnderWay i after cursors
   pub onward : (x : ℕ) → c x ≤ cursors x
-  pub still : (x : ℕ) → Still x → project_of after x ≡ None
-  pub done : (x p : ℕ) → (Still x → ⊥) → project_of after x ≡ None → IsAcceptable i x p → Passed i cursors x p
+  pub within : (x q : ℕ) → project_of after x ≡ Some q → cursors x < stop x
+  pub done : (x : ℕ) → project_of after x ≡ None → stop x ≤ cursors x
 
-pub rest : (i : Spa) → IsRanked i → (Still : ℕ → Type 0) → ((x : ℕ) → Still x ⊎ (Still x → ⊥))
-    → (fuel : ℕ) (m : List (Option ℕ)) (c : ℕ → ℕ) → UnderWay i m c → ((x : ℕ) → Still x → project_of m x ≡ None)
-    → sum_below (turns i m c) (length i.choices) < fuel → Rested i Still c
-rest i law Still test zero m c state free enough = absurd (omega arith)
-rest i law Still test (suc fuel) m c state free enough = elim (next_or_done i m c Still test) [
+-- a turn takes nobody who has a project to the stop
+still_within : (i : Spa) (m : List (Option ℕ)) (c stop : ℕ → ℕ) (s : ℕ) (one : Turned i m c s) → c s < stop s
+    → ((x q : ℕ) → project_of m x ≡ Some q → c x < stop x) → (x q : ℕ) → project_of one.after x ≡ Some q
+    → one.cursors x < stop x
+still_within i m c stop s one left within x q e = elim (one.moves x) [
+  | inr free ↦ absurd (let wrong : ◌≡◌ {A = Option ℕ} None (Some q) = sym free ∙ e in cc)
+  | inl same ↦ rw same (by_own (project_of m x) refl)
+]
+  where
+    by_own : (o : Option ℕ) → project_of m x ≡ o → c x < stop x
+    by_own (Some p) had = within x p had
+    by_own None free = elim (cases_eq x s) [ inl here ↦ rw here left | inr other ↦ absurd (let none = one.still x other free in cc) ]
+
+pub rest : (i : Spa) → IsRanked i → (stop : ℕ → ℕ) → AreStops i stop → (fuel : ℕ) (m : List (Option ℕ)) (c : ℕ → ℕ)
+    → UnderWay i m c → ((x q : ℕ) → project_of m x ≡ Some q → c x < stop x)
+    → sum_below (turns i m c) (length i.choices) < fuel → Rested i stop c
+rest i law stop stops zero m c state within enough = absurd (omega arith)
+rest i law stop stops (suc fuel) m c state within enough = elim (next_or_done i m c stop stops) [
   | inl next ↦
-      let one : Turned i m c next.0 = turn_of i law m c state next.0 next.1 next.2.1 next.2.2 in
-      let all = rest i law Still test fuel one.after one.cursors one.state (λ x keeps. one.still x (λ e. next.2.0 (subst Still e keeps)) (free x keeps)) (omega (arith, one.fewer)) in
+      let one : Turned i m c next.0 = turn_of i law m c state next.0 next.1 next.2.0 (omega (arith, next.2.1, stops next.0)) in
+      let all = rest i law stop stops fuel one.after one.cursors one.state (still_within i m c stop next.0 one next.2.1 within) (omega (arith, one.fewer)) in
       record {
         after = all.after;
         cursors = all.cursors;
         state = all.state;
         onward = λ x. omega (arith, one.onward x, all.onward x);
-        still = all.still;
+        within = all.within;
         done = all.done;
       }
-  | inr done ↦ record { after = m; cursors = c; state = state; onward = λ x. omega arith; still = free; done = done }
+  | inr done ↦ record { after = m; cursors = c; state = state; onward = λ x. omega arith; within = within; done = done }
 ]
 
 -- where nobody has a project and no cursor has moved
@@ -276,8 +285,11 @@ start i = record {
   free : (s p : ℕ) → project_of (replicate (length i.choices) None) s ≡ Some p → ⊥
   free s p e = let none = none_there (length i.choices) s in cc
 
+pub from_start : (i : Spa) → IsRanked i → (stop : ℕ → ℕ) → AreStops i stop → Rested i stop (λ s. 0)
+from_start i law stop stops = rest i law stop stops (suc (sum_below (turns i (replicate (length i.choices) None) (λ s. 0)) (length i.choices))) (replicate (length i.choices) None) (λ s. 0) (start i) (λ x q e. absurd (let none = none_there (length i.choices) x in cc)) (omega arith)
+
 -- EACH RANKED INSTANCE HAS A BEST MATCHING
 pub best_of : (i : Spa) → IsRanked i → (m : List (Option ℕ)) × IsBest i m
 best_of i law =
-    let all = rest i law Never never (suc (sum_below (turns i (replicate (length i.choices) None) (λ s. 0)) (length i.choices))) (replicate (length i.choices) None) (λ s. 0) (start i) (λ s keeps. absurd keeps) (omega arith) in
-    (all.after, best_at_end i all.after (Passed i all.cursors) all.state.holds (λ s p. all.done s p (λ e. e)))
+    let all = from_start i law (λ s. length (choices_of i s)) (λ s. omega arith) in
+    (all.after, best_at_end i all.after (Passed i all.cursors) all.state.holds (λ s p free on. (on, omega (arith, on, all.done s free))))

@@ -20,7 +20,7 @@ blocked_outside i law best is_best x there s meets unblocked =
     outside i law i.capacities i.limits (not_grown i) (gains i best x) x y.0 y.1 there unblocked
 
 -- one of the numbers below n has the first property, or all have the second
-one_or_all : (P Q : ℕ → Type 0) → ((k : ℕ) → P k ⊎ Q k) → (n : ℕ) → ((k : ℕ) × (k < n) × P k) ⊎ ((k : ℕ) → k < n → Q k)
+pub one_or_all : (P Q : ℕ → Type 0) → ((k : ℕ) → P k ⊎ Q k) → (n : ℕ) → ((k : ℕ) × (k < n) × P k) ⊎ ((k : ℕ) → k < n → Q k)
 one_or_all P Q either zero = inr (λ k h. absurd (omega arith))
 one_or_all P Q either (suc n) = elim (either n) [
   | inl here ↦ inl (n, omega arith, here)

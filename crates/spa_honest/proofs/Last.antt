@@ -4,8 +4,9 @@ use Rattle.spa_honest.proofs.Base.{replicate, Option, Some, None, refl, sym, ◌
 use Rattle.spa_honest.proofs.Base.{cases_lt, cases_eq, Spa, place, project_of, choices_of, IsAcceptable, IsMatching}
 use Rattle.spa_honest.proofs.Base.{IsAsGood, IsBest, place-injective, sum_below, IsRanked, best_at_end}
 use Rattle.spa_honest.proofs.Base.{student_in_range, rules, ltb, ltb-true, ltb-false, as_good_as_stable}
-use Rattle.spa_honest.proofs.Exists.{greatest, Passed, UnderWay, turns, Turned, turn_of, next_or_done, Never, never}
-use Rattle.spa_honest.proofs.Exists.{start, Rested, rest}
+use Rattle.spa_honest.proofs.Exists.{greatest, Passed, UnderWay, turns, Turned, turn_of, next_or_done}
+use Rattle.spa_honest.proofs.Base.{cond, eqb, eq-eqb, ne_eqb}
+use Rattle.spa_honest.proofs.Exists.{start, AreStops, Rested, rest}
 use Rattle.spa_honest.proofs.Outside.{TurnsAway}
 
 -- whether what s has is better than the other
@@ -93,10 +94,10 @@ module _ (i : Spa) (law : IsRanked i) (best : List (Option ℕ)) (is_best : IsBe
   until : (fuel : ℕ) (m : List (Option ℕ)) (c : ℕ → ℕ) → UnderWay i m c → (s : ℕ) → Waits i best x c s
       → sum_below (turns i m c) (length i.choices) < fuel → Stopped i best x
   until zero m c state s wait enough = absurd (omega arith)
-  until (suc fuel) m c state s wait enough = elim (next_or_done i m c Never never) [
-    | inr done ↦ absurd (none_waits m c state (λ z p. done z p (λ e. e)) s wait)
+  until (suc fuel) m c state s wait enough = elim (next_or_done i m c (λ z. length (choices_of i z)) (λ z. omega arith)) [
+    | inr done ↦ absurd (none_waits m c state (λ z p free on. (on, omega (arith, on, done z free))) s wait)
     | inl next ↦
-        let one : Turned i m c next.0 = turn_of i law m c state next.0 next.1 next.2.1 next.2.2 in
+        let one : Turned i m c next.0 = turn_of i law m c state next.0 next.1 next.2.0 next.2.1 in
         elim (greatest (Waits i best x one.cursors) (waits one.cursors) (λ z. 0) (length i.choices)) [
           | inl still ↦ until fuel one.after one.cursors one.state still.0 still.2 (omega (arith, one.fewer))
           | inr over ↦ record {
@@ -118,7 +119,7 @@ module _ (i : Spa) (law : IsRanked i) (best : List (Option ℕ)) (is_best : IsBe
   turned_away s meets =
       let one : Stopped i best x = until (suc (sum_below (turns i (replicate (length i.choices) None) (λ z. 0)) (length i.choices))) (replicate (length i.choices) None) (λ z. 0) (start i) s (meets, omega arith) (omega arith) in
       let z : ℕ = one.last.0 in
-      let all : Rested i (λ t. t ≡ z) one.cursors = rest i law (λ t. t ≡ z) (λ t. cases_eq t z) (suc (sum_below (turns i one.after one.cursors) (length i.choices))) one.after one.cursors one.state (λ t same. rw same one.last.2) (omega arith) in (
+      let all : Rested i (stop z) one.cursors = rest i law (stop z) (stops z) (suc (sum_below (turns i one.after one.cursors) (length i.choices))) one.after one.cursors one.state (within one) (omega arith) in (
         all.after,
         record {
           there = there;
@@ -128,9 +129,35 @@ module _ (i : Spa) (law : IsRanked i) (best : List (Option ℕ)) (is_best : IsBe
               (has.0, has.1, all.state.holds.spent t has.0 (there.acceptable t has.0 has.1, omega (arith, ap (spot i t) has.1, one.passed t of, all.onward t)));
           no_worse = λ t out.
               let as_best : IsAsGood i t (project_of all.after t) (project_of best t) =
-              as_good_as_stable i all.after (Passed i all.cursors) all.state.holds best is_best.stable t (λ p free on. all.done t p (λ e. let wrong : true ≡ false = sym (subst (λ k. gains i best x k ≡ true) (sym e) one.last.1) ∙ out in cc) free on) in
+              as_good_as_stable i all.after (Passed i all.cursors) all.state.holds best is_best.stable t (λ p free on. (on, omega (arith, on, all.done t free, not_last z t (λ e. let wrong : true ≡ false = sym (subst (λ k. gains i best x k ≡ true) (sym e) one.last.1) ∙ out in cc)))) in
               as_good_trans i t (project_of all.after t) (project_of best t) (project_of x t) as_best
               (not_better i t (project_of x t) (project_of best t) (λ p e. there.acceptable t p e) (λ q e. is_best.stable.matching.acceptable t q e) out);
-          last = (z, one.last.1, all.still z refl);
+          last = (z, one.last.1, nothing all.after z (λ q e. omega (arith, all.within z q e, stop_last z)));
         },
       )
+    where
+      -- the last one stops at once, the others at the ends of their lists
+      stop : ℕ → ℕ → ℕ
+      stop z t = cond (eqb t z) 0 (length (choices_of i t))
+
+      stop_last : (z : ℕ) → stop z z ≡ 0
+      stop_last z = rw (eq-eqb z z refl) refl
+
+      not_last : (z t : ℕ) → (t ≡ z → ⊥) → stop z t ≡ length (choices_of i t)
+      not_last z t other = rw (ne_eqb t z other) refl
+
+      stops : (z : ℕ) → AreStops i (stop z)
+      stops z t = elim (cases_eq t z) [ inl same ↦ omega (arith, ap (stop z) same, stop_last z) | inr other ↦ omega (arith, not_last z t other) ]
+
+      within : (one : Stopped i best x) (t q : ℕ) → project_of one.after t ≡ Some q → one.cursors t < stop one.last.0 t
+      within one t q e = elim (cases_eq t one.last.0) [
+        | inl same ↦ absurd (let none : project_of one.after t ≡ None = ap (project_of one.after) same ∙ one.last.2 in cc)
+        | inr other ↦ omega (arith, not_last one.last.0 t other, one.state.at_cursor t q e, one.state.holds.matching.acceptable t q e)
+      ]
+
+      nothing : (m : List (Option ℕ)) (z : ℕ) → ((q : ℕ) → project_of m z ≡ Some q → ⊥) → project_of m z ≡ None
+      nothing m z off = by_own (project_of m z) refl
+        where
+          by_own : (o : Option ℕ) → project_of m z ≡ o → o ≡ None
+          by_own None e = refl
+          by_own (Some q) e = absurd (off q e)

@@ -8,8 +8,13 @@ pub mod Carry
 pub mod Gains
 pub mod Tested
 pub mod Worked
+pub mod Varied
 pub mod Waits
 pub mod Added
-pub mod Fewer
+pub mod Shorter
+pub mod Cuts
+pub mod Worst
+pub mod Blocked
+pub mod Dropout
 pub mod Explained
 pub mod Room

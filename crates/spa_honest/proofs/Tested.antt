@@ -12,7 +12,10 @@ use Rattle.std.proofs.lemmas.List.Kept.{AllPairs-cons}
 use Rattle.std.proofs.lemmas.List.Sums.{AllPass-from_list_all}
 use Rattle.std.specs.List.{range_with_len}
 use Rattle.spa_model.proofs.Lawful.{at_on}
+use Rattle.spa_honest.proofs.Base.{◌⊎◌, ◌∙◌, IsMatching, IsAsGood, IsTaken, IsBusy, is_project, is_lecturer, lt-ltb, ne_eqb, student_in_range, is_project-at}
+use Rattle.spa_model.proofs.Counts.{count_by-none, off_project}
 use Rattle.spa_honest.proofs.Exists.{best_of}
+use Rattle.spa_honest.proofs.Explained.{stable_so}
 
 -- ---- tests of numbers and of lists
 
@@ -242,4 +245,131 @@ best_by i law m all =
     elim (or_cases (same one.0 m) (unstable i one.0) (way i.choices (λ n. same n m || unstable i n) one.0 all stable.matching.students stable.matching.acceptable)) [
       | inl is ↦ subst (IsBest i) (is_same one.0 m is) one.1
       | inr not_so ↦ absurd (not_unstable i one.0 stable not_so)
+    ]
+
+-- ---- a stable matching, where others may be too
+
+abbrev is_listed : Spa → ℕ → Option ℕ → Bool
+is_listed i s None = true
+is_listed i s (Some p) = ltb (place (choices_of i s) p) (length (choices_of i s))
+
+abbrev ranks_before : Spa → ℕ → ℕ → (Option ℕ → Bool) → Option ℕ → ℕ → Bool
+ranks_before i l s test o t = not (test o) || goes_before (ranking_of i l) t s
+
+abbrev is_taken : Spa → List (Option ℕ) → ℕ → ℕ → Bool
+is_taken i m s p = eqb (at_project m p) (capacity_of i p) && each (λ t. ranks_before i (lecturer_of i p) s (is_project p) (project_of m t) t) (length m)
+
+abbrev is_busy : Spa → List (Option ℕ) → ℕ → ℕ → Bool
+is_busy i m s l = eqb (at_lecturer i m l) (limit_of i l) && each (λ t. ranks_before i l s (is_lecturer i l) (project_of m t) t) (length m)
+
+abbrev is_content : Spa → List (Option ℕ) → ℕ → ℕ → Bool
+is_content i m s p = not (improves i s p (project_of m s)) || (is_taken i m s p || is_busy i m s (lecturer_of i p))
+
+abbrev stable_tests : Spa → List (Option ℕ) → List Bool
+stable_tests i m =
+    eqb (length m) (length i.choices)
+    ∷ each (λ s. is_listed i s (project_of m s)) (length m)
+    ∷ each (λ p. ltb (at_project m p) (suc (capacity_of i p))) (length i.lecturers)
+    ∷ each (λ l. ltb (at_lecturer i m l) (suc (limit_of i l))) (length i.rankings)
+    ∷ each_entry (is_content i m) i.choices ∷ []
+
+module _ (i : Spa) (law : IsRanked i) (m : List (Option ℕ)) (all : list_all (λ b. b) (stable_tests i m) ≡ true) where
+  passed : (k : ℕ) → get_or (stable_tests i m) k true ≡ true
+  passed = each_of (λ b. b) true (stable_tests i m) refl all
+
+  listed : (s p : ℕ) → project_of m s ≡ Some p → IsAcceptable i s p
+  listed s p e = by_own (project_of m s) e (each_at (λ t. is_listed i t (project_of m t)) (length m) s (passed 1) (student_in_range i m s p e))
+    where
+      by_own : (o : Option ℕ) → o ≡ Some p → is_listed i s o ≡ true → IsAcceptable i s p
+      by_own None e h = absurd (cc)
+      by_own (Some q) e h = let same : q ≡ p = cc in subst (IsAcceptable i s) same (ltb-true (place (choices_of i s) q) (length (choices_of i s)) h)
+
+  -- nobody has an unknown project, or is with an unknown lecturer
+  none_at : (p : ℕ) → length i.lecturers ≤ p → at_project m p ≡ 0
+  none_at p past = count_by-none (is_project p) m (λ s. off_project p (project_of m s) (λ e. omega (arith, past, law.known s p (listed s p e))))
+
+  none_with : (l : ℕ) → length i.rankings ≤ l → at_lecturer i m l ≡ 0
+  none_with l past = count_by-none (is_lecturer i l) m (λ s. by_own s (project_of m s) refl)
+    where
+      by_own : (s : ℕ) (o : Option ℕ) → project_of m s ≡ o → is_lecturer i l o ≡ false
+      by_own s None e = refl
+      by_own s (Some q) e = ne_eqb (lecturer_of i q) l (λ same. omega (arith, past, same, law.offered q (law.known s q (listed s q e))))
+
+  matching : IsMatching i m
+  matching = record {
+    students = eqb-true (length m) (length i.choices) (passed 0);
+    acceptable = listed;
+    projects = λ p. elim (cases_lt p (length i.lecturers)) [
+      | inl low ↦ omega (arith, ltb-true (at_project m p) (suc (capacity_of i p)) (each_at (λ q. ltb (at_project m q) (suc (capacity_of i q))) (length i.lecturers) p (passed 2) low))
+      | inr past ↦ omega (arith, none_at p past)
+    ];
+    lecturers = λ l. elim (cases_lt l (length i.rankings)) [
+      | inl low ↦ omega (arith, ltb-true (at_lecturer i m l) (suc (limit_of i l)) (each_at (λ h. ltb (at_lecturer i m h) (suc (limit_of i h))) (length i.rankings) l (passed 3) low))
+      | inr past ↦ omega (arith, none_with l past)
+    ];
+  }
+
+  -- who passes the test is ranked before
+  ranked_before : (l s t : ℕ) (test : Option ℕ → Bool) → each (λ x. ranks_before i l s test (project_of m x) x) (length m) ≡ true
+      → t < length m → test (project_of m t) ≡ true → IsBefore (ranking_of i l) t s
+  ranked_before l s t test h low on = elim (or_cases (not (test (project_of m t))) (goes_before (ranking_of i l) t s) (each_at (λ x. ranks_before i l s test (project_of m x) x) (length m) t h low)) [
+    | inl not_so ↦ absurd (let wrong : not true ≡ true = rw on at not_so in cc)
+    | inr before ↦ is_before (ranking_of i l) t s before
+  ]
+
+  reason : (s p : ℕ) → Wants i m s p → IsTaken i m p s ⊎ IsBusy i m (lecturer_of i p) s
+  reason s p wants =
+      let l : ℕ = lecturer_of i p in
+      elim (or_cases (not (improves i s p (project_of m s))) (is_taken i m s p || is_busy i m s l) (entry_at (is_content i m) i.choices (passed 4) s p wants.0)) [
+        | inl content ↦ absurd (let wrong : not true ≡ true = rw (improving s p (project_of m s) wants.1) at content in cc)
+        | inr why ↦ elim (or_cases (is_taken i m s p) (is_busy i m s l) why) [
+          | inl taken ↦
+              let both = and_parts (eqb (at_project m p) (capacity_of i p)) (each (λ t. ranks_before i l s (is_project p) (project_of m t) t) (length m)) taken in
+              inl (record {
+                full = eqb-true (at_project m p) (capacity_of i p) both.0;
+                above = λ t at. ranked_before l s t (is_project p) both.1 (student_in_range i m t p at) (is_project-at p (project_of m t) at);
+              })
+          | inr busy ↦
+              let both = and_parts (eqb (at_lecturer i m l) (limit_of i l)) (each (λ t. ranks_before i l s (is_lecturer i l) (project_of m t) t) (length m)) busy in
+              inr (record {
+                full = eqb-true (at_lecturer i m l) (limit_of i l) both.0;
+                above = λ t own. ranked_before l s t (is_lecturer i l) both.1 (student_in_range i m t own.0 own.1) (ap (is_lecturer i l) own.1 ∙ eq-eqb (lecturer_of i own.0) l own.2);
+              })
+        ]
+      ]
+    where
+      improving : (s p : ℕ) (o : Option ℕ) → Improves i s p o → improves i s p o ≡ true
+      improving s p None better = refl
+      improving s p (Some q) better = search (rules, lt-ltb, better)
+
+  pub stable_by : IsStable i m
+  stable_by = stable_so i m matching reason
+
+-- where each other way is unstable, or no better for anybody, a stable matching is the best one
+abbrev as_good : Spa → ℕ → Option ℕ → Option ℕ → Bool
+as_good i s mine None = true
+as_good i s None (Some q) = false
+as_good i s (Some p) (Some q) = eqb p q || goes_before (choices_of i s) p q
+
+pub best_among : (i : Spa) (m : List (Option ℕ)) → IsStable i m
+    → all_ways i.choices (λ n. each (λ s. as_good i s (project_of m s) (project_of n s)) (length i.choices) || unstable i n) ≡ true
+    → IsBest i m
+best_among i m stable all = record { stable = stable; best = best }
+  where
+    so : (s : ℕ) (a b : Option ℕ) → as_good i s a b ≡ true → IsAsGood i s a b
+    so s a None h = tt
+    so s None (Some q) h = absurd (cc)
+    so s (Some p) (Some q) h = elim (or_cases (eqb p q) (goes_before (choices_of i s) p q) h) [ inl same ↦ inl (eqb-true p q same) | inr before ↦ inr (is_before (choices_of i s) p q before) ]
+
+    past : (n : List (Option ℕ)) → IsStable i n → (s : ℕ) → length i.choices ≤ s → IsAsGood i s (project_of m s) (project_of n s)
+    past n other s out = let none : project_of n s ≡ None = get_or_past n s None (omega (arith, out, other.matching.students)) in rw none tt
+
+    best : (n : List (Option ℕ)) → IsStable i n → (s : ℕ) → IsAsGood i s (project_of m s) (project_of n s)
+    best n other s = elim (cases_lt s (length i.choices)) [
+      | inr out ↦ past n other s out
+      | inl low ↦ elim (or_cases (each (λ t. as_good i t (project_of m t) (project_of n t)) (length i.choices)) (unstable i n)
+          (way i.choices (λ x. each (λ t. as_good i t (project_of m t) (project_of x t)) (length i.choices) || unstable i x) n all other.matching.students other.matching.acceptable)) [
+            | inl good ↦ so s (project_of m s) (project_of n s) (each_at (λ t. as_good i t (project_of m t) (project_of n t)) (length i.choices) s good low)
+            | inr not_so ↦ absurd (not_unstable i n other not_so)
+          ]
     ]

@@ -1,15 +1,14 @@
--- Who is left finds no room on the own list; room after a stable matching gains nobody anything.
+-- What a student would rather have has no room; room after a stable matching gains nobody anything.
 use Rattle.spa_honest.proofs.Base.{◌≡◌, ℕ, ◌<◌, List, length, set, Option, Some, None, ◌∙◌, arith, length-set}
-use Rattle.spa_honest.proofs.Base.{get_or-set_other, A, Spa, project_of, lecturer_of, IsAcceptable, IsAsGood, IsStable}
+use Rattle.spa_honest.proofs.Base.{get_or-set_other, A, Spa, project_of, lecturer_of, IsAcceptable, IsAsGood, Wants, IsStable}
 use Rattle.spa_honest.proofs.Base.{IsBest, IsRanked, put_same, acceptable_in_range, AddsTo, HasRoom, DifferInOneList}
 use Rattle.spa_honest.proofs.Base.{put_at_project, put_at_lecturer, at_project, at_lecturer, capacity_of, limit_of}
 use Rattle.spa_student.proofs.Machine.{one_more}
 use Rattle.spa_honest.proofs.Gains.{no_one_gains_over_both}
 
--- WHO IS LEFT FINDS NONE: the pair would block
-pub left_finds_none : (i : Spa) (m : List (Option ℕ)) (s p : ℕ) → IsStable i m → project_of m s ≡ None
-    → IsAcceptable i s p → HasRoom i m p → ⊥
-left_finds_none i m s p stable left on room = stable.unblocked s p A ((on, rw left tt), room.0, room.1)
+-- NOBODY FINDS BETTER: the pair would block
+pub left_finds_none : (i : Spa) (m : List (Option ℕ)) (s p : ℕ) → IsStable i m → Wants i m s p → HasRoom i m p → ⊥
+left_finds_none i m s p stable wants room = stable.unblocked s p A (wants, room.0, room.1)
 
 -- WAITING NEVER PAYS: p is what a second round may add
 pub waiting_never_pays : (i j : Spa) (s p : ℕ) (m n : List (Option ℕ)) → IsRanked i → IsRanked j → DifferInOneList i j s

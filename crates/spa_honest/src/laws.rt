@@ -2,19 +2,24 @@
 //! Those of `specs/inner/ByNumber` are lemmas for the laws of worlds in `portal_core`.
 
 ghost use Rattle.std.specs.Prelude.{◌≡◌, ◌↔◌, ℕ, ◌∷◌, [], Some, None};
-ghost use Rattle.spa_model.specs.Spa.{IsBest, IsLawful};
+ghost use Rattle.spa_model.specs.Spa.{Blocks, IsBest, IsLawful, IsStable};
+ghost use Rattle.spa_model.specs.declared.letter.Letter.TheVariants.{C};
 ghost use Rattle.spa_honest.specs.Honest.{SameAssigned, BestThereIs, OrderHonestly, WhyNot};
+ghost use Rattle.spa_honest.specs.Honest.{BlockedOutside, DropoutStaysLocal, LecturersWorst};
 ghost use Rattle.spa_honest.specs.Honest.{NobodyGains, HasRoom, MoreRoomNeverHarms};
-ghost use Rattle.spa_honest.specs.Honest.{MorePlacesNeverHarm};
+ghost use Rattle.spa_honest.specs.Honest.{MorePlacesNeverHarm, NoRankingPays, first_with};
 ghost use Rattle.spa_honest.specs.inner.ByNumber.{HonestIsBest, LeftFindsNone, WaitingNeverPays};
 ghost use Rattle.spa_honest.specs.inner.ByNumber.{NoGroupGains, NoGroupGainsOverBoth};
-ghost use Rattle.spa_honest.specs.inner.ByNumber.{FewerNeverHarm};
+ghost use Rattle.spa_honest.specs.inner.ByNumber.{ShorterNeverHarm};
 ghost use Rattle.spa_honest.specs.examples.Example.{bells, example, honest_list, kites, safe_list};
-ghost use Rattle.spa_honest.specs.examples.Example.{short_list, tides};
+ghost use Rattle.spa_honest.specs.examples.Example.{cem, short_list, tides};
+ghost use Rattle.spa_honest.specs.examples.Varied.{ben_first, judged, lee, popular_alone};
+ghost use Rattle.spa_honest.specs.examples.Varied.{popular_first, ranked, swap, two_ways};
 ghost use Rattle.spa_honest.specs.examples.Waiting.{at_once, second_alone, waiting};
 
 /// Law: all stable matchings of an instance assign the same students, and equally many to each
-/// lecturer. So the choice of a stable matching does not decide who gets no project.
+/// lecturer. So the choice of a stable matching does not decide who gets no project. A project of a
+/// lecturer with room has as many students in all of them; if it has room too, the same ones.
 pub fn same_assigned()
     ensures { SameAssigned }
 {}
@@ -24,14 +29,33 @@ pub fn best_there_is()
     ensures { BestThereIs }
 {}
 
+/// Law: what is best for the students is worst for the lecturers. Of the first k students whom a
+/// lecturer ranks, for each k, every stable matching gives the lecturer at least as many.
+pub fn lecturers_worst()
+    ensures { LecturersWorst }
+{}
+
+/// Law: suppose that a matching gives a student a better project than the best stable one does.
+/// Some student to whom it gives nothing better blocks it. So two students who like to swap may
+/// not.
+pub fn blocked_outside()
+    ensures { BlockedOutside }
+{}
+
+/// Law: if a student drops out of a stable matching, and all others keep their projects, any pair
+/// of another student that blocks then is at a project of the lecturer whom the student had.
+pub fn dropout_stays_local()
+    ensures { DropoutStaysLocal }
+{}
+
 /// Law: in an instance, judged by the honest list, no other list gives a student a better project.
 /// This holds whatever the other students list. Each lecturer has to order the same students alike.
 pub fn honest_is_best()
     ensures { HonestIsBest }
 {}
 
-/// Law: if a stable matching gives a student no project, each project on the student's list is
-/// full, or its lecturer is.
+/// Law: each project that a student would rather have than what a stable matching gives, if it
+/// gives one, is full, or its lecturer is.
 pub fn left_finds_none()
     ensures { LeftFindsNone }
 {}
@@ -70,10 +94,11 @@ pub fn why_not()
     ensures { WhyNot }
 {}
 
-/// Law: students who submit no list harm nobody else. With their lists, no stable matching gives
-/// another student a better project. Each lecturer has to order the same students alike.
-pub fn fewer_never_harm()
-    ensures { FewerNeverHarm }
+/// Law: students whose lists lose some last entries, or all, harm nobody else. With the whole
+/// lists, no stable matching gives a student who keeps the own list a better project. Each lecturer
+/// has to order the same students alike.
+pub fn shorter_never_harm()
+    ensures { ShorterNeverHarm }
 {}
 
 /// Law: more places give no student a worse project, if each lecturer's limit grows by at least as
@@ -93,6 +118,41 @@ pub fn more_places_may_harm()
 /// gets it, although it is her last choice. Cem then gets Kites.
 pub fn one_may_gain()
     ensures { NobodyGains → ⊥ }
+{}
+
+/// Law: a lecturer may gain by a dishonest ranking. In the example, Lee judges Ann first, then Ben,
+/// then Cem, and gets Ann and Cem. With Ben put first, Lee gets Ann and Ben. If Ann lists only
+/// Tides, that ranking costs Lee Ann.
+pub fn a_ranking_may_pay()
+    ensures pays { NoRankingPays → ⊥ }
+    ensures lawful { IsLawful (ranked popular_first judged)
+        × IsLawful (ranked popular_first ben_first) × IsLawful (ranked popular_alone judged)
+        × IsLawful (ranked popular_alone ben_first) }
+    ensures honest { IsBest (ranked popular_first judged) (Some tides ∷ None ∷ Some kites ∷ []) }
+    ensures dishonest { IsBest (ranked popular_first ben_first)
+        (Some kites ∷ Some tides ∷ Some bells ∷ []) }
+    ensures honest_alone { IsBest (ranked popular_alone judged)
+        (Some tides ∷ None ∷ Some kites ∷ []) }
+    ensures dishonest_alone { IsBest (ranked popular_alone ben_first)
+        (None ∷ Some tides ∷ Some kites ∷ []) }
+{}
+
+/// Law: in an example with two stable matchings, the students' best gives Lee Ann at Kites. The
+/// other one gives Lee Ben, whom Lee ranks first, at Tides.
+pub fn two_ways_example()
+    ensures lawful { IsLawful two_ways }
+    ensures best { IsBest two_ways (Some kites ∷ Some bells ∷ None ∷ []) }
+    ensures other { IsStable two_ways (Some bells ∷ Some tides ∷ None ∷ []) }
+    ensures first { (first_with two_ways (Some kites ∷ Some bells ∷ None ∷ []) lee 1 ≡ 0)
+        × (first_with two_ways (Some bells ∷ Some tides ∷ None ∷ []) lee 1 ≡ 1) }
+{}
+
+/// Law: in an example, Ann and Ben would both gain by swapping Tides and Bells. Cem, who gets no
+/// project either way, then blocks with Tides, since Lee ranks Cem above Ben.
+pub fn swap_example()
+    ensures lawful { IsLawful swap }
+    ensures best { IsBest swap (Some tides ∷ Some bells ∷ None ∷ []) }
+    ensures blocked { Blocks swap (Some bells ∷ Some tides ∷ None ∷ []) cem tides C }
 {}
 
 /// Law: in the example, the honest list gives Ann Kites. With the safe project first, she gets

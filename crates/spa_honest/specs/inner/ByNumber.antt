@@ -1,8 +1,8 @@
 -- For instances, by number, the laws that worlds have by key.
-use Rattle.std.specs.Prelude.{◌≡◌, ℕ, ◌≤◌, List, [], length, Option, Some, None}
+use Rattle.std.specs.Prelude.{◌≡◌, ◌≢◌, ℕ, ◌≤◌, List, length, Option, Some, None}
 use Rattle.spa_model.specs.Spa.{Spa, choices_of, project_of, capacity_of, limit_of, at_project, at_lecturer}
-use Rattle.spa_model.specs.Spa.{IsOn, IsAcceptable, IsAsGood, IsLawful, IsStable, IsBest}
-use Rattle.spa_honest.specs.Honest.{DifferInLists, DifferInOneList, HasRoom, IsNoWorse}
+use Rattle.spa_model.specs.Spa.{IsOn, IsAcceptable, IsAsGood, Wants, IsLawful, IsStable, IsBest}
+use Rattle.spa_honest.specs.Honest.{DifferInLists, DifferInOneList, HasRoom, IsCut, IsNoWorse}
 
 -- by the list in i, the best matching of i is no worse for s than any stable matching of j
 abbrev pub HonestIsBest : Type 0
@@ -11,11 +11,10 @@ HonestIsBest =
     → IsBest i m → IsStable j n
     → IsNoWorse i s (project_of m s) (project_of n s)
 
--- a student whom a stable matching leaves without a project lists no project with room
+-- nobody would rather have a project with room than what a stable matching gives
 abbrev pub LeftFindsNone : Type 0
 LeftFindsNone =
-    (i : Spa) (m : List (Option ℕ)) (s p : ℕ) → IsStable i m → project_of m s ≡ None
-    → IsAcceptable i s p → HasRoom i m p → ⊥
+    (i : Spa) (m : List (Option ℕ)) (s p : ℕ) → IsStable i m → Wants i m s p → HasRoom i m p → ⊥
 
 -- if a stable matching of j leaves s out and p has room in it, i's best gives s p or a better one
 abbrev pub WaitingNeverPays : Type 0
@@ -45,9 +44,10 @@ NoGroupGainsOverBoth =
     → DifferInLists i j (IsOn group) → 1 ≤ length group → IsBest i m → IsStable j n → AddsTo j n x
     → (s : ℕ) × IsOn group s × IsNoWorse i s (project_of m s) (project_of x s)
 
--- if a group lists nothing in j, j's best gives nobody else worse than a stable matching of i
-abbrev pub FewerNeverHarm : Type 0
-FewerNeverHarm =
-    (i j : Spa) (group : List ℕ) (t : ℕ) (m n : List (Option ℕ)) → IsLawful i
-    → DifferInLists i j (IsOn group) → ((s : ℕ) → IsOn group s → choices_of j s ≡ []) → IsStable i m → IsBest j n
-    → (IsOn group t → ⊥) → IsAsGood i t (project_of n t) (project_of m t)
+-- where t keeps the own list in j, and others are cut, j's best gives t nothing worse than any
+-- stable matching of i
+abbrev pub ShorterNeverHarm : Type 0
+ShorterNeverHarm =
+    (i j : Spa) (t : ℕ) (m n : List (Option ℕ)) → IsLawful i → DifferInLists i j (λ s. s ≢ t)
+    → ((s : ℕ) → IsCut (choices_of i s) (choices_of j s)) → IsStable i m → IsBest j n
+    → IsAsGood i t (project_of n t) (project_of m t)
