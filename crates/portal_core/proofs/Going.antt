@@ -78,7 +78,7 @@ module _ (w : World) (g : Good w) where
   step_there code ask form = let one = leads (caller w code) ask in (one.0, record { form = form; told = refl; left = one.1 })
 
 -- no reply to a call is 503
-told_else : (v : Sight) (ask : AbstractCall) → answer v ask ≡ unavailable → ⊥
+pub told_else : (v : Sight) (ask : AbstractCall) → answer v ask ≡ unavailable → ⊥
 told_else v ask e = grind arith
 
 replied : (w : World) (r : Request) (x : Wish) → Good w → HasReply x

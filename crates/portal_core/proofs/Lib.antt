@@ -7,3 +7,6 @@ pub mod Going
 pub mod OverGroups
 pub mod ShorterLists
 pub mod Reasons
+mod Undeducible
+mod Purged
+mod Saved

@@ -14,12 +14,14 @@ ghost use Rattle.portal_rules.specs.Answer.{Answer};
 ghost use Rattle.portal_rules.specs.Run.{Request, Step, Run, AllAnswered};
 ghost use Rattle.portal_rules.specs.Run.{HasForm};
 ghost use Rattle.portal_core.specs.Replies.{HasReply};
+ghost use Rattle.portal_core.specs.Unseen.{OrderUndeducible, OthersPurged};
+ghost use Rattle.portal_core.specs.Saved.{SavedCounts, SavedSinceNew};
 ghost use Rattle.std.specs.List.{AllByRecursion};
 
 pub use portal_rules::laws::{
     catalogue_whole, heard_once, least_is_told, legal_is_taken, named_by_code, one_run,
-    others_unseen, places_unseen, played_alone, results_stay, round_opens, run_good, same_replies,
-    step_good, step_once, worked_replies,
+    others_unseen, places_unseen, played_alone, replies_told, results_stay, round_opens, run_good,
+    same_replies, step_good, step_once, worked_replies,
 };
 
 /// Law: from a good world, each call whose rows have the forms of their roll has a step. Requests
@@ -30,6 +32,30 @@ pub fn run_exists()
     ensures run { (w : World) (asked : List Request) → Good w
         → ((told : List Answer) × (after : List World) × Run w asked told after × AllAnswered told)
         ↔ AllByRecursion (λ r. HasReply r.wish) asked }
+{}
+
+/// Law: replies leave the order within students' lists open until published. For each run without a
+/// 503, and each other order within its lists, stored or submitted, there is a run without a 503
+/// whose replies are equal, up to and including the first accepted move to published. Replies that
+/// contain a student's list are excepted.
+pub fn order_undeducible()
+    ensures { OrderUndeducible }
+{}
+
+/// Law: until ranking opens, no request of another student or lecturer tells on a caller's replies.
+/// If the requests of all but the caller and the office are struck out of a run without a 503, there
+/// is a run without a 503 of those that remain. It gives the caller the same replies and last view.
+pub fn others_purged()
+    ensures { OthersPurged }
+{}
+
+/// Law: the last list or ranking that was accepted counts, as requests and replies tell. In a world
+/// that a run reaches, each student's list is the last one of the current round that was submitted
+/// with this code and accepted, or empty. So is each lecturer's ranking; if none was, it is missing,
+/// or the order of keys that the office filled in. Nothing else changes a list or a ranking.
+pub fn saved_counts()
+    ensures kept { SavedCounts }
+    ensures new { SavedSinceNew }
 {}
 
 /// Law: a step that publishes a result publishes the student-optimal one. If a good world shows

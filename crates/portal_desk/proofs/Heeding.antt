@@ -3,7 +3,7 @@ use Rattle.portal_desk.proofs.Base.{◌≡◌, ℕ, inl, inr, Bool, true, false,
 use Rattle.portal_desk.proofs.Base.{if◌then◌else◌, Key, World, view, Answer, Run, end_of, reply_text, Exchange}
 use Rattle.portal_desk.proofs.Base.{requests_of, replies_of, exchange_text, KeeperState, Visit, AreVisits, exchanges_of}
 use Rattle.portal_desk.proofs.Base.{worlds_of, Session, AreServed, TellsOf, AllZip, equals, Sight, IsVisit, AreAnswered}
-use Rattle.portal_desk.proofs.Base.{Hears, texts_to, replies_in, AlikeTexts}
+use Rattle.portal_desk.proofs.Base.{texts_to, AlikeTexts, AreEqual}
 use Rattle.portal_rules.specs.Heard.{HeardItem, Asked, Sees, own_item, SeenIf, Heard, replies_to, SameButPlaces}
 use Rattle.portal_rules.specs.Heard.{SameRequest, AlikeUntilPublished, has_places, moves_to_published}
 use Rattle.portal_rules.proofs.Hearing.{same_replies}
@@ -56,16 +56,19 @@ pub whole_run : (w : World) (vs : List Visit) → AreVisits w vs
 whole_run w [] visits = tt
 whole_run w (v ∷ vs) (first, rest) = Run-append w v.exchanges (exchanges_of vs) v.worlds (worlds_of vs) first.run (whole_run (end_of w v.worlds) vs rest)
 
-pub same_bytes : (c : Key) (w v : World) (visits others : List Visit) (items : List HeardItem)
-    → AreVisits w visits → AreAnswered visits → Hears c w visits items → AreVisits v others → AreAnswered others → Hears c v others items → view w c ≡ view v c
-    → (replies_in c visits ≡ replies_in c others) × (view (end_of w (worlds_of visits)) c ≡ view (end_of v (worlds_of others)) c)
-same_bytes c w v visits others items are all heard were also listened same =
-    let a = whole_run w visits are in
-    let b = whole_run v others were in
-    let told = same_replies c w v _ _ _ _ (worlds_of visits) (worlds_of others) items a all heard b also listened same in
-    let left = texts_heard c w (exchanges_of visits) (worlds_of visits) items a heard in
-    let right = texts_heard c v (exchanges_of others) (worlds_of others) items b listened in
+-- the replies to a caller in two runs
+pub same_texts : (w : World) (es : List Exchange) (worlds : List World) (v : World) (fs : List Exchange) (later : List World)
+    → Run w (requests_of es) (replies_of es) worlds → Run v (requests_of fs) (replies_of fs) later → AreEqual w es worlds v fs later
+same_texts w es worlds v fs later a b c items all also same heard listened =
+    let told = same_replies c w v _ _ _ _ worlds later items a all heard b also listened same in
+    let left = texts_heard c w es worlds items a heard in
+    let right = texts_heard c v fs later items b listened in
     (left ∙ (ap (texts_by (marks items)) told.0 ∙ sym right), told.1)
+
+pub same_bytes : (w v : World) (visits others : List Visit) → AreVisits w visits → AreVisits v others
+    → AreEqual w (exchanges_of visits) (worlds_of visits) v (exchanges_of others) (worlds_of others)
+same_bytes w v visits others are were =
+    same_texts w (exchanges_of visits) (worlds_of visits) v (exchanges_of others) (worlds_of others) (whole_run w visits are) (whole_run v others were)
 
 text_same : (e f : Exchange) → SameRequest e.request f.request → e.reply ≡ f.reply → exchange_text e ≡ exchange_text f
 text_same e f same equals =
@@ -104,20 +107,12 @@ are_visits state k (s ∷ ss) (same, is_clean, serves, later) =
       ),
     )
 
-pub equal : {K L : Type 0} (state : K → KeeperState) (states : L → KeeperState) (c : Key) (k : K) (l : L)
-    (ss : List (Session K)) (ts : List (Session L)) → AreServed state k ss → AreServed states l ts → view (state k).world c ≡ view (states l).world c
+pub equal : {K L : Type 0} (state : K → KeeperState) (states : L → KeeperState) (k : K) (l : L)
+    (ss : List (Session K)) (ts : List (Session L)) → AreServed state k ss → AreServed states l ts
     → (first second : List Visit) × AllZip (TellsOf state) ss first × AreVisits (state k).world first
     × AllZip (TellsOf states) ts second × AreVisits (states l).world second
-    × ((items : List HeardItem) → AreAnswered first → AreAnswered second → Hears c (state k).world first items → Hears c (states l).world second items
-    → replies_in c first ≡ replies_in c second)
-equal state states c k l ss ts served others same =
+    × AreEqual (state k).world (exchanges_of first) (worlds_of first) (states l).world (exchanges_of second) (worlds_of second)
+equal state states k l ss ts served others =
     let a = are_visits state k ss served in
-    let b = are_visits states l ts others in (
-      a.0,
-      b.0,
-      a.1,
-      a.2,
-      b.1,
-      b.2,
-      λ items all also heard listened. (same_bytes c (state k).world (states l).world a.0 b.0 items a.2 all heard b.2 also listened same).0,
-    )
+    let b = are_visits states l ts others in
+    (a.0, b.0, a.1, a.2, b.1, b.2, same_bytes (state k).world (states l).world a.0 b.0 a.2 b.2)

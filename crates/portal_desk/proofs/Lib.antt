@@ -13,3 +13,4 @@ pub mod Telling
 pub mod Heeding
 pub mod Failing
 pub mod Promised
+mod Existing

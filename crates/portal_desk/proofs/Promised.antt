@@ -1,39 +1,26 @@
 -- The main promise, from what each call of `serve` tells.
 use Rattle.portal_desk.proofs.Base.{AllZip, Some, ◌≡◌, ℕ, ◌+◌, ◌<◌, length, take, map, get_or, add-one, inl, inr, true}
 use Rattle.portal_desk.proofs.Base.{false, List, [], ◌∷◌, ◌++◌, refl, sym, ap, ◌∙◌, subst, both_ways, Key, World, view}
-use Rattle.portal_desk.proofs.Base.{AbstractCall, Answer, Good, Request, Step, Run, Serves, AllAnswered, requests_of}
+use Rattle.portal_desk.proofs.Base.{AbstractCall, Answer, Good, Request, Step, Run, Serves, requests_of}
 use Rattle.portal_desk.proofs.Base.{replies_of, KeeperState, Ended, Visit, AreVisits, exchanges_of, worlds_of, Session}
 use Rattle.portal_desk.proofs.Base.{IsSession, AreServed, TellsOf, ServesEach, take-suc, map-append, AllByRecursion}
 use Rattle.portal_desk.proofs.Base.{is_published, Wish, Calls, NoCall, Answers, Last, AreServedOn, left_by}
-use Rattle.portal_desk.proofs.Base.{exchanges_in, IsServed, IsUnseen, AreUnseen, PublishesBest, IsUpheld, MainPromise}
+use Rattle.portal_desk.proofs.Base.{IsServed, IsUnseen, AreUnseen, PublishesBest, IsUpheld, MainPromise}
 use Rattle.portal_desk.proofs.Base.{IsEnded, AreSessionsOf}
 use Rattle.portal_core.specs.Honest.{HasBest, ShowsBest}
 use Rattle.portal_rules.proofs.Unseen.{others}
 use Rattle.portal_desk.proofs.Heeding.{are_visits, whole_run, same_bytes}
-use Rattle.portal_desk.proofs.Steps.{answered_apart}
 use Rattle.portal_desk.proofs.Telling.{SomeSession}
 
--- what the last disk returned keeps each keeper clean
+-- on a clean disk, a keeper that is clean at the end was clean all along
 pub stays_served : {K : Type 0} (state : K → KeeperState) (k : K) (ss : List (Session K)) → AreServedOn state k ss
-    → AllAnswered (replies_of (exchanges_in ss))
-    → (state (left_by k ss)).disk → (state k).disk × ((state k).clean → AreServed state k ss)
-stays_served state k [] served all last = (last, λ on. tt)
-stays_served state k (s ∷ ss) (resumes, serves, later) all last =
-    let apart = answered_apart s.exchanges (exchanges_in ss) all in
-    let next = stays_served state s.new ss later apart.1 last in
-    let own = serves.moves.lasts apart.0 next.0 in
-    let before = resumes own.0 in (
-      before.0,
-      λ on. let start = before.1 on in let now = own.1 start.0 in (start.1, now, serves, next.1 now),
-    )
-
--- the visits have the streams' own requests and replies
-pub same_exchanges : {K : Type 0} (state : K → KeeperState) (ss : List (Session K)) (vs : List Visit)
-    → AllZip (TellsOf state) ss vs → exchanges_in ss ≡ exchanges_of vs
-same_exchanges state [] [] tell = refl
-same_exchanges state (s ∷ ss) (v ∷ vs) tell =
-    ap (λ es. es ++ exchanges_in ss) (sym tell.0.exchanges) ∙ ap (λ es. v.exchanges ++ es) (same_exchanges state ss vs tell.1)
-same_exchanges state _ _ tell = absurd tell
+    → (state (left_by k ss)).disk → (state (left_by k ss)).clean → (state k).disk × (state k).clean × AreServed state k ss
+stays_served state k [] served disk on = (disk, on, tt)
+stays_served state k (s ∷ ss) (resumes, serves, later) disk on =
+    let next = stays_served state s.new ss later disk on in
+    let before = resumes (serves.moves.breaks next.0).0 in
+    let start = before.2 (serves.moves.clean next.1) in
+    (before.0, start.0, (start.1, next.1, serves, next.2))
 
 -- one step
 
@@ -107,17 +94,15 @@ pub headline : RunsGood → StepsBest → RunsBest
     → {K L : Type 0} (state : K → KeeperState) (states : L → KeeperState) (k : K) (l : L)
     (ss : List (Session K)) (ts : List (Session L)) → IsServed state k ss → IsServed states l ts → MainPromise state states (state k).world (states l).world ss ts
 headline run_good step_best run_best state states k l ss ts one other =
-    let a = are_visits state k ss ((stays_served state k ss one.served one.answered one.disk).1 one.clean) in
-    let b = are_visits states l ts ((stays_served states l ts other.served other.answered other.disk).1 other.clean) in
-    let all = subst (λ es. AllAnswered (replies_of es)) (same_exchanges state ss a.0 a.1) one.answered in
-    let also = subst (λ es. AllAnswered (replies_of es)) (same_exchanges states ts b.0 b.1) other.answered in (
+    let a = are_visits state k ss (stays_served state k ss one.served one.disk one.clean).2 in
+    let b = are_visits states l ts (stays_served states l ts other.served other.disk other.clean).2 in (
       a.0,
       b.0,
       a.1,
       b.1,
       upheld run_good step_best run_best (state k).world a.0 one.good a.2,
       upheld run_good step_best run_best (states l).world b.0 other.good b.2,
-      λ c items alike heard listened. same_bytes c (state k).world (states l).world a.0 b.0 items a.2 all heard b.2 also listened alike,
+      same_bytes (state k).world (states l).world a.0 b.0 a.2 b.2,
     )
 
 -- one stream more
@@ -125,7 +110,15 @@ headline run_good step_best run_best state states k l ss ts one other =
 one_more : {K : Type 0} (state : K → KeeperState) (k : K) (ss : List (Session K)) (s : Session K)
     → AreServedOn state k ss → left_by k ss ≡ s.old → IsSession state s
     → AreServedOn state k (ss ++ s ∷ [])
-one_more state k [] s served same did = (λ now. (subst (λ j. (state j).disk) (sym same) now, λ on. (subst (λ j. (state j).clean) same on, ap (λ j. (state j).world) (sym same))), did, tt)
+one_more state k [] s served same did = (
+  λ now. (
+    subst (λ j. (state j).disk) (sym same) now,
+    subst (λ j. (state j).clean) same,
+    λ on. (subst (λ j. (state j).clean) (sym same) on, ap (λ j. (state j).world) (sym same)),
+  ),
+  did,
+  tt,
+)
 one_more state k (x ∷ ss) s (first, told, rest) same did = (first, told, one_more state x.new ss s rest same did)
 
 left_more : {K : Type 0} (k : K) (ss : List (Session K)) (s : Session K) → left_by k (ss ++ s ∷ []) ≡ s.new

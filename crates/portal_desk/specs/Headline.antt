@@ -9,7 +9,7 @@ use Rattle.portal_rules.specs.View.{view}
 use Rattle.portal_rules.specs.Good.{Good}
 use Rattle.portal_core.specs.Honest.{HasBest, ShowsBest}
 use Rattle.portal_rules.specs.Run.{Run, AllAnswered, end_of, Request}
-use Rattle.portal_rules.specs.Heard.{HeardItem, Heard, Unless, has_places, moves_to_published, IsMember}
+use Rattle.portal_rules.specs.Heard.{HeardItem, Heard, replies_to, Unless, has_places, moves_to_published, IsMember}
 use Rattle.portal_wire.specs.Conversation.{Exchange, requests_of, replies_of, exchange_text}
 use Rattle.portal_rules.specs.Keeping.{KeeperState}
 use Rattle.portal_desk.specs.Session.{Finish, TellsExchanges, Session, IsSession}
@@ -42,17 +42,18 @@ worlds_of vs = flat_map (λ v. v.worlds) vs
 abbrev pub AreAnswered : List Visit → Type 0
 AreAnswered vs = AllAnswered (replies_of (exchanges_of vs))
 
--- what one caller hears of the visits, in order
-abbrev pub Hears : Key → World → List Visit → List HeardItem → Type 0
-Hears c w vs items = Heard c w (requests_of (exchanges_of vs)) (worlds_of vs) items
+-- no reply to this caller is 503
+abbrev pub IsAnswered : Key → List Exchange → Type 0
+IsAnswered c es = AllAnswered (replies_to c (requests_of es) (replies_of es))
+
+-- what one caller hears of these exchanges from w, with the world after each, in order
+abbrev pub Hears : Key → World → List Exchange → List World → List HeardItem → Type 0
+Hears c w es worlds items = Heard c w (requests_of es) worlds items
 
 -- the texts of the replies to one caller, in order
 abbrev pub texts_to : Key → List Exchange → List (List ℕ)
 texts_to c [] = []
 texts_to c (e ∷ es) = if equals e.request.code c then exchange_text e ∷ texts_to c es else texts_to c es
-
-abbrev pub replies_in : Key → List Visit → List (List ℕ)
-replies_in c vs = texts_to c (exchanges_of vs)
 
 -- texts without a student's list are equal, up to and including the first move to published
 abbrev pub AlikeTexts : List Exchange → List Exchange → Type 0
@@ -70,9 +71,11 @@ pub record TellsOf {K : Type 0} (state : K → KeeperState) (s : Session K) (v :
   pub written : Appends s.before s.after v.written
   pub left : (state s.new).world ≡ end_of (state s.old).world v.worlds
 
--- `new` goes on from `old`: it is the same keeper, or what it kept was closed and opened again
+-- `new` goes on from `old`: it is the same keeper, or what it kept was closed and opened again. On a
+-- clean disk, one is clean exactly if the other is, and then they have the same world
 abbrev pub Resumes : KeeperState → KeeperState → Type 0
-Resumes old new = new.disk → old.disk × (old.clean → new.clean × (new.world ≡ old.world))
+Resumes old new =
+    new.disk → old.disk × (old.clean → new.clean) × (new.clean → old.clean × (new.world ≡ old.world))
 
 -- sessions one after another, each over a keeper that goes on from the one before
 abbrev pub AreServedOn : {K : Type 0} → (K → KeeperState) → K → List (Session K) → Type 0
@@ -84,15 +87,11 @@ abbrev pub left_by : {K : Type 0} → K → List (Session K) → K
 left_by k [] = k
 left_by k (s ∷ ss) = left_by s.new ss
 
-abbrev pub exchanges_in : {K : Type 0} → List (Session K) → List Exchange
-exchanges_in ss = flat_map (λ s. s.exchanges) ss
-
--- the premises: the first keeper is clean, its world good, no reply 503, and the last disk clean
+-- the premises: the first world is good, and the last keeper and its disk are clean
 pub record IsServed {K : Type 0} (state : K → KeeperState) (k : K) (sessions : List (Session K)) : Type 0 where
   pub served : AreServedOn state k sessions
-  pub clean : (state k).clean
   pub good : Good (state k).world
-  pub answered : AllAnswered (replies_of (exchanges_in sessions))
+  pub clean : (state (left_by k sessions)).clean
   pub disk : (state (left_by k sessions)).disk
 
 -- a request of a student or a lecturer changes no view but the own one and the office's
@@ -117,25 +116,28 @@ pub record IsUpheld (w : World) (visits : List Visit) : Type 0 where
   pub published : PublishesBest w (worlds_of visits)
   pub best : ShowsBest w → AllByRecursion ShowsBest (worlds_of visits)
 
--- a caller who starts with the same view and hears the same gets the same reply bytes and last view
-abbrev pub AreEqual : World → World → List Visit → List Visit → Type 0
-AreEqual w v first second =
-    (c : Key) (items : List HeardItem) → view w c ≡ view v c → Hears c w first items → Hears c v second items
-    → (replies_in c first ≡ replies_in c second)
-    × (view (end_of w (worlds_of first)) c ≡ view (end_of v (worlds_of second)) c)
+-- a caller who gets no 503, starts with the same view and hears the same gets the same reply bytes
+-- and the same last view
+abbrev pub AreEqual : World → List Exchange → List World → World → List Exchange → List World → Type 0
+AreEqual w es worlds v fs later =
+    (c : Key) (items : List HeardItem) → IsAnswered c es → IsAnswered c fs → view w c ≡ view v c
+    → Hears c w es worlds items → Hears c v fs later items
+    → (texts_to c es ≡ texts_to c fs) × (view (end_of w worlds) c ≡ view (end_of v later) c)
 
--- any other visits without a 503 give a caller who starts alike and hears the same the same replies
-abbrev pub IsLikeAll : World → List Visit → Type 0
-IsLikeAll w visits =
-    (v : World) (others : List Visit) → AreVisits v others → AreAnswered others → AreEqual w v visits others
+-- the same of any other run
+abbrev pub IsLikeAll : World → List Exchange → List World → Type 0
+IsLikeAll w es worlds =
+    (v : World) (fs : List Exchange) (later : List World) → Run v (requests_of fs) (replies_of fs) later
+    → AreEqual w es worlds v fs later
 
--- the main promise holds of these visits, compared with any other visits without a 503
+-- the main promise holds of these visits, compared with any other run
 abbrev pub HasPromise : World → List Visit → Type 0
-HasPromise w visits = IsUpheld w visits × IsLikeAll w visits
+HasPromise w visits = IsUpheld w visits × IsLikeAll w (exchanges_of visits) (worlds_of visits)
 
 -- visits describe the sessions of both lists, and the main promise holds of these visits
 abbrev pub MainPromise : {K L : Type 0} → (K → KeeperState) → (L → KeeperState) → World → World → List (Session K)
     → List (Session L) → Type 0
 MainPromise state states w v sessions others =
     (first second : List Visit) × AllZip (TellsOf state) sessions first × AllZip (TellsOf states) others second
-    × IsUpheld w first × IsUpheld v second × AreEqual w v first second
+    × IsUpheld w first × IsUpheld v second
+    × AreEqual w (exchanges_of first) (worlds_of first) v (exchanges_of second) (worlds_of second)

@@ -1,17 +1,22 @@
 -- What is promised of processes over one file.
-use Rattle.std.proofs.Common.{◌≡◌, Option, Some, None, IsSome, List, [], ◌∷◌, ◌++◌, refl, sym, ap, subst, ◌∙◌, inl, inr}
+use Rattle.std.proofs.Common.{◌≡◌, ◌≢◌, Option, Some, None, IsSome, List, [], ◌∷◌, ◌++◌, refl, sym, ap, subst, ◌∙◌, inl, inr}
+use Rattle.std.proofs.Common.{true, false, cond}
+use Rattle.std.specs.Prelude.{◌⊎◌}
 use Rattle.std.proofs.Math.Logic.{∥∥₁_elim, ∥∥₁_map}
 use Rattle.std.specs.List.{AllByRecursion}
 use Rattle.sqlite_wal.specs.Recovery.{Image}
 use Rattle.portal_rules.specs.World.{World}
 use Rattle.portal_rules.specs.Good.{Good}
-use Rattle.portal_rules.specs.Run.{AllAnswered, Run, end_of}
-use Rattle.portal_wire.specs.Conversation.{Exchange, Reaches, requests_of, replies_of}
+use Rattle.portal_rules.specs.Words.{Key, equals}
+use Rattle.portal_rules.specs.Answer.{Answer}
+use Rattle.portal_rules.specs.Run.{AllAnswered, Request, Run, end_of, unavailable}
+use Rattle.portal_rules.specs.Heard.{Heard, replies_to}
+use Rattle.portal_wire.specs.Conversation.{Exchange, Reaches, requests_of, replies_of, exchange_text}
 use Rattle.portal_desk.specs.Kept.{MayReach}
-use Rattle.portal_desk.specs.Headline.{Visit, AreVisits, IsVisit, exchanges_of, worlds_of}
+use Rattle.portal_desk.specs.Headline.{Visit, AreVisits, IsVisit, exchanges_of, worlds_of, IsAnswered, IsLikeAll, texts_to}
 use Rattle.portal_desk.proofs.Steps.{answered_apart}
 use Rattle.portal_desk.proofs.Promised.{RunsGood, StepsBest, RunsBest, are_unseen, publishes_best, upheld}
-use Rattle.portal_desk.proofs.Heeding.{same_bytes}
+use Rattle.portal_desk.proofs.Heeding.{same_texts, whole_run}
 use Rattle.portal_file.specs.Tables.{Stream, Either}
 use Rattle.portal_file.specs.inner.Connected.{TellsIn}
 use Rattle.portal_file.specs.Files.{HoldsSome, HoldsWorld}
@@ -92,22 +97,15 @@ are_visits w image (p ∷ ps) holds (is, process, later) known all =
       | inr none ↦ no_more w image p ps process first none others
     ]
 
-same_exchanges : (ps : List Process) (vs : List Visit) → AllTellOfProcesses ps vs → exchanges_by ps ≡ exchanges_of vs
-same_exchanges [] vs none = ap exchanges_of (sym none)
-same_exchanges (p ∷ ps) vs (inl quiet_one) = ap (λ es. es ++ exchanges_by ps) quiet_one.0 ∙ same_exchanges ps vs quiet_one.1
-same_exchanges (p ∷ ps) vs (inr (v, rest, is, tell, tells)) =
-    ap (λ es. es ++ exchanges_by ps) (sym tell.exchanges) ∙ ap (λ es. v.exchanges ++ es) (same_exchanges ps rest tells) ∙ ap exchanges_of (sym is)
-
 pub promised : RunsGood → StepsBest → RunsBest → PromisedOverFiles
 promised run_good step_best run_best w image ps good holds are known all =
-    let a = are_visits w image ps holds are known all in
-    let said = subst (λ es. AllAnswered (replies_of es)) (same_exchanges ps a.0 a.1) all in (
+    let a = are_visits w image ps holds are known all in (
       a.0,
       a.1,
       a.2,
       (
         upheld run_good step_best run_best w a.0 good a.2,
-        λ v others also heard c items alike mine theirs. same_bytes c w v a.0 others items a.2 said mine also heard theirs alike,
+        λ v others later run. same_texts w (exchanges_of a.0) (worlds_of a.0) v others later (whole_run w a.0 a.2) run,
       ),
       a.3,
     )
@@ -179,6 +177,51 @@ kept_run run_good step_best run_best w es worlds good run =
       best = λ first. run_best w _ _ worlds first run;
     }
 
+-- the replies that were given
+
+requests_same : (es fs : List Exchange) → MayStandFor es fs → requests_of fs ≡ requests_of es
+requests_same [] [] stands = refl
+requests_same [] (f ∷ fs) stands = absurd stands
+requests_same (e ∷ es) [] stands = absurd stands
+requests_same (e ∷ es) (f ∷ fs) stands = λ i. stands.0 i ∷ requests_same es fs stands.2 i
+
+abbrev replied : Key → List Exchange → List Answer
+replied c es = replies_to c (requests_of es) (replies_of es)
+
+-- to a caller who got no 503 they are the run's
+abbrev IsGiven : Key → List Exchange → List Exchange → Type 0
+IsGiven c es fs = IsAnswered c fs × (texts_to c es ≡ texts_to c fs)
+
+given_one : (c : Key) (e : Exchange) (other : Answer) (es fs : List Exchange) → (other ≡ e.reply) ⊎ (e.reply ≡ unavailable)
+    → (IsAnswered c es → IsGiven c es fs) → IsAnswered c (e ∷ es) → IsGiven c (e ∷ es) (record e { reply = other } ∷ fs)
+given_one c e other es fs same more =
+    elim (equals e.request.code c) as (λ own. AllAnswered (cond own (e.reply ∷ replied c es) (replied c es))
+    → AllAnswered (cond own (other ∷ replied c fs) (replied c fs))
+    × (cond own (exchange_text e ∷ texts_to c es) (texts_to c es) ≡ cond own (exchange_text (record e { reply = other }) ∷ texts_to c fs) (texts_to c fs))) [
+      | true ↦ λ all.
+          let rest : IsGiven c es fs = more all.1 in
+          let is : other ≡ e.reply = elim same [ inl is ↦ is | inr failed ↦ absurd (all.0 failed) ] in
+          ((subst (λ a. a ≢ unavailable) (sym is) all.0, rest.0), λ i. exchange_text (record e { reply = sym is i }) ∷ rest.1 i)
+      | false ↦ λ all. more all
+    ]
+
+given : (c : Key) (es fs : List Exchange) → MayStandFor es fs → IsAnswered c es → IsGiven c es fs
+given c [] [] stands all = (tt, refl)
+given c [] (f ∷ fs) stands all = absurd stands
+given c (e ∷ es) [] stands all = absurd stands
+given c (e ∷ es) (f ∷ fs) stands all =
+    subst (λ (r : Request). IsGiven c (e ∷ es) (record f { request = r } ∷ fs)) (sym stands.0)
+    (given_one c e f.reply es fs stands.1 (given c es fs stands.2) all)
+
+like_all : (w : World) (es fs : List Exchange) (worlds : List World) → MayStandFor es fs
+    → Run w (requests_of fs) (replies_of fs) worlds → IsLikeAll w es worlds
+like_all w es fs worlds stands run v others later other c items mine theirs alike heard listened =
+    let as_given : IsGiven c es fs = given c es fs stands mine in
+    let also = subst (λ rs. Heard c w rs worlds items) (sym (requests_same es fs stands)) heard in
+    let equal = same_texts w fs worlds v others later run other c items as_given.0 theirs alike also listened in
+    (as_given.1 ∙ equal.0, equal.1)
+
 pub kept : RunsGood → StepsBest → RunsBest → KeptOverFiles
 kept run_good step_best run_best w image ps good holds are =
-    ∥∥₁_map (runs_over w image ps holds are) (λ r. (r.0, r.1, r.2, kept_run run_good step_best run_best w r.0 r.2 good r.3, r.4))
+    ∥∥₁_map (runs_over w image ps holds are)
+    (λ r. (r.0, r.1, r.2, kept_run run_good step_best run_best w r.0 r.2 good r.3, like_all w (exchanges_by ps) r.0 r.2 r.1 r.3, r.4))

@@ -13,7 +13,7 @@ use Rattle.portal_rules.specs.Good.{Good}
 use Rattle.portal_core.specs.Honest.{ShowsBest}
 use Rattle.portal_rules.specs.Run.{Run, AllAnswered, end_of, unavailable}
 use Rattle.portal_wire.specs.Conversation.{Exchange, requests_of, replies_of}
-use Rattle.portal_desk.specs.Headline.{Visit, AreVisits, worlds_of, AreUnseen, HasPromise, PublishesBest}
+use Rattle.portal_desk.specs.Headline.{Visit, AreVisits, worlds_of, AreUnseen, HasPromise, IsLikeAll, PublishesBest}
 use Rattle.portal_file.specs.Tables.{IsTurn, Stream, Work, Either}
 use Rattle.portal_file.specs.Files.{Holds, HoldsSome, HoldsWorld}
 
@@ -58,12 +58,13 @@ pub record IsKeptRun (w : World) (es : List Exchange) (worlds : List World) : Ty
   pub published : PublishesBest w worlds
   pub best : ShowsBest w → AllByRecursion ShowsBest worlds
 
--- the requests of the processes are a run from the world that the files held, and they hold its end
+-- the requests of the processes are a run from the world that the files held, and they hold its end;
+-- with the replies that were given, it is like all other runs to each caller who got no 503
 abbrev pub KeptOverFiles : Type 0
 KeptOverFiles =
     (w : World) (image : Image) (ps : List Process) → Good w → HoldsWorld image w → AreProcesses image ps
     → ∥ ((es : List Exchange) × MayStandFor (exchanges_by ps) es × (worlds : List World) × IsKeptRun w es worlds
-    × HoldsWorld (left_after image ps) (end_of w worlds)) ∥₁
+    × IsLikeAll w (exchanges_by ps) worlds × HoldsWorld (left_after image ps) (end_of w worlds)) ∥₁
 
 -- processes whose bytes are known, or which have no requests
 

@@ -9,7 +9,9 @@ use portal_core::laws::{published_best, run_good};
 /// them. Then the requests of all processes are a run from this world, with the replies that were
 /// given; but a request with the reply 503 may have been carried out. At the end the files hold the
 /// run's last world. Each world is good, so each published result is stable; it is the students'
-/// best, and no student's or lecturer's request changes another's view.
+/// best, and no student's or lecturer's request changes another's view. Compare this with any other
+/// run. If a caller gets no 503, starts with the same view and hears the same in both, the caller's
+/// replies are equal byte for byte, and so is the last view.
 pub fn kept_over_files()
     ensures { KeptOverFiles }
 {
@@ -17,9 +19,9 @@ pub fn kept_over_files()
     published_best();
 }
 
-/// Law: the same of processes that serve streams whose bytes are known, as `pipe_file` does. If no
-/// reply is 503, then visits with the main promise describe the processes, and at the end the files
-/// hold the world after the last request.
+/// Law: now let processes serve streams whose bytes are known, as `pipe_file` does. If no reply is
+/// 503, then visits with the main promise describe the processes, so the replies are those written;
+/// and at the end the files hold the world after the last request.
 pub fn promised_over_files()
     ensures { PromisedOverFiles }
 {

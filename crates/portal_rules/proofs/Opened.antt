@@ -82,7 +82,7 @@ opens_to w one out = λ i. opened (one i) (out i) w
 
 -- where keys rise, a key is of the one row that was found
 
-rows_with : {X : Type 0} (key : X → Key) (p : X → Bool) (xs : List X) (a : X) → Rise (map key xs) → find p xs ≡ Some a
+pub rows_with : {X : Type 0} (key : X → Key) (p : X → Bool) (xs : List X) (a : X) → Rise (map key xs) → find p xs ≡ Some a
     → AllByRecursion (λ x. key x ≡ key a → x ≡ a) xs
 rows_with key p [] a rise e = cc
 rows_with {X} key p (x ∷ xs) a rise e =

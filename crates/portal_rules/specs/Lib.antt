@@ -10,6 +10,7 @@ pub mod Answer
 pub mod Good
 pub mod Run
 pub mod Heard
+pub mod Told
 pub mod Meaning
 pub mod Keeping
 pub mod inner

@@ -29,22 +29,36 @@ ghost use Rattle.portal_rules.specs.Run.{OpensSecond, OpensOnce};
 ghost use Rattle.portal_rules.specs.Heard.{IsMember, IsIdle, is_move_or_add, HeardItem, Heard};
 ghost use Rattle.portal_rules.specs.Heard.{replies_to, SameButPlaces, SameRequest};
 ghost use Rattle.portal_rules.specs.Heard.{AlikeUntilPublished};
+ghost use Rattle.portal_rules.specs.Told.{replies_from, view_from};
 ghost use Rattle.portal_rules.specs.declared.phase.Phase.TheVariants.{Choosing, Published};
 ghost use Rattle.portal_rules.specs.declared.phase.Round.TheVariants.{First, Second};
 ghost use Rattle.std.specs.List.{AllZip, AllByRecursion};
 ghost use Rattle.portal_rules.specs.examples.Worked.{TellsApplicants, TellsMoves, TellsResult};
 ghost use Rattle.portal_rules.specs.examples.Worked.{TellsOpening};
 
-/// Law: take two runs without a 503 in which a caller starts with the same view and hears the same.
-/// They give the caller the same replies and end with the same view.
+/// Law: a caller's first view and what the caller hears determine the caller's replies and last view,
+/// by one function for all runs, if no reply to this caller is 503. Others may get a 503.
+pub fn replies_told()
+    ensures { (c : Key) (w : World) (asked : List Request) (told : List Answer)
+        (after : List World) (items : List HeardItem)
+        → Run w asked told after → AllAnswered (replies_to c asked told) → Heard c w asked after items
+        → (replies_to c asked told ≡ replies_from (view w c) items)
+        × (view (end_of w after) c ≡ view_from (view w c) items) }
+{}
+
+/// Law: take two runs in which a caller gets no 503, starts with the same view and hears the same.
+/// They give the caller the same replies and end with the same view. In a run without a 503, no
+/// caller gets one.
 pub fn same_replies()
-    ensures { (c : Key) (w v : World) (asked others : List Request) (told said : List Answer)
+    ensures same { (c : Key) (w v : World) (asked others : List Request) (told said : List Answer)
         (after later : List World) (items : List HeardItem)
-        → Run w asked told after → AllAnswered told → Heard c w asked after items
-        → Run v others said later → AllAnswered said → Heard c v others later items
-        → view w c ≡ view v c
+        → Run w asked told after → AllAnswered (replies_to c asked told) → Heard c w asked after items
+        → Run v others said later → AllAnswered (replies_to c others said)
+        → Heard c v others later items → view w c ≡ view v c
         → (replies_to c asked told ≡ replies_to c others said)
         × (view (end_of w after) c ≡ view (end_of v later) c) }
+    ensures answered { (c : Key) (asked : List Request) (told : List Answer)
+        → AllAnswered told → AllAnswered (replies_to c asked told) }
 {}
 
 /// Law: in a good world, a student's or lecturer's call changes only the caller's and the office's

@@ -11,7 +11,7 @@ use Rattle.portal_desk.specs.Session.{Finish, Ended, Stopped, Session}
 use Rattle.portal_desk.specs.Headline.{Visit, TellsOf, AreServedOn}
 use Rattle.portal_desk.specs.inner.Served.{AreServed, IsEnded, AreSessionsOf, ServesEach}
 use Rattle.portal_desk.proofs.Promised.{RunsGood, StepsBest, RunsBest, upheld}
-use Rattle.portal_desk.proofs.Heeding.{are_visits, same_bytes}
+use Rattle.portal_desk.proofs.Heeding.{are_visits, same_texts, whole_run}
 use Rattle.portal_whole.specs.Whole.{IsServedToEnd, KeepsPromise}
 
 ended : (finish : Finish) → IsEnded finish → (ending : Last) × (finish ≡ Ended ending)
@@ -51,10 +51,11 @@ stays_unbroken : {K : Type 0} (state : K → KeeperState) → ((k : K) → (stat
     → (k : K) (ss : List (Session K)) → AreServedOn state k ss → (state k).clean → AreServed state k ss
 stays_unbroken state disk sound k [] served on = tt
 stays_unbroken state disk sound k (s ∷ ss) (resumes, serves, later) on =
-    let start = (resumes (disk s.old)).1 on in
+    let both = resumes (disk s.old) in
+    let start = both.1 on in
     let now : (state s.new).clean =
-    elim ((serves.moves.breaks (disk s.new)).1 start.0) [ inl up ↦ up | inr bad ↦ absurd (sound s.new bad) ] in
-    (start.1, now, serves, stays_unbroken state disk sound s.new ss later now)
+    elim ((serves.moves.breaks (disk s.new)).1 start) [ inl up ↦ up | inr bad ↦ absurd (sound s.new bad) ] in
+    ((both.2 start).1, now, serves, stays_unbroken state disk sound s.new ss later now)
 
 pub promised : RunsGood → StepsBest → RunsBest → {K : Type 0} (state : K → KeeperState) (k last : K) (w : World)
     (xs ts : List (List ℕ)) → ServesEach state k last xs ts → (state k).clean → Good (state k).world
@@ -67,9 +68,10 @@ promised run_good step_best run_best state k last w xs ts (ss, served, same, are
       of.0,
       of.1,
       of.2,
-      upheld run_good step_best run_best (state k).world a.0 good a.2,
-      λ all v others also heard c items alike mine theirs.
-          same_bytes c (state k).world v a.0 others items a.2 all mine also heard theirs alike,
+      (
+        upheld run_good step_best run_best (state k).world a.0 good a.2,
+        λ v fs later run. same_texts (state k).world _ _ v fs later (whole_run (state k).world a.0 a.2) run,
+      ),
     )
 
 pub on_some : {A : Type 0} (r : Option A) (P Q : A → Type 0) → ((x : A) → P x → Q x) → IfSome r P → IfSome r Q

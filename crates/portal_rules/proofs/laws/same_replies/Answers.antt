@@ -2,4 +2,4 @@ use Rattle.portal_rules.proofs.Hearing as hearing
 use Rattle.portal_rules.proofs.laws.same_replies.Goals as goal
 
 pub returns : goal.returns
-returns c = hearing.same_replies
+returns c = record { same = hearing.same_replies; answered = hearing.answered_to }
