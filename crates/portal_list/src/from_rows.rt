@@ -13,7 +13,7 @@ use crate::entries::Entries;
 use crate::joining::{lecturer_entries, student_entries};
 use crate::keeper::ListKeeper;
 use crate::roll_checks::rolls_fit;
-use portal_rules::{Code, LecturerRow, Phase, ProjectRow, Round, StudentRow};
+use portal_rules::{Code, Keeper, LecturerRow, Phase, ProjectRow, Round, StudentRow};
 use spa_rows::Key;
 use std::alloc::{AllocError, Global};
 use std::marker::Model;
@@ -161,6 +161,7 @@ impl ListKeeper {
     /// out of the order of keys.
     pub fn from_rows(alloc: Global, rows: WorldRows) -> Result<ListKeeper, RowsFault>
         ensures ok { IfOk result (λ keeper. rows ≡ world_rows keeper) }
+        ensures clean { IfOk result (λ keeper. (⟦<ListKeeper as Keeper>⟧.state keeper).clean) }
         ensures sound { IfOk result (λ keeper. Sound keeper) }
         ensures first { IfOk result (λ keeper. HasSoundFirst keeper) }
         ensures err { result ≡ Err RowsFault.NotGood → (w : World) → rows ≡ world_rows w → Sound w

@@ -64,6 +64,7 @@ impl ListKeeper {
           students = [];
         } }
         ensures good { Good result }
+        ensures clean { (⟦<ListKeeper as Keeper>⟧.state result).clean }
     {
         formed_code(&office);
         ListKeeper {

@@ -10,6 +10,7 @@ mod instance;
 mod joining;
 mod keeper;
 mod keys;
+pub mod laws;
 mod list_checks;
 mod roll_checks;
 mod second_round;
