@@ -5,6 +5,7 @@ ghost use Rattle.clap.specs.Words.{rule_of};
 ghost use Rattle.portal_words.specs.inner.Arguments.{Reads, file_app, database_app, port_rule};
 ghost use Rattle.portal_words.specs.inner.Arguments.{connections_rule, serve_app, files_app};
 ghost use Rattle.portal_words.specs.inner.Arguments.{portal_app};
+ghost use Rattle.clap.specs.Words.{App, with_subcommand};
 
 use clap::builder::ValueParser;
 use clap::{Arg, Command};
@@ -136,38 +137,56 @@ fn with_files<'a>(alloc: Global) -> Result<Command<'a>, AllocError>
         .subcommand(solve)
 }
 
+// Adds a command on one database to those of `app`.
+fn with_database<'a>(
+    alloc: Global,
+    app: Command<'a>,
+    name: &'a str,
+    about: &'a str,
+    prints: &'a str,
+) -> Result<Command<'a>, AllocError>
+    ensures { IfOk result (λ c. (a : App) → Reads app.entry a → Reads c (with_subcommand a (database_app name.entry.now).top)) }
+{
+    app.subcommand(of_database(alloc, name, about, prints)?)
+}
+
+// Adds the command that listens on a port to those of `app`.
+fn with_serve<'a>(alloc: Global, app: Command<'a>) -> Result<Command<'a>, AllocError>
+    ensures { IfOk result (λ c. (a : App) → Reads app.entry a → Reads c (with_subcommand a serve_app.top)) }
+{
+    app.subcommand(serve(alloc)?)
+}
+
 /// Creates the parser of the whole command line.
 pub(crate) fn portal<'a>(alloc: Global) -> Result<Command<'a>, AllocError>
     ensures { IfOk result (λ c. Reads c portal_app) }
 {
-    let init = of_database(
+    let init = with_database(
         alloc,
+        with_files(alloc)?,
         "init",
         "Make a database; the first line of the input is the office's code",
         INIT_PRINTS,
     )?;
-    let pipe = of_database(
+    let pipe = with_database(
         alloc,
+        with_serve(alloc, init)?,
         "pipe",
         "Answer the requests of the input, as one connection, on the output",
         PIPE_PRINTS,
     )?;
-    let report = of_database(
+    let report = with_database(
         alloc,
+        pipe,
         "report",
         "Print where the year stands, and the allocation once it is published",
         REPORT_PRINTS,
     )?;
-    let upgrade = of_database(
+    with_database(
         alloc,
+        report,
         "upgrade",
         "Bring a database of version 1 to version 2",
         UPGRADE_PRINTS,
-    )?;
-    with_files(alloc)?
-        .subcommand(init)?
-        .subcommand(serve(alloc)?)?
-        .subcommand(pipe)?
-        .subcommand(report)?
-        .subcommand(upgrade)
+    )
 }
