@@ -44,6 +44,11 @@ def note(department, kind, key, code):
     write(notes(department), f"{noted(department)}{time} {kind} {key} {digest(code)}\n".encode())
 
 
+def times_replaced(department, kind, key):
+    """When codes of somebody were replaced."""
+    return re.findall(rf"^(\S+) {kind} {re.escape(key)} [0-9a-f]{{64}}$", noted(department), re.M)
+
+
 def revived(department, year):
     """Who has in a copy of a database a code that was replaced: the kind and the key of each."""
     replaced = NOTE.findall(noted(department))

@@ -6,6 +6,8 @@ import sqlite3
 import sys
 
 from descriptions import projects_of
+from instances import instance
+from persons import person
 
 SOMEBODY = "SELECT 1 FROM (SELECT code FROM lecturer UNION SELECT code FROM student UNION SELECT office FROM portal) WHERE code = ?"
 PLACED = "(SELECT assigned AS project FROM student UNION ALL SELECT project FROM assigned2)"
@@ -79,7 +81,7 @@ def own_places(year, project):
 
 
 if __name__ == "__main__":
-    actions = {one.__name__: one for one in (has_code, settle, codes, change, own_places, projects_of)}
+    actions = {one.__name__: one for one in (has_code, settle, codes, change, own_places, projects_of, person, instance)}
     what, year = sys.argv[1:]
     try:
         print(json.dumps(actions[what](year, *json.load(sys.stdin))))

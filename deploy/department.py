@@ -162,9 +162,9 @@ def stamp():
 
 
 class Department:
-    """A department of this machine, by its name."""
+    """A department of this machine, by its name. The folder of its year has to be there, but for a tool that ends what is left of a department."""
 
-    def __init__(self, name):
+    def __init__(self, name, has_year=True):
         if not re.fullmatch("[a-z0-9][a-z0-9-]{0,31}", name):
             refuse(f"{name} is no name of a department")
         self.unit = f"portal@{name}"
@@ -172,7 +172,7 @@ class Department:
         self.backups = os.path.join(os.environ.get("PORTAL_BACKUPS", "/var/backups/portal"), name)
         self.folder = os.path.join(os.environ.get("PORTAL_ETC", "/etc/portal"), name)
         self.year = os.path.join(self.state, "year.db")
-        if not os.path.isdir(self.state):
+        if has_year and not os.path.isdir(self.state):
             refuse(f"there is no {self.state}")
 
     def do(self, word):
@@ -285,6 +285,13 @@ class Department:
         """The names of the backups that count, the oldest first."""
         names = os.listdir(self.backups) if os.path.isdir(self.backups) else []
         return sorted(name for name in names if re.fullmatch(STAMP, name))
+
+    def outdated(self, keep):
+        """The names of the folders that go with a new backup: those beyond the newest `keep`, and what does not count but is older than these."""
+        copies = self.copies()
+        if len(copies) <= keep:
+            return []
+        return [name for name in os.listdir(self.backups) if re.fullmatch(f"{STAMP}(\\.broken|\\.replaced)?", name) and name < copies[-keep]]
 
     def setting(self, name, form):
         """A setting from the department's configuration file, or None without one of this form."""

@@ -48,10 +48,12 @@ _portal_departments() {
 # The words that a tool may have at a place; nothing where a file stands there.
 _portal_words() {
   case $1.$2 in
-    portal-letters.1 | portal-describe.2 | portal-restore.2) ;;
-    portal-letters.*) echo --page --until ;;
+    portal-letters.1 | portal-describe.2 | portal-restore.2 | portal-person.4 | portal-instance.3) ;;
+    portal-letters.*) echo --page --department --language --until ;;
     portal-new.*) echo --help ;;
     portal-correct.2) echo lecturer project student office ;;
+    portal-person.2) echo student lecturer ;;
+    portal-instance.2) echo 1 2 ;;
     portal-correct.4) echo name title capacity code ;;
     portal-correct.5) echo --new ;;
     portal-schedule.2) echo ranking published --cancel ;;
@@ -69,4 +71,4 @@ _portal_tools() {
     mapfile -t COMPREPLY < <(compgen -f -- "$word")
   fi
 }
-complete -o filenames -F _portal_tools portal-new portal-backup portal-restore portal-describe portal-correct portal-letters portal-health portal-schedule
+complete -o filenames -F _portal_tools portal-new portal-backup portal-restore portal-describe portal-correct portal-person portal-instance portal-letters portal-health portal-schedule portal-end

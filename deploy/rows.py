@@ -33,7 +33,7 @@ def fits(form, text):
         return False
     if form == "capacity":
         return 1 <= int(text) <= 200
-    return len(text.encode(errors="surrogateescape")) <= 160 and not re.search("[\ud800-\udfff]", text)
+    return len(text.encode(errors="surrogatepass")) <= 160 and not re.search("[\ud800-\udfff]", text)
 
 
 def as_text(cell):

@@ -82,6 +82,34 @@ def tools(office):
     holds("portal-restore", told[0] == 0 and '"name":"Ada Ames"' in ask(code[1], "GET", "/me")[1], told)
 
 
+def asked():
+    """What is stored of somebody, and the lines of RUNNING.md that tell whom another allocation would wrong."""
+    told = run("portal-person chem student ada")
+    wanted = ["student ada", "name: Ada Ames", "    1. pulsars (Pulsars in old sky surveys), offered by bell (Jocelyn Bell)",
+              "  result: rings (Rings and their ideals), offered by noether (Emmy Noether)"]
+    holds("portal-person", told[0] == 0 and set(wanted) <= set(told[1].splitlines()) and "student-ada-1" not in told[1], told)
+    with open("/usr/share/doc/portal/RUNNING.md") as file:
+        section = re.search("^## When somebody objects\n(.*?)^## ", file.read(), re.M | re.S)[1]
+    lines = re.findall("^    (.*)$", section, re.M)
+    told = run("cd /root; set -e\n" + "\n".join(lines))
+    holds("whom a swap would wrong, by the lines of RUNNING.md", told == (0, "blocking 0\nblock ben pulsars c\nblocking 1\n") and len(lines) == 6, told)
+
+
+def ended(office):
+    """Another department is ended, with the folder that systemd has made of its year, and the first one goes on."""
+    private, units = "/var/lib/private/portal/maths", "portal@maths portal-backup@maths.timer"
+    told = run(f"portal-new maths maths.localhost && systemctl enable --now {units} && portal-backup maths")
+    holds("another department is there, in a folder of systemd's", told[0] == 0 and os.path.exists(f"{private}/year.db"), told)
+    told = run("echo no | portal-end maths")
+    holds("portal-end deletes nothing before the name is typed", told[0] == 2 and run(f"systemctl is-active {units}")[1] == "active\nactive\n", told)
+    told = run("echo maths | portal-end maths && caddy validate --config /etc/caddy/Caddyfile && systemctl restart caddy")
+    left = run("find /etc /var/lib /var/backups -xdev -name '*maths*' -not -path '/var/lib/systemd/timers/*'")
+    holds("then nothing of it is left", told[0] == 0 and left == (0, ""), (told, left))
+    states = run(f"systemctl is-active {units}; systemctl is-enabled {units}")[1].split()
+    holds("and its units are off for good", states[:2] == ["inactive"] * 2 and "enabled" not in states, states)
+    holds("while the first one goes on", ask(office, "GET", "/me")[0] == 200 and os.path.exists(YEAR))
+
+
 def watched():
     run("systemctl kill --signal=KILL portal@chem")
     told = health("chem")
@@ -110,6 +138,8 @@ try:
     owned()
     first_round(office)
     tools(office)
+    asked()
+    ended(office)
     watched()
     package(office)
 except Exception as fault:
