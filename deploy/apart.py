@@ -1,5 +1,5 @@
-"""What root's tools do with a database that the portal's user may have written: on a copy, as a user who is nobody else, and with limits.
-SQLite does what the files beside a database say, and a database may ask for endless work."""
+"""What root's tools do with a database that the portal's user may have written, and with a file of the office: on a copy, as a user who is nobody
+else, and with limits. SQLite does what the files beside a database say, and a database may ask for endless work."""
 import contextlib
 import json
 import os
@@ -8,13 +8,16 @@ import sys
 import tempfile
 import time
 
-from department import copied
+from department import LARGEST_FILE, copied, copy
+from rows import Fault
 
 PROGRAM = os.environ.get("PORTAL_PROGRAM", "/usr/bin/portal")
 DATABASE = os.path.join(os.path.dirname(os.path.realpath(__file__)), "database.py")
 # Debian gives this number to no account, and systemd to no service: nobody else on the machine has it.
 STRANGER = 65533
-SECONDS, MEGABYTES, LARGEST_FILE, LARGEST_ANSWER = 300, 512, 1 << 28, 1 << 24
+# The status with which database.py refuses a file
+REFUSED = 2
+SECONDS, MEGABYTES, LARGEST_ANSWER = 300, 512, 1 << 26
 
 
 class Failed(OSError):
@@ -22,17 +25,26 @@ class Failed(OSError):
 
 
 @contextlib.contextmanager
-def apart(year):
+def apart(path, copied=copied):
     """Copies a database with its log to a folder of the stranger's, within one that only root can change, and returns the copy's path."""
     with tempfile.TemporaryDirectory() as outer:
         os.chmod(outer, 0o711)
         folder = os.path.join(outer, "year")
         os.mkdir(folder)
-        path = copied(year, folder)
+        path = copied(path, folder)
         if os.geteuid() == 0:
             for one in (folder, *(os.path.join(folder, name) for name in os.listdir(folder))):
                 os.chown(one, STRANGER, STRANGER)
         yield path
+
+
+def table_apart(path):
+    """Copies a file of the office so, and returns the copy's path."""
+    def one(path, folder):
+        to = os.path.join(folder, "table")
+        copy(path, to)
+        return to
+    return apart(path, one)
 
 
 def megabytes(process):
@@ -72,8 +84,10 @@ def run(*words, given=""):
 
 
 def consult(year, what, *given):
-    """What database.py answers of a copy."""
+    """What database.py answers of a copy. What it refuses is a fault of the file."""
     status, told = run(sys.executable, "-B", DATABASE, what, year, given=json.dumps(given))
+    if status == REFUSED:
+        raise Fault(told.strip())
     if status:
         raise Failed(told.strip() or f"status {status}")
     return json.loads(told)

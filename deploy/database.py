@@ -1,13 +1,14 @@
-"""What the tools ask and change in a database: `python3 database.py WHAT FILE`. More arguments come as a list on the standard input, and the
-answer goes to the output, both in JSON. apart.py runs it without root's rights."""
+"""What the tools ask and change in a database, or ask of a file of the office: `python3 database.py WHAT FILE`. More arguments come as a list on the
+standard input, and the answer goes to the output, both in JSON. apart.py runs it without root's rights."""
 import contextlib
 import json
 import sqlite3
 import sys
 
-from descriptions import projects_of
+from descriptions import described, projects_of
 from instances import instance
 from persons import person
+from rows import Fault
 
 SOMEBODY = "SELECT 1 FROM (SELECT code FROM lecturer UNION SELECT code FROM student UNION SELECT office FROM portal) WHERE code = ?"
 PLACED = "(SELECT assigned AS project FROM student UNION ALL SELECT project FROM assigned2)"
@@ -81,10 +82,13 @@ def own_places(year, project):
 
 
 if __name__ == "__main__":
-    actions = {one.__name__: one for one in (has_code, settle, codes, change, own_places, projects_of, person, instance)}
+    actions = {one.__name__: one for one in (has_code, settle, codes, change, own_places, projects_of, described, person, instance)}
     what, year = sys.argv[1:]
     try:
         print(json.dumps(actions[what](year, *json.load(sys.stdin))))
     except sqlite3.Error as fault:
         print(fault)
         sys.exit(1)
+    except Fault as fault:
+        print(fault)
+        sys.exit(2)

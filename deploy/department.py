@@ -16,6 +16,10 @@ import time
 TOOL = os.path.basename(sys.argv[0])
 # The seconds that a tool waits for another one
 PATIENCE = 90
+# The most bytes of a file of a portal's user that root copies: what the portal's unit lets it write
+LARGEST_FILE = 1 << 28
+# What the names of the files beside a database add to its own
+BESIDE = ("-wal", "-shm", "-journal")
 # The form of a time, as the name of a folder
 STAMP = r"\d{4}-\d\d-\d\dT\d{6}\.\d+Z"
 
@@ -114,9 +118,16 @@ def opened(path):
     return os.fdopen(handle, "rb")
 
 
+def is_copied(status):
+    """Whether something is a file that is no longer than any portal's."""
+    return stat.S_ISREG(status.st_mode) and status.st_size <= LARGEST_FILE
+
+
 def copy(path, to):
-    """Copies a file to a new one, unless another program has it locked."""
+    """Copies a file to a new one, unless another program has it locked or it is longer than any portal's."""
     with opened(path) as file:
+        if not is_copied(os.fstat(file.fileno())):
+            stop_with(1, f"{path} has more than {LARGEST_FILE} bytes")
         try:
             fcntl.lockf(file, fcntl.LOCK_SH | fcntl.LOCK_NB)
         except BlockingIOError:
@@ -152,7 +163,7 @@ def copied(year, folder):
 
 def remove_beside(year):
     """Removes the files that may have been left beside a database."""
-    for end in ("-wal", "-shm", "-journal"):
+    for end in BESIDE:
         remove(year + end)
 
 
@@ -172,6 +183,7 @@ class Department:
         self.backups = os.path.join(os.environ.get("PORTAL_BACKUPS", "/var/backups/portal"), name)
         self.folder = os.path.join(os.environ.get("PORTAL_ETC", "/etc/portal"), name)
         self.year = os.path.join(self.state, "year.db")
+        self.own_files = {f"year.db{end}" for end in ("", *BESIDE)}
         if has_year and not os.path.isdir(self.state):
             refuse(f"there is no {self.state}")
 
@@ -194,15 +206,15 @@ class Department:
                 refuse(f"{os.path.join(self.state, name)} is a link")
 
     def move_odd_aside(self):
-        """Moves what is no file from the year's folder to a new one beside it. Only who broke into the portal puts such things there."""
-        odd = [name for name in os.listdir(self.state) if not stat.S_ISREG(os.lstat(os.path.join(self.state, name)).st_mode)]
+        """Moves what no portal writes from the year's folder to a new one beside it: what is no file, has another name, or is too long."""
+        odd = [one.name for one in os.scandir(self.state) if one.name not in self.own_files or not is_copied(one.stat(follow_symlinks=False))]
         if not odd:
             return
         aside = f"{os.path.realpath(self.state)}.{stamp()}.odd"
         os.mkdir(aside)
         for name in odd:
             os.rename(os.path.join(self.state, name), os.path.join(aside, name))
-        print(f"{len(odd)} links, folders or other things that are no files were beside the year; they are in {aside}")
+        print(f"{len(odd)} things that no portal writes were beside the year; they are in {aside}")
 
     @contextlib.contextmanager
     def locked(self):

@@ -2,8 +2,9 @@
 the header.
 
 A spreadsheet takes a cell that begins with one of `= + - @`, their full-width forms, a tab or a carriage return as a formula, which can send
-other cells to a stranger. Such a cell is written with `'` in front, and so is one that begins with `'` before these. Some spreadsheets begin a
-new cell at each `;` or tab, so `'` is written there as well. `read` takes each of these `'` away again, so it gives the text that was written.
+other cells to a stranger. Such a cell is written with `'` in front, and so is one that begins with `'` before these. Spreadsheets begin a new
+cell at each `,`, `;` or tab, as they are set, so `'` is written there as well. `read` takes each of these `'` away again, so it gives the text
+that was written.
 """
 import csv
 import io
@@ -20,7 +21,7 @@ FORMS = {
 SIGN = r"[=+\-@\t\r＝＋－＠]"
 FORMULA, WRITTEN = re.compile(f"'*{SIGN}"), re.compile(f"'+{SIGN}")
 # Quotes may go where a cell begins within another one.
-INNER, WRITTEN_INNER = re.compile(f"([;\t])(?=[\"']*{SIGN})"), re.compile(f"([;\t])'(?=[\"']*{SIGN})")
+INNER, WRITTEN_INNER = re.compile(f"([;,\t])(?=[\"']*{SIGN})"), re.compile(f"([;,\t])'(?=[\"']*{SIGN})")
 
 
 class Fault(Exception):

@@ -2,16 +2,14 @@
 take, the rules for the portals' ports, the limits of units, and fail2ban, by the lines of RUNNING.md."""
 import contextlib
 import fcntl
-import http.client
 import os
 import re
 import socket
-import ssl
 import struct
 import subprocess
 import time
 
-from within import ROOT, end, health, holds, run, waits_for
+from within import Browser, end, health, holds, run, waits_for
 
 STATE, CONF = "/var/lib/portal/chem", "/etc/portal/chem.conf"
 # The capability to listen below 1024; see capabilities(7).
@@ -49,25 +47,6 @@ def held(port):
 def own_port():
     with open(CONF) as file:
         return int(re.search("^PORT=([0-9]+)$", file.read(), re.M)[1])
-
-
-class Browser:
-    """One connection to the reverse proxy, over TLS, from one of this machine's addresses."""
-
-    def __init__(self, address, seconds=20):
-        trusted = ssl.create_default_context(cafile=ROOT)
-        self.link = http.client.HTTPSConnection("localhost", timeout=seconds, context=trusted, source_address=(address, 0))
-
-    def status(self, path="/me", lines={"Portal-Code": "k7mp-2xqa-9vre-h4td"}):
-        """The status of a reply, which is for a code that is nobody's where nothing else is said, or 0 where none comes."""
-        try:
-            self.link.request("GET", path, headers=lines)
-            reply = self.link.getresponse()
-            reply.read()
-            return reply.status
-        except OSError:
-            self.link.close()
-            return 0
 
 
 def own_rights():

@@ -96,8 +96,27 @@ class Served:
         self.stop()
 
 
+class Queue:
+    """The queue of deploy/queue before a portal's port."""
+
+    def __init__(self, port, folder):
+        self.port, self.folder = port, folder
+
+    def __enter__(self):
+        self.process = subprocess.Popen(["haproxy", "-db", "-q", "-f", os.path.join(DEPLOY, "queue", "queue.cfg")],
+                                        env=dict(os.environ, RUNTIME_DIRECTORY=self.folder, PORT=str(self.port)), stderr=subprocess.PIPE)
+        if not until(lambda: os.path.exists(f"{self.folder}/{self.port}"), 20):
+            raise RuntimeError(self.process.stderr.read())
+        return self
+
+    def __exit__(self, *fault):
+        self.process.terminate()
+        self.process.wait()
+        self.process.stderr.close()
+
+
 class Proxy:
-    """The reverse proxy of deploy/Caddyfile before a portal's port, with TLS on one port of localhost and without on another."""
+    """The reverse proxy of deploy/Caddyfile and its queue before a portal's port, with TLS on one port of localhost and without on another."""
 
     def __init__(self, portal, page=None):
         self.folder = tempfile.TemporaryDirectory()
@@ -114,6 +133,7 @@ class Proxy:
         with open(f"{folder}/site.caddy", "w") as site:
             site.write(f"https://localhost:{self.tls} {{\n\ttls {folder}/cert.pem {folder}/key.pem\n\t{way}}}\n")
             site.write(f"http://127.0.0.1:{self.plain} {{\n\t{way}}}\n")
+        self.queue = Queue(self.portal, folder).__enter__()
         self.process = subprocess.Popen(["caddy", "run", "--adapter", "caddyfile", "--config", os.path.join(DEPLOY, "Caddyfile")],
                                         stderr=open(self.log, "wb"), env=proxy_settings(folder))
         if not until(lambda: b"serving initial configuration" in self.told(), 20):
@@ -123,6 +143,7 @@ class Proxy:
     def __exit__(self, *fault):
         self.process.terminate()
         self.process.wait()
+        self.queue.__exit__()
         self.folder.cleanup()
 
     def put(self, path, data):
@@ -166,9 +187,9 @@ class Proxy:
 
 
 def proxy_settings(folder):
-    """The surroundings of a Caddy whose sites and own files are in a folder."""
+    """The surroundings of a Caddy whose sites, queues and own files are in a folder."""
     return dict(os.environ, PORTAL_SITES=f"{folder}/*.caddy", PORTAL_HTTP_PORT=str(free_port()), XDG_DATA_HOME=folder,
-                XDG_CONFIG_HOME=folder)
+                XDG_CONFIG_HOME=folder, PORTAL_QUEUE=f"unix/{folder}/", PORTAL_AT_ONCE="0")
 
 
 def head(method, path, code=None, lines=(), length=None):

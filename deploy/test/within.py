@@ -52,6 +52,25 @@ def ask(code, method, path, body=None, host="localhost", source="127.0.0.1"):
         time.sleep(0.2)
 
 
+class Browser:
+    """One connection to the reverse proxy, over TLS, from one of this machine's addresses."""
+
+    def __init__(self, address, seconds=20):
+        trusted = ssl.create_default_context(cafile=ROOT)
+        self.link = http.client.HTTPSConnection("localhost", timeout=seconds, context=trusted, source_address=(address, 0))
+
+    def status(self, path="/me", lines={"Portal-Code": "k7mp-2xqa-9vre-h4td"}):
+        """The status of a reply, which is for a code that is nobody's where nothing else is said, or 0 where none comes."""
+        try:
+            self.link.request("GET", path, headers=lines)
+            reply = self.link.getresponse()
+            reply.read()
+            return reply.status
+        except OSError:
+            self.link.close()
+            return 0
+
+
 def health(name):
     """What portal-health says, once the portal answers."""
     end = time.monotonic() + PATIENCE
