@@ -10,3 +10,4 @@ pub mod Reasons
 mod Undeducible
 mod Purged
 mod Saved
+mod SeenByChoice

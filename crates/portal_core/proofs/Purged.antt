@@ -94,7 +94,7 @@ office_changed w SecondRound = grind arith
 office_changed w change = refl
 
 -- one reply more
-same_both : (own : Bool) (x y : Answer) (xs ys : List Answer) → (own ≡ true → x ≡ y) → xs ≡ ys
+pub same_both : (own : Bool) (x y : Answer) (xs ys : List Answer) → (own ≡ true → x ≡ y) → xs ≡ ys
     → cond own (x ∷ xs) xs ≡ cond own (y ∷ ys) ys
 same_both true x y xs ys one rest = λ i. one refl i ∷ rest i
 same_both false x y xs ys one rest = rest

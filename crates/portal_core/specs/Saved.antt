@@ -42,7 +42,7 @@ submitted c second last _ _ = last
 abbrev pub IsLast : Student → Option (List Key) → Type 0
 IsLast s last = s.choice ≡ unwrap_or last []
 
--- the lecturer's ranking is what was submitted; else it is missing, or filled in by the order of keys
+-- the lecturer's ranking is what was submitted; else it is missing, or filled in by key order
 abbrev pub IsLastOrFilled : World → Lecturer → Option (List Key) → Type 0
 IsLastOrFilled w l (Some list) = l.ranking ≡ Some list
 IsLastOrFilled w l None =

@@ -15,7 +15,10 @@ ghost use Rattle.portal_rules.specs.Run.{Request, Step, Run, AllAnswered};
 ghost use Rattle.portal_rules.specs.Run.{HasForm};
 ghost use Rattle.portal_core.specs.Replies.{HasReply};
 ghost use Rattle.portal_core.specs.Unseen.{OrderUndeducible, OthersPurged};
+ghost use Rattle.portal_core.specs.Unseen.{ListsSeenByChoiceAlone};
 ghost use Rattle.portal_core.specs.Saved.{SavedCounts, SavedSinceNew};
+ghost use Rattle.portal_core.specs.examples.WorkedRuns.{TellsNothing, TellsChoice};
+ghost use Rattle.portal_core.specs.examples.WorkedRuns.{TellsSubmitted};
 ghost use Rattle.std.specs.List.{AllByRecursion};
 
 pub use portal_rules::laws::{
@@ -43,16 +46,23 @@ pub fn order_undeducible()
 {}
 
 /// Law: until ranking opens, no request of another student or lecturer tells on a caller's replies.
-/// If the requests of all but the caller and the office are struck out of a run without a 503, there
-/// is a run without a 503 of those that remain. It gives the caller the same replies and last view.
+/// Strike out of a run without a 503 the requests of all but the caller and the office. Those that
+/// remain have a run without a 503, which gives the caller the same replies and last view.
 pub fn others_purged()
     ensures { OthersPurged }
 {}
 
+/// Law: until published, a lecturer learns of lists only which of the own projects each contains, and
+/// of no other ranking. Take two runs whose worlds, request for request, are the same but for the
+/// rest. A lecturer who gets no 503 and asks the same in both gets the same replies.
+pub fn lists_seen_by_choice_alone()
+    ensures { ListsSeenByChoiceAlone }
+{}
+
 /// Law: the last list or ranking that was accepted counts, as requests and replies tell. In a world
 /// that a run reaches, each student's list is the last one of the current round that was submitted
-/// with this code and accepted, or empty. So is each lecturer's ranking; if none was, it is missing,
-/// or the order of keys that the office filled in. Nothing else changes a list or a ranking.
+/// with this code and accepted, or empty. So is each lecturer's ranking; if none was submitted, it
+/// is missing, or the order of keys that the office filled in. Nothing else changes them.
 pub fn saved_counts()
     ensures kept { SavedCounts }
     ensures new { SavedSinceNew }
@@ -124,4 +134,11 @@ pub fn shorter_never_harm()
 /// full, and ranks each own student higher. By `played_alone`, the same holds in the second round.
 pub fn why_not()
     ensures { WhyNot }
+{}
+
+/// Law: runs in a small example world, worked out.
+pub fn worked_runs()
+    ensures nothing { TellsNothing }
+    ensures choice { TellsChoice }
+    ensures submitted { TellsSubmitted }
 {}

@@ -29,7 +29,7 @@ pub use Rattle.portal_rules.specs.inner.Room.{pairs_by}
 pub use Rattle.portal_desk.specs.Session.{Finish, Ended, Stopped, TellsExchanges, Session, IsSession, ServesOne}
 pub use Rattle.portal_desk.specs.Headline.{TellsOf, AreVisits, Visit, exchanges_of, worlds_of, IsVisit, AreAnswered}
 pub use Rattle.portal_desk.specs.Headline.{AreEqual, texts_to, AlikeTexts, AreServedOn, left_by}
-pub use Rattle.portal_desk.specs.Headline.{IsServed, IsUnseen, AreUnseen, PublishesBest, IsUpheld, MainPromise}
+pub use Rattle.portal_desk.specs.Headline.{IsServed, IsUnseen, AreUnseen, PublishesBest, IsUpheld, MainPromise, HasPromise}
 pub use Rattle.portal_desk.specs.Kept.{Acted, MayLeave, FailsByCount, Moves, IsMoved, Worked, MayReach, Kept}
 pub use Rattle.portal_desk.specs.Kept.{TakesAtMost}
 pub use Rattle.portal_desk.specs.declared.served.Cause.{Cause}

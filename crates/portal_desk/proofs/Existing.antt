@@ -1,7 +1,7 @@
 -- A stream whose requests have replies has one visit without a 503.
 use Rattle.portal_desk.proofs.Base.{◌≡◌, ℕ, List, [], ◌∷◌, ◌++◌, refl, sym, ap, ◌∙◌, subst, arith, AllByRecursion, World}
 use Rattle.portal_desk.proofs.Base.{Good, Answer, Request, Run, AllAnswered, Exchange, requests_of, replies_of, text}
-use Rattle.portal_desk.proofs.Base.{Last, Finish, Ended, TellsExchanges, Visit, IsVisit}
+use Rattle.portal_desk.proofs.Base.{Last, Ended, TellsExchanges, Visit, IsVisit}
 use Rattle.portal_core.specs.Replies.{HasReply}
 use Rattle.portal_core.proofs.Going.{run_there}
 use Rattle.portal_rules.proofs.Only.{one_run}

@@ -1,15 +1,15 @@
 -- The main promise, from what each call of `serve` tells.
-use Rattle.portal_desk.proofs.Base.{AllZip, Some, ◌≡◌, ℕ, ◌+◌, ◌<◌, length, take, map, get_or, add-one, inl, inr, true}
+use Rattle.portal_desk.proofs.Base.{Some, ◌≡◌, ℕ, ◌+◌, ◌<◌, length, take, map, get_or, add-one, inl, inr, true}
 use Rattle.portal_desk.proofs.Base.{false, List, [], ◌∷◌, ◌++◌, refl, sym, ap, ◌∙◌, subst, both_ways, Key, World, view}
 use Rattle.portal_desk.proofs.Base.{AbstractCall, Answer, Good, Request, Step, Run, Serves, requests_of}
 use Rattle.portal_desk.proofs.Base.{replies_of, KeeperState, Ended, Visit, AreVisits, exchanges_of, worlds_of, Session}
-use Rattle.portal_desk.proofs.Base.{IsSession, AreServed, TellsOf, ServesEach, take-suc, map-append, AllByRecursion}
+use Rattle.portal_desk.proofs.Base.{IsSession, AreServed, ServesEach, take-suc, map-append, AllByRecursion}
 use Rattle.portal_desk.proofs.Base.{is_published, Wish, Calls, NoCall, Answers, Last, AreServedOn, left_by}
-use Rattle.portal_desk.proofs.Base.{IsServed, IsUnseen, AreUnseen, PublishesBest, IsUpheld, MainPromise}
+use Rattle.portal_desk.proofs.Base.{IsServed, IsUnseen, AreUnseen, PublishesBest, IsUpheld, MainPromise, HasPromise}
 use Rattle.portal_desk.proofs.Base.{IsEnded, AreSessionsOf}
 use Rattle.portal_core.specs.Honest.{HasBest, ShowsBest}
 use Rattle.portal_rules.proofs.Unseen.{others}
-use Rattle.portal_desk.proofs.Heeding.{are_visits, whole_run, same_bytes}
+use Rattle.portal_desk.proofs.Heeding.{are_visits, whole_run, same_texts}
 use Rattle.portal_desk.proofs.Telling.{SomeSession}
 
 -- on a clean disk, a keeper that is clean at the end was clean all along
@@ -90,20 +90,19 @@ upheld run_good step_best run_best w visits good are =
       best = λ first. run_best w _ _ (worlds_of visits) first run;
     }
 
+-- the main promise of visits from a good world
+pub has_promise : RunsGood → StepsBest → RunsBest → (w : World) (visits : List Visit) → Good w → AreVisits w visits
+    → HasPromise w visits
+has_promise run_good step_best run_best w visits good are = (
+  upheld run_good step_best run_best w visits good are,
+  λ v fs later run. same_texts w (exchanges_of visits) (worlds_of visits) v fs later (whole_run w visits are) run,
+)
+
 pub headline : RunsGood → StepsBest → RunsBest
-    → {K L : Type 0} (state : K → KeeperState) (states : L → KeeperState) (k : K) (l : L)
-    (ss : List (Session K)) (ts : List (Session L)) → IsServed state k ss → IsServed states l ts → MainPromise state states (state k).world (states l).world ss ts
-headline run_good step_best run_best state states k l ss ts one other =
-    let a = are_visits state k ss (stays_served state k ss one.served one.disk one.clean).2 in
-    let b = are_visits states l ts (stays_served states l ts other.served other.disk other.clean).2 in (
-      a.0,
-      b.0,
-      a.1,
-      b.1,
-      upheld run_good step_best run_best (state k).world a.0 one.good a.2,
-      upheld run_good step_best run_best (states l).world b.0 other.good b.2,
-      same_bytes (state k).world (states l).world a.0 b.0 a.2 b.2,
-    )
+    → {K : Type 0} (state : K → KeeperState) (k : K) (ss : List (Session K)) → IsServed state k ss → MainPromise state (state k).world ss
+headline run_good step_best run_best state k ss served =
+    let a = are_visits state k ss (stays_served state k ss served.served served.disk served.clean).2 in
+    (a.0, a.1, has_promise run_good step_best run_best (state k).world a.0 served.good a.2)
 
 -- one stream more
 

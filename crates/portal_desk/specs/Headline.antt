@@ -134,10 +134,6 @@ IsLikeAll w es worlds =
 abbrev pub HasPromise : World → List Visit → Type 0
 HasPromise w visits = IsUpheld w visits × IsLikeAll w (exchanges_of visits) (worlds_of visits)
 
--- visits describe the sessions of both lists, and the main promise holds of these visits
-abbrev pub MainPromise : {K L : Type 0} → (K → KeeperState) → (L → KeeperState) → World → World → List (Session K)
-    → List (Session L) → Type 0
-MainPromise state states w v sessions others =
-    (first second : List Visit) × AllZip (TellsOf state) sessions first × AllZip (TellsOf states) others second
-    × IsUpheld w first × IsUpheld v second
-    × AreEqual w (exchanges_of first) (worlds_of first) v (exchanges_of second) (worlds_of second)
+-- visits describe the sessions, and the main promise holds of these visits
+abbrev pub MainPromise : {K : Type 0} → (K → KeeperState) → World → List (Session K) → Type 0
+MainPromise state w sessions = (visits : List Visit) × AllZip (TellsOf state) sessions visits × HasPromise w visits

@@ -18,15 +18,17 @@ use portal_core::Keeper;
 use portal_core::laws::{published_best, run_good};
 
 /// Law: a caller's first view and what the caller hears determine the reply bytes. If a caller gets
-/// no 503 in two lists of visits, starts with the same view and hears the same in both, the caller's
-/// replies and last view are equal. Now let no reply be 503, and let the first worlds and the requests
-/// differ at most in the order within students' lists. Then all replies are equal, up to and including
-/// the first accepted move to published, except replies with a student's list. A refusal that ends a
-/// stream belongs to no caller: it depends on the stream alone (`stream_once` of `portal_wire`).
+/// no 503 in two lists of visits, starts with the same view and hears the same in both, then the
+/// caller's replies and last view are equal. Now let no reply be 503, and let the first worlds and
+/// the requests differ at most in the order within students' lists. Then all replies are equal, up
+/// to and including the first accepted move to published, except replies with a student's list. A
+/// refusal that ends a stream belongs to no caller: it depends on the stream alone (`stream_once` of
+/// `portal_wire`).
 pub fn same_bytes()
     ensures replies { (w v : World) (visits others : List Visit)
         → AreVisits w visits → AreVisits v others
-        → AreEqual w (exchanges_of visits) (worlds_of visits) v (exchanges_of others) (worlds_of others) }
+        → AreEqual w (exchanges_of visits) (worlds_of visits)
+        v (exchanges_of others) (worlds_of others) }
     ensures places { (w v : World) (visits others : List Visit)
         → SameButPlaces w v
         → AllZip SameRequest (requests_of (exchanges_of visits)) (requests_of (exchanges_of others))
@@ -34,8 +36,8 @@ pub fn same_bytes()
         → AlikeTexts (exchanges_of visits) (exchanges_of others) }
 {}
 
-/// Law: from a good world, a stream has exactly one visit that serves it to its end without a 503, if
-/// its requests make well-formed calls, or are turned away other than by a 503. Each stream has such
+/// Law: from a good world, a stream has exactly one visit that serves it to its end without a 503,
+/// if its requests make well-formed calls, or are turned away other than by a 503. Each stream has
 /// requests and an ending (`stream_some` of `portal_wire`).
 pub fn visit_exists()
     ensures there { (w : World) (bytes : List ℕ) (asked : List Request) (end : Last)
@@ -58,8 +60,8 @@ pub fn served_is_visit<K: Keeper>()
 {}
 
 /// Law: visits describe what two desks write, over keepers of any kind that stay clean. Suppose a
-/// caller gets no 503, starts with the same view and hears the same in both lists. Then the replies to
-/// that caller are equal byte for byte.
+/// caller gets no 503, starts with the same view and hears the same in both lists. Then the replies
+/// to that caller are equal byte for byte.
 pub fn equal_byte_for_byte<K: Keeper, L: Keeper>()
     ensures { (k : K) (l : L) (sessions : List (Session K)) (others : List (Session L))
         → AreServed K.state k sessions
@@ -73,22 +75,19 @@ pub fn equal_byte_for_byte<K: Keeper, L: Keeper>()
         (L.state l).world (exchanges_of second) (worlds_of second) }
 {}
 
-/// Law: the headline, for two desks that each serve a list of streams in turn over any keepers. A
-/// call of `serve` may stop before its stream ends, and a keeper may be closed and reopened between
-/// streams. Each first world is good, and each last keeper is clean and its disk has returned what
+/// Law: the headline, for a desk that serves a list of streams in turn over any keeper. A call of
+/// `serve` may stop before its stream ends, and the keeper may be closed and reopened between
+/// streams. The first world is good, and the last keeper is clean and its disk has returned what
 /// was written. Then visits describe these streams.
 ///
 /// Each world in these visits is good, so each published result is stable. Each step that publishes
 /// leaves the student-optimal result. A student's or lecturer's request changes no view but the
-/// caller's and the office's. Suppose a caller gets no 503, starts with the same view and hears the
-/// same in both lists. Then the replies to that caller are equal byte for byte, and so is the last
-/// view.
-pub fn headline<K: Keeper, L: Keeper>()
-    ensures { (k : K) (l : L) (sessions : List (Session K)) (others : List (Session L))
-        → IsServed K.state k sessions
-        → IsServed L.state l others
-        → MainPromise K.state
-        L.state (K.state k).world (L.state l).world sessions others }
+/// caller's and the office's. Compare the visits with any other run, as of another desk. Suppose a
+/// caller gets no 503, starts with the same view and hears the same in both. Then the replies to
+/// that caller are equal byte for byte, and so is the last view.
+pub fn headline<K: Keeper>()
+    ensures { (k : K) (sessions : List (Session K)) → IsServed K.state k sessions
+        → MainPromise K.state (K.state k).world sessions }
 {
     run_good();
     published_best();

@@ -15,8 +15,8 @@ use Rattle.portal_wire.specs.Conversation.{Exchange, Reaches, requests_of, repli
 use Rattle.portal_desk.specs.Kept.{MayReach}
 use Rattle.portal_desk.specs.Headline.{Visit, AreVisits, IsVisit, exchanges_of, worlds_of, IsAnswered, IsLikeAll, texts_to}
 use Rattle.portal_desk.proofs.Steps.{answered_apart}
-use Rattle.portal_desk.proofs.Promised.{RunsGood, StepsBest, RunsBest, are_unseen, publishes_best, upheld}
-use Rattle.portal_desk.proofs.Heeding.{same_texts, whole_run}
+use Rattle.portal_desk.proofs.Promised.{RunsGood, StepsBest, RunsBest, are_unseen, publishes_best, has_promise}
+use Rattle.portal_desk.proofs.Heeding.{same_texts}
 use Rattle.portal_file.specs.Tables.{Stream, Either}
 use Rattle.portal_file.specs.inner.Connected.{TellsIn}
 use Rattle.portal_file.specs.Files.{HoldsSome, HoldsWorld}
@@ -103,10 +103,7 @@ promised run_good step_best run_best w image ps good holds are known all =
       a.0,
       a.1,
       a.2,
-      (
-        upheld run_good step_best run_best w a.0 good a.2,
-        λ v others later run. same_texts w (exchanges_of a.0) (worlds_of a.0) v others later (whole_run w a.0 a.2) run,
-      ),
+      has_promise run_good step_best run_best w a.0 good a.2,
       a.3,
     )
 

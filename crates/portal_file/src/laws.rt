@@ -10,8 +10,8 @@ use portal_core::laws::{published_best, run_good};
 /// given; but a request with the reply 503 may have been carried out. At the end the files hold the
 /// run's last world. Each world is good, so each published result is stable; it is the students'
 /// best, and no student's or lecturer's request changes another's view. Compare this with any other
-/// run. If a caller gets no 503, starts with the same view and hears the same in both, the caller's
-/// replies are equal byte for byte, and so is the last view.
+/// run. If a caller gets no 503, starts with the same view and hears the same in both, then the texts
+/// of the caller's replies are equal byte for byte, and so is the last view.
 pub fn kept_over_files()
     ensures { KeptOverFiles }
 {

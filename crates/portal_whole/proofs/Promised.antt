@@ -10,8 +10,8 @@ use Rattle.std.specs.Io.KnownBytes.{Appends}
 use Rattle.portal_desk.specs.Session.{Finish, Ended, Stopped, Session}
 use Rattle.portal_desk.specs.Headline.{Visit, TellsOf, AreServedOn}
 use Rattle.portal_desk.specs.inner.Served.{AreServed, IsEnded, AreSessionsOf, ServesEach}
-use Rattle.portal_desk.proofs.Promised.{RunsGood, StepsBest, RunsBest, upheld}
-use Rattle.portal_desk.proofs.Heeding.{are_visits, same_texts, whole_run}
+use Rattle.portal_desk.proofs.Promised.{RunsGood, StepsBest, RunsBest, has_promise}
+use Rattle.portal_desk.proofs.Heeding.{are_visits}
 use Rattle.portal_whole.specs.Whole.{IsServedToEnd, KeepsPromise}
 
 ended : (finish : Finish) → IsEnded finish → (ending : Last) × (finish ≡ Ended ending)
@@ -68,10 +68,7 @@ promised run_good step_best run_best state k last w xs ts (ss, served, same, are
       of.0,
       of.1,
       of.2,
-      (
-        upheld run_good step_best run_best (state k).world a.0 good a.2,
-        λ v fs later run. same_texts (state k).world _ _ v fs later (whole_run (state k).world a.0 a.2) run,
-      ),
+      has_promise run_good step_best run_best (state k).world a.0 good a.2,
     )
 
 pub on_some : {A : Type 0} (r : Option A) (P Q : A → Type 0) → ((x : A) → P x → Q x) → IfSome r P → IfSome r Q

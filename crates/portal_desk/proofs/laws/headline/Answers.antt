@@ -2,6 +2,6 @@ use Rattle.portal_desk.proofs.Promised as promised
 use Rattle.portal_desk.proofs.laws.headline.Goals as goal
 
 pub returns : goal.returns
-returns g c = λ k l sessions others one other.
+returns g c = λ k sessions served.
     promised.headline c.run_good.ensures c.published_best.ensures.step c.published_best.ensures.run g.K.Keeper.state
-    g.L.Keeper.state k l sessions others one other
+    k sessions served
