@@ -42,11 +42,22 @@ export class Catalogue {
     this.#projects = new Map(projects.map((project) => [project.id, project]));
     this.#skips = making?.aims.map(({ text, aim }) => skipLink(text, aim)) ?? [];
     const rows = projects.map((project) => this.#row(project, known.describe(project.id), making));
-    this.#table = new SearchTable({ label: words.catalogue, search: words.searchProjects, columns, rows, shown: words.shown, tools: this.#filters(isSecond, making !== null) });
+    this.#table = new SearchTable({
+      label: words.catalogue,
+      search: words.searchProjects,
+      columns,
+      rows,
+      shown: words.shown,
+      tools: this.#filters(isSecond, making !== null),
+    });
     const none = make('p', { text: isSecond ? words.noProjectsSecond : words.noProjects });
     const skips = making?.aims.map(({ text, aim }) => skipLink(text, aim)) ?? [];
     const shown = make('div', { class: 'catalogue' }, projects.length === 0 ? [none] : [...skips, this.#table.element]);
-    this.element = part(words.catalogue, [isFolded ? make('details', {}, [make('summary', { text: words.showProjects(projects.length) }), shown]) : shown], { class: 'projects' });
+    this.element = part(
+      words.catalogue,
+      [isFolded ? make('details', {}, [make('summary', { text: words.showProjects(projects.length) }), shown]) : shown],
+      { class: 'projects' },
+    );
   }
 
   /**
@@ -78,8 +89,10 @@ export class Catalogue {
     const lecturers = [...names].sort(([, a], [, b]) => a.localeCompare(b, words.language));
     const most = Math.min(MOST, Math.max(1, ...[...this.#projects.values()].map(({ capacity }) => capacity)));
     const filter = () => this.#table.keep((key) => this.#isWanted(key));
-    this.#lecturer.append(make('option', { value: '', text: words.allLecturers }), ...lecturers.map(([key, name]) => make('option', { value: key, text: name })));
-    this.#places.append(make('option', { value: '0', text: words.anyPlaces }), ...Array.from({ length: most - 1 }, (_, at) => make('option', { value: `${at + 2}`, text: words.atLeast(at + 2) })));
+    this.#lecturer.append(make('option', { value: '', text: words.allLecturers }), ...lecturers.map(([key, name]) =>
+      make('option', { value: key, text: name })));
+    this.#places.append(make('option', { value: '0', text: words.anyPlaces }), ...Array.from({ length: most - 1 }, (_, at) =>
+      make('option', { value: `${at + 2}`, text: words.atLeast(at + 2) })));
     for (const field of [this.#lecturer, this.#places, this.#notListed]) field.addEventListener('change', filter);
     this.#lecturer.ariaLabel = words.columns.lecturer;
     this.#places.ariaLabel = isSecond ? words.placesLeftColumn : words.columns.places;
@@ -93,7 +106,9 @@ export class Catalogue {
   /** @param {string} key */
   #isWanted(key) {
     const { lecturer = '', capacity = 0 } = this.#projects.get(key) ?? {};
-    return ['', lecturer].includes(this.#lecturer.value) && capacity >= Number(this.#places.value) && !(this.#notListed.checked && this.#listed.has(key));
+    return ['', lecturer].includes(this.#lecturer.value)
+      && capacity >= Number(this.#places.value)
+      && !(this.#notListed.checked && this.#listed.has(key));
   }
 
   /**
@@ -104,7 +119,10 @@ export class Catalogue {
   #row(project, described, making) {
     const { id, title, lecturer, lecturer_name: name, capacity } = project;
     const under = make('span', { class: 'under' }, [make('span', { text: words.roomOf(capacity) }), make('span', {}, [given(name)])]);
-    const cell = make('span', { class: 'titled' }, [titleOf(title, described), make('span', { class: 'below' }, [under, make('span', { class: 'key', text: id })])]);
+    const cell = make('span', { class: 'titled' }, [
+      titleOf(title, described),
+      make('span', { class: 'below' }, [under, make('span', { class: 'key', text: id })]),
+    ]);
     const cells = [cell, given(name), make('span', { text: `${capacity}` })];
     if (making) cells.push(this.#adder(project, making));
     return { key: id, cells, texts: [`${title} ${id}`, `${name} ${lecturer}`, `${capacity}`], more: described.description };

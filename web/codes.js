@@ -14,7 +14,8 @@ export const isCode = (text) => CODE.test(text);
  * A code as it was meant: without blanks, and with the plain dash for those that letters and spreadsheets make of it.
  * @param {string} text
  */
-export const asCode = (text) => text.replace(/[\s\u00ad\u200b-\u200d\u2060\ufeff]/g, '').replace(/[\u2010-\u2015\u2212\ufe58\ufe63\uff0d]/g, '-');
+export const asCode = (text) =>
+  text.replace(/[\s\u00ad\u200b-\u200d\u2060\ufeff]/g, '').replace(/[\u2010-\u2015\u2212\ufe58\ufe63\uff0d]/g, '-');
 
 // The 32 signs of a code by chance, without l, o, 0 and 1, which people take for others on paper. 16 of them are 80 bits.
 const SIGNS = 'abcdefghijkmnpqrstuvwxyz23456789';

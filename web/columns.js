@@ -10,8 +10,12 @@ export const KINDS = {
 };
 /** @type {Roll[]} */
 export const ROLLS = ['lecturers', 'projects', 'students'];
-/** @type {Column[]} What a file need not have: a code can be made, a name may stand in one column, and addresses are for the browser alone. */
-const OPTIONAL = ['code', 'email', 'first'];
+/**
+ * What a file need not have: a code can be made, a name may stand in one column, addresses are for the browser alone, and descriptions for
+ * the administrator.
+ * @type {Column[]}
+ */
+const OPTIONAL = ['code', 'email', 'first', 'description', 'link'];
 
 /** @param {Roll} roll */
 export const hasCodes = (roll) => KINDS[roll].includes('code');
@@ -21,7 +25,7 @@ export const hasCodes = (roll) => KINDS[roll].includes('code');
  * @param {Roll} roll
  * @returns {Column[]}
  */
-export const columnNames = (roll) => (hasCodes(roll) ? [...KINDS[roll], 'email'] : KINDS[roll]);
+export const columnNames = (roll) => [...KINDS[roll], .../** @type {Column[]} */ (hasCodes(roll) ? ['email'] : ['description', 'link'])];
 
 // In small letters, without accents and signs.
 /** @param {string} text */
@@ -29,32 +33,40 @@ const called = (text) => plain(text).replace(/[^\p{L}\d]/gu, '');
 /** @param {string} text */
 const list = (text) => text.split(' ');
 
-const STUDENT_IDS = list('studentid studentno studentnumber matriculationno matriculationnumber registrationnumber matrikel matrikelnr matrikelnummer matrnr matnr');
-const OWNERS = list('lecturer lecturername supervisor supervisorname advisor betreuer betreuerin betreuung dozent dozentin lehrperson lehrende');
-const SURNAMES = list('surname lastname familyname nachname familienname');
+const STUDENT_IDS = list('stucode studentid studentno studentnumber matriculationno matriculationnumber registrationnumber matrikel '
+  + 'matrikelnr matrikelnummer matrnr matnr');
+const OWNERS = list(
+  'lecturer lecturername supervisor supervisorname advisor betreuer betreuerin betreuung dozent dozentin lehrperson lehrende',
+);
+const SURNAMES = list('surname lastname familyname nachname familienname stusurn familiennamedesstudierenden nachnamedesstudierenden');
 
 /** @type {Record<Column, string[]>} The likelier name first. */
 const NAMES = {
   id: list('key kennung kurzel kuerzel number nummer no nr'),
   name: list('fullname studentname vollername vollstandigername'),
-  first: list('firstname forename givenname givennames vorname vornamen rufname'),
+  first: list('firstname forename givenname givennames vorname vornamen rufname stufnm1 vornamedesstudierenden'),
   code: list('signincode zugangscode'),
   capacity: list('max maximum places limit seats maxstudents kapazitat kapazitaet platze plaetze platzzahl anzahlplatze maxstudierende'),
   lecturer: [...list('lecturerid supervisorid staffid lehrpersonid dozentenid betreuerid'), ...OWNERS],
   title: list('projecttitle projekttitel titel projectname projektname thema topic project projekt name'),
   email: list('emailaddress emailadresse mail mailaddress mailadresse'),
+  description: list('descriptions projectdescription beschreibung projektbeschreibung kurzbeschreibung abstract summary inhalt details'),
+  link: list('url website webpage webseite internetseite homepage weblink'),
 };
 
 /** @type {Record<Roll, Partial<Record<Column, string[]>>>} What the files of one roll alone call a column. */
 const OWN = {
-  lecturers: { id: list('lecturerid supervisorid staffid personnelnumber personalnummer personalnr lehrpersonid dozentenid betreuerid'), name: OWNERS },
+  lecturers: {
+    id: list('lecturerid supervisorid staffid personnelnumber personalnummer personalnr lehrpersonid dozentenid betreuerid'),
+    name: OWNERS,
+  },
   projects: { id: list('projectid projectno projectnumber projektid projektnr projektnummer') },
   students: { id: STUDENT_IDS },
 };
 
 /**
- * Where the file has each column of the roll, by its usual names: the portal's own name first, then what says the most. Where the first name
- * has a column of its own, the name is that of the family.
+ * Where the file has each column of the roll, by its usual names: the portal's own name first, then what says the most. Where the first
+ * name has a column of its own, the name is that of the family.
  * @param {Roll} roll
  * @param {string[]} header
  * @returns {Columns}
@@ -62,7 +74,8 @@ const OWN = {
 export function columnsOf(roll, header) {
   const names = header.map(called);
   const first = (/** @type {string[]} */ wanted) => names.indexOf(wanted.find((name) => names.includes(name)) ?? '-');
-  const columns = Object.fromEntries(columnNames(roll).map((column) => [column, first([column, ...(OWN[roll][column] ?? []), ...NAMES[column]])]));
+  const columns = Object.fromEntries(columnNames(roll).map((column) =>
+    [column, first([column, ...(OWN[roll][column] ?? []), ...NAMES[column]])]));
   const [family, given] = [first(SURNAMES), first(NAMES.first)];
   if (!hasCodes(roll) || (family < 0 && given < 0)) return columns;
   // beside a family name what is called "name" alone is the first name
@@ -89,11 +102,29 @@ export function extraOf(columns, header) {
   return header.filter((name, at) => !taken.has(at) && name.trim() !== '');
 }
 
+// The header is one of the first rows, under a title or two.
+const MOST_TITLES = 40;
+
 /**
- * The roll that a file is for by its header: the first one of which all columns are there, where the one with the most columns is asked first.
+ * Where the header is: the first row with at least two names of columns that are known; else the first one with two cells or more.
+ * @param {FileRow[]} rows
+ */
+export function headAt(rows) {
+  const known = (/** @type {string[]} */ fields) =>
+    Math.max(...ROLLS.map((roll) => new Set(Object.values(columnsOf(roll, fields)).filter((at) => at >= 0)).size));
+  const first = (/** @type {(fields: string[]) => boolean} */ test) => rows.slice(0, MOST_TITLES).findIndex(({ fields }) => test(fields));
+  const [named, wide] = [first((fields) => known(fields) >= 2), first((fields) =>
+    fields.filter((field) => field.trim() !== '').length >= 2)];
+  return Math.max(0, named < 0 ? wide : named);
+}
+
+/**
+ * The roll that a file is for by its header: the first one of which all columns are there, where the one with the most columns is asked
+ * first.
  * @param {string[]} header
  */
-export const rollOf = (header) => /** @type {Roll[]} */ (['projects', 'lecturers', 'students']).find((roll) => missingOf(columnsOf(roll, header)).length === 0);
+export const rollOf = (header) =>
+  /** @type {Roll[]} */ (['projects', 'lecturers', 'students']).find((roll) => missingOf(columnsOf(roll, header)).length === 0);
 
 /**
  * A column that files of another roll have and those of this one have not: the number of a student, or the places of a lecturer.

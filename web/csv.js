@@ -4,6 +4,8 @@ const SEPARATORS = [',', ';', '\t'];
 
 // The first bytes of .xlsx and .ods, and of .xls.
 const WORKBOOKS = [[0x50, 0x4b, 0x03, 0x04], [0xd0, 0xcf, 0x11, 0xe0]];
+// So many records tell what separates fields.
+const JUDGED = 200;
 
 /**
  * Reads a file: how it was read, or why it is no table of text.
@@ -85,15 +87,31 @@ function encodingOf(bytes) {
 }
 
 /**
- * A first line `sep=;` names the separator and is no row. Else it is the one that gives the first row the most fields.
+ * A first line `sep=;` names the separator and is no row. Else it is the one that the most rows of one width have between their fields: a
+ * title above them, where nothing else separates, does not count.
  * @param {string} text
  */
 function separated(text) {
   const [line, separator] = /^sep=(.)(\r\n|\r|\n)/i.exec(text) ?? [];
   if (separator !== undefined) return { separator, rest: text.slice(line.length) };
-  /** @param {string} one */
-  const width = (one) => [...records(text.trimStart().split(/[\r\n]/)[0], one)][0]?.length ?? 0;
-  return { separator: SEPARATORS.reduce((best, one) => (width(one) > width(best) ? one : best)), rest: text };
+  const weights = SEPARATORS.map((one) => weightOf(text, one));
+  return { separator: SEPARATORS[weights.indexOf(Math.max(...weights))], rest: text };
+}
+
+/**
+ * How often the separator stands in the rows of that width for which it stands the most.
+ * @param {string} text
+ * @param {string} separator
+ */
+function weightOf(text, separator) {
+  /** @type {Map<number, number>} */
+  const rows = new Map();
+  let seen = 0;
+  for (const { length } of records(text, separator)) {
+    rows.set(length, (rows.get(length) ?? 0) + 1);
+    if (++seen === JUDGED) break;
+  }
+  return Math.max(0, ...[...rows].map(([width, count]) => (width - 1) * count));
 }
 
 /**
@@ -113,8 +131,8 @@ const INNER = new RegExp(`([;\\t])(?=["']*${SIGN})`, 'g');
 const WRITTEN_INNER = new RegExp(`([;\\t])'(?=["']*${SIGN})`, 'g');
 
 /**
- * Rows as text for a spreadsheet, which would take a cell that begins with one of these signs for a formula: it gets an apostrophe in front.
- * `table` takes that away again.
+ * Rows as text for a spreadsheet, which would take a cell that begins with one of these signs for a formula: it gets an apostrophe in
+ * front. `table` takes that away again.
  * @param {string[][]} rows
  * @param {string} [separator] that spreadsheets of the reader's language read without being asked
  */
@@ -123,8 +141,11 @@ export const writtenForSpreadsheets = (rows, separator) => written(rows.map((fie
 /** @param {string} field */
 const asText = (field) => field.replace(INNER, "$1'").replace(new RegExp(`^(?='*${SIGN})`), "'");
 
-/** @param {string} field */
-const meant = (field) => field.replace(WRITTEN_INNER, '$1').replace(new RegExp(`^'(?='*${SIGN})`), '');
+/**
+ * ="007" is how a text that looks like a number is written, so that a spreadsheet leaves it as it is.
+ * @param {string} field
+ */
+const meant = (field) => /^="([^"]*)"$/.exec(field)?.[1] ?? field.replace(WRITTEN_INNER, '$1').replace(new RegExp(`^'(?='*${SIGN})`), '');
 
 /**
  * A spreadsheet takes the text, or a part of it, for a formula, where it stands in a cell as it is.

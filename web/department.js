@@ -74,7 +74,9 @@ export function departmentOf(text) {
   }
   const names = namesOf(of?.name);
   if (names === null) return { name: '' };
-  const languages = Array.isArray(of.languages) ? { languages: of.languages.filter((/** @type {unknown} */ one) => typeof one === 'string') } : {};
+  const languages = Array.isArray(of.languages)
+    ? { languages: of.languages.filter((/** @type {unknown} */ one) => typeof one === 'string') }
+    : {};
   const links = LINKS.map((name) => [name, addressOf(of[name])]).filter(([, address]) => address !== '');
   return { ...names, ...languages, ...untilOf(of.until), ...Object.fromEntries(links) };
 }
@@ -111,7 +113,8 @@ const MOMENT = /^\d{4}-\d\d-\d\dT\d\d:\d\d(:\d\d)?(Z|[+-]\d\d:\d\d)$/;
 
 /** @param {any} until */
 function untilOf(until) {
-  const ends = WITH_END.map((stage) => /** @type {[string, End]} */ ([stage, endOf(until?.[stage])])).filter(([, { at }]) => !Number.isNaN(at.getTime()));
+  const ends = WITH_END.map((stage) => /** @type {[string, End]} */ ([stage, endOf(until?.[stage])])).filter(([, { at }]) =>
+    !Number.isNaN(at.getTime()));
   return ends.length === 0 ? {} : { until: Object.fromEntries(ends) };
 }
 

@@ -44,7 +44,8 @@ export function given(text, has = {}) {
  * A sentence with names in it, each as an element of its own.
  * @param {string} text that has them between the signs that set them apart
  */
-export const withNames = (text) => text.split(/[\u2068\u2069]/).map((piece, at) => (at % 2 === 1 ? given(piece) : document.createTextNode(piece)));
+export const withNames = (text) =>
+  text.split(/[\u2068\u2069]/).map((piece, at) => (at % 2 === 1 ? given(piece) : document.createTextNode(piece)));
 
 /**
  * A title with its key, or another text, in small letters under it, and what else is said of it.
@@ -128,13 +129,14 @@ export function bar(count, whole) {
 const MARK = '\ufeff';
 
 /**
- * Gives a text to the browser as a file to keep.
+ * Gives a text, or bytes, to the browser as a file to keep.
  * @param {string} name
- * @param {string} text
+ * @param {string | Uint8Array} content
  * @param {string} type
  */
-export function download(name, text, type) {
-  const address = URL.createObjectURL(new Blob([text.startsWith(MARK) ? text : MARK + text], { type }));
+export function download(name, content, type) {
+  const isMarked = typeof content !== 'string' || content.startsWith(MARK);
+  const address = URL.createObjectURL(new Blob([isMarked ? content : MARK + content], { type }));
   const link = make('a', { href: address, download: name, class: 'unseen' });
   document.body.append(link);
   link.click();
@@ -157,4 +159,15 @@ export function print(paper) {
   mark(true);
   addEventListener('afterprint', () => mark(false), { once: true });
   window.print();
+}
+
+/**
+ * A style sheet that not everybody needs; without it the page works too.
+ * @param {string} href
+ */
+export function styled(href) {
+  if (document.querySelector(`link[href="${href}"]`) !== null) return null;
+  return new Promise((resolve) => {
+    document.head.append(make('link', { rel: 'stylesheet', href, on: { load: resolve, error: resolve } }));
+  });
 }

@@ -38,7 +38,7 @@ export function orderFold({ title, how, hasFile, use }) {
 
 /** @param {UseOrder} use */
 function fileButton(use) {
-  const file = make('input', { type: 'file', accept: '.csv,.txt,text/csv,text/plain', 'aria-label': words.orderFile, hidden: true });
+  const file = make('input', { type: 'file', accept: '.xlsx,.csv,.txt,text/csv,text/plain', 'aria-label': words.orderFile, hidden: true });
   file.addEventListener('change', async () => {
     const [chosen] = file.files ?? [];
     if (chosen) use(new Uint8Array(await chosen.arrayBuffer()));

@@ -247,7 +247,10 @@ export function choose(question, said, answers) {
 export async function ask({ title, risk = '', lines = [], verb, stay }) {
   const said = lines.filter((line) => line !== '').map((text) => make('p', { text }));
   if (risk !== '') said.unshift(make('p', { class: 'risk', text: risk }));
-  return (await choose(title, said, [{ name: verb, value: true, isMain: risk === '' }, { name: stay, value: false, isMain: risk !== '' }])) === true;
+  return (await choose(title, said, [
+    { name: verb, value: true, isMain: risk === '' },
+    { name: stay, value: false, isMain: risk !== '' },
+  ])) === true;
 }
 
 /** Answers an open question as the Escape key does. */

@@ -77,7 +77,8 @@ export class Known {
    */
   lecturerName(lecturer) {
     for (const source of Object.values(this.#sources)) {
-      for (const project of source.values()) if (project.lecturer === lecturer && project.lecturer_name !== undefined) return project.lecturer_name;
+      for (const project of source.values()) if (project.lecturer === lecturer
+        && project.lecturer_name !== undefined) return project.lecturer_name;
     }
     return lecturer;
   }

@@ -1,4 +1,5 @@
-// What stands in the way of the office's next step, as far as the page knows: what is missing, who would be left out, and how many places there are.
+// What stands in the way of the office's next step, as far as the page knows: what is missing, who would be left out, and how many places
+// there are.
 
 import { words } from './words.js';
 import { countOfChoosers, roundOf } from './year.js';
@@ -7,8 +8,11 @@ import { countOfChoosers, roundOf } from './year.js';
 const LACKS = {
   openChoosing: (of) => [...empty(of), ...places(of), ...idle(of)],
   openRanking: (of) => [...early(of), ...lists(of), ...(roundOf(of.status) === 1 ? [...places(of), ...idle(of)] : [])],
-  fill: (of) => (of.toRank.length === 0 ? [{ text: words.filled([]), ends: true }] : [...early(of), { text: words.fillWith(words.listed(of.toRank)), isAskedOnly: true }]),
-  publish: (of) => (of.toRank.length === 0 ? [...early(of), ...unranked(of)] : [{ text: words.publishMissing(of.toRank.length), ends: true }]),
+  fill: (of) => (of.toRank.length === 0
+    ? [{ text: words.filled([]), ends: true }]
+    : [...early(of), { text: words.fillWith(words.listed(of.toRank)), isAskedOnly: true }]),
+  publish: (of) =>
+    (of.toRank.length === 0 ? [...early(of), ...unranked(of)] : [{ text: words.publishMissing(of.toRank.length), ends: true }]),
   openSecond: (of) => left(of),
 };
 
@@ -50,7 +54,8 @@ function empty({ status }) {
 }
 
 /**
- * No more students can have a project than there are places, counted by project and by lecturer. `isSure`: what each lecturer takes is known.
+ * No more students can have a project than there are places, counted by project and by lecturer. `isSure`: what each lecturer takes is
+ * known.
  * @param {{ lecturer: string, capacity: number }[]} projects
  * @param {There['lecturers']} lecturers
  */
@@ -68,7 +73,9 @@ function places({ status, projects, lecturers }) {
   const { count, isSure } = placesFor(projects, lecturers);
   // once students choose, the figures tell it
   const asked = status.phase === 'setup' ? {} : { isAskedOnly: true };
-  return status.projects > 0 && count < status.students ? [{ text: words.lacks.places(count, status.students, isSure), isRisk: true, ...asked }] : [];
+  return status.projects > 0 && count < status.students
+    ? [{ text: words.lacks.places(count, status.students, isSure), isRisk: true, ...asked }]
+    : [];
 }
 
 /**

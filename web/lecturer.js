@@ -20,7 +20,8 @@ export async function lecturerPage(of) {
   const { projects } = await portal.get('/catalogue');
   known.learn(projects, me);
   /** @type {[string, Project][]} */
-  const own = projects.filter((/** @type {Project} */ { lecturer }) => lecturer === me.key).map((/** @type {Project} */ project) => [project.id, project]);
+  const own = projects.filter((/** @type {Project} */ { lecturer }) => lecturer === me.key).map((/** @type {Project} */ project) =>
+    [project.id, project]);
   /** @type {LecturerState} */
   const state = { open: new Map(own), placed: hasResult(me) ? (await portal.get('/result')).projects : [], applied: null, saved: null };
   const isRanked = me.phase === 'ranking' || me.phase === 'published';
@@ -34,7 +35,11 @@ export async function lecturerPage(of) {
   const middle = ranking === null ? [] : [ranking.element];
   // what is to be done stands first
   const parts = me.phase === 'ranking' ? [...middle, ...result] : [...result, ...middle];
-  return { isChanged: () => false, ...ranking, year: { ...ranking?.year, ...yearOf(me, state) }, element: make('div', {}, [answersFold('lecturer', words.decidedAndSeen), ...parts, projectsPart(of, state)]) };
+  return { isChanged: () => false, ...ranking, year: { ...ranking?.year, ...yearOf(me, state) }, element: make(
+    'div',
+    {},
+    [answersFold('lecturer', words.decidedAndSeen), ...parts, projectsPart(of, state)],
+  ) };
 }
 
 /**
@@ -85,15 +90,20 @@ function savedPart(of, { saved, placed }, { people, tools }) {
   const keys = saved ?? [];
   const titles = new Map(placed.flatMap(({ id, students }) => students.map(({ key }) => [key, known.titleOf(id)])));
   const nameOf = (/** @type {string} */ key) => people.get(key) ?? { key, name: key, projects: [] };
-  const mark = (/** @type {string | undefined} */ title) => (title === undefined ? [] : [make('span', { class: 'mark yours', text: words.markPlaced(title) })]);
+  const mark = (/** @type {string | undefined} */ title) =>
+    (title === undefined ? [] : [make('span', { class: 'mark yours', text: words.markPlaced(title) })]);
   const entry = (/** @type {string} */ key) => shownApplicant(nameOf(key), known, mark(titles.get(key)));
   const own = part(label, [
     make('p', { text: roundOf(me) === 2 ? words.whyNotHereSecond : words.whyNotHere }),
     ...filledHint(me, saved),
     fixedList(label, keys.map(entry)),
-    make('div', { class: 'buttons' }, [receiptButton({ title: label, me, entries: () => keys.map(entry), lines: () => savedLines(me, keys) }), tools]),
+    make('div', { class: 'buttons' }, [
+      receiptButton({ title: label, me, entries: () => keys.map(entry), lines: () => savedLines(me, keys) }),
+      tools,
+    ]),
   ]);
-  return make('div', {}, [own, ...unsavedPart(of, saved, { show: (key) => shownApplicant(nameOf(key), known), name: (key) => nameOf(key).name })]);
+  return make('div', {}, [own, ...unsavedPart(of, saved, { show: (key) => shownApplicant(nameOf(key), known), name: (key) =>
+    nameOf(key).name })]);
 }
 
 /**
@@ -108,7 +118,7 @@ function applicantsSheet(people, known, messages) {
     header: words.applicantsHeader,
     fileHeader: ['id', 'name', 'projects'],
     rows: () => people.map(({ key, name, projects }) => [key, name, projects.map((id) => known.titleOf(id)).join('; ')]),
-    file: 'applicants.csv',
+    file: 'applicants',
     messages,
   });
 }
@@ -118,11 +128,13 @@ function applicantsSheet(people, known, messages) {
  * @param {LecturerState} state
  */
 function resultPart({ known, messages }, { placed }) {
-  const parts = placed.map(({ id, students }) => make('div', { class: 'project' }, [make('h3', {}, [titled(known.titleOf(id), id)]), peopleOf(students)]));
+  const parts = placed.map(({ id, students }) =>
+    make('div', { class: 'project' }, [make('h3', {}, [titled(known.titleOf(id), id)]), peopleOf(students)]));
   const rows = () => placed.flatMap(({ id, students }) => students.map(({ key, name }) => [key, name, id, known.titleOf(id)]));
   const hasSomebody = placed.some(({ students }) => students.length > 0);
   const fileHeader = ['student', 'name', 'project', 'title'];
-  const sheet = { texts: words.resultSheet, title: words.whoHasWhat, header: words.resultHeader, fileHeader, rows, file: 'result.csv', messages };
+  const sheet =
+    { texts: words.resultSheet, title: words.whoHasWhat, header: words.resultHeader, fileHeader, rows, file: 'result', messages };
   return part(words.whoHasWhat, [...parts, ...(hasSomebody ? [tableButtons(sheet)] : [])], { class: 'result' });
 }
 

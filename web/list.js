@@ -1,5 +1,6 @@
 // The own list or ranking of a person: changed, taken back, saved, and printed as it is saved. What is not saved stays in this tab when the
-// page is loaded anew. Where somebody saved another one meanwhile, in another tab or on another device, the person is asked which one stays.
+// page is loaded anew. Where somebody saved another one meanwhile, in another tab or on another device, the person is asked which one
+// stays.
 
 import { button, isUsable, make, part, setUsable } from './dom.js';
 import { choose } from './frame.js';
@@ -12,7 +13,8 @@ import { isSameStep, roundOf, soonText } from './year.js';
 
 // So many changes can be taken back.
 const STEPS = 200;
-// How often it is looked how near the end of the stage is; and how often, and how many times, whether what got no reply was saved. In milliseconds.
+// How often it is looked how near the end of the stage is; and how often, and how many times, whether what got no reply was saved. In
+// milliseconds.
 const NEAR = 20_000;
 const LOOK = 3_000;
 const LOOKS = 20;
@@ -84,7 +86,8 @@ export class ListEditor {
     const gone = draft?.keys.filter((key) => !of.isThere(key)) ?? [];
     if (gone.length > 0) page.messages.warn(words.draftLess(words.listed(gone.map(of.name))));
     this.#save = button(texts.save, () => isUsable(this.#save) && this.#press(), { class: 'main' });
-    this.#receipt = receiptButton({ title: texts.label, me: page.me, entries: () => (this.#saved ?? []).map(of.show), lines: () => this.#savedLines() });
+    this.#receipt =
+      receiptButton({ title: texts.label, me: page.me, entries: () => (this.#saved ?? []).map(of.show), lines: () => this.#savedLines() });
     this.#show = this.#showButton();
     this.bar = make('div', { class: 'save-row' }, [this.#save, this.#undo, this.#state, this.#count, this.#show]);
     const timer = setInterval(() => (this.bar.isConnected ? this.#showState() : clearInterval(timer)), NEAR);
@@ -269,9 +272,17 @@ export class ListEditor {
   async #isMineKept(keys, other) {
     const { texts, show, page } = this.#of;
     /** @param {string} title @param {string[]} list */
-    const column = (title, list) => make('div', {}, [make('h3', { text: title }), list.length === 0 ? make('p', { text: words.empty }) : fixedList(title, list.map(show))]);
-    const said = [make('p', { text: words.savedMeanwhile }), make('div', { class: 'both' }, [column(words.listHere, keys), column(words.listSaved, other)])];
-    const answer = await choose(texts.which, said, [{ name: words.keepHere, value: 'here' }, { name: words.keepSaved, value: 'saved' }, { name: words.cancel, value: null }]);
+    const column = (title, list) => make('div', {}, [make('h3', { text: title }), list.length === 0
+      ? make('p', { text: words.empty })
+      : fixedList(title, list.map(show))]);
+    const said = [
+      make('p', { text: words.savedMeanwhile }),
+      make('div', { class: 'both' }, [column(words.listHere, keys), column(words.listSaved, other)]),
+    ];
+    const answer = await choose(texts.which, said, [{ name: words.keepHere, value: 'here' }, { name: words.keepSaved, value: 'saved' }, {
+      name: words.cancel,
+      value: null,
+    }]);
     if (answer === 'saved') {
       this.#isNow(other);
       this.#list.set(other);

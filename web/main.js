@@ -28,7 +28,9 @@ let page;
 /** @type {() => void} */
 let tellOtherTabs;
 let isChanged = () => false;
-let isKept = false;
+/** @type {Content['risk']} */
+let riskOf;
+let isKept = () => false;
 // What the names of the drafts of whoever is signed in begin with.
 let owner = '';
 // Counts what was shown, so that a reply that comes late is not shown over something newer.
@@ -42,7 +44,8 @@ async function start() {
   for (const language of [firstLanguage(offered, navigator.languages), ...offered]) isSpoken ||= await speak(language);
   if (!isSpoken) return document.body.classList.add('failed');
   // a file that is dropped beside its field is not opened in place of the page
-  for (const name of ['dragover', 'drop']) addEventListener(name, (event) => /** @type {DragEvent} */ (event).dataTransfer?.types.includes('Files') && event.preventDefault());
+  for (const name of ['dragover', 'drop']) addEventListener(name, (event) =>
+    /** @type {DragEvent} */ (event).dataTransfer?.types.includes('Files') && event.preventDefault());
   addEventListener('beforeunload', (event) => isChanged() && event.preventDefault());
   tellOtherTabs = watch({ elsewhere: leaveToo, idle: () => signIn({ message: words.signedOutIdle }), soon: askWhoIsThere });
   show(forgetIdle() ? words.signedOutIdle : '');
@@ -61,13 +64,14 @@ function show(message = '') {
 
 /** @param {string} language */
 async function changeLanguage(language) {
-  if (!isKept && !(await mayLeave())) return;
+  if (!isKept() && !(await mayLeave())) return;
   await speak(language);
   chooseLanguage(language);
   show();
 }
 
-const mayLeave = async () => !isChanged() || ask({ title: words.unsavedLeave, risk: words.unsavedLost, verb: words.leave, stay: words.keepEditing });
+const mayLeave = async () =>
+  !isChanged() || ask({ title: words.unsavedLeave, risk: riskOf?.() ?? words.unsavedLost, verb: words.leave, stay: words.keepEditing });
 
 /** @param {Parameters<typeof signInForm>[1]} said */
 function signIn(said = {}) {
@@ -131,9 +135,10 @@ function leave(message) {
 /** Somebody signed out in another tab. What is not saved here is kept for whoever signs in here again, or else is asked about. */
 async function leaveToo() {
   if (!isChanged()) return leave(words.signedOutElsewhere);
-  if (isKept) return signIn({ message: words.signedOutKept });
+  if (isKept()) return signIn({ message: words.signedOutKept });
   dismiss();
-  if (await ask({ title: words.signedOutAsk, risk: words.unsavedLost, verb: words.signOut, stay: words.stay })) leave(words.signedOutElsewhere);
+  const question = { title: words.signedOutAsk, risk: riskOf?.() ?? words.unsavedLost, verb: words.signOut, stay: words.stay };
+  if (await ask(question)) leave(words.signedOutElsewhere);
 }
 
 /**
@@ -154,7 +159,7 @@ async function open(portal, { me = null, tell = () => {} } = {}) {
   await attempt(async () => {
     const caller = me ?? /** @type {Me} */ (await portal.get('/me'));
     if (!isCurrent()) return;
-    owner = `${caller.role} ${caller.key} `;
+    owner = caller.role === 'office' ? 'office ' : `${caller.role} ${caller.key} `;
     page.showWho(caller);
     const known = await knownProjects(portal);
     const content = await (await pageOf(caller.role))({ portal, me: caller, messages, attempt, reload, known, until: own.until ?? {} });
@@ -187,7 +192,8 @@ async function pageOf(role) {
 function showContent(me, content, messages) {
   const { aims = [], bar } = content;
   isChanged = content.isChanged;
-  isKept = content.isKept ?? false;
+  isKept = content.isKept ?? (() => false);
+  riskOf = content.risk;
   page.place.replaceChildren(yearPart(me, content.year, own.until), content.element);
   page.dock.replaceChildren(messages.element);
   if (bar) {

@@ -1,9 +1,9 @@
-// The office's page: how far the year is, the next step and who is missing, the files, people and projects, in the end who has what, and the
-// names in this browser.
+// The office's page: how far the year is, the next step and who is missing, the files, people and projects, in the end who has what, and
+// the names in this browser.
 
 import { answersFold } from './answers.js';
 import { sheetButton } from './answersheet.js';
-import { button, make, part } from './dom.js';
+import { button, make, part, styled } from './dom.js';
 import { ask } from './frame.js';
 import { lacksOf, placesFor } from './lacks.js';
 import { Names, thereOf } from './names.js';
@@ -25,17 +25,8 @@ const FILLED = 'portal-filled';
  */
 export async function officePage(of) {
   const page = new OfficePage(of);
-  await Promise.all([page.load(), styled()]);
-  return { element: page.element, isChanged: () => page.hasUnsentCodes() };
-}
-
-/** The style sheet that this page alone needs; without it the page works too. */
-function styled() {
-  const href = 'office.css';
-  if (document.querySelector(`link[href="${href}"]`) !== null) return null;
-  return new Promise((resolve) => {
-    document.head.append(make('link', { rel: 'stylesheet', href, on: { load: resolve, error: resolve } }));
-  });
+  await Promise.all([page.load(), styled('office.css')]);
+  return { element: page.element, isChanged: () => page.isChanged, isKept: () => page.isKept, risk: () => page.risk };
 }
 
 class OfficePage {
@@ -78,14 +69,24 @@ class OfficePage {
     const sheet = make('div', { class: 'buttons' }, [sheetButton(() => this.#status, this.#of.messages)]);
     const answers = part(words.decidedAndSeen, [sheet, answersFold('office', words.showAnswers, false)], { class: 'screen' });
     const rest = [this.#state, this.#steps];
-    if (this.#of.me.phase === 'published') return [this.#state, this.#files, this.#steps, this.#result, this.#data.element, answers, names];
+    if (this.#of.me.phase === 'published') {
+      return [this.#state, this.#files, this.#steps, closingPart(), this.#result, this.#data.element, answers, names];
+    }
     if (!canSend) return [...rest, this.#files, this.#result, this.#data.element, answers, names];
     const first = this.#of.me.phase === 'setup' ? [this.#rolls.element, ...rest] : [...rest, this.#rolls.element];
     return [...first, this.#data.element, answers, names];
   }
 
-  hasUnsentCodes() {
-    return this.#rolls.hasUnsentCodes();
+  get isChanged() {
+    return this.#rolls.hasUnsentCodes() || this.#rolls.hasUnkeptWork();
+  }
+
+  get isKept() {
+    return !this.#rolls.hasUnkeptWork();
+  }
+
+  get risk() {
+    return this.#rolls.risk;
   }
 
   /** Asks how the year stands, and shows it. */
@@ -109,7 +110,12 @@ class OfficePage {
     this.#names.show(new Map(result.rows.map(({ student, name }) => [student, name])));
     const titles = new Map(result.rows.map(({ project, title }) => [project, title]));
     /** @type {Shown} */
-    const shown = { ...result, titleOf: (key) => titles.get(key) ?? this.#of.known.titleOf(key), nameOf: (key) => this.#nameOf(key) ?? key, noneOf: (key) => this.#noneOf(key) };
+    const shown = {
+      ...result,
+      titleOf: (key) => titles.get(key) ?? this.#of.known.titleOf(key),
+      nameOf: (key) => this.#nameOf(key) ?? key,
+      noneOf: (key) => this.#noneOf(key),
+    };
     this.#files.replaceChildren(resultFiles(shown, this.#status));
     this.#result.replaceChildren(resultPart(shown));
   }
@@ -181,7 +187,9 @@ class OfficePage {
   #keptPart() {
     const { count } = this.#names;
     if (count === 0) return [make('p', { text: words.noNames })];
-    return [make('p', { text: words.namesAre(count, this.#names.emails) }), make('div', { class: 'buttons' }, [button(words.forgetNames, () => this.#forget())])];
+    return [make('p', { text: words.namesAre(count, this.#names.emails) }), make('div', { class: 'buttons' }, [
+      button(words.forgetNames, () => this.#forget()),
+    ])];
   }
 
   #forget() {
@@ -195,9 +203,7 @@ class OfficePage {
     const rows = stepsFrom(this.#of.me).map((step) => this.#stepRow(step));
     const refresh = button(words.refresh, () => this.#of.attempt(() => this.#refresh()), { class: 'refresh' });
     const end = rows.length > 0 ? [] : [make('p', { text: words.published })];
-    const isOut = this.#of.me.phase === 'published';
-    const closing = isOut ? [make('h3', { text: words.closing }), make('ul', { class: 'closing' }, words.closingParts.map((text) => make('li', { text })))] : [];
-    return part(words.goOn, [refresh, ...end, ...rows, ...closing], { class: 'screen steps' });
+    return part(words.goOn, [refresh, ...end, ...rows], { class: 'screen steps' });
   }
 
   /**
@@ -209,10 +215,17 @@ class OfficePage {
     const lacks = this.#lacks(name);
     const [reason, meaning] = [`reason-${name}`, `meaning-${name}`];
     const end = lacks.find(({ ends }) => ends);
-    const go = button(words[name], () => this.#ask(step), { class: isMain && !end && this.#isTime(name) && 'main', disabled: end !== undefined, 'aria-describedby': end ? `${reason} ${meaning}` : meaning });
+    const go = button(words[name], () => this.#ask(step), {
+      class: isMain && !end && this.#isTime(name) && 'main',
+      disabled: end !== undefined,
+      'aria-describedby': end ? `${reason} ${meaning}` : meaning,
+    });
     this.#buttons.set(name, go);
-    const said = (end ? [] : lacks).filter(({ isAskedOnly }) => !isAskedOnly).map(({ text, isRisk }) => make('p', { text, class: isRisk && 'doubt' }));
-    const file = lacks.some(({ needsLecturers }) => needsLecturers) ? [this.#rolls.lecturersField(() => this.#buttons.get(name)?.focus())] : [];
+    const said = (end ? [] : lacks).filter(({ isAskedOnly }) => !isAskedOnly).map(({ text, isRisk }) =>
+      make('p', { text, class: isRisk && 'doubt' }));
+    const file = lacks.some(({ needsLecturers }) => needsLecturers)
+      ? [this.#rolls.lecturersField(() => this.#buttons.get(name)?.focus())]
+      : [];
     return make('div', { class: 'step' }, [
       make('div', { class: 'buttons' }, [go, ...(end ? [make('p', { id: reason, text: end.text, class: 'doubt reason' })] : [])]),
       ...file,
@@ -298,12 +311,20 @@ class OfficePage {
   }
 }
 
+/** What is left to do once the results are out. */
+function closingPart() {
+  const all = make('ul', { class: 'closing' }, words.closingParts.map((text) => make('li', { text })));
+  return part(words.closing, [all], { class: 'screen' });
+}
+
 /**
  * The lecturers whose rankings of this round were filled in from this browser.
  * @param {Step} step
  * @returns {string[]}
  */
-const filledHere = (step) => kept(FILLED, []).filter((/** @type {string} */ one) => one.startsWith(`${roundOf(step)} `)).map((/** @type {string} */ one) => one.slice(2));
+const filledHere = (step) => kept(FILLED, []).filter((/** @type {string} */ one) => one.startsWith(`${roundOf(step)} `)).map(
+  (/** @type {string} */ one) => one.slice(2),
+);
 
 /** @type {Record<Phase, Move[]>} What is a last resort stands last. */
 const STEPS = {

@@ -1,13 +1,14 @@
-// What was understood of an order that was made elsewhere, before it takes the place of a ranking: by what it is ordered, who shares a rank, who
-// stands there twice or not at all. A person takes it or goes back.
+// What was understood of an order that was made elsewhere, before it takes the place of a ranking: by what it is ordered, who shares a
+// rank, who stands there twice or not at all. A person takes it or goes back.
 
-import { table } from './csv.js';
+import { table, written } from './csv.js';
 import { given, labelled, make } from './dom.js';
 import { choose } from './frame.js';
 import { FRONT, readOrder } from './orderfile.js';
 import { BY_LINES, isAsGiven, orderBy, usualBy } from './orderranks.js';
 import { OrderedList, fixedList } from './ordered.js';
 import { words } from './words.js';
+import { readWorkbook } from './workbook.js';
 
 // So many shared ranks, of so many people each, are put in order here; more are told.
 const GROUPS = 4;
@@ -23,14 +24,26 @@ const FIRST = 5;
  * @returns {Promise<string[] | null>}
  */
 export async function orderFrom(bytes, people, ranked) {
-  const read = readOrder(bytes, people);
-  if (read.lines.length === 0) return [];
+  const reads = (await textsOf(bytes)).map((text) => readOrder(text, people));
+  const read = reads.find(({ lines }) => lines.length > 0);
+  if (read === undefined) return [];
   const by = usualBy(read, people.keys()) ?? (await askBy(read));
   if (by === null) return null;
   const question = new Question(read, people, ranked);
   question.show(by);
-  const answers = [{ name: words.useOrder, value: true, isMain: !question.hasRisk }, { name: words.orderBack, value: false, isMain: question.hasRisk }];
+  const answers =
+    [{ name: words.useOrder, value: true, isMain: !question.hasRisk }, { name: words.orderBack, value: false, isMain: question.hasRisk }];
   return (await choose(words.orderAsk, [question.element], answers)) ? question.keys : null;
+}
+
+/**
+ * The sheets of a workbook as texts; anything else is one text itself.
+ * @param {Uint8Array} bytes
+ */
+async function textsOf(bytes) {
+  if (table(bytes).fault !== 'workbook') return [bytes];
+  const { sheets = [] } = await readWorkbook(bytes);
+  return sheets.map(({ rows }) => new TextEncoder().encode(written(rows.map(({ fields }) => fields))));
 }
 
 /**
@@ -56,7 +69,8 @@ function askBy(read) {
  */
 function waysOf({ columns }) {
   /** @type {[string, OrderBy][]} */
-  const byColumns = columns.flatMap((column) => [false, true].map((isFalling) => /** @type {[string, OrderBy]} */ ([words.orderByColumn(calledBy(column), isFalling), { column, isFalling }])));
+  const byColumns = columns.flatMap((column) => [false, true].map((isFalling) =>
+    /** @type {[string, OrderBy]} */ ([words.orderByColumn(calledBy(column), isFalling), { column, isFalling }])));
   return [...byColumns, [words.orderByLines, BY_LINES]];
 }
 
@@ -143,13 +157,18 @@ class Question {
     ];
     this.hasRisk = risks.some((text) => text !== false);
     const facts = [
-      words.orderFound(keys.length, this.#people.size, waysOf(this.#read).find(([, way]) => way.column?.at === by.column?.at && way.isFalling === by.isFalling)?.[0] ?? ''),
+      words.orderFound(
+        keys.length,
+        this.#people.size,
+        waysOf(this.#read).find(([, way]) => way.column?.at === by.column?.at && way.isFalling === by.isFalling)?.[0] ?? '',
+      ),
       left.length > 0 && words.orderLeft(left.length, this.#called(left)),
       unranked.length > 0 && column !== null && words.orderUnranked(this.#called(unranked)),
       twice.length > 0 && words.orderTwice(this.#called(twice)),
       this.#read.others.length > 0 && words.orderOthers(words.listed(this.#read.others)),
     ];
-    const said = (/** @type {(string | false)[]} */ texts, /** @type {string} */ style) => texts.flatMap((text) => (text === false ? [] : [make('p', { class: style, text })]));
+    const said = (/** @type {(string | false)[]} */ texts, /** @type {string} */ style) =>
+      texts.flatMap((text) => (text === false ? [] : [make('p', { class: style, text })]));
     return [...said(risks, 'risk'), ...said(facts, '')];
   }
 
@@ -178,7 +197,13 @@ class Question {
   #showStart() {
     const all = this.keys;
     const name = (/** @type {string} */ key) => given(words.named(this.#people.get(key)?.name ?? key, key));
-    const last = all.length > FIRST ? [make('p', { class: 'quiet last' }, [document.createTextNode(`… ${words.orderLast(all.length)} `), name(all[all.length - 1])])] : [];
-    this.#start.replaceChildren(make('h3', { text: words.orderStart }), fixedList(words.orderStart, all.slice(0, FIRST).map(name)), ...last);
+    const last = all.length > FIRST
+      ? [make('p', { class: 'quiet last' }, [document.createTextNode(`… ${words.orderLast(all.length)} `), name(all[all.length - 1])])]
+      : [];
+    this.#start.replaceChildren(
+      make('h3', { text: words.orderStart }),
+      fixedList(words.orderStart, all.slice(0, FIRST).map(name)),
+      ...last,
+    );
   }
 }

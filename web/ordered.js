@@ -30,8 +30,8 @@ export const isSame = (a, b) => a.length === b.length && a.every((key, place) =>
 
 /** @type {{ [key: string]: (at: number) => number }} */
 const KEYS = { ArrowUp: (at) => at - 1, ArrowDown: (at) => at + 1, Home: () => 0, End: () => Infinity };
-// They are meant where the focus came by keyboard, or with Alt: after a click they scroll. A browser takes the focus of an entry that was put
-// to another place for one of a script, so that it does not tell. In the field of a position these keys move within its number.
+// They are meant where the focus came by keyboard, or with Alt: after a click they scroll. A browser takes the focus of an entry that was
+// put to another place for one of a script, so that it does not tell. In the field of a position these keys move within its number.
 const OF_FIELD = ['Home', 'End'];
 
 let isByKeyboard = true;
@@ -159,7 +159,10 @@ export class OrderedList {
     /** @type {Map<string, number>} */
     const counts = new Map();
     for (const key of this.#keys) counts.set(this.#of.name(key), (counts.get(this.#of.name(key)) ?? 0) + 1);
-    for (const key of this.#keys) this.#entries.get(key)?.classList.toggle('alike', /** @type {number} */ (counts.get(this.#of.name(key))) > 1);
+    for (const key of this.#keys) this.#entries.get(key)?.classList.toggle(
+      'alike',
+      /** @type {number} */ (counts.get(this.#of.name(key))) > 1,
+    );
   }
 
   /** @param {string} key */
@@ -309,7 +312,8 @@ export function step(y, bottom, from) {
 /**
  * Follows the pointer from when it is pressed until it is let go.
  * @param {PointerEvent} down
- * @param {{ moved: (y: number) => void, done: () => void }} how `moved` is handed the pointer's height in the window, `done` is called at the end
+ * @param {{ moved: (y: number) => void, done: () => void }} how `moved` is handed the pointer's height in the window, `done` is called at
+ *   the end
  */
 function follow(down, how) {
   let y = down.clientY;

@@ -1,5 +1,5 @@
-// An order of applicants that was made elsewhere, as people write one: IDs in any case, with or without their leading zeros, with ranks, names
-// or commas beside them, or names alone. What its numbers may mean, and the order that comes of it, is in orderranks.js.
+// An order of applicants that was made elsewhere, as people write one: IDs in any case, with or without their leading zeros, with ranks,
+// names or commas beside them, or names alone. What its numbers may mean, and the order that comes of it, is in orderranks.js.
 
 import { table } from './csv.js';
 import { meantBy } from './found.js';
@@ -10,6 +10,8 @@ export const FRONT = -2;
 const ID = /^(id|student.?id|matrik.*|kennung)$/i;
 const NAME = /^(student|studierende.*|name|.*name)$/i;
 const NUMBER = /^[#(]?\s*([+-]?\d+(?:[.,]\d+)?)\s*[.):]?$/;
+// The heads stand under so many titles at most.
+const MOST_TITLES = 20;
 const BEFORE = /^[#(]?(\d+)[.):]*(?:[\s,;]+|$)/;
 
 /**
@@ -21,9 +23,9 @@ const BEFORE = /^[#(]?(\d+)[.):]*(?:[\s,;]+|$)/;
 export function readOrder(bytes, people) {
   const found = table(bytes);
   const rows = 'rows' in found ? found.rows.map(({ fields }) => fields.map((field) => field.trim())) : [];
-  const finders = { keyOf: keyFinder(people), bareOf: bareFinder(people), personOf: meantBy([...people].map(([key, { name }]) => [key, name])) };
-  const heads = headOf(rows, finders);
-  const body = heads === null ? rows : rows.slice(1);
+  const finders =
+    { keyOf: keyFinder(people), bareOf: bareFinder(people), personOf: meantBy([...people].map(([key, { name }]) => [key, name])) };
+  const { heads, body } = underHeads(rows, finders);
   const id = (heads ?? []).findIndex((head) => ID.test(head));
   /** @type {(OrderLine & { isCrossed?: boolean })[]} */
   const lines = id < 0 ? freeLines(body, finders) : body.map((fields) => tableLine(fields, id, heads ?? [], finders));
@@ -31,7 +33,8 @@ export function readOrder(bytes, people) {
   return {
     lines: told,
     crossed: told.filter(({ isCrossed }) => isCrossed).flatMap(({ keys }) => keys),
-    others: [...new Set(lines.filter(({ keys, fields }) => keys.length === 0 && isSaid(fields, id)).map(({ fields }) => fields.filter((field) => field !== '').join(', ')))],
+    others: [...new Set(lines.filter(({ keys, fields }) => keys.length === 0 && isSaid(fields, id)).map(({ fields }) =>
+      fields.filter((field) => field !== '').join(', ')))],
     columns: numberColumns(told, heads, id, finders),
   };
 }
@@ -44,15 +47,18 @@ export function readOrder(bytes, people) {
 const isSaid = (fields, id) => id < 0 || fields[id] !== '' || fields.some((field) => /\p{L}/u.test(field));
 
 /**
- * The heads of the columns, or null where the first row is none of heads: it tells who has an ID, or it has several words that mean nobody.
+ * The heads of the columns, or null, and the rows below: of heads is a row that tells where the IDs are, perhaps under titles, or a first
+ * one of several words that mean nobody.
  * @param {string[][]} rows
  * @param {Finders} finders
  */
-function headOf(rows, finders) {
+function underHeads(rows, finders) {
+  const at = rows.slice(0, MOST_TITLES).findIndex((fields) => fields.some((field) => ID.test(field)));
+  if (at >= 0) return { heads: rows[at], body: rows.slice(at + 1) };
   const [first = [], second = []] = rows;
-  if (first.some((field) => ID.test(field))) return first;
   const isOfWords = first.filter((field) => field !== '').length > 1 && first.every((field) => !NUMBER.test(field));
-  return isOfWords && second.length > 1 && keysOf(first, '', finders).length === 0 ? first : null;
+  const isHead = isOfWords && second.length > 1 && keysOf(first, '', finders).length === 0;
+  return isHead ? { heads: first, body: rows.slice(1) } : { heads: null, body: rows };
 }
 
 /**
@@ -84,7 +90,8 @@ function freeLines(rows, finders) {
   const told = rows.map((fields, at) => ({ fields, front: fronts[at], keys: keysOf(fields, `${at + 1}`, finders) }));
   const some = told.filter(({ keys, front }) => keys.length > 0 || front !== null);
   const isRanked = some.length > 1 && some.every(({ front }) => front !== null);
-  return told.map(({ fields, front, keys }) => (isRanked && front !== null ? { fields, keys: front.keys, front: front.number } : { fields, keys, front: null }));
+  return told.map(({ fields, front, keys }) =>
+    (isRanked && front !== null ? { fields, keys: front.keys, front: front.number } : { fields, keys, front: null }));
 }
 
 /**
@@ -143,7 +150,8 @@ const bare = (token) => token.replace(/^\W+|\W+$/g, '');
  */
 function keyFinder(people) {
   const folded = byOne(people, (key) => key.toLowerCase());
-  return (token) => [token, bare(token)].find((text) => people.has(text)) ?? folded.get(token.toLowerCase()) ?? folded.get(bare(token).toLowerCase());
+  return (token) =>
+    [token, bare(token)].find((text) => people.has(text)) ?? folded.get(token.toLowerCase()) ?? folded.get(bare(token).toLowerCase());
 }
 
 /**
@@ -179,14 +187,17 @@ function byOne(people, textOf) {
  */
 function numberColumns(lines, heads, id, finders) {
   const count = Math.max(0, ...lines.map(({ fields }) => fields.length));
-  const columns = Array.from({ length: count }, (_, at) => ({ at, head: heads?.[at] ?? '', numbers: lines.map(({ fields }) => numberOf(fields[at] ?? '')) }));
-  if (lines.some(({ front }) => front !== null)) columns.unshift({ at: FRONT, head: heads?.[0] ?? '', numbers: lines.map(({ front }) => front ?? undefined) });
+  const columns = Array.from({ length: count }, (_, at) =>
+    ({ at, head: heads?.[at] ?? '', numbers: lines.map(({ fields }) => numberOf(fields[at] ?? '')) }));
+  if (lines.some(({ front }) => front !== null)) columns.unshift(
+    { at: FRONT, head: heads?.[0] ?? '', numbers: lines.map(({ front }) => front ?? undefined) },
+  );
   const isFront = columns[0]?.at === FRONT;
   return columns.filter(({ at, numbers }) => at !== id && !(isFront && at === 0) && isOfNumbers(lines, at, numbers, finders));
 }
 
 /**
- * Each line has a number there or nothing, and it is not the ID of who is told in the line.
+ * Most of what stands there are numbers, and none is the ID of who is told in the line. A word beside them, such as "no", is no number.
  * @param {OrderLine[]} lines
  * @param {number} at
  * @param {(number | undefined)[]} numbers
@@ -197,7 +208,7 @@ function isOfNumbers(lines, at, numbers, { keyOf, bareOf }) {
   if (filled < 2) return false;
   if (at === FRONT) return true;
   const isOwnKey = lines.some(({ keys, fields }) => keys.includes(keyOf(fields[at] ?? '') ?? bareOf(fields[at] ?? '') ?? ''));
-  return !isOwnKey && lines.every(({ fields }, line) => (fields[at] ?? '') === '' || numbers[line] !== undefined);
+  return !isOwnKey && filled * 2 > lines.filter(({ fields }) => (fields[at] ?? '') !== '').length;
 }
 
 /** @param {string} text */

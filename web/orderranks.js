@@ -4,7 +4,10 @@ import { FRONT } from './orderfile.js';
 import { isSame } from './ordered.js';
 
 // Heads of columns, the surest first. More points are better; of all others the smallest number is.
-const HEADS = [/^(rang|rank|ranking|place|platz|platzierung|position|pos\.?|reihenfolge|order|priorit(y|ät)|prio)$/i, /^(note|grade|mark)$/i, /^(points?|punkte|pkt\.?|score)$/i, /^(nr\.?|no\.?|num(mer|ber)|#|lfd\.? ?nr\.?)$/i];
+const HEADS = [
+  /^(rang|rank|ranking|place|platz|platzierung|position|pos\.?|reihenfolge|order|priorit(y|ät)|prio)$/i, /^(note|grade|mark)$/i,
+  /^(points?|punkte|pkt\.?|score)$/i, /^(nr\.?|no\.?|num(mer|ber)|#|lfd\.? ?nr\.?)$/i,
+];
 const POINTS = HEADS[2];
 
 /** @type {OrderBy} */
@@ -61,8 +64,8 @@ export function isAsGiven(keys, given) {
 }
 
 /**
- * What decides as far as that is clear, or null where a person has to say: a column that is called a rank, or that counts from one; the lines,
- * where there is no other, or where the numbers are those of the portal's own order and the lines have been moved since.
+ * What decides as far as that is clear, or null where a person has to say: a column that is called a rank, or that counts from one; the
+ * lines, where there is no other, or where the numbers are those of the portal's own order and the lines have been moved since.
  * @param {OrderRead} read
  * @param {Iterable<string>} given
  * @returns {OrderBy | null}
@@ -96,6 +99,7 @@ function sureness({ at, head, numbers }) {
 function isCount(all) {
   const numbers = all.filter((number) => number !== undefined);
   const different = new Set(numbers).size;
-  const isOfCount = (/** @type {number | undefined} */ number) => Number.isInteger(number) && Number(number) >= 1 && Number(number) <= 1.5 * numbers.length;
+  const isOfCount = (/** @type {number | undefined} */ number) =>
+    Number.isInteger(number) && Number(number) >= 1 && Number(number) <= 1.5 * numbers.length;
   return numbers.every(isOfCount) && different > 2 && different >= 0.8 * numbers.length;
 }

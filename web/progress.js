@@ -18,7 +18,8 @@ const UNFOLDED = 20;
 export function stateParts({ status, projects, rankers, most }) {
   if (status.phase === 'setup') return [];
   const offering = new Set(projects.map(({ lecturer }) => lecturer)).size;
-  const facts = bars(status, rankers, offering).map(({ text, part: count, whole, note = '' }) => fact(text, note, whole === undefined ? [] : [bar(count, whole)]));
+  const facts = bars(status, rankers, offering).map(({ text, part: count, whole, note = '' }) =>
+    fact(text, note, whole === undefined ? [] : [bar(count, whole)]));
   if (['choosing', 'ranking'].includes(status.phase)) facts.push(placesFact(most, countOfChoosers(status)));
   return [part(words.state, [make('div', { class: 'facts' }, facts)], { class: 'figures' })];
 }
@@ -29,7 +30,9 @@ export function stateParts({ status, projects, rankers, most }) {
  * @param {Node[]} more
  */
 function fact(text, note, more = []) {
-  return make('div', { class: more.length > 0 ? 'fact measure' : 'fact' }, [figure(text), ...more, ...(note === '' ? [] : [make('p', { class: 'quiet', text: note })])]);
+  return make('div', { class: more.length > 0 ? 'fact measure' : 'fact' }, [figure(text), ...more, ...(note === ''
+    ? []
+    : [make('p', { class: 'quiet', text: note })])]);
 }
 
 /** @param {{ count: number, isSure: boolean }} most @param {number} choosers */
@@ -43,7 +46,12 @@ function placesFact({ count, isSure }, choosers) {
  */
 function figure(text) {
   const [, label, count, rest] = /** @type {string[]} */ (text.match(/^(.+?:) (.+?(?= – )|\S+)(.*)$/) ?? ['', '', text, '']);
-  return make('p', {}, [make('span', { class: 'label', text: label }), document.createTextNode(' '), make('span', { class: 'figure', text: count }), document.createTextNode(rest)]);
+  return make('p', {}, [
+    make('span', { class: 'label', text: label }),
+    document.createTextNode(' '),
+    make('span', { class: 'figure', text: count }),
+    document.createTextNode(rest),
+  ]);
 }
 
 /**
@@ -101,7 +109,8 @@ function copyButtons(status, names, messages) {
   };
   const emails = who.keys.map((key) => names.emailOf(who.roll, key)).filter((email) => email !== '');
   const buttons = [button(words.copyNames, () => copy(called(who, names), words.copied(who.keys.length)))];
-  if (emails.length > 0) buttons.push(button(words.copyEmails, () => copy(emails, words.copiedEmails(emails.length, who.keys.length - emails.length))));
+  if (emails.length > 0) buttons.push(button(words.copyEmails, () =>
+    copy(emails, words.copiedEmails(emails.length, who.keys.length - emails.length))));
   return buttons;
 }
 

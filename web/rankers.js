@@ -1,5 +1,5 @@
-// Which lecturers have applicants, and so have to rank, as far as this browser can know: all who were still to rank when it opened the ranking,
-// or else those whom it has seen to be still to rank, and no more than those with a project.
+// Which lecturers have applicants, and so have to rank, as far as this browser can know: all who were still to rank when it opened the
+// ranking, or else those whom it has seen to be still to rank, and no more than those with a project.
 
 import { forget, keep, kept } from './store.js';
 import { roundOf } from './year.js';

@@ -62,7 +62,8 @@ const isRankedHere = (me) => kept(RANKED, []).includes(rankedName(me));
 export const forgetRanked = () => forget(RANKED);
 
 /**
- * What is said of a ranking that the office may have filled in: nothing, unless it is in the order of the keys and this browser did not save it.
+ * What is said of a ranking that the office may have filled in: nothing, unless it is in the order of the keys and this browser did not
+ * save it.
  * @param {Me} me
  * @param {string[] | null} saved
  */
@@ -96,8 +97,8 @@ export class RankingMaking {
 
   /**
    * @param {PageOf} of
-   * @param {{ people: Map<string, Applicant>, saved: string[] | null, places: string, tools: Element }} what `places` is what the lecturer may
-   *   take, in words; `tools` stand with the applicants
+   * @param {{ people: Map<string, Applicant>, saved: string[] | null, places: string, tools: Element }} what `places` is what the lecturer
+   *   may take, in words; `tools` stand with the applicants
    */
   constructor(of, { people, saved, places, tools }) {
     this.#of = of;
@@ -132,7 +133,7 @@ export class RankingMaking {
       bar: this.#editor.bar,
       aims,
       isChanged: () => this.#editor.isAtRisk(),
-      isKept: true,
+      isKept: () => true,
       year: { saves: true, ...(people.size === 1 ? { now: words.oneApplicant } : {}) },
     };
     this.#editor.update();
@@ -153,7 +154,9 @@ export class RankingMaking {
    * @param {string} key
    */
   #waitingEntry(key) {
-    return make('li', {}, [this.#shown(key), button(words.addApplicant, () => this.#add(key), { name: words.addApplicantKey(words.named(this.#nameOf(key), key)) })]);
+    return make('li', {}, [this.#shown(key), button(words.addApplicant, () => this.#add(key), {
+      name: words.addApplicantKey(words.named(this.#nameOf(key), key)),
+    })]);
   }
 
   /** @param {string} key */
@@ -161,7 +164,8 @@ export class RankingMaking {
     const entry = this.#waiting.get(key);
     this.#editor.list.add(key);
     const left = [...this.#missing.children].filter((other) => other instanceof HTMLElement && !other.hidden);
-    const isAfter = (/** @type {Element} */ other) => entry !== undefined && (entry.compareDocumentPosition(other) & Node.DOCUMENT_POSITION_FOLLOWING) !== 0;
+    const isAfter = (/** @type {Element} */ other) =>
+      entry !== undefined && (entry.compareDocumentPosition(other) & Node.DOCUMENT_POSITION_FOLLOWING) !== 0;
     const next = left.find(isAfter) ?? left[0];
     const isWhole = this.#editor.keys.length === this.#people.size;
     (next?.querySelector('button') ?? (isWhole ? this.#editor.saveButton : this.#search)).focus();
@@ -192,7 +196,10 @@ export class RankingMaking {
     this.#adding.append(hint, this.#filters(), this.#noMatch, this.#missing);
     const use = (/** @type {Uint8Array} */ bytes) => this.#useOrder(bytes);
     if (isMany) return part(words.applicants, [elsewherePart(this.#people.size, tools, use), this.#none, this.#adding, tools]);
-    return part(words.applicants, [this.#none, this.#adding, orderFold({ title: words.orderTitle, how: words.orderOpenHow, hasFile: true, use }), tools]);
+    return part(
+      words.applicants,
+      [this.#none, this.#adding, orderFold({ title: words.orderTitle, how: words.orderOpenHow, hasFile: true, use }), tools],
+    );
   }
 
   /** The last resort: all others behind, in the order of their keys. */
@@ -212,7 +219,10 @@ export class RankingMaking {
     this.#project.addEventListener('change', () => this.#update(this.#editor.keys));
     this.#sort.addEventListener('change', () => this.#arrange());
     const fields = keys.length > 1 ? [labelled(words.applicantsOf, this.#project)] : [];
-    return make('div', { class: 'filters' }, [labelled(words.searchApplicants, this.#search), ...fields, labelled(words.sortBy, this.#sort)]);
+    return make('div', { class: 'filters' }, [labelled(words.searchApplicants, this.#search), ...fields, labelled(
+      words.sortBy,
+      this.#sort,
+    )]);
   }
 
   #arrange() {
@@ -241,7 +251,8 @@ export class RankingMaking {
   #rankingPart(places, hint) {
     const { list, tools } = this.#editor;
     const hints = this.#people.size === 1 ? [] : [make('p', { class: 'quiet', text: words.rankingHint })];
-    const parts = [make('p', { text: places }), ...hints, hint, this.#empty, this.#finder(), this.#found, list.element, tools, this.#restPart()];
+    const parts =
+      [make('p', { text: places }), ...hints, hint, this.#empty, this.#finder(), this.#found, list.element, tools, this.#restPart()];
     const own = part(words.ofRanking.label, parts, { class: 'own', tabindex: '-1' });
     measure(own, '--own');
     return own;

@@ -51,7 +51,8 @@ export class Portal {
   /**
    * The clock and the sender are handed in by the tests alone.
    * @param {string} code
-   * @param {{ fetch?: (path: string, how: RequestInit) => Promise<Pick<Response, 'status' | 'text'>>, wait?: typeof sleep, now?: () => number }} outside
+   * @param {{ fetch?: (path: string, how: RequestInit) => Promise<Pick<Response, 'status' | 'text'>>, wait?: typeof sleep, now?: () =>
+   *   number }} outside
    */
   constructor(code, { fetch = (path, how) => globalThis.fetch(path, how), wait = sleep, now = () => performance.now() } = {}) {
     this.#code = code;

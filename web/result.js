@@ -1,6 +1,7 @@
-// Who has what, once it is published: to search, to sort, to keep as a file and to print. And before, the lecturers, projects and students as
-// they stand, to search and to sort.
+// Who has what, once it is published: to search, to sort, to keep as a file and to print. And before, the lecturers, projects and students
+// as they stand, to search and to sort.
 
+import { bookOf, bookType } from './bookfile.js';
 import { records, writtenForSpreadsheets } from './csv.js';
 import { bar, button, download, given, make, part, print, titled } from './dom.js';
 import { pageTitle } from './frame.js';
@@ -47,10 +48,11 @@ export function resultFiles(shown, status) {
     print(paper);
   };
   // the first round's result is another file than that of both
-  const name = roundOf(status) === 2 && status.phase === 'published' ? 'allocation-2.csv' : 'allocation.csv';
+  const name = roundOf(status) === 2 && status.phase === 'published' ? 'allocation-2' : 'allocation';
   return part(words.files, [
     make('div', { class: 'buttons' }, [
-      button(words.downloadCsv, () => download(name, forSpreadsheets(shown.csv), 'text/csv')),
+      button(words.downloadBook, () => download(`${name}.xlsx`, bookOf(words.result, [...records(shown.csv)]), bookType)),
+      button(words.downloadCsv, () => download(`${name}.csv`, forSpreadsheets(shown.csv), 'text/csv')),
       button(words.printReport, printed),
     ]),
     make('details', {}, [make('summary', { text: words.report }), make('pre', { class: 'report', text: shown.report })]),
@@ -77,7 +79,9 @@ const UNFOLDED = 20;
 function usageFold(shown) {
   const { used } = shown;
   const taken = used.reduce((sum, one) => sum + one.taken, 0);
-  return make('details', { open: used.length <= UNFOLDED }, [make('summary', { text: words.usageOf(taken, used.length) }), usageList(shown)]);
+  return make('details', { open: used.length <= UNFOLDED }, [make('summary', { text: words.usageOf(taken, used.length) }), usageList(
+    shown,
+  )]);
 }
 
 /** @param {Shown} shown */
@@ -199,8 +203,8 @@ function lecturersTable(data) {
 }
 
 /**
- * The columns that matter in the phase: what is offered, then who has ranked, then how many students a lecturer has. In the second round the
- * catalogue has the open projects alone, so that the last one cannot be counted.
+ * The columns that matter in the phase: what is offered, then who has ranked, then how many students a lecturer has. In the second round
+ * the catalogue has the open projects alone, so that the last one cannot be counted.
  * @param {OfficeData} data
  * @returns {[string, (lecturer: string) => string | number][]}
  */
@@ -229,9 +233,15 @@ function projectsTable({ status, projects, used }) {
   const rows = projects.map(({ id, title: named, lecturer: owner, lecturer_name: name, capacity }) => {
     const all = status.phase === 'published' && roundOf(status) === 1 ? words.used(taken.get(id) ?? 0, capacity) : `${capacity}`;
     const under = make('span', { class: 'owner' }, [given(name)]);
-    return { cells: [titled(named, id, [under]), titled(name, owner), make('span', { text: all })], texts: [`${named} ${id}`, `${name} ${owner}`, all] };
+    return {
+      cells: [titled(named, id, [under]), titled(name, owner), make('span', { text: all })],
+      texts: [`${named} ${id}`, `${name} ${owner}`, all],
+    };
   });
-  return { columns: [{ title, isSorted: true }, { title: lecturer, isSorted: true, style: 'owners' }, { title: places, isSorted: true, style: 'number' }], rows };
+  return { columns: [{
+    title,
+    isSorted: true,
+  }, { title: lecturer, isSorted: true, style: 'owners' }, { title: places, isSorted: true, style: 'number' }], rows };
 }
 
 /**

@@ -1,17 +1,15 @@
-// A roll file in hand: what its rows say, who in it is new, what the portal would refuse, what looks wrong, and whether it is rather the file
-// of another roll. No element of the page is touched here.
+// A roll file in hand: what its rows say, once they are mended or left out; who in it is new, what the portal would refuse, what looks
+// wrong; and whether it is rather the file of another roll. No element of the page is touched here.
 
-import { isCode, makeCode } from './codes.js';
-import { KINDS, ROLLS, columnsOf, entriesOf, extraOf, hasCodes, missingOf, rollOf, strangerIn } from './columns.js';
-import { largestCapacity, largestFile, longestKey, longestName, mostRows } from './config.js';
-import { isLikeFormula, table, written, writtenForSpreadsheets } from './csv.js';
-import { meantBy } from './found.js';
-import { words } from './words.js';
+import { makeCode } from './codes.js';
+import { KINDS, ROLLS, columnsOf, entriesOf, extraOf, hasCodes, headAt, missingOf, rollOf, strangerIn } from './columns.js';
+import { written } from './csv.js';
+import { allMeantBy } from './found.js';
+import { canMakeIds, newIds } from './newids.js';
+import { STOPPING, doubtsOf, totalsIn, unlikeIn } from './rolldoubts.js';
+import { faultsOf } from './rollfaults.js';
 
-/**
- * @param {Column[]} columns
- * @param {Entry[]} entries
- */
+/** @param {Column[]} columns @param {Entry[]} entries */
 const rowsOf = (columns, entries) => [columns, ...entries.map((entry) => columns.map((column) => entry[column] ?? ''))];
 
 /**
@@ -22,13 +20,14 @@ const rowsOf = (columns, entries) => [columns, ...entries.map((entry) => columns
 export const rollText = (roll, entries) => written(rowsOf(KINDS[roll], entries));
 
 /**
- * The text of a file to keep, with the mail addresses that were read.
+ * The rows of a file to keep, its header first, with the mail addresses that were read.
  * @param {Roll} roll
  * @param {Entry[]} entries
+ * @returns {string[][]}
  */
-export function fileText(roll, entries) {
+export function fileRows(roll, entries) {
   const hasEmail = entries.some(({ email = '' }) => email !== '');
-  return writtenForSpreadsheets(rowsOf(hasEmail ? [...KINDS[roll], 'email'] : KINDS[roll], entries), words.separator);
+  return rowsOf(hasEmail ? [...KINDS[roll], 'email'] : KINDS[roll], entries);
 }
 
 /**
@@ -61,45 +60,69 @@ function isSame({ name, title }, known = {}) {
   return (name !== undefined && name === known.name) || (title !== undefined && title === known.title);
 }
 
-/** A file that is opened as that of a roll: which of its columns are taken, and the codes that were made for its rows. */
+/**
+ * A file that is opened as that of a roll: what is taken of it, what a person has made of its rows, and the codes that were made for them.
+ */
 export class RollFile {
   /** @type {Map<string, string>} the codes that were made, by key */
   made = new Map();
   /** @type {Map<string, {}>} who is there by the portal's refusals */
   #known = new Map();
+  /** @type {Set<string>} who is not there, as the portal has told */
+  #fresh = new Set();
   /** @type {Map<string, string>} the lecturers' keys that a person has agreed to, by what stands in the file */
   #agreed = new Map();
+  /** @type {Map<number, string>} the IDs that were made, by row */
+  #ids = new Map();
+  /** @type {Map<number, Partial<Record<Column, string>>>} the cells that were mended, by row */
+  #cells = new Map();
+  /** @type {Set<number>} the rows that a person leaves out */
+  #left = new Set();
+  /** @type {Map<string, Set<number>>} the rows of which a person has said that they are right, by doubt */
+  #answered = new Map();
   roll;
   name;
   how;
+  /** The rows of the sheet, and which of them is the header; -1: none is. */
+  rows;
+  head;
   header;
   columns;
-  isAsked;
-  #rows;
 
   /**
    * @param {Roll} roll
    * @param {string} name of the file
    * @param {ReadAs} how it was read
-   * @param {FileRow[]} rows its header first
+   * @param {FileRow[]} rows
+   * @param {number} head which of them is the header; else it is found
    */
-  constructor(roll, name, how, rows) {
+  constructor(roll, name, how, rows, head = headAt(rows)) {
     this.roll = roll;
     this.name = name;
     this.how = how;
-    this.header = rows[0].fields.map((field) => field.trim());
+    this.rows = rows;
+    this.head = head;
+    const width = Math.max(...rows.map(({ fields }) => fields.length));
+    this.header = head < 0 ? Array.from({ length: width }, (_, at) => `${at + 1}`) : rows[head].fields.map((field) => field.trim());
     this.columns = columnsOf(roll, this.header);
-    /** A person is asked which columns they are: one is missing, or nothing is taken from one. */
-    this.isAsked = missingOf(this.columns).length > 0 || extraOf(this.columns, this.header).length > 0;
-    this.#rows = rows;
   }
 
   /**
-   * The same file as that of another roll.
-   * @param {Roll} roll
+   * The same file as that of another roll, with another header, or another of its sheets.
+   * @param {{ roll?: Roll, head?: number, sheet?: number }} of
    */
-  as(roll) {
-    return new RollFile(roll, this.name, this.how, this.#rows);
+  as({ roll = this.roll, head, sheet }) {
+    if (sheet === undefined) return new RollFile(roll, this.name, this.how, this.rows, head ?? this.head);
+    return new RollFile(roll, this.name, { ...this.how, at: sheet }, this.how.sheets?.[sheet].rows ?? this.rows);
+  }
+
+  /** The rows above the header, which are not taken. */
+  get skipped() {
+    return this.rows.slice(0, Math.max(0, this.head));
+  }
+
+  get #below() {
+    return this.rows.slice(this.head + 1);
   }
 
   /**
@@ -109,37 +132,136 @@ export class RollFile {
    */
   take(column, at) {
     this.columns = { ...this.columns, [column]: at };
+    this.#ids.clear();
   }
 
   get isWhole() {
-    return missingOf(this.columns).length === 0;
+    return missingOf(this.columns).filter((column) => column !== 'id' || this.#ids.size === 0).length === 0;
   }
 
-  /** The rows, with the codes that were made, and with the keys of lecturers that were agreed to. */
+  /** The columns that the file has to have and has not, and that are not made. */
+  get missing() {
+    return this.isWhole ? [] : missingOf(this.columns);
+  }
+
+  /** The rows that are not left out, with the codes and IDs that were made, and with the keys of lecturers that were agreed to. */
   get entries() {
-    return entriesOf(this.#rows, this.columns).map((entry) => {
-      if (entry.lecturer !== undefined) return { ...entry, lecturer: this.#agreed.get(entry.lecturer) ?? entry.lecturer };
-      return entry.code === '' && this.made.has(entry.id) ? { ...entry, code: this.made.get(entry.id) } : entry;
-    });
+    return this.#all.filter(({ row }) => !this.#left.has(row));
   }
 
-  /** How many rows have no ID: all, where there is no column for it. */
+  get #all() {
+    return entriesOf([{ row: 0, fields: [] }, ...this.#below], this.columns).map((entry) => this.#meant(entry));
+  }
+
+  /** @param {Entry} read as it stands in the file */
+  #meant(read) {
+    const entry = { ...read, ...this.#cells.get(read.row) };
+    if (entry.id === '') entry.id = this.#ids.get(entry.row) ?? '';
+    if (entry.lecturer !== undefined) entry.lecturer = this.#agreed.get(entry.lecturer) ?? entry.lecturer;
+    if (entry.code === '') entry.code = this.made.get(entry.id) ?? '';
+    return entry;
+  }
+
+  /** The rows that have no ID: all, where there is no column for it. What looks like a total needs none. */
   get lacking() {
-    return this.entries.filter(({ id }) => id === '').length;
+    const totals = this.#totals;
+    return this.entries.filter(({ id, row }) => id === '' && !totals.has(row)).map(({ row }) => row);
+  }
+
+  /** The rows that look like totals or notes, of which nobody has said that they are right. */
+  get #totals() {
+    const width = this.header.filter((name) => name !== '').length;
+    const answered = this.#answered.get('total');
+    return new Set(totalsIn(this.#below, width).filter((row) => !this.#left.has(row) && !answered?.has(row)));
+  }
+
+  /** A person has made something of the rows that would have to be done again. */
+  get isWorkedOn() {
+    return [this.#agreed, this.#cells, this.#left, this.#answered].some(({ size }) => size > 0);
+  }
+
+  get canMakeIds() {
+    return canMakeIds(this.roll);
   }
 
   /**
-   * Lecturers who stand in the file by name, or by an ID in another case: the only one who can be meant, by what stands there.
+   * Makes IDs for the rows that have none.
    * @param {There} there
    */
-  named({ lecturers }) {
-    const meant = meantBy([...lecturers].map(([key, { name = '' }]) => /** @type {[string, string]} */ ([key, name])));
-    const keyOf = (/** @type {string} */ text) => [...lecturers.keys()].find((key) => key.toLowerCase() === text.toLowerCase()) ?? meant(text);
-    const texts = new Set(this.entries.map(({ lecturer = '' }) => lecturer).filter((text) => text !== '' && !lecturers.has(text)));
-    return new Map([...texts].flatMap((text) => {
-      const key = keyOf(text);
-      return key === null ? [] : [/** @type {[string, string]} */ ([text, key])];
-    }));
+  makeIds(there) {
+    const at = this.columns.first === undefined || this.columns.first < 0 ? -1 : this.columns.name ?? -1;
+    const family = new Map(this.#below.map(({ row, fields }) => [row, (fields[at] ?? '').trim()]));
+    this.#ids = newIds(this.roll, this.entries.map((entry) => ({ ...entry, family: family.get(entry.row) })), there);
+  }
+
+  /**
+   * A person writes a cell anew.
+   * @param {number} row
+   * @param {Column} column
+   * @param {string} text
+   */
+  mend(row, column, text) {
+    this.#cells.set(row, { ...this.#cells.get(row), [column]: text.trim() });
+  }
+
+  /**
+   * Puts zeros before the IDs of rows.
+   * @param {number[]} rows
+   * @param {number} length
+   */
+  fillZeros(rows, length) {
+    const wanted = new Set(rows);
+    for (const { row, id } of this.entries) if (wanted.has(row) && id.length < length) this.mend(row, 'id', id.padStart(length, '0'));
+  }
+
+  /** @param {number[]} rows */
+  leaveOut(rows) {
+    for (const row of rows) this.#left.add(row);
+  }
+
+  /** @param {number[]} rows */
+  takeBack(rows) {
+    for (const row of rows) this.#left.delete(row);
+  }
+
+  /**
+   * A person says that the rows are right.
+   * @param {Doubt} doubt
+   */
+  answer({ doubt, rows }) {
+    this.#answered.set(doubt, new Set([...(this.#answered.get(doubt) ?? []), ...rows]));
+  }
+
+  /** @param {There} there */
+  #matcher({ lecturers }) {
+    const meant = allMeantBy([...lecturers].map(([key, { name = '' }]) => /** @type {[string, string]} */ ([key, name])));
+    const byCase = new Map([...lecturers.keys()].map((key) => [key.toLowerCase(), key]));
+    return (/** @type {string} */ text) => {
+      const key = byCase.get(text.toLowerCase());
+      return key === undefined ? meant(text) : [key];
+    };
+  }
+
+  /**
+   * Lecturers who stand in the file by name, or by an ID in another case, and who can be meant: one, several or none, by what stands there.
+   * @param {There} there
+   * @returns {Map<string, string[]>}
+   */
+  candidates(there) {
+    const totals = this.#totals;
+    const texts = new Set(this.entries.filter(({ row }) => !totals.has(row)).map(({ lecturer = '' }) => lecturer).filter((text) =>
+      text !== '' && !there.lecturers.has(text)));
+    const meant = this.#matcher(there);
+    return new Map([...texts].map((text) => [text, meant(text)]));
+  }
+
+  /**
+   * Those of them of whom one alone can be meant.
+   * @param {There} there
+   */
+  named(there) {
+    return new Map([...this.candidates(there)].flatMap(([text, keys]) =>
+      (keys.length === 1 ? [/** @type {[string, string]} */ ([text, keys[0]])] : [])));
   }
 
   /**
@@ -161,17 +283,68 @@ export class RollFile {
   /**
    * What sending it would do, once lecturers by name are agreed to.
    * @param {There} there
+   * @param {boolean} knowsLecturers the page knows all lecturers in the portal
    */
-  plan(there) {
+  plan(there, knowsLecturers = false) {
     const { roll } = this;
+    const candidates = this.candidates(there);
     const named = this.named(there);
-    const entries = this.entries.map((entry) => (named.has(entry.lecturer ?? '') ? { ...entry, lecturer: named.get(entry.lecturer ?? '') } : entry));
-    const all = { ...there, [roll]: new Map([...there[roll], ...this.#known]) };
+    const entries = this.entries.map((entry) =>
+      (named.has(entry.lecturer ?? '') ? { ...entry, lecturer: named.get(entry.lecturer ?? '') } : entry));
+    const all = { ...there, [roll]: new Map([...this.#known, ...there[roll]]) };
     const parts = sorted(roll, entries, all);
     const left = new Set(parts.left);
     const toSend = entries.filter((entry) => !left.has(entry));
-    const doubts = doubtsOf(roll, toSend.filter(({ id }) => !this.made.has(id)), all);
-    return { entries, named, ...parts, toSend, unlike: unlikeIn(roll, parts.left, all), faults: faultsOf(roll, entries), doubts, known: all[roll].size };
+    const found = this.#doubts(toSend.filter(({ id }) => !this.made.has(id)), all);
+    const isRefused = (/** @type {Doubt} */ { doubt }) => knowsLecturers && doubt === 'noLecturer';
+    const doubts = found.filter((doubt) => !isRefused(doubt)).map((doubt) =>
+      ({ ...doubt, stops: STOPPING.has(doubt.doubt), isAnswered: this.#isAnswered(doubt) }));
+    const unknown = found.filter(isRefused).flatMap(({ rows }) => rows);
+    const isCompared = parts.fresh.every(({ id }) => this.#fresh.has(id));
+    return { entries, named, candidates, ...parts, toSend, unlike: unlikeIn(roll, parts.left, all), faults: withUnknown(faultsOf(
+      roll,
+      entries,
+    ), unknown, knowsLecturers && there.lecturers.size === 0), doubts, known: all[roll].size, isCompared };
+  }
+
+  /**
+   * What looks wrong in rows: first what looks like no row at all, of which nothing else is said; and what the spreadsheet itself says.
+   * @param {Entry[]} entries
+   * @param {There} all
+   * @returns {Doubt[]}
+   */
+  #doubts(entries, all) {
+    const [totals, hidden] = [this.#totals, new Set(this.how.sheets?.[this.how.at ?? 0].hidden ?? [])];
+    const answered = this.#answered.get('total');
+    const of = (/** @type {(row: number) => boolean | undefined} */ test) => entries.filter(({ row }) => test(row)).map(({ row }) => row);
+    const own = [{ doubt: 'total', rows: of((row) => totals.has(row) || answered?.has(row)) }, { doubt: 'hidden', rows: of((row) =>
+      hidden.has(row)) }];
+    return [...own.filter(({ rows }) => rows.length > 0), ...doubtsOf(this.roll, entries.filter(({ row }) => !totals.has(row)), all)];
+  }
+
+  /** @param {Doubt} doubt */
+  #isAnswered({ doubt, rows }) {
+    const answered = this.#answered.get(doubt);
+    return rows.every((row) => answered?.has(row));
+  }
+
+  /**
+   * All rows as they stand in the list: those first of which something is to be said.
+   * @param {Plan} plan
+   * @returns {RowLine[]}
+   */
+  lines({ entries, old, faults, doubts }) {
+    const [by, there] = [new Map(entries.map((entry) => [entry.row, entry])), new Set(old.map(({ row }) => row))];
+    const lines = this.#all.map((read) => {
+      const entry = by.get(read.row);
+      const own = faults.filter(({ row }) => row === read.row);
+      const doubted = doubts.filter(({ rows }) => rows.includes(read.row));
+      const isOpen = doubted.some(({ stops, isAnswered }) => stops && !isAnswered);
+      /** @type {RowState} */
+      const state = entry === undefined ? 'left' : own.length > 0 ? 'wrong' : isOpen ? 'doubtful' : there.has(read.row) ? 'there' : 'fresh';
+      return { entry: entry ?? read, state, faults: entry === undefined ? [] : own, doubts: doubted.map(({ doubt }) => doubt) };
+    });
+    return STATES.flatMap((state) => lines.filter((line) => line.state === state));
   }
 
   /** @param {Entry[]} entries */
@@ -180,49 +353,33 @@ export class RollFile {
   }
 
   /**
-   * The portal has somebody for whom a code was made: the row is not sent.
-   * @param {string} id
+   * The portal has told who is there and who is not: who is there gets no code.
+   * @param {{ there: string[], fresh: string[] }} told keys
    */
-  leaveOut(id) {
-    this.made.delete(id);
-    this.#known.set(id, {});
+  learn({ there, fresh }) {
+    for (const id of there) {
+      this.made.delete(id);
+      this.#known.set(id, {});
+    }
+    this.#fresh = new Set([...this.#fresh, ...fresh]);
   }
 }
 
 /**
- * Reads a file as that of a roll, or of the roll that its header tells; else answers what is wrong with it.
- * @param {Roll | undefined} roll
- * @param {File} file
+ * The faults, and those of rows whose lecturer is surely not in the portal.
+ * @param {Fault[]} faults
+ * @param {number[]} rows
+ * @param {boolean} isEmpty no lecturer is there at all
  */
-export async function readFile(roll, file) {
-  if (file.size > largestFile) return `${file.name}: ${words.refusals.too_large}`;
-  const read = table(await bytesOf(file));
-  if (read.fault !== undefined) return `${file.name}: ${words.noTable[read.fault]}`;
-  if (read.rows.length < 2) return `${file.name}: ${words.noTable.empty}`;
-  return new RollFile(roll ?? rollOf(read.rows[0].fields) ?? 'students', file.name, read, read.rows);
+function withUnknown(faults, rows, isEmpty) {
+  const told = new Set(faults.filter(({ column }) => column === 'lecturer').map(({ row }) => row));
+  const more = rows.filter((row) => !told.has(row)).map((row) => /** @type {Fault} */ ({ row, column: 'lecturer', fault: 'lecturer' }));
+  const all = [...faults, ...more].sort((a, b) => a.row - b.row);
+  return isEmpty ? all.map((one) => (one.fault === 'lecturer' ? { ...one, fault: 'noLecturers' } : one)) : all;
 }
 
-/**
- * A folder, or a file that is gone meanwhile, has no bytes.
- * @param {File} file
- */
-async function bytesOf(file) {
-  try {
-    return new Uint8Array(await file.arrayBuffer());
-  } catch {
-    return new Uint8Array();
-  }
-}
-
-const KEY = new RegExp(`^[A-Za-z0-9_.-]{1,${longestKey}}$`);
-/** @param {string} text */
-const isKey = (text) => KEY.test(text);
-/** @param {string} text */
-const isText = (text) => new TextEncoder().encode(text).length <= longestName && !/[\0-\x1f\x7f]/.test(text);
-/** @param {string} text */
-const isCapacity = (text) => /^\d{1,7}$/.test(text) && Number(text) >= 1 && Number(text) <= largestCapacity;
-/** @type {Partial<Record<Column, (text: string) => boolean>>} */
-const FORMS = { id: isKey, lecturer: isKey, name: isText, title: isText, code: isCode, capacity: isCapacity };
+/** @type {RowState[]} What will happen to a row; what somebody has to look at stands first. */
+export const STATES = ['wrong', 'doubtful', 'fresh', 'there', 'left'];
 
 /**
  * Sorts the entries of a file by what is known of who is there.
@@ -237,142 +394,4 @@ export function sorted(roll, entries, there) {
   const lacksCode = (/** @type {Entry} */ { code }) => hasCodes(roll) && code === '';
   const [old, fresh] = [entries.filter(isOld), entries.filter((entry) => !isOld(entry))];
   return { fresh, old, toMake: fresh.filter(lacksCode), left: old.filter(lacksCode) };
-}
-
-/**
- * What the portal would refuse, by row and column. A missing code is none: it can be made.
- * @param {Roll} roll
- * @param {Entry[]} entries
- * @returns {Fault[]}
- */
-export function faultsOf(roll, entries) {
-  const found = entries.flatMap((entry) => formFaults(roll, entry));
-  found.push(...differing(roll, entries), ...sameCode(entries));
-  const keys = new Set(entries.map(({ id }) => id));
-  if (keys.size > mostRows[roll]) found.push({ row: entries[mostRows[roll]].row, column: 'id', fault: 'tooMany' });
-  return found.sort((a, b) => a.row - b.row);
-}
-
-/**
- * @param {Roll} roll
- * @param {Entry} entry
- * @returns {Fault[]}
- */
-function formFaults(roll, entry) {
-  const faultOf = (/** @type {Column} */ column, text = '') => {
-    if (text === '') return column === 'code' ? '' : 'empty';
-    return FORMS[column]?.(text) ? '' : column;
-  };
-  return KINDS[roll].map((column) => ({ row: entry.row, column, fault: faultOf(column, entry[column]) })).filter(({ fault }) => fault !== '');
-}
-
-/**
- * A key twice is taken where the rows are equal.
- * @param {Roll} roll
- * @param {Entry[]} entries
- * @returns {Fault[]}
- */
-function differing(roll, entries) {
-  /** @type {Map<string, Entry>} */
-  const first = new Map();
-  return entries.flatMap((entry) => {
-    const before = first.get(entry.id);
-    if (before === undefined) first.set(entry.id, entry);
-    const isEqual = before === undefined || KINDS[roll].every((column) => before[column] === entry[column]);
-    return isEqual || entry.id === '' ? [] : [{ row: entry.row, column: 'id', fault: 'keyTwice', other: before.row }];
-  });
-}
-
-/**
- * @param {Entry[]} entries
- * @returns {Fault[]}
- */
-function sameCode(entries) {
-  /** @type {Map<string, Entry>} */
-  const first = new Map();
-  return entries.flatMap((entry) => {
-    if (!entry.code) return [];
-    const before = first.get(entry.code);
-    if (before === undefined) first.set(entry.code, entry);
-    return before === undefined || before.id === entry.id ? [] : [{ row: entry.row, column: 'code', fault: 'codeTwice', other: before.row }];
-  });
-}
-
-/**
- * What looks wrong, though the portal may take it.
- * @param {Roll} roll
- * @param {Entry[]} entries
- * @param {There} there
- * @returns {Doubt[]}
- */
-export function doubtsOf(roll, entries, there) {
-  const rows = (/** @type {(entry: Entry) => boolean} */ test) => entries.filter(test).map(({ row }) => row);
-  const all = {
-    differs: unlikeIn(roll, entries, there),
-    weakCode: hasCodes(roll) ? weakCodes(entries) : [],
-    noLecturer: rows(({ lecturer }) => lecturer !== undefined && lecturer !== '' && !there.lecturers.has(lecturer)),
-    sameTitle: rows(roll === 'projects' ? sameTitle(entries, there) : () => false),
-    formula: rows(({ name = '', title = '' }) => isLikeFormula(name) || isLikeFormula(title)),
-  };
-  return Object.entries(all).filter(([, found]) => found.length > 0).map(([doubt, found]) => ({ doubt, rows: found }));
-}
-
-/**
- * In the file or in the catalogue another project has the title. A row that stands in the file twice is one project.
- * @param {Entry[]} entries
- * @param {There} there
- * @returns {(entry: Entry) => boolean}
- */
-function sameTitle(entries, there) {
-  const all = new Map([...there.projects, ...entries.map((entry) => /** @type {const} */ ([entry.id, entry]))]);
-  const isTwice = twice([...all.values()].map(({ title = '' }) => folded(title)));
-  return ({ title = '' }) => isTwice(folded(title));
-}
-
-/** @param {string} text */
-const folded = (text) => text.replace(/\s+/g, ' ').toLowerCase();
-
-/** @param {string[]} texts */
-function twice(texts) {
-  const counts = new Map();
-  for (const text of texts) counts.set(text, (counts.get(text) ?? 0) + 1);
-  return (/** @type {string} */ text) => counts.get(text) > 1;
-}
-
-/** @type {Column[]} What the portal tells, or this browser keeps, of who is there: never a code. */
-const COMPARED = ['name', 'capacity', 'lecturer', 'title'];
-
-/**
- * What is known of who is there may be the key alone.
- * @param {Entry} entry
- * @param {Partial<Record<Column, string>>} [known]
- */
-const differs = (entry, known = {}) => COMPARED.some((column) => entry[column] !== undefined && known[column] !== undefined && entry[column] !== known[column]);
-
-/**
- * The rows that differ from what is known of those who are there.
- * @param {Roll} roll
- * @param {Entry[]} entries
- * @param {There} there
- */
-export const unlikeIn = (roll, entries, there) => entries.filter((entry) => differs(entry, there[roll].get(entry.id))).map(({ row }) => row);
-
-/**
- * The rows whose code can be guessed: a short one, one with the own key or name in it, or one that differs from another in digits alone.
- * @param {Entry[]} entries
- */
-function weakCodes(entries) {
-  const bare = (/** @type {string} */ code) => code.replace(/\d/g, '');
-  const isRow = twice([...new Set(entries.map(({ code = '' }) => code))].map(bare));
-  return entries.filter(({ code = '', id, name = '' }) => code !== '' && (code.length < 12 || isRow(bare(code)) || tells(code, id, name))).map(({ row }) => row);
-}
-
-/**
- * @param {string} code
- * @param {string} id
- * @param {string} name
- */
-function tells(code, id, name) {
-  const parts = new Set(code.toLowerCase().split('-'));
-  return [id, ...name.split(/[^\p{L}\d]+/u)].map((word) => word.toLowerCase()).some((word) => word.length > 1 && parts.has(word));
 }

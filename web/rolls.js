@@ -1,43 +1,100 @@
 // People and projects: the fields for the office's files. While they may be sent each roll has a field; later one field opens any file, to
-// read it alone.
+// read it alone. What opens a file is loaded when that is done, or before it while rolls are sent.
 
 import { ROLLS, columnNames } from './columns.js';
 import { writtenForSpreadsheets } from './csv.js';
-import { button, download, make, part } from './dom.js';
-import { RollPreview } from './rollsend.js';
-import { words } from './words.js';
+import { button, download, make, part, styled } from './dom.js';
+import { Lost } from './requests.js';
+import { CODES, draftOf } from './store.js';
+import { speak, words } from './words.js';
+
+/** @typedef {import('./rollsend.js').RollPreview} RollPreview */
 
 export class Rolls {
-  #preview;
+  #of;
+  /** @type {RollPreview | null} */
+  #preview = null;
+  #place = make('div');
+  /** @type {[Record<Roll, number>, There] | null} */
+  #known = null;
   /** @type {Partial<Record<Roll, HTMLElement>>} */
   #counts = {};
   element;
 
   /** @param {RollsOf} of */
   constructor(of) {
-    this.#preview = new RollPreview(of);
+    this.#of = of;
     this.element = of.canSend ? this.#openPart() : this.#closedPart();
+    // where it does not come now, it is asked for again when a file is opened
+    if (of.canSend || draftOf(CODES) !== null) this.#load().catch(() => {});
   }
 
   #openPart() {
     return part(words.rolls, [
       make('p', { text: words.rollsHint }),
       make('ol', { class: 'rolls', role: 'list' }, ROLLS.map((roll) => this.#row(roll))),
-      this.#preview.element,
+      this.#place,
     ], { class: 'screen' });
   }
 
   #closedPart() {
-    const { field, label } = fileField('any-file', words.rollFile, (file, from) => this.#preview.open(undefined, file, from));
-    return make('div', { class: 'closed' }, [make('p', { text: words.readFileHint }), make('div', { class: 'choose' }, [field, label]), this.#preview.element]);
+    const { field, label } = fileField('any-file', words.rollFile, (file, from) => this.#open(undefined, file, from));
+    return make(
+      'div',
+      { class: 'closed' },
+      [make('p', { text: words.readFileHint }), make('div', { class: 'choose' }, [field, label]), this.#place],
+    );
+  }
+
+  async #load() {
+    const [{ RollPreview }, isSpoken] =
+      await Promise.all([import('./rollsend.js'), speak(words.language, 'rolls'), styled('rolls.css')]);
+    if (!isSpoken) throw new Error('no texts');
+    if (this.#preview !== null) return this.#preview;
+    this.#preview = new RollPreview(this.#of);
+    this.#place.replaceChildren(this.#preview.element);
+    if (this.#known !== null) this.#preview.know(...this.#known);
+    return this.#preview;
+  }
+
+  /**
+   * Does something with what opens files, once it is there.
+   * @template Answer
+   * @param {(preview: RollPreview) => Promise<Answer>} act
+   */
+  async #with(act) {
+    const isLoaded = await this.#of.attempt(async () => {
+      await this.#load().catch(() => {
+        throw new Lost('no module', () => location.reload());
+      });
+    }, { goesOn: true });
+    return isLoaded && this.#preview !== null ? act(this.#preview) : undefined;
+  }
+
+  /**
+   * @param {Roll | undefined} roll
+   * @param {File} file
+   * @param {HTMLElement} from
+   */
+  #open(roll, file, from) {
+    return this.#with((preview) => preview.open(roll, file, from));
   }
 
   hasUnsentCodes() {
-    return this.#preview.hasUnsentCodes();
+    return this.#preview?.hasUnsentCodes() ?? false;
   }
 
-  mayDiscard() {
-    return this.#preview.mayDiscard();
+  hasUnkeptWork() {
+    return this.#preview?.hasUnkeptWork() ?? false;
+  }
+
+  /** What leaving would mean for new codes or for work on a file. */
+  get risk() {
+    return this.#preview?.risk;
+  }
+
+  async mayDiscard() {
+    return this.#preview?.mayDiscard() ?? true;
   }
 
   /**
@@ -45,7 +102,9 @@ export class Rolls {
    * @param {() => unknown} wasRead
    */
   lecturersField(wasRead) {
-    const { field, label } = fileField('limits-file', words.openLecturers, async (file, from) => (await this.#preview.readLecturers(file, from)) && wasRead());
+    const read = async (/** @type {File} */ file, /** @type {HTMLElement} */ from) =>
+      (await this.#with((preview) => preview.readLecturers(file, from))) && wasRead();
+    const { field, label } = fileField('limits-file', words.openLecturers, read);
     return make('div', { class: 'choose' }, [field, label]);
   }
 
@@ -54,7 +113,8 @@ export class Rolls {
    * @param {There} there who is in the portal, as far as the page knows
    */
   show(status, there) {
-    this.#preview.know(status, there);
+    this.#known = [status, there];
+    this.#preview?.know(status, there);
     for (const roll of ROLLS) this.#counts[roll]?.replaceChildren(words.rollCounts(status[roll]));
   }
 
@@ -62,7 +122,7 @@ export class Rolls {
   #row(roll) {
     const count = make('span', { class: 'quiet' });
     this.#counts[roll] = count;
-    const take = (/** @type {File} */ file) => this.#preview.open(roll, file, field);
+    const take = (/** @type {File} */ file) => this.#open(roll, file, field);
     const { field, label } = fileField(`${roll}-file`, words.chooseFile[roll], take);
     const row = make('li', {}, [
       make('div', { class: 'roll-head' }, [make('h3', { text: words.roll[roll] }), count]),
@@ -81,7 +141,7 @@ export class Rolls {
  * @param {Take} take
  */
 function fileField(id, text, take) {
-  const field = make('input', { type: 'file', id, class: 'file', accept: '.csv,.txt,.tsv,text/csv,text/plain' });
+  const field = make('input', { type: 'file', id, class: 'file', accept: '.xlsx,.csv,.txt,.tsv,text/csv,text/plain' });
   // emptied, so that the same file can be chosen again once it is mended
   field.addEventListener('change', () => {
     const file = field.files?.[0];
@@ -96,7 +156,8 @@ function fileField(id, text, take) {
  * @param {Roll} roll
  */
 function columnsFold(roll) {
-  const lines = columnNames(roll).flatMap((column) => [make('dt', { text: column }), make('dd', { text: words.columnMeans(roll, column) })]);
+  const lines = columnNames(roll).flatMap((column) =>
+    [make('dt', { text: column }), make('dd', { text: words.columnMeans(roll, column) })]);
   const template = () => download(`${roll}.csv`, writtenForSpreadsheets([columnNames(roll)], words.separator), 'text/csv');
   return make('details', {}, [
     make('summary', { text: words.columnsOfRoll }),

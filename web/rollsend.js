@@ -1,12 +1,19 @@
-// A roll file in hand: what it would do, sending it once a person says so, what the browser keeps of it, and what is handed out then: the
-// file with new codes, and slips.
+// A roll file in hand: what it would do, what a person decides about its rows, and the one button that goes on.
 
+import { CodesInHand } from './codesinhand.js';
 import { hasCodes } from './columns.js';
-import { button, download, given, make, print } from './dom.js';
-import { ask, pageTitle } from './frame.js';
-import { told } from './requests.js';
-import { fileText, readFile, rollText, unlikeIn } from './rollfile.js';
-import { columnNotes, columnsPart, countsPart, doubtsPart, faultsPart, lackingPart, likenessPart, namedPart, namedRows, notesPart, readAsPart, rowsPart } from './rollview.js';
+import { button, make } from './dom.js';
+import { ask } from './frame.js';
+import { openFile } from './openfile.js';
+import { entriesIn, keptPart, printSlips, saveButtons, stepsPart } from './rollcodes.js';
+import { unlikeIn } from './rolldoubts.js';
+import { RollFile } from './rollfile.js';
+import { RowsPart } from './rollrows.js';
+import { RollSending } from './rollsending.js';
+import {
+  columnNotes, describedPart, doubtsPart, faultsPart, lackingPart, likenessPart, mayLeaveOut, namedPart, namedRows, notesPart,
+  readNotes, readPart,
+} from './rollview.js';
 import { words } from './words.js';
 
 export class RollPreview {
@@ -19,24 +26,57 @@ export class RollPreview {
   #there = { lecturers: new Map(), projects: new Map(), students: new Map() };
   /** @type {Record<Roll, number>} */
   #counts = { lecturers: 0, projects: 0, students: 0 };
-  #isSending = false;
-  #lacking = make('div');
-  #contents = make('div');
-  element = make('div', { class: 'in-hand', hidden: true });
+  #codes = new CodesInHand();
+  #sending;
+  #rows;
+  #above = make('div');
+  #below = make('div');
+  #kept = make('div', { class: 'kept-codes' });
+  #inHand = make('div', { class: 'in-hand', hidden: true });
+  element = make('div', {}, [this.#kept, this.#inHand]);
 
   /** @param {RollsOf} of */
   constructor(of) {
     this.#of = of;
+    const change = (/** @type {(hand: RollFile) => void} */ act) => this.#hand !== null && act(this.#hand);
+    this.#rows = new RowsPart({
+      mend: (row, column, text) => change((hand) => hand.mend(row, column, text)),
+      leaveOut: (rows) => change((hand) => hand.leaveOut(rows)),
+      takeBack: (rows) => change((hand) => hand.takeBack(rows)),
+      show: () => change((hand) => this.#showContents(hand)),
+    });
+    this.#sending = new RollSending(of, this.#codes, {
+      plan: (hand) => this.#plan(hand),
+      isSure: (hand, plan) => this.#isSure(hand, plan),
+      count: (roll) => this.#counts[roll],
+      isInHand: (hand) => this.#hand === hand && this.element.isConnected,
+      show: (hand) => this.#show(hand),
+      showContents: (hand) => this.#showContents(hand),
+      showKept: () => this.#showKept(),
+      focus: (selector) => this.#focus(selector),
+      taken: (hand, entries, said) => this.#taken(hand, entries, said),
+    });
+    this.#showKept();
   }
 
   hasUnsentCodes() {
-    return this.#hand !== null && this.#hand.made.size > 0;
+    return this.#codes.areUnsent;
   }
 
-  /** Codes that were made and not sent are given up only where a person says so. */
+  /** What a person has made of the rows is lost with the file, until the tab keeps them with their codes. */
+  hasUnkeptWork() {
+    return this.#of.canSend && this.#codes.record === null && this.#hand !== null && this.#hand.isWorkedOn;
+  }
+
+  /** What signing out or closing the tab would mean for these. */
+  get risk() {
+    return this.#codes.risk ?? (this.hasUnkeptWork() ? words.closeWorkMeans : undefined);
+  }
+
+  /** Work and codes that were made are given up only where a person says so. */
   async mayDiscard() {
-    const count = this.#hand?.made.size ?? 0;
-    return count === 0 || ask({ title: words.discardCodes, risk: words.discardMeans(count), verb: words.discard, stay: words.keepCodes });
+    if (!this.hasUnkeptWork()) return this.#codes.mayDiscard(this.#hand?.made.size ?? 0);
+    return ask({ title: words.closeWork, risk: words.closeWorkMeans, verb: words.closeFile, stay: words.notNow });
   }
 
   /**
@@ -46,6 +86,14 @@ export class RollPreview {
   know(counts, there) {
     this.#counts = counts;
     this.#there = there;
+  }
+
+  #showKept() {
+    this.#kept.replaceChildren(...keptPart(this.#codes.others, {
+      goOn: (record) => this.#goOn(record),
+      slips: (record) => printSlips(this.#kept, record.roll, entriesIn(record)),
+      changed: () => this.#showKept(),
+    }));
   }
 
   /**
@@ -58,10 +106,24 @@ export class RollPreview {
     if (!(await this.mayDiscard())) return;
     this.#close();
     this.#of.messages.clear();
-    const read = await readFile(roll, file);
+    const read = await openFile(roll, file);
     if (typeof read === 'string') return this.#of.messages.warn(read);
     this.#from = from;
     this.#use(read);
+  }
+
+  /**
+   * Takes up rows whose codes this tab has kept.
+   * @param {CodesRecord} record
+   */
+  async #goOn(record) {
+    if (!(await this.mayDiscard())) return;
+    this.#close();
+    const hand = new RollFile(record.roll, record.file, { encoding: 'utf-8', separator: ',' }, record.rows.map((fields, at) =>
+      ({ row: at + 1, fields })), 0);
+    this.#codes.take(record);
+    this.#showKept();
+    this.#use(hand);
   }
 
   /**
@@ -71,7 +133,7 @@ export class RollPreview {
    * @returns {Promise<boolean>} whether it was read
    */
   async readLecturers(file, from) {
-    const read = await readFile('lecturers', file);
+    const read = await openFile('lecturers', file);
     const isRead = typeof read !== 'string' && read.isWhole && read.likeness(this.#there) === null;
     if (isRead) await this.#keepNames('lecturers', read.entries);
     else await this.open(undefined, file, from);
@@ -80,13 +142,15 @@ export class RollPreview {
 
   /** @param {string} selector */
   #focus(selector) {
-    /** @type {HTMLElement | null} */ (this.element.querySelector(selector))?.focus();
+    /** @type {HTMLElement | null} */ (this.#inHand.querySelector(selector))?.focus();
   }
 
   #close() {
     this.#hand = null;
-    this.element.hidden = true;
-    this.element.replaceChildren();
+    this.#codes.take(null);
+    this.#inHand.hidden = true;
+    this.#inHand.replaceChildren();
+    this.#showKept();
   }
 
   async #cancel() {
@@ -100,94 +164,170 @@ export class RollPreview {
   #show(hand) {
     const likeness = this.#of.canSend ? hand.likeness(this.#there) : null;
     // the heading has the focus: what is wrong is told with it
-    const heading = make('h3', { text: words.inHand(words.roll[hand.roll], hand.name), tabindex: '-1', 'aria-describedby': likeness !== null && 'likeness' });
+    const heading = make('h3', { text: words.inHand(words.roll[hand.roll], hand.name), tabindex: '-1', 'aria-describedby': likeness !== null
+      && 'likeness' });
     if (likeness !== null) {
-      const use = button(words.useAs(words.roll[likeness.roll]), () => this.#use(hand.as(likeness.roll)), { class: 'main' });
-      this.element.replaceChildren(heading, likenessPart(hand.roll, likeness), this.#buttons([use]));
+      const use = button(words.useAs(words.roll[likeness.roll]), () => this.#use(hand.as({ roll: likeness.roll })), { class: 'main' });
+      this.#inHand.replaceChildren(heading, likenessPart(hand.roll, likeness), this.#buttons([use]));
     } else {
       const take = (/** @type {Column} */ column, /** @type {number} */ at) => {
         hand.take(column, at);
         this.#showContents(hand);
       };
-      const columns = hand.isAsked && hand.made.size === 0 ? [columnsPart(hand, take)] : [];
-      this.element.replaceChildren(heading, this.#lacking, ...readAsPart(hand.how), ...columns, this.#contents);
+      const read = this.#codes.record === null ? [...readNotes(hand), readPart(hand, { take, use: (of) => this.#use(hand.as(of)) })] : [];
+      this.#inHand.replaceChildren(heading, ...read, this.#above, this.#rows.element, this.#below);
       this.#showContents(hand);
     }
-    this.element.hidden = false;
+    this.#inHand.hidden = false;
   }
 
   /** @param {RollFile} hand */
   #use(hand) {
     this.#hand = hand;
+    this.#rows.clear();
     this.#show(hand);
     this.#focus('h3');
   }
 
   /** @param {RollFile} hand */
   #showContents(hand) {
-    const parts = hand.isWhole ? this.#contentsPart(hand) : [this.#buttons([])];
-    this.#lacking.replaceChildren(...lackingPart(hand));
-    this.#contents.replaceChildren(...columnNotes(hand), ...parts);
+    const isKnown = this.#there[hand.roll].size >= this.#counts[hand.roll];
+    const after = this.#after(hand);
+    const lacking = this.#of.canSend
+      ? lackingPart(hand, { isKnown, make: () => after(() => this.#makeIds(hand)), leaveOut: this.#leaver(hand) })
+      : [];
+    this.#rows.element.hidden = !hand.isWhole;
+    if (!hand.isWhole) {
+      this.#above.replaceChildren(...lacking, ...columnNotes(hand));
+      this.#below.replaceChildren(this.#buttons([]));
+      return;
+    }
+    const plan = this.#plan(hand);
+    const checks = this.#of.canSend ? this.#checks(hand, plan) : [];
+    this.#above.replaceChildren(
+      ...lacking,
+      ...columnNotes(hand),
+      make('p', { class: 'counts', text: this.#countsText(hand, plan) }),
+      ...checks,
+    );
+    this.#rows.show(hand, this.#of.canSend ? hand.lines(plan) : hand.lines({ ...plan, faults: [], doubts: [] }), {
+      isLocked: this.#codes.record !== null || !this.#of.canSend,
+    });
+    this.#below.replaceChildren(...(this.#of.canSend
+      ? this.#endPart(hand, plan)
+      : [...describedPart(plan.entries), this.#buttons(this.#sideButtons(hand, plan.entries))]));
   }
 
   /** @param {RollFile} hand */
-  #contentsPart(hand) {
-    const { roll } = hand;
-    const plan = hand.plan(this.#there);
-    const { entries, named } = plan;
-    if (!this.#of.canSend) return [rowsPart(roll, entries), ...countsPart({ all: entries.length }), this.#buttons(this.#sideButtons(hand, entries))];
-    const nameOf = (/** @type {string} */ key) => words.person(key, this.#there.lecturers.get(key)?.name);
-    const hasEmail = entries.some(({ email = '' }) => email !== '');
+  #makeIds(hand) {
+    hand.makeIds(this.#there);
+    // it was open because there was no column for them
+    this.#inHand.querySelector('.read')?.removeAttribute('open');
+  }
+
+  /** @param {RollFile} hand @param {Plan} plan */
+  #countsText(hand, plan) {
+    const all = words.rowCount(plan.entries.length);
+    return this.#of.canSend ? `${all} ${words.newCount(plan.fresh.length, plan.old.length, this.#isSure(hand, plan))}` : all;
+  }
+
+  /**
+   * What is to be decided about rows, by kind.
+   * @param {RollFile} hand
+   * @param {Plan} plan
+   */
+  #checks(hand, plan) {
+    if (this.#codes.record !== null) return [];
+    const [after, leaveOut] = [this.#after(hand), this.#leaver(hand)];
+    const on = {
+      leaveOut,
+      answer: (/** @type {Doubt} */ doubt) => after(() => hand.answer(doubt)),
+      fill: (/** @type {number[]} */ rows, /** @type {number} */ length) => after(() => hand.fillZeros(rows, length)),
+    };
     return [
-      rowsPart(roll, hand.entries),
-      ...countsPart({ all: entries.length, fresh: plan.fresh.length, old: plan.old.length, isSure: this.#isSure(hand, plan) }),
-      ...namedPart(named, nameOf, () => this.#agree(hand, named)),
-      ...faultsPart(plan.faults.filter(({ column, fault }) => column !== 'id' || fault !== 'empty'), (column) => hand.header[hand.columns[column] ?? -1] ?? column),
-      ...doubtsPart(plan.doubts),
-      ...notesPart(hand, plan),
-      make('p', { class: 'final', text: words.final }),
-      ...(hasCodes(roll) ? [make('p', { text: words.keepsNames(hasEmail) })] : []),
-      this.#sendButtons(hand, plan),
+      ...faultsPart(hand, plan, leaveOut),
+      ...namedPart(plan, this.#there.lecturers, (keys) => after(() => hand.agree(keys))),
+      ...doubtsPart(plan.doubts, on),
     ];
   }
 
   /**
+   * Changes something of the rows, and shows what is to be decided next.
+   * @param {RollFile} hand
+   */
+  #after(hand) {
+    return (/** @type {() => void} */ act) => {
+      act();
+      this.#showContents(hand);
+      this.#focus('.checks button, .buttons .main');
+    };
+  }
+
+  /** @param {RollFile} hand */
+  #leaver(hand) {
+    return async (/** @type {number[]} */ rows) => (await mayLeaveOut(rows)) && this.#after(hand)(() => hand.leaveOut(rows));
+  }
+
+  /** @param {RollFile} hand @param {Plan} plan */
+  #endPart(hand, plan) {
+    const hasEmail = plan.entries.some(({ email = '' }) => email !== '');
+    const isRead = hand.missing.length === 0;
+    const { record, isSeen } = this.#codes;
+    const steps = record === null ? [] : [stepsPart(record, { isSeen, see: () => this.#see(hand) })];
+    return [
+      ...notesPart(hand, plan),
+      ...describedPart(plan.entries),
+      ...steps,
+      make('p', { class: 'final', text: words.final }),
+      ...(hasCodes(hand.roll) && isRead ? [make('p', { class: 'quiet', text: words.keepsNames(hasEmail) })] : []),
+      this.#sendButtons(hand, plan),
+    ];
+  }
+
+  /** @param {RollFile} hand */
+  #plan(hand) {
+    return hand.plan(this.#there, this.#there.lecturers.size >= this.#counts.lecturers);
+  }
+
+  /** @param {RollFile} hand */
+  #see(hand) {
+    this.#codes.isSeen = true;
+    this.#showContents(hand);
+    this.#focus('.main');
+  }
+
+  /**
+   * The one button that goes on: the portal is asked who is there, then codes are made and saved, then rows are sent.
    * @param {RollFile} hand
    * @param {Plan} plan
    */
-  #sendButtons(hand, { entries, named, faults, toMake, toSend }) {
-    const isFaultless = faults.length === 0 && named.size === 0;
-    const isReady = isFaultless && toMake.length === 0 && toSend.length > 0;
-    const canMake = isFaultless && toMake.length > 0;
-    return this.#buttons([
-      ...(canMake ? [button(words.makeCodes, () => this.#makeCodes(hand, toMake), { class: 'main' })] : []),
-      button(words.send, () => this.#askSend(hand), { class: isReady && 'main', disabled: !isReady }),
-    ], hand.made.size === 0 ? this.#sideButtons(hand, entries) : []);
+  #sendButtons(hand, plan) {
+    const { entries, named, faults, doubts, toMake, toSend } = plan;
+    const isFaultless = faults.length === 0 && named.size === 0 && doubts.every(({ stops, isAnswered }) => !stops || isAnswered);
+    const isReady = isFaultless && toMake.length === 0 && toSend.length > 0 && (this.#codes.record === null || this.#codes.isSeen);
+    const isToCompare = toMake.length > 0 && !this.#isSure(hand, plan);
+    const all = this.#counts[hand.roll];
+    const compared = button(words.compare, () => this.#sending.compare(hand), { class: 'main' });
+    const making = button(words.makeCodes, () => this.#sending.makeCodes(hand, toMake), { class: 'main' });
+    const why = isToCompare
+      ? [make('p', { text: words.compareMeans(words.countOf[hand.roll](all), Math.min(plan.known, all)) })]
+      : [];
+    return make('div', {}, [...why, this.#buttons([
+      ...(isToCompare ? [compared] : isFaultless && toMake.length > 0 ? [making] : []),
+      button(words.send, () => this.#sending.askSend(hand), { class: isReady && 'main', disabled: !isReady }),
+    ], this.#codes.record === null ? this.#sideButtons(hand, entries) : [])]);
   }
 
   /**
-   * @param {RollFile} hand
-   * @param {Map<string, string>} named
-   */
-  #agree(hand, named) {
-    hand.agree(named);
-    this.#show(hand);
-    this.#focus('h3');
-  }
-
-  /**
-   * The page knows everybody who is there.
+   * The page knows everybody who is there, or the portal has told who of the file is not.
    * @param {RollFile} hand
    * @param {Plan} plan
    */
-  #isSure({ roll }, { known }) {
-    return known >= this.#counts[roll];
+  #isSure({ roll }, { known, isCompared }) {
+    return known >= this.#counts[roll] || isCompared;
   }
 
-  /**
-   * @param {HTMLButtonElement[]} main
-   * @param {HTMLButtonElement[]} side
-   */
+  /** @param {HTMLButtonElement[]} main @param {HTMLButtonElement[]} side */
   #buttons(main, side = []) {
     return make('div', { class: 'buttons' }, [...main, button(words.cancel, () => this.#cancel()), ...side]);
   }
@@ -204,17 +344,9 @@ export class RollPreview {
     return withCode.length === 0 ? [names] : [this.#slipsButton(roll, withCode), names];
   }
 
-  /**
-   * @param {Roll} roll
-   * @param {Entry[]} entries
-   */
+  /** @param {Roll} roll @param {Entry[]} entries */
   #slipsButton(roll, entries) {
-    return button(words.printSlips, () => {
-      this.element.querySelector('.slips')?.remove();
-      const slips = slipsOf(roll, entries);
-      this.element.append(slips);
-      print(slips);
-    });
+    return button(words.printSlips, () => printSlips(this.#inHand, roll, entries));
   }
 
   /**
@@ -243,143 +375,21 @@ export class RollPreview {
   }
 
   /**
-   * @param {RollFile} hand
-   * @param {Entry[]} entries
-   */
-  #makeCodes(hand, entries) {
-    hand.makeCodes(entries);
-    this.#show(hand);
-    this.#of.messages.say(words.codesMade(hand.made.size));
-    this.#focus('.main');
-  }
-
-  /**
-   * Asks once more, by what will be there for good. Rows that are all there already change nothing.
-   * @param {RollFile} hand
-   */
-  async #askSend(hand) {
-    const plan = hand.plan(this.#there);
-    const { fresh, old, toSend } = plan;
-    const [isNew, isSure] = [fresh.length > 0, this.#isSure(hand, plan)];
-    const what = words.countOf[hand.roll](new Set((isNew ? fresh : toSend).map(({ id }) => id)).size);
-    const counts = old.length > 0 || !isSure ? words.newCount(fresh.length, old.length, isSure) : '';
-    const isMeant = await ask({
-      title: isNew ? words.askAdd(what) : words.askSendAgain(what),
-      risk: isNew ? words.addedForGood : '',
-      lines: [words.fromFile(hand.name), isNew ? counts : words.allThere],
-      verb: isNew ? words.doAdd(what) : words.sendAgain,
-      stay: words.notNow,
-    });
-    if (isMeant) await this.#send(hand);
-  }
-
-  /** @param {RollFile} hand */
-  async #send(hand) {
-    if (this.#isSending) return;
-    this.#isSending = true;
-    await this.#sendOnce(hand);
-    this.#isSending = false;
-  }
-
-  /** @param {RollFile} hand */
-  async #sendOnce(hand) {
-    const { portal, attempt, messages, names, sent } = this.#of;
-    const { roll } = hand;
-    const { left, toSend } = hand.plan(this.#there);
-    let said = '';
-    const isTaken = await attempt(async () => {
-      const { added, same } = await portal.postText(`/rolls/${roll}`, rollText(roll, toSend));
-      said = words.rollTaken(words.roll[roll], added, same);
-    }, {
-      refused: (fault) => this.#refused(hand, fault, toSend),
-      lost: () => ({ text: words.lostRoll, again: words.sendAgain, press: () => this.#send(hand) }),
-    });
-    if (!isTaken) return;
-    names.learn(roll, toSend, true);
-    names.learnEmails(roll, left);
-    this.#taken(hand, toSend, said);
-    if (await attempt(sent)) messages.say(said);
-  }
-
-  /**
-   * Codes were made for somebody who is there: the row can be left out.
-   * @param {RollFile} hand
-   * @param {Refused} fault
-   * @param {Entry[]} toSend
-   */
-  #refused(hand, fault, toSend) {
-    const entry = toSend[(fault.body.row ?? 0) - 1];
-    const said = toldOfRoll(fault, hand.roll, entry);
-    if (fault.word !== 'roll_conflict' || entry === undefined || !hand.made.has(entry.id)) return said;
-    const press = () => {
-      hand.leaveOut(entry.id);
-      this.#of.messages.clear();
-      this.#show(hand);
-      this.#focus('h3');
-    };
-    return { ...said, again: words.leaveOut, press };
-  }
-
-  /**
-   * What was made is handed out now: the file with the codes, and the slips.
+   * What was made can be handed out now: the file with the codes, and the slips.
    * @param {RollFile} hand
    * @param {Entry[]} entries
    * @param {string} said
    */
-  #taken({ roll, made }, entries, said) {
-    const parts = [make('h3', { text: said })];
+  #taken({ roll }, entries, said) {
+    const parts = [make('h3', { text: said }), ...describedPart(entries)];
     const buttons = hasCodes(roll) ? [this.#slipsButton(roll, entries)] : [];
-    if (made.size > 0) {
-      const name = codesFile(roll, made.size);
-      const save = () => download(name, fileText(roll, entries), 'text/csv');
-      save();
-      parts.push(make('p', { text: words.codesSaved(name) }));
-      buttons.push(button(words.keepFile, save));
+    if (this.#codes.record !== null) {
+      parts.push(make('p', { text: words.codesSaved(this.#codes.record.file) }));
+      buttons.push(...saveButtons(this.#codes.record));
     }
     this.#hand = null;
-    this.element.replaceChildren(...parts, make('div', { class: 'buttons' }, buttons));
+    this.#codes.take(null);
+    this.#inHand.replaceChildren(...parts, make('div', { class: 'buttons' }, buttons));
     (buttons[0] ?? this.#from)?.focus();
   }
-}
-
-/**
- * The name of a file with new codes tells how many there are, and when they were made.
- * @param {Roll} roll
- * @param {number} count
- */
-export const codesFile = (roll, count, now = new Date()) => `${roll}-${count}-codes-${now.toLocaleDateString('sv')}.csv`;
-
-/** @type {Partial<Record<Roll, Role>>} */
-const ROLES = { lecturers: 'lecturer', students: 'student' };
-
-/**
- * Slips with name, ID, role, code and the page's address. They are seen in print alone.
- * @param {Roll} roll
- * @param {Entry[]} entries with a code each
- */
-function slipsOf(roll, entries) {
-  const role = words.roles[ROLES[roll] ?? 'student'];
-  return make('ul', { class: 'slips' }, entries.map(({ id, name = '', code }) =>
-    make('li', {}, [
-      make('p', { class: 'slip-name' }, [given(name), make('span', { class: 'slip-key', text: id })]),
-      make('p', { text: `${pageTitle}: ${role}` }),
-      make('p', { text: `${words.slipCode}:` }),
-      make('p', { class: 'slip-code', text: code }),
-      make('p', { text: `${words.slipAddress}: ${location.origin}` }),
-      make('p', { text: words.slipSecret }),
-    ])));
-}
-
-/**
- * A refusal of a roll: what is said, and the row that is at fault, where there is one. Its code is not shown.
- * @param {Refused} refused
- * @param {Roll} roll
- * @param {Entry} [entry]
- */
-export function toldOfRoll(refused, roll, entry) {
-  const name = words.roll[roll];
-  if (entry === undefined) return { text: `${name}: ${told(refused)}` };
-  const { row, code, ...fields } = entry;
-  const text = refused.word === 'roll_conflict' ? words.rollConflict(name, row) : words.badRow(name, row, entry.lecturer);
-  return { text, lead: words.row(row), line: Object.values(fields).join(', ') };
 }

@@ -7,12 +7,12 @@ import { words } from './words.js';
 /**
  * Buttons for a table.
  * @param {object} of
- * @param {{ print: string, copy: string, download: string }} of.texts of the buttons
+ * @param {{ print: string, copy: string, book: string, download: string }} of.texts of the buttons
  * @param {string} of.title what stands above it in print
  * @param {string[]} of.header the names of its columns in print
  * @param {string[]} of.fileHeader those in the file, the same in each language
  * @param {() => string[][]} of.rows
- * @param {string} of.file what the file is called
+ * @param {string} of.file what the files are called
  * @param {Messages} of.messages
  */
 export function tableButtons({ texts, title, header, fileHeader, rows, file, messages }) {
@@ -26,14 +26,19 @@ export function tableButtons({ texts, title, header, fileHeader, rows, file, mes
       messages.warn(words.notCopied);
     }
   };
-  const keepFile = async () => {
-    // what writes files comes when somebody wants one
-    const csv = await import('./csv.js').catch(() => null);
-    if (csv === null) return messages.warn(words.lost);
-    download(file, csv.writtenForSpreadsheets([fileHeader, ...rows()], words.separator), 'text/csv');
-  };
+  // what writes files comes when somebody wants one
+  const saving = (/** @type {() => Promise<void>} */ act) => () => act().catch(() => messages.warn(words.lost));
+  const saveBook = saving(async () => {
+    const { bookOf, bookType } = await import('./bookfile.js');
+    download(`${file}.xlsx`, bookOf(title, [fileHeader, ...rows()]), bookType);
+  });
+  const saveText = saving(async () => {
+    const { writtenForSpreadsheets } = await import('./csv.js');
+    download(`${file}.csv`, writtenForSpreadsheets([fileHeader, ...rows()], words.separator), 'text/csv');
+  });
   return make('div', { class: 'buttons' }, [
-    button(texts.download, keepFile),
+    button(texts.book, saveBook),
+    button(texts.download, saveText),
     button(texts.copy, copy),
     button(texts.print, () => printed([make('h3', { text: title }), printedTable(header, rows())])),
     sheet,
@@ -46,5 +51,6 @@ export function tableButtons({ texts, title, header, fileHeader, rows, file, mes
  */
 function printedTable(header, rows) {
   const heads = make('tr', {}, header.map((text) => make('th', { scope: 'col', text })));
-  return make('table', {}, [make('thead', {}, [heads]), make('tbody', {}, rows.map((row) => make('tr', {}, row.map((text) => make('td', {}, [given(text)])))))]);
+  return make('table', {}, [make('thead', {}, [heads]), make('tbody', {}, rows.map((row) =>
+    make('tr', {}, row.map((text) => make('td', {}, [given(text)])))))]);
 }

@@ -42,8 +42,8 @@ export function forgetIdle() {
 }
 
 /**
- * Watches over this tab: `elsewhere` is called when somebody signs out in another tab, `idle` when nothing was done here for too long, `soon`
- * a while before, to ask whether anybody is there; the answer is a sign of life then, and nothing else.
+ * Watches over this tab: `elsewhere` is called when somebody signs out in another tab, `idle` when nothing was done here for too long,
+ * `soon` a while before, to ask whether anybody is there; the answer is a sign of life then, and nothing else.
  * @param {{ elsewhere: () => void, idle: () => void, soon: () => Promise<unknown> }} calls
  * @returns a function that tells the other tabs that somebody signs out here
  */
@@ -80,7 +80,10 @@ export function signInForm(enter, { warning = '', message = '' } = {}) {
   const alert = make('p', { role: 'alert', id: 'code-fault', text: warning });
   const status = make('p', { role: 'status', text: message });
   const asTyped = { autocapitalize: 'none', spellcheck: 'false' };
-  const field = make('input', { id: 'code', type: 'password', autocomplete: 'current-password', ...asTyped, 'aria-describedby': 'code-fault code-hint' });
+  const field = make(
+    'input',
+    { id: 'code', type: 'password', autocomplete: 'current-password', ...asTyped, 'aria-describedby': 'code-fault code-hint' },
+  );
   const shows = make('input', { type: 'checkbox' });
   shows.addEventListener('change', () => { field.type = shows.checked ? 'text' : 'password'; });
   const button = make('button', { text: words.signIn, class: 'main' });

@@ -1,5 +1,6 @@
-// What this browser keeps: for longer than a tab is open the language, titles and names, who saved or filled in rankings, and how many students
-// a lecturer takes; for as long as the tab is open, drafts of lists and rankings that are not saved. Never a code.
+// What this browser keeps: for longer than a tab is open the language, titles and names, who saved or filled in rankings, and how many
+// students a lecturer takes; for as long as the tab is open and nobody signs out, drafts of lists and rankings that are not saved, and
+// codes that the office has just made. Longer than that, never a code.
 
 /**
  * What was kept under this name, or `otherwise`. A browser may forbid to keep anything: then nothing was kept.
@@ -25,6 +26,9 @@ export function forget(name) {
 }
 
 const DRAFT = 'portal-draft ';
+
+/** The name of the codes that the office has just made. */
+export const CODES = 'office codes';
 
 /**
  * The draft of somebody, or null. It is there until it is forgotten or the tab is closed.

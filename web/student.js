@@ -18,7 +18,8 @@ export async function studentPage(of) {
   const { portal, me, known } = of;
   const { projects } = await portal.get('/catalogue');
   known.learn(projects, me);
-  const state = { projects, saved: (await portal.get('/choices')).projects, own: hasResult(me) ? (await portal.get('/result')).project : null };
+  const state =
+    { projects, saved: (await portal.get('/choices')).projects, own: hasResult(me) ? (await portal.get('/result')).project : null };
   rememberFirst(me, state);
   if (makesList(me, state.own)) return listMaking(of, state);
   return { element: make('div', {}, partsOf(of, state)), isChanged: () => false, year: yearOf(me, state) };
@@ -63,7 +64,9 @@ function partsOf(of, state) {
   if (isPlaced(me, state)) return placedParts(of, state);
   const top = me.phase === 'published' ? [resultPart(of, state, state.saved)] : [];
   const lost = unsavedPart(of, state.saved, { show: entryOf(known), name: (key) => known.titleOf(key) });
-  const own = me.phase === 'published' ? savedPart(of, state.saved, words.yourList, marksOf(of, state, state.saved)) : savedPart(of, state.saved, words.yourList);
+  const own = me.phase === 'published'
+    ? savedPart(of, state.saved, words.yourList, marksOf(of, state, state.saved))
+    : savedPart(of, state.saved, words.yourList);
   return [...top, own, ...lost, ...firstPart(of, state), catalogue];
 }
 
@@ -96,12 +99,13 @@ function placedParts(of, state) {
  * @param {Known} known
  * @param {(key: string) => Node[]} [mark]
  */
-const entryOf = (known, mark = () => []) => (/** @type {string} */ key) => titled(known.titleOf(key), words.byLecturer(known.lecturerOf(key), key), mark(key));
+const entryOf = (known, mark = () => []) =>
+  (/** @type {string} */ key) => titled(known.titleOf(key), words.byLecturer(known.lecturerOf(key), key), mark(key));
 
 /**
- * What became of the projects of a list: the own one, and those above it, which had no place; all of them, where there is none. Why they had
- * none is either of two things: the project was full, or its lecturer was. It was the project where its lecturer has taken this student with
- * another one, or after the first round takes others. Elsewhere one sentence stands for all.
+ * What became of the projects of a list: the own one, and those above it, which had no place; all of them, where there is none. Why they
+ * had none is either of two things: the project was full, or its lecturer was. It was the project where its lecturer has taken this student
+ * with another one, or after the first round takes others. Elsewhere one sentence stands for all.
  * @param {PageOf} of
  * @param {StudentState} state
  * @param {string[]} keys of the list
@@ -173,7 +177,10 @@ const textsOf = (texts) => texts.map((text) => make('p', { text }));
  */
 function withoutProject(list, isSecond) {
   const next = nextPart(isSecond ? [words.noneNextSecond] : [words.noneNext, words.noneMayBe]);
-  if (list.length === 0) return [make('p', { class: 'outcome', text: isSecond ? words.noProjectNoListSecond : words.noProjectNoList }), next];
+  if (list.length === 0) return [
+    make('p', { class: 'outcome', text: isSecond ? words.noProjectNoListSecond : words.noProjectNoList }),
+    next,
+  ];
   const [title, why] = isSecond ? [words.noneTitleSecond, words.whyNoneSecond] : [words.noneTitle, words.whyNone];
   return [make('p', { class: 'outcome', text: title }), ...textsOf([why, words.whyFilled]), next];
 }
@@ -201,7 +208,9 @@ function savedPart({ me, known }, keys, title, { result, taken, mark } = UNMARKE
   if (keys.length === 0) return part(title, [make('p', { text: words.listClosedEmpty })]);
   const entries = () => keys.map(entryOf(known, mark));
   const lines = () => [...result, ...taken, ...savedLines(me, keys)];
-  return part(title, [...taken.map((text) => make('p', { class: 'quiet', text })), fixedList(title, entries()), receiptButton({ title, me, entries, lines })]);
+  return part(title, [...taken.map((text) => make('p', { class: 'quiet', text })), fixedList(title, entries()), receiptButton(
+    { title, me, entries, lines },
+  )]);
 }
 
 /**
@@ -210,13 +219,13 @@ function savedPart({ me, known }, keys, title, { result, taken, mark } = UNMARKE
  * @param {StudentState} state
  */
 function listMaking(of, state) {
-  const { me, known } = of;
-  const { projects, saved } = state;
+  const [{ me, known }, { projects, saved }] = [of, state];
   const there = new Set(projects.map(({ id }) => id));
   const aims = [{ text: words.skipToList, aim: () => own }, { text: words.skipToSave, aim: () => editor.saveButton }];
   /** @type {Making} */
-  const making = { add: (key) => editor.list.add(key), take: (key) => editor.list.take(key), full: () => of.messages.say(words.listFull), aims };
-  const decided = decidedPart(me, saved.length === 0 && roundOf(me) === 1);
+  const making =
+    { add: (key) => editor.list.add(key), take: (key) => editor.list.take(key), full: () => of.messages.say(words.listFull), aims };
+  const decided = decidedPart(me, saved.length === 0);
   const catalogue = new Catalogue(projects, known, { isSecond: roundOf(me) === 2, making });
   const empty = make('p', { class: 'quiet', text: words.listEmpty });
   const editor = new ListEditor({
@@ -240,14 +249,25 @@ function listMaking(of, state) {
   const own = part(words.yourList, [empty, editor.list.element, editor.tools], { class: 'own', tabindex: '-1' });
   measure(own, '--own');
   editor.update();
+  const columns = make('div', { class: 'columns' }, [catalogue.element, make('div', { class: 'own-side' }, [own])]);
   return {
-    element: make('div', {}, [decided, make('div', { class: 'columns' }, [catalogue.element, make('div', { class: 'own-side' }, [own])]), ...firstPart(of, state)]),
+    element: make('div', {}, [decided, columns, ...firstPart(of, state)]),
     bar: editor.bar,
     aims,
     isChanged: () => editor.isChanged(),
-    isKept: true,
-    year: roundOf(me) === 2 ? { now: words.chooseAgain, next: `${roomText(projects)} ${words.canChange}`, saves: true } : { next: words.canChange, saves: true },
+    isKept: () => true,
+    year: choosingYear(me, projects),
   };
+}
+
+/**
+ * What is said of the year to whoever chooses.
+ * @param {Me} me
+ * @param {Project[]} projects
+ */
+function choosingYear(me, projects) {
+  if (roundOf(me) === 1) return { next: words.canChange, saves: true };
+  return { now: words.chooseAgain, next: `${roomText(projects)} ${words.canChange}`, saves: true };
 }
 
 /**
@@ -260,7 +280,7 @@ const roomText = (projects) => words.roomLeft(projects.reduce((sum, { capacity }
  * How it is decided, in three points: open until a list is saved, a line afterwards and in the second round. How to order the list, and who
  * sees it, is folded in it.
  * @param {Me} me
- * @param {boolean} isOpen
+ * @param {boolean} isOpen where it may be open
  */
 function decidedPart(me, isOpen) {
   const isSecond = roundOf(me) === 2;
@@ -268,9 +288,14 @@ function decidedPart(me, isOpen) {
   const when = (isSecond ? words.nextSecond : words.next).student.choosing ?? '';
   /** @param {string[]} texts */
   const items = (texts) => make('ul', {}, texts.map((text) => make('li', { text })));
-  return make('details', { class: 'decided', open: isOpen }, [
+  return make('details', { class: 'decided', open: isOpen && !isSecond }, [
     make('summary', { text: words.decided }),
     items(words.decidedParts),
-    make('details', {}, [make('summary', { text: words.about }), ...textsOf([words.secret, words.secretCodes, words.advice]), items([...parts, words.filledByID]), ...textsOf([when])]),
+    make('details', {}, [
+      make('summary', { text: words.about }),
+      ...textsOf([words.secret, words.advice]),
+      items([...parts, words.filledByID]),
+      ...textsOf([when]),
+    ]),
   ]);
 }

@@ -33,13 +33,16 @@ export class SearchTable {
   constructor({ label, search, columns, rows, shown, tools = [] }) {
     this.#shown = shown;
     this.#heads = columns.map((column, at) => head(column, () => this.#sort(at)));
-    this.#rows = rows.map(({ cells, texts, more = '', key = '' }) => ({ line: lineOf(cells, columns), texts, found: searched(`${texts.join(' ')} ${more}`), key }));
+    this.#rows = rows.map(({ cells, texts, more = '', key = '' }) =>
+      ({ line: lineOf(cells, columns), texts, found: searched(`${texts.join(' ')} ${more}`), key }));
     this.#body.append(...this.#rows.map((row) => row.line));
     this.#filter();
     const table = make('table', { 'aria-label': label }, [make('thead', {}, [make('tr', {}, this.#heads)]), this.#body]);
     // where there is more beside it, the field tells in itself what it is for
     if (tools.length > 0) this.#field.placeholder = search;
-    const finder = tools.length > 0 ? [make('div', { class: 'finder' }, [labelled(search, this.#field), ...tools])] : [labelled(search, this.#field)];
+    const finder = tools.length > 0
+      ? [make('div', { class: 'finder' }, [labelled(search, this.#field), ...tools])]
+      : [labelled(search, this.#field)];
     this.element = make('div', {}, [...finder, this.#count, table]);
   }
 
@@ -123,7 +126,8 @@ function hide({ line }) {
  * @param {TableColumn[]} columns
  */
 function lineOf(cells, columns) {
-  return make('tr', { hidden: true }, cells.map((cell, at) => make(at === 0 ? 'th' : 'td', { class: columns[at].style, scope: at === 0 && 'row' }, [cell])));
+  return make('tr', { hidden: true }, cells.map((cell, at) =>
+    make(at === 0 ? 'th' : 'td', { class: columns[at].style, scope: at === 0 && 'row' }, [cell])));
 }
 
 /**

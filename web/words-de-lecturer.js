@@ -9,7 +9,8 @@ export const words = texts({
 
   ownProjects: 'Ihre Projekte',
   ownPlaces: (count) => `Sie nehmen insgesamt bis zu ${students(count)}, über alle Ihre Projekte.`,
-  ownPlacesLeft: (count, taken) => `Sie nehmen insgesamt bis zu ${students(count)}, über alle Ihre Projekte. Aus der ersten Runde haben Sie ${number(taken)}.`,
+  ownPlacesLeft: (count, taken) =>
+    `Sie nehmen insgesamt bis zu ${students(count)}, über alle Ihre Projekte. Aus der ersten Runde haben Sie ${number(taken)}.`,
   noOwnProjects: 'Sie haben noch keine Projekte im Portal. Wenn eines fehlt, sagen Sie es dem Studienbüro.',
   noOwnLeft: 'Keines Ihrer Projekte ist in dieser Runde offen.',
   placesOf: (count) => `${places(count)}.`,
@@ -25,14 +26,16 @@ export const words = texts({
   ways: [
     'Laden Sie eine Datei der Bewerbungen herunter.',
     'Ordnen Sie ihre Zeilen, die besten zuerst, oder ergänzen Sie eine Spalte „Rang“ mit Ihren Zahlen.',
-    'Öffnen Sie die Datei hier, als CSV. Sie sehen, was verstanden wurde, bevor sie Ihre Rangfolge ersetzt.',
+    'Öffnen Sie die Datei hier. Sie sehen, was verstanden wurde, bevor sie Ihre Rangfolge ersetzt.',
   ],
   laterHint: 'Letzter Ausweg, wenn die Zeit nicht reicht: Stellen Sie die übrigen nach ID dahinter, und ändern Sie die Reihenfolge später.',
   rankingHint: 'Eine Rangfolge gilt für alle Ihre Projekte. Jede Bewerbung braucht eine Position: Sie können niemanden ablehnen.',
   showApplicants: 'Bewerbungen zeigen',
   oneApplicant: 'Es gibt eine Bewerbung. Speichern Sie diese Rangfolge, und Sie sind fertig.',
   searchRanking: 'Rangfolge durchsuchen',
-  foundInRanking: (count) => (count === 0 ? 'Niemand in Ihrer Rangfolge gefunden.' : `${number(count)} gefunden, mit ${count === 1 ? 'der Position' : 'den Positionen'} in Ihrer Rangfolge.`),
+  foundInRanking: (count) => (count === 0
+    ? 'Niemand in Ihrer Rangfolge gefunden.'
+    : `${number(count)} gefunden, mit ${count === 1 ? 'der Position' : 'den Positionen'} in Ihrer Rangfolge.`),
   searchApplicants: 'Bewerbungen suchen',
   noApplicantMatches: 'Keine Bewerbung gefunden. Versuchen Sie es mit weniger Wörtern, oder leeren Sie die Suche.',
   sortBy: 'Ordnen nach',
@@ -40,7 +43,12 @@ export const words = texts({
   applicantsOf: 'Bewerbungen zeigen für',
   allProjects: 'Alle Ihre Projekte',
   chose: 'gewählt:',
-  applicantsSheet: { print: 'Bewerbungen drucken', copy: 'Bewerbungen kopieren', download: 'Bewerbungen herunterladen' },
+  applicantsSheet: {
+    print: 'Bewerbungen drucken',
+    copy: 'Bewerbungen kopieren',
+    book: 'Bewerbungen als Excel-Datei',
+    download: 'Bewerbungen herunterladen',
+  },
   applicantsHeader: ['ID', 'Name', 'Projekte'],
   noneMissing: 'Alle Bewerbungen stehen in Ihrer Rangfolge.',
   noApplicants: 'Um Ihre Projekte hat sich niemand beworben, es gibt also nichts zu ordnen.',
@@ -50,9 +58,12 @@ export const words = texts({
   restAdded: 'Die übrigen stehen am Ende, nach ID.',
   rankingEmpty: 'Ihre Rangfolge ist leer. Fügen Sie die Bewerbungen hinzu, die besten zuerst.',
   inIdOrder: 'Diese Rangfolge ist nach ID geordnet. Wenn Sie sie nicht gemacht haben, hat das Studienbüro sie ergänzt.',
-  inIdOrderOpen: 'Diese Rangfolge ist nach ID geordnet. Wenn Sie sie nicht gemacht haben, hat das Studienbüro sie ergänzt; Sie können sie noch ändern.',
+  inIdOrderOpen: 'Diese Rangfolge ist nach ID geordnet. Wenn Sie sie nicht gemacht haben, hat das Studienbüro sie ergänzt; Sie können sie '
+    + 'noch ändern.',
   orderTitle: 'Eine Reihenfolge einfügen oder öffnen',
-  orderOpenHow: 'Fügen Sie Ihre Reihenfolge ein, die Besten zuerst: IDs in großen oder kleinen Buchstaben, mit Rängen oder Namen daneben, oder nur Namen. Oder öffnen Sie eine CSV-Datei mit einer Spalte „id“: „Bewerbungen herunterladen“ gibt Ihnen eine zum Sortieren. Sie sehen, was verstanden wurde, bevor sie Ihre Rangfolge ersetzt.',
+  orderOpenHow: 'Fügen Sie Ihre Reihenfolge ein, die Besten zuerst: IDs in großen oder kleinen Buchstaben, mit Rängen oder Namen daneben, '
+    + 'oder nur Namen. Oder öffnen Sie eine Datei mit einer Spalte „id“: „Bewerbungen als Excel-Datei“ gibt Ihnen eine. '
+    + 'Sie sehen, was verstanden wurde, bevor sie Ihre Rangfolge ersetzt.',
   orderPaste: 'Oder einfügen',
   orderPasteHow: 'Die Besten zuerst: IDs in großen oder kleinen Buchstaben, mit Rängen oder Namen daneben, oder nur Namen, je Zeile einer.',
   orderField: 'IDs oder Namen, die Besten zuerst',
@@ -77,10 +88,19 @@ export const words = texts({
   noRoom: 'Keines Ihrer Projekte ist in dieser Runde offen. Sie müssen nichts tun.',
   noRoomNext: 'Danach veröffentlicht das Studienbüro die Ergebnisse dieser Runde.',
   markPlaced: (title) => `Hat ${apart(title)}`,
-  whyNotHere: 'Fehlt bei Ihren Studierenden jemand, den Sie weit vorn geordnet haben? Für jedes Ihrer Projekte, das diese Person gewählt hat, gilt: Sie hat eines bekommen, das ihr lieber ist, oder alle seine Plätze (oder alle Ihre) gingen an Studierende, die vor ihr geordnet waren.',
-  whyNotHereSecond: 'Fehlt bei Ihren Studierenden jemand, den Sie weit vorn geordnet haben? Für jedes Ihrer Projekte, das diese Person in dieser Runde gewählt hat, gilt: Sie hat eines bekommen, das ihr lieber ist, oder alle Plätze, die bei ihm (oder bei Ihnen) übrig waren, gingen an Studierende, die vor ihr geordnet waren.',
+  whyNotHere: 'Fehlt bei Ihren Studierenden jemand, den Sie weit vorn geordnet haben? Für jedes Ihrer Projekte, das diese Person gewählt '
+    + 'hat, gilt: Sie hat eines bekommen, das ihr lieber ist, oder alle seine Plätze (oder alle Ihre) gingen an Studierende, die vor ihr '
+    + 'geordnet waren.',
+  whyNotHereSecond: 'Fehlt bei Ihren Studierenden jemand, den Sie weit vorn geordnet haben? Für jedes Ihrer Projekte, das diese Person in '
+    + 'dieser Runde gewählt hat, gilt: Sie hat eines bekommen, das ihr lieber ist, oder alle Plätze, die bei ihm (oder bei Ihnen) übrig '
+    + 'waren, gingen an Studierende, die vor ihr geordnet waren.',
   whoHasWhat: 'Ihre Studierenden',
   nobodyHasIt: 'Keine Studierenden',
-  resultSheet: { print: 'Ergebnis drucken', copy: 'Ergebnis kopieren', download: 'Ergebnis herunterladen' },
+  resultSheet: {
+    print: 'Ergebnis drucken',
+    copy: 'Ergebnis kopieren',
+    book: 'Ergebnisse als Excel-Datei',
+    download: 'Ergebnis herunterladen',
+  },
   resultHeader: ['ID', 'Name', 'Projekt-ID', 'Titel'],
 });

@@ -1,29 +1,37 @@
 // The texts of the office's page in German, with the same keys as words-en-office.js.
 
-import { largestCapacity, longestCode, longestKey, longestName, mostRows, shortestCode } from './config.js';
+import { largestCapacity, longestCode, longestKey, shortestCode } from './config.js';
 import { lecturers, many, number, places, projects, students } from './words-de.js';
 import { apart, texts } from './words.js';
 
-const saveAs = 'Wählen Sie in der Tabellenkalkulation „Speichern unter“ oder „Herunterladen“, dann „CSV UTF-8“. Öffnen Sie die neue Datei hier.';
-const keyForm = () => `1 bis ${longestKey} Buchstaben (ohne Akzente), Ziffern, Bindestriche, Unterstriche oder Punkte.`;
 /** @type {Counted} */
 const addresses = (count) => many(count, 'E-Mail-Adresse', 'E-Mail-Adressen');
-
 /** @type {Record<string, Record<string, string>>} What each column of a file means; where it differs, by the file. */
 const meanings = {
-  id: { all: `In dieser Datei einmalig. 1 bis ${longestKey} Buchstaben (ohne Akzente), Ziffern, Bindestriche, Unterstriche oder Punkte. Beispiel: p017.` },
+  id: { all: `In dieser Datei einmalig. 1 bis ${longestKey} Buchstaben (ohne Akzente), Ziffern, Bindestriche, Unterstriche oder Punkte. `
+    + 'Beispiel: p017.' },
   name: { all: 'So, wie andere den Namen sehen. Beispiel: Zoë Müller.' },
-  code: { all: `Der Code zum Anmelden: ${shortestCode} bis ${longestCode} Buchstaben (ohne Akzente), Ziffern oder Bindestriche. Bleibt er leer, werden hier Codes gemacht.` },
-  capacity: { all: '', lecturers: `Wie viele Studierende die Lehrperson insgesamt nimmt: 1 bis ${largestCapacity}.`, projects: `Wie viele Studierende das Projekt haben können: 1 bis ${largestCapacity}.` },
+  code: { all: `Der Code zum Anmelden: ${shortestCode} bis ${longestCode} Buchstaben (ohne Akzente), Ziffern oder Bindestriche. Bleibt er `
+    + 'leer, werden hier Codes gemacht.' },
+  capacity: {
+    all: '',
+    lecturers: `Wie viele Studierende die Lehrperson insgesamt nimmt: 1 bis ${largestCapacity}.`,
+    projects: `Wie viele Studierende das Projekt haben können: 1 bis ${largestCapacity}.`,
+  },
   lecturer: { all: 'Die ID der Lehrperson, wie in der Datei der Lehrenden. Beispiel: l07.' },
   title: { all: 'Der Titel des Projekts. Beispiel: Graph neural networks.' },
   email: { all: 'Freiwillig. Sie wird nicht gesendet: Dieser Browser merkt sie sich, damit Sie Adressen kopieren können.' },
+  description: { all: 'Freiwillig, bis zu 4.000 Zeichen. Sie wird nicht gesendet: Sie bekommen sie als Datei zurück, mit der die '
+    + 'Administration sie auf die Seite bringt.' },
+  link: { all: 'Freiwillig: eine Adresse, die mit https:// beginnt. Sie gehört zur Beschreibung.' },
 };
 
 export const words = texts({
   // the office: people and projects
   rolls: 'Personen und Projekte',
-  rollsHint: 'Wählen Sie drei CSV-Dateien mit einer Kopfzeile, in dieser Reihenfolge. Sie sehen zuerst eine Vorschau; nichts wird gesendet, bis Sie „Senden“ drücken und das bestätigen. Um später Zeilen hinzuzufügen, wählen Sie die längere Datei noch einmal.',
+  rollsHint: 'Wählen Sie drei Dateien in dieser Reihenfolge: Excel-Arbeitsmappen (.xlsx) oder CSV-Dateien. Sie sehen zuerst alle Zeilen; '
+    + 'nichts kommt hinzu, bis Sie „Senden“ drücken und das bestätigen. Um später Zeilen hinzuzufügen, wählen Sie die längere Datei noch '
+    + 'einmal.',
   roll: { lecturers: 'Lehrende', projects: 'Projekte', students: 'Studierende' },
   countOf: { lecturers, projects, students },
   rollCounts: (count) => `${number(count)} im Portal`,
@@ -32,103 +40,23 @@ export const words = texts({
   columnsOfRoll: 'Was die Spalten bedeuten',
   columnMeans: (roll, column) => meanings[column][roll] ?? meanings[column].all,
   template: 'Vorlage herunterladen',
-  templateOf: { lecturers: 'Vorlage herunterladen für Lehrende', projects: 'Vorlage herunterladen für Projekte', students: 'Vorlage herunterladen für Studierende' },
-  rollFile: 'Datei der Lehrenden oder Studierenden wählen',
-  readFileHint: 'Personen und Projekte können nicht mehr hinzukommen. Sie können hier noch eine Datei der Lehrenden oder Studierenden öffnen, um Zettel zu drucken oder Namen zu lesen. Sie wird nicht gesendet.',
-  rollTaken: (roll, added, same) => `${roll}: ${number(added)} hinzugefügt, ${number(same)} schon vorhanden.`,
-  inHand: (roll, file) => `${roll}: ${apart(file)}`,
-
-  // how a file was read
-  noTable: {
-    workbook: `Das ist eine Arbeitsmappe (.xlsx, .xls oder .ods), keine CSV-Datei. ${saveAs}`,
-    noText: `Das ist keine Textdatei. ${saveAs}`,
-    empty: 'Diese Datei hat unter der Kopfzeile keine Zeilen.',
+  templateOf: {
+    lecturers: 'Vorlage herunterladen für Lehrende',
+    projects: 'Vorlage herunterladen für Projekte',
+    students: 'Vorlage herunterladen für Studierende',
   },
-  encodings: { 'utf-16le': 'in UTF-16', 'utf-16be': 'in UTF-16', 'windows-1252': 'in Windows-1252' },
-  separators: { ';': 'mit Semikolons getrennt', '\t': 'mit Tabulatoren getrennt' },
-  readAs: (found) => `Diese Datei ist ${found.join(' und ')}. Das ist in Ordnung: Beim Senden wird sie umgewandelt.`,
-  columnsOfFile: 'Spalten zuordnen',
-  idWanted: (count, example) => `${many(count, 'Zeile hat', 'Zeilen haben')} keine ID. Jede Zeile braucht eine, die keine andere hat: ${example}.`,
-  idOf: { lecturers: 'etwa l07', projects: 'etwa p017', students: 'etwa die Matrikelnummer' },
-  columnsMissing: (columns) => `Wählen Sie die Spalte für: ${columns.join(', ')}.`,
-  columnFor: (column) => `Spalte für ${column === 'first' ? 'Vorname' : column}`,
-  noColumn: 'Nicht in dieser Datei',
-  looksLike: (other, own) => `Das sieht nach der Datei „${other}“ aus, nicht nach der Datei „${own}“. Es wurde nichts gesendet.`,
-  hasColumn: (name, other) => `Sie hat eine Spalte „${apart(name)}“, wie Dateien „${other}“ sie haben.`,
-  hasHeader: (other) => `Ihre Spalten sind die der Datei „${other}“.`,
-  hasPeople: (count, all, other) => `${number(count)} von ${many(all, 'Zeile', 'Zeilen')} stehen schon im Portal unter „${other}“.`,
-  useAs: (other) => `Als Datei „${other}“ verwenden`,
-  columnsLeft: (names) => `Wird nicht gesendet: ${names.map(apart).join(', ')}.`,
+  rollFile: 'Datei der Lehrenden oder Studierenden wählen',
+  readFileHint: 'Personen und Projekte können nicht mehr hinzukommen. Sie können hier noch eine Datei der Lehrenden oder Studierenden '
+    + 'öffnen, um Zettel zu drucken oder Namen zu lesen. Sie wird nicht gesendet.',
 
   // what a file would do
-  rowNumber: 'Zeile',
-  firstRows: (count) => (count === 1 ? 'Erste Zeile' : `Erste ${count} Zeilen`),
-  noCode: 'noch keiner',
-  rowCount: (count) => `Die Datei hat ${many(count, 'Zeile', 'Zeilen')}.`,
-  newCount: (fresh, old, isSure) => `Neu: ${number(fresh)}. Schon im Portal: ${number(old)}.${isSure ? '' : ' Die Zahlen können abweichen: Dieser Browser kennt nicht alle im Portal.'}`,
-  wouldRefuse: 'Diese Datei kann noch nicht gesendet werden. Berichtigen Sie sie in der Tabellenkalkulation und öffnen Sie sie noch einmal:',
-  rowFault: (row, column, why) => `Zeile ${row}, ${apart(column)}: ${why}`,
-  rowFaults: {
-    empty: () => 'diese Zelle ist leer.',
-    id: keyForm,
-    lecturer: () => 'unter diesem Namen ist keine Lehrperson bekannt, oder mehr als eine. Nehmen Sie die ID.',
-    name: () => `zu lang oder mit einem Zeilenumbruch. Die Grenze ist ${longestName} Bytes; Buchstaben mit Akzent und nicht lateinische brauchen zwei oder mehr.`,
-    title: () => `zu lang oder mit einem Zeilenumbruch. Die Grenze ist ${longestName} Bytes; Buchstaben mit Akzent und nicht lateinische brauchen zwei oder mehr.`,
-    code: () => `${shortestCode} bis ${longestCode} Buchstaben (ohne Akzente), Ziffern oder Bindestriche.`,
-    capacity: () => `eine ganze Zahl von 1 bis ${largestCapacity}.`,
-    keyTwice: (other) => `Zeile ${other} hat dieselbe ID mit anderen Angaben.`,
-    codeTwice: (other) => `Zeile ${other} hat denselben Code.`,
-    tooMany: () => `ab hier sind es zu viele Zeilen. Das Portal nimmt bis zu ${lecturers(mostRows.lecturers)}, ${projects(mostRows.projects)} und ${students(mostRows.students)}.`,
-  },
-  moreFaults: (count) => `und ${number(count)} mehr`,
-  lookAt: 'Prüfen Sie das, bevor Sie senden:',
-  rows: (named, more) => `${named.length + Math.max(0, more) === 1 ? 'Zeile' : 'Zeilen'} ${named.join(', ')}${more > 0 ? ` und ${number(more)} mehr` : ''}`,
-  doubts: {
-    differs: (rows) => `Scheint von dem abzuweichen, was das Portal unter derselben ID hat. Wenn ja, lehnt das Portal die Datei ab: ${rows}.`,
-    weakCode: (rows) => `Der Code ist leicht zu erraten: ${rows}.`,
-    noLecturer: (rows) => `Die Lehrperson scheint nicht im Portal zu sein. Fügen Sie zuerst die Lehrenden hinzu: ${rows}.`,
-    sameTitle: (rows) => `Ein anderes Projekt hat denselben Titel: ${rows}.`,
-    formula: (rows) => `Name oder Titel beginnt mit =, +, - oder @. Eine Tabellenkalkulation kann das für eine Formel halten: ${rows}.`,
-  },
-  codesMissing: (count) => `${many(count, 'neue Person hat', 'neue Personen haben')} keinen Code zum Anmelden. Sie können hier, in Ihrem Browser, zufällige Codes machen.`,
-  lecturersNamed: (count) => `${many(count, 'Lehrperson steht', 'Lehrende stehen')} in dieser Datei mit Namen. Prüfen Sie, ob diese gemeint sind:`,
-  useNamed: 'Diese IDs nehmen',
-  notChanged: (rows) => `Weicht von dem ab, was zuvor gesendet wurde, und wird NICHT geändert: ${rows}. Bitten Sie die Administration, es zu berichtigen.`,
-  askCorrected: 'Hat die Administration das berichtigt?',
-  correctedIf: (rows) => `Die Datei weicht von dem ab, was das Portal hat, soweit dieser Browser weiß: ${rows}.`,
-  takeCorrected: 'Berichtigt: Datei nehmen',
-  keepSent: 'Gesendetes behalten',
-  leftOut: (count) => `${many(count, 'Person ist', 'Personen sind')} schon im Portal und ${count === 1 ? 'behält den alten Code' : 'behalten ihre Codes'}. ${count === 1 ? 'Diese Zeile wird' : 'Diese Zeilen werden'} nicht gesendet.`,
-  codesMade: (count) => `${many(count, 'Code', 'Codes')} gemacht. Drücken Sie als Nächstes „Senden“. Dann bekommen Sie eine Datei mit den Codes und Zettel zum Drucken.`,
-  final: 'Prüfen Sie, bevor Sie senden: Danach können hier keine Zeilen geändert oder entfernt werden.',
-  keepsNames: (withEmails) => (withEmails ? 'Beim Senden merkt sich dieser Browser die Namen und E-Mail-Adressen, aber nie die Codes. Die Adressen werden nicht gesendet.' : 'Beim Senden merkt sich dieser Browser die Namen, aber nie die Codes.'),
-  makeCodes: 'Codes machen',
-  send: 'Senden',
-  askAdd: (what) => `${what} hinzufügen?`,
-  addedForGood: 'Sie können sie später weder entfernen noch ändern.',
-  askSendAgain: (what) => `${what} noch einmal senden?`,
-  allThere: 'Soweit dieser Browser weiß, sind alle schon im Portal.',
-  fromFile: (file) => `Aus der Datei ${apart(file)}.`,
-  doAdd: (what) => `${what} hinzufügen`,
   notNow: 'Jetzt nicht',
-  keepNames: 'Nur Namen lesen',
-  namesKept: (count, emails) => `${many(count, 'Name', 'Namen')}${emails === 0 ? '' : ` und ${addresses(emails)}`} gelesen. Es wurde nichts gesendet.`,
-  leaveOut: 'Diese Zeile weglassen',
-  discardCodes: 'Die neuen Codes verwerfen?',
-  discardMeans: (count) => `${many(count, 'neuer Code ist', 'neue Codes sind')} noch nicht gesendet und ${count === 1 ? 'geht' : 'gehen'} verloren.`,
-  discard: 'Codes verwerfen',
-  keepCodes: 'Codes behalten',
-  codesSaved: (file) => `Die Codes stehen in der Datei ${file} bei Ihren Downloads. Bewahren Sie sie sicher auf: Das Portal zeigt Codes nie wieder.`,
-  keepFile: 'Die Codes noch einmal herunterladen',
-  printSlips: 'Zettel drucken',
-  slipCode: 'Code',
-  slipAddress: 'Anmelden unter',
-  slipSecret: 'Halten Sie Ihren Code geheim. Wer ihn hat, kann in Ihrem Namen handeln.',
-  row: (row) => `Zeile ${row}`,
 
   // names in this browser
   names: 'Namen in diesem Browser',
-  namesAre: (count, emails) => `Dieser Browser merkt sich ${many(count, 'Namen', 'Namen')}${emails === 0 ? '' : ` und ${addresses(emails)}`}, damit Sie Namen und nicht nur IDs sehen. Codes merkt er sich nicht. Vergessen Sie die Namen an einem gemeinsam genutzten Computer, bevor Sie gehen.`,
+  namesAre: (count, emails) => 'Dieser Browser merkt sich '
+    + `${many(count, 'Namen', 'Namen')}${emails === 0 ? '' : ` und ${addresses(emails)}`}, damit Sie Namen und nicht nur IDs sehen. Codes `
+    + 'merkt er sich nicht. Vergessen Sie die Namen an einem gemeinsam genutzten Computer, bevor Sie gehen.',
   noNames: 'Dieser Browser merkt sich keine Namen.',
   forgetNames: 'Namen vergessen',
   namesForgotten: 'Namen vergessen.',
@@ -142,7 +70,11 @@ export const words = texts({
   ranked: (done, all) => `Rangfolgen fertig: ${number(done)} von ${many(all, 'Lehrperson', 'Lehrenden')}`,
   withoutApplicants: (count) => `${many(count, 'andere Lehrperson hat', 'andere Lehrende haben')} keine Bewerbungen.`,
   rankingsMissing: (count) => `Fehlende Rangfolgen: ${number(count)}`,
-  rankersUnknown: (count) => `Von höchstens ${many(count, 'Lehrperson', 'Lehrenden')}: denen mit einem Projekt in dieser Runde. Wer von ihnen Bewerbungen hat, kann dieser Browser nicht wissen.`,
+  rankersUnknown: (count) => `Von höchstens ${many(
+    count,
+    'Lehrperson',
+    'Lehrenden',
+  )}: denen mit einem Projekt in dieser Runde. Wer von ihnen Bewerbungen hat, kann dieser Browser nicht wissen.`,
   withoutPlace: (count) => `Mindestens ${number(count)} bekommen kein Projekt.`,
   assigned: (count, all) => `Mit Projekt: ${number(count)} von ${many(all, 'Person', 'Studierenden')}`,
   missing: {
@@ -151,22 +83,45 @@ export const words = texts({
     project: 'Ohne Projekt',
   },
   nobody: 'Niemand',
-  noneAre: (none, list, round) => `${number(none)} ohne gespeicherte Liste${round === 2 ? ' in dieser Runde' : ''}. ${number(list)} mit Liste, aber ohne Platz.`,
+  noneAre: (none, list, round) =>
+    `${number(none)} ohne gespeicherte Liste${round === 2 ? ' in dieser Runde' : ''}. ${number(list)} mit Liste, aber ohne Platz.`,
   allNames: (count) => `Alle ${number(count)} Namen zeigen`,
-  keysAlone: 'Das Portal zeigt hier nur IDs. Um Namen zu sehen, öffnen Sie die Datei der Lehrenden oder Studierenden noch einmal und drücken „Nur Namen lesen“. Nichts wird gesendet.',
+  keysAlone: 'Das Portal zeigt hier nur IDs. Um Namen zu sehen, öffnen Sie die Datei der Lehrenden oder Studierenden noch einmal und '
+    + 'drücken „Nur Namen lesen“. Nichts wird gesendet.',
   person: (key, name) => (name === undefined ? key : `${apart(name)} (${key})`),
   copyNames: 'Namen kopieren',
   copied: (count) => `${many(count, 'Name', 'Namen')} kopiert.`,
   copyEmails: 'E-Mail-Adressen kopieren',
   copiedEmails: (count, unknown) => `${addresses(count)} kopiert${unknown === 0 ? '' : `, ${number(unknown)} unbekannt`}. „Bcc“ benutzen.`,
   data: 'Personen und Projekte prüfen',
-  dataHint: 'Öffnen Sie eine Tabelle, um zu sehen, was jetzt im Portal steht. Namen, und wie viele Studierende eine Lehrperson nimmt, sind die der Dateien, die dieser Browser gesendet oder gelesen hat.',
-  dataColumns: { lecturer: 'Lehrperson', takes: 'Nimmt', projects: 'Projekte', places: 'Plätze', ranking: 'Rangfolge', has: 'Hat', student: 'Person', list: 'Liste' },
+  dataHint: 'Öffnen Sie eine Tabelle, um zu sehen, was jetzt im Portal steht. Namen, und wie viele Studierende eine Lehrperson nimmt, sind '
+    + 'die der Dateien, die dieser Browser gesendet oder gelesen hat.',
+  dataColumns: {
+    lecturer: 'Lehrperson',
+    takes: 'Nimmt',
+    projects: 'Projekte',
+    places: 'Plätze',
+    ranking: 'Rangfolge',
+    has: 'Hat',
+    student: 'Person',
+    list: 'Liste',
+  },
   standsList: { done: 'Gespeichert', missing: 'Keine', placed: 'Hat ein Projekt' },
   standsRanking: { done: 'Erledigt', missing: 'Fehlt', none: 'Keine Bewerbungen', unknown: 'Erledigt oder nicht nötig' },
   searchRoll: { lecturers: 'Lehrende suchen', projects: 'Projekte suchen', students: 'Studierende suchen' },
   rowsShown: (shown, all) => (shown === all ? many(all, 'Zeile', 'Zeilen') : `${number(shown)} von ${many(all, 'Zeile', 'Zeilen')}`),
-  unknownPeople: { lecturers: (count) => `${many(count, 'weitere Lehrperson ist', 'weitere Lehrende sind')} im Portal. Dieser Browser weiß nicht, wer: Er hat ihre Datei nicht gesendet.`, students: (count) => `${many(count, 'weitere Person ist', 'weitere Studierende sind')} im Portal. Dieser Browser weiß nicht, wer: Er hat ihre Datei nicht gesendet.` },
+  unknownPeople: {
+    lecturers: (count) => `${many(
+      count,
+      'weitere Lehrperson ist',
+      'weitere Lehrende sind',
+    )} im Portal. Dieser Browser weiß nicht, wer: Er hat ihre Datei nicht gesendet.`,
+    students: (count) => `${many(
+      count,
+      'weitere Person ist',
+      'weitere Studierende sind',
+    )} im Portal. Dieser Browser weiß nicht, wer: Er hat ihre Datei nicht gesendet.`,
+  },
   openProjects: (count) => `${projects(count)} in der zweiten Runde offen`,
 
   // the office: the next step
@@ -178,10 +133,15 @@ export const words = texts({
   openSecond: 'Zweite Runde öffnen',
   does: {
     openChoosing: 'Studierende können Listen zusammenstellen und speichern. Personen und Projekte können noch hinzukommen.',
-    openRanking: 'Die Wahl schließt: Listen können nicht mehr geändert werden, und Personen und Projekte können nicht mehr hinzukommen. Lehrende sehen, wer ihre Projekte gewählt hat, und ordnen diese Bewerbungen.',
-    publish: 'Das Portal vergibt die Projekte. Studierende sehen ihr Ergebnis, Lehrende ihre Studierenden. Rangfolgen können nicht mehr geändert werden.',
-    fill: 'Nur wenn Lehrende nicht antworten: Das Portal ordnet die Bewerbungen bei ihnen nach ID. Die Lehrenden können diese Rangfolge noch ändern, bis Sie veröffentlichen.',
-    openSecond: 'Freiwillig. Studierende ohne Projekt wählen noch einmal unter den übrigen Plätzen, und Lehrende ordnen sie. Alle anderen behalten ihre Projekte. Personen und Projekte können nicht hinzukommen.',
+    openRanking: 'Die Wahl schließt: Listen können nicht mehr geändert werden, und Personen und Projekte können nicht mehr hinzukommen. '
+      + 'Lehrende sehen, wer ihre Projekte gewählt hat, und ordnen diese Bewerbungen.',
+    publish: 'Das Portal vergibt die Projekte. Studierende sehen ihr Ergebnis, Lehrende ihre Studierenden. Rangfolgen können nicht mehr '
+      + 'geändert werden.',
+    fill: 'Nur wenn Lehrende nicht antworten: Das Portal ordnet die Bewerbungen bei ihnen nach ID. Das begünstigt niedrige IDs: Sind es '
+      + 'Matrikelnummern, so bei jeder solchen Lehrperson dieselben, meist älteren Studierenden. Die Lehrenden können diese Rangfolge noch '
+      + 'ändern, bis Sie veröffentlichen.',
+    openSecond: 'Freiwillig. Studierende ohne Projekt wählen noch einmal unter den übrigen Plätzen, und Lehrende ordnen sie. Alle anderen '
+      + 'behalten ihre Projekte. Personen und Projekte können nicht hinzukommen.',
   },
   ask: {
     openChoosing: 'Wahl jetzt öffnen?',
@@ -190,34 +150,52 @@ export const words = texts({
     fill: 'Die fehlenden Rangfolgen jetzt ergänzen?',
     openSecond: 'Die zweite Runde jetzt öffnen?',
   },
-  forGoodOf: (name) => (name === 'fill' ? 'Sie können eine ergänzte Rangfolge nicht entfernen; nur ihre Lehrperson kann sie ersetzen.' : 'Sie können das nicht rückgängig machen.'),
+  forGoodOf: (name) => (name === 'fill'
+    ? 'Sie können eine ergänzte Rangfolge nicht entfernen; nur ihre Lehrperson kann sie ersetzen.'
+    : 'Sie können das nicht rückgängig machen.'),
   early: (phase, when, left) => `Allen wurde gesagt, dass „${phase}“ am ${when} endet. Das ist ${left}.`,
-  filledHere: (count, names) => `${many(count, 'Rangfolge wurde', 'Rangfolgen wurden')} von diesem Browser aus nach ID ergänzt; ihre Lehrenden können sie seither ersetzt haben: ${names}.`,
+  filledHere: (count, names) => `${many(
+    count,
+    'Rangfolge wurde',
+    'Rangfolgen wurden',
+  )} von diesem Browser aus nach ID ergänzt; ihre Lehrenden können sie seither ersetzt haben: ${names}.`,
   filledElsewhere: 'Ob Rangfolgen von einem anderen Browser aus ergänzt wurden, kann diese Seite nicht wissen.',
-  noListNoProject: (count) => `${many(count, 'Person hat', 'Studierende haben')} keine Liste und ${count === 1 ? 'bekommt' : 'bekommen'} deshalb kein Projekt.`,
+  noListNoProject: (count) =>
+    `${many(count, 'Person hat', 'Studierende haben')} keine Liste und ${count === 1 ? 'bekommt' : 'bekommen'} deshalb kein Projekt.`,
   fillWith: (names) => `Lehrende ohne Rangfolge: ${names}.`,
   publishMissing: (count) => `Sie können noch nicht veröffentlichen: ${many(count, 'Rangfolge fehlt', 'Rangfolgen fehlen')}.`,
   openLecturers: 'Datei der Lehrenden öffnen',
   lacks: {
     projects: 'Fügen Sie zuerst Projekte hinzu, damit Studierende etwas wählen können.',
     students: 'Fügen Sie zuerst Studierende hinzu.',
-    places: (count, all, isSure) => `${isSure ? '' : 'Höchstens '}${places(count)} für ${students(all)}: Mindestens ${number(all - count)} bekommen kein Projekt.`,
+    places: (count, all, isSure) =>
+      `${isSure ? '' : 'Höchstens '}${places(count)} für ${students(all)}: Mindestens ${number(all - count)} bekommen kein Projekt.`,
     offers: (count, names) => `${many(count, 'Lehrperson hat', 'Lehrende haben')} kein Projekt${names === '' ? '' : `: ${names}`}.`,
     lists: 'Niemand hat eine Liste gespeichert, diese Runde gäbe also niemandem ein Projekt.',
     room: (count) => `0 Plätze für ${students(count)}: Es ist nichts mehr zu wählen übrig.`,
   },
-  withoutList: (count) => (count === 0 ? '' : `${many(count, 'Person hat', 'Studierende haben')} keine Liste und ${count === 1 ? 'kann' : 'können'} danach keine mehr speichern.`),
+  withoutList: (count) => (count === 0
+    ? ''
+    : `${many(count, 'Person hat', 'Studierende haben')} keine Liste und ${count === 1 ? 'kann' : 'können'} danach keine mehr speichern.`),
   secondFor: 'Alle Studierenden haben ein Projekt. Es braucht keine zweite Runde.',
-  secondRoom: (count, all) => `${places(count)} für ${students(all)}${count < all ? `: Mindestens ${number(all - count)} bekommen kein Projekt` : ''}.`,
-  secondRange: (least, most, all, unknown) => `${number(least)} bis ${places(most)} für ${students(all)}. Dieser Browser weiß bei ${unknown === 1 ? '1 Lehrperson' : `${number(unknown)} Lehrenden`} nicht, wie viele Studierende sie ${unknown === 1 ? 'nimmt' : 'nehmen'}. Öffnen Sie dazu die Datei der Lehrenden; sie wird nicht gesendet.`,
+  secondRoom: (count, all) =>
+    `${places(count)} für ${students(all)}${count < all ? `: Mindestens ${number(all - count)} bekommen kein Projekt` : ''}.`,
+  secondRange: (least, most, all, unknown) => `${number(least)} bis ${places(most)} für ${students(all)}. Dieser Browser weiß bei `
+    + `${unknown === 1 ? '1 Lehrperson' : `${number(unknown)} Lehrenden`} nicht, wie viele Studierende sie `
+    + `${unknown === 1 ? 'nimmt' : 'nehmen'}. Öffnen Sie dazu die Datei der Lehrenden; sie wird nicht gesendet.`,
   moved: (place) => `Erledigt. Das Portal ist jetzt bei ${place}.`,
   filled: (keys) => (keys.length === 0 ? 'Keine Rangfolge fehlt.' : `Ergänzt für ${keys.join(', ')}.`),
   published: 'Die zweite Runde ist veröffentlicht. Es gibt keine weiteren Schritte.',
   closing: 'Wenn Sie fertig sind',
   closingParts: [
-    'Laden Sie die CSV-Datei herunter und drucken Sie den Bericht: Das Portal des nächsten Jahres weiß nichts von diesem.',
-    'Vernichten Sie die Dateien der Codes, und vergessen Sie an einem gemeinsam genutzten Computer die Namen (am Ende dieser Seite).',
-    'Das nächste Jahr beginnt mit einem neuen, leeren Portal. Fragen Sie die Administration danach.',
+    'Laden Sie das Ergebnis herunter und drucken Sie den Bericht: Das Portal des nächsten Jahres weiß nichts von diesem.',
+    'Ist jemand ausgeschieden? Das Ergebnis bleibt, wie es ist. Geht eine Lehrperson, so berichtigt die Administration für die Nachfolge '
+      + 'den Namen und macht einen neuen Code; mit ihm sieht die Nachfolge die Studierenden.',
+    'Sobald sich niemand mehr anmelden muss: Vernichten Sie die Dateien der Codes, und vergessen Sie an einem gemeinsam genutzten Computer '
+      + 'die Namen (am Ende dieser Seite).',
+    'Bitten Sie dann die Administration, das Jahr abzuschließen. Bis dahin behalten die Datenbank und ihre Sicherungen alle Listen, '
+      + 'Rangfolgen, Ergebnisse und Codes.',
+    'Das nächste Jahr beginnt mit einem neuen, leeren Portal.',
   ],
 
   // the office: the result
@@ -230,6 +208,7 @@ export const words = texts({
   usage: 'Belegte Plätze',
   usageOf: (taken, count) => `Belegte Plätze: ${number(taken)} (${projects(count)})`,
   used: (taken, all) => `${taken} von ${many(all, 'Platz', 'Plätzen')}`,
+  downloadBook: 'Excel-Datei herunterladen',
   downloadCsv: 'CSV herunterladen',
   printReport: 'Bericht drucken',
   printAnswers: 'Für die Leitung drucken',
@@ -237,10 +216,7 @@ export const words = texts({
   report: 'Bericht als Text',
 
   // the office: what goes wrong
-  lostPost: 'Das Portal antwortet nicht, wir wissen also nicht, ob es geklappt hat. Prüfen Sie den Stand, bevor Sie es noch einmal versuchen.',
-  lostRoll: 'Das Portal antwortet nicht, wir wissen also nicht, ob die Datei angekommen ist. Sie können sie ruhig noch einmal senden: Zeilen, die schon da sind, werden nicht doppelt hinzugefügt.',
+  lostPost: 'Das Portal antwortet nicht, wir wissen also nicht, ob es geklappt hat. Prüfen Sie den Stand, bevor Sie es noch einmal '
+    + 'versuchen.',
   lookAgain: 'Stand prüfen',
-  sendAgain: 'Noch einmal senden',
-  badRow: (roll, row, lecturer) => `${roll}: Nichts wurde hinzugefügt, denn Zeile ${row} hat einen Fehler.${lecturer === undefined ? '' : ` Keine Lehrperson hat die ID ${apart(lecturer)}.`}`,
-  rollConflict: (roll, row) => `${roll}: Nichts wurde hinzugefügt. Zeile ${row} weicht von dem ab, was das Portal unter derselben ID hat, oder ihr Code gehört jemand anderem.`,
 });

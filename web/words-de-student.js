@@ -34,7 +34,8 @@ export const words = texts({
     show: 'Liste zeigen',
     skip: 'Zu „Liste speichern“',
     saved: (count) => (count === 0 ? 'Gespeichert. Leere Liste: kein Projekt für Sie.' : `Gespeichert. Ihre Liste hat ${projects(count)}.`),
-    count: (count) => (count < longestList ? `${projects(count)} (bis zu ${longestList})` : `${longestList} Projekte. Ihre Liste ist voll.`),
+    count: (count) =>
+      (count < longestList ? `${projects(count)} (bis zu ${longestList})` : `${longestList} Projekte. Ihre Liste ist voll.`),
     missing: () => '',
     none: 'Nichts gespeichert',
     which: 'Welche Liste möchten Sie behalten?',
@@ -47,28 +48,42 @@ export const words = texts({
   decidedParts: [
     'Hat ein Projekt oder seine Lehrperson zu wenige Plätze, gehen sie an Studierende, die die Lehrperson weiter vorn ordnet.',
     'Lehrende ordnen, ohne Ihre Reihenfolge zu sehen: Sie sehen nur, welche ihrer eigenen Projekte Sie gewählt haben.',
-    'Wann Sie speichern, spielt keine Rolle. Ordnen Sie Ihre Projekte ehrlich: Keine andere Reihenfolge gibt Ihnen eines, das Ihnen lieber ist.',
+    'Wann Sie speichern, spielt keine Rolle. Ordnen Sie Ihre Projekte ehrlich: Keine andere Reihenfolge gibt Ihnen eines, das Ihnen lieber '
+      + 'ist.',
   ],
   about: 'Wie Sie Ihre Liste ordnen und wer sie sieht',
-  secret: 'Nur Sie sehen Ihre ganze Liste und ihre Reihenfolge. Das Studienbüro sieht nur, ob sie leer ist. Wenn die Wahl geschlossen ist, sehen Lehrende, welche ihrer eigenen Projekte Sie gewählt haben, ohne Positionen. Die Ergebnisse können etwas mehr verraten: Eine Lehrperson, die Sie an die erste Stelle gesetzt hat und Sie nicht bekommt, weiß, dass Ihr Projekt auf Ihrer Liste weiter oben steht.',
-  secretCodes: 'Das Studienbüro hat die Codes gemacht: Wer die Datei der Codes hat, könnte sich als Sie anmelden, und wer die Datenbankdatei des Portals lesen kann, kann Ihre Liste lesen.',
-  filledByID: 'Macht eine Lehrperson keine Rangfolge, kann das Studienbüro sie nach der ID der Studierenden ergänzen lassen. Das begünstigt niedrige IDs, und einen anderen Grund dafür gibt es nicht.',
-  advice: 'Welche Projekte Sie auch auf Ihre Liste setzen, setzen Sie sie in Ihrer ehrlichen Reihenfolge darauf: Keine andere Reihenfolge und keine kürzere Liste aus einigen von ihnen gibt Ihnen eines, das Ihnen lieber ist. Das ist mathematisch bewiesen.',
+  secret: 'Dem eigenen Code des Studienbüros zeigt das Portal keine Liste; aber das Studienbüro hat Ihren Code gemacht, und wer ihn hat '
+    + 'oder die Datenbank lesen darf, kann Ihre Liste lesen. Das Studienbüro sieht, ob Ihre Liste leer ist. Wenn die Wahl geschlossen ist, '
+    + 'sehen Lehrende, welche ihrer eigenen Projekte Sie gewählt haben, ohne Positionen. Die Ergebnisse können etwas mehr verraten: Eine '
+    + 'Lehrperson, die Sie an die erste Stelle gesetzt hat und Sie nicht bekommt, weiß, dass Ihr Projekt auf Ihrer Liste weiter oben '
+    + 'steht.',
+  filledByID: 'Macht eine Lehrperson keine Rangfolge, kann das Studienbüro sie nach der ID der Studierenden ergänzen lassen. Das '
+    + 'begünstigt niedrige IDs: Sind es Matrikelnummern, so bei jeder solchen Lehrperson dieselben, meist älteren Studierenden.',
+  advice: 'Welche Projekte Sie auch auf Ihre Liste setzen, setzen Sie sie in Ihrer ehrlichen Reihenfolge darauf: Keine andere Reihenfolge '
+    + 'und keine kürzere Liste aus einigen von ihnen gibt Ihnen eines, das Ihnen lieber ist. Das ist mathematisch bewiesen.',
   adviceParts: [
     'Setzen Sie Ihr liebstes Projekt an die erste Stelle, auch wenn es beliebt ist. Sie verlieren nichts, wenn Sie es versuchen.',
-    `Nehmen Sie jedes Projekt auf, das Sie nehmen würden. Eine Liste hat Platz für ${longestList}; wenn Ihnen mehr gefallen, sagt keine Regel, welche ${longestList} Sie nehmen sollen.`,
-    'Ein weiteres Projekt am Ende schadet Ihren Aussichten auf die davor nie. Ein Projekt, das nicht auf Ihrer Liste steht, bekommen Sie nie.',
-    'Das Kleingedruckte: Keine Gruppe kann Listen oder das Warten auf eine zweite Runde so absprechen, dass über beide Runden alle in ihr gewinnen; einige von ihnen vielleicht. Der Beweis gilt nur für die Listen der Studierenden und setzt voraus, dass bei keiner Lehrperson die Reihenfolge zweier Studierender von irgendeiner Liste abhängt.',
+    `Nehmen Sie jedes Projekt auf, das Sie nehmen würden. Eine Liste hat Platz für ${longestList}; wenn Ihnen mehr gefallen, sagt keine `
+      + `Regel, welche ${longestList} Sie nehmen sollen.`,
+    'Ein weiteres Projekt am Ende schadet Ihren Aussichten auf die davor nie. Ein Projekt, das nicht auf Ihrer Liste steht, bekommen Sie '
+      + 'nie.',
+    'Das Kleingedruckte: Keine Gruppe kann Listen oder das Warten auf eine zweite Runde so absprechen, dass über beide Runden alle in ihr '
+      + 'gewinnen; einige von ihnen vielleicht. Der Beweis gilt nur für die Listen der Studierenden und setzt voraus, dass bei keiner '
+      + 'Lehrperson die Reihenfolge zweier Studierender von irgendeiner Liste abhängt.',
   ],
-  adviceWait: 'Auf eine zweite Runde zu warten bringt nichts, wenn auf Ihrer Liste jedes Projekt steht, das Sie nehmen würden: Bekommen Sie keines, hat keines von ihnen dann noch einen Platz für Sie. Und vielleicht gibt es keine zweite Runde.',
-  roomLeft: (count, among) => `Höchstens ${places(count)} ${count === 1 ? 'ist' : 'sind'} übrig, in ${many(among, 'Projekt', 'Projekten')}.`,
-  adviceSecond: 'Kein Projekt Ihrer ersten Liste hat noch einen Platz für Sie. Setzen Sie andere auf die Liste, die Ihnen lieber sind als keines.',
+  adviceWait: 'Steht auf Ihrer Liste jedes Projekt, das Sie nehmen würden, bringt es nichts, auf die zweite Runde zu warten: Bekommen Sie '
+    + 'jetzt keines davon, hat dann keines noch einen Platz für Sie. Und vielleicht gibt es keine zweite Runde.',
+  roomLeft: (count, among) =>
+    `Höchstens ${places(count)} ${count === 1 ? 'ist' : 'sind'} übrig, in ${many(among, 'Projekt', 'Projekten')}.`,
+  adviceSecond: 'Kein Projekt Ihrer ersten Liste hat noch einen Platz für Sie. Setzen Sie andere auf die Liste, die Ihnen lieber sind als '
+    + 'keines.',
   yourProject: 'Ihr Ergebnis',
   ownProject: (title, lecturer) => `Ihr Projekt ist ${apart(title)} bei ${apart(lecturer)}.`,
   ownProjectByKey: (title) => `Ihr Projekt ist ${apart(title)}.`,
   choice: (place) => `Es war Ihre ${place}. Wahl. Nur Sie können das sehen.`,
   hasOwnAlready: 'Sie haben schon ein Projekt aus der ersten Runde und müssen nichts tun.',
-  chooseAgain: 'In der ersten Runde haben Sie kein Projekt bekommen. Setzen Sie die, die Sie jetzt möchten, auf Ihre Liste, das liebste zuerst, und speichern Sie sie.',
+  chooseAgain: 'In der ersten Runde haben Sie kein Projekt bekommen. Setzen Sie die, die Sie jetzt möchten, auf Ihre Liste, das liebste '
+    + 'zuerst, und speichern Sie sie.',
   canChange: 'Sie können sie ändern, bis die Wahl geschlossen wird.',
   choiceFirst: 'Es war Ihre erste Wahl. Nur Sie können das sehen.',
   keptFirst: 'Dieses Projekt haben Sie in der ersten Runde bekommen. Die zweite Runde ändert daran nichts.',
@@ -77,22 +92,39 @@ export const words = texts({
   markTaken: 'Kein Platz für Sie',
   markFull: 'Alle seine Plätze gingen an Studierende, die vor Ihnen geordnet waren.',
   markFullSecond: 'Alle Plätze, die bei ihm übrig waren, gingen an Studierende, die vor Ihnen geordnet waren.',
-  whyTaken: '„Kein Platz für Sie“ heißt: Alle Plätze des Projekts oder alle seiner Lehrperson gingen an Studierende, die vor Ihnen geordnet waren.',
-  whyTakenSecond: '„Kein Platz für Sie“ heißt: Alle Plätze, die beim Projekt oder bei seiner Lehrperson übrig waren, gingen an Studierende, die vor Ihnen geordnet waren.',
+  whyTaken: '„Kein Platz für Sie“ heißt: Alle Plätze des Projekts oder alle seiner Lehrperson gingen an Studierende, die vor Ihnen '
+    + 'geordnet waren.',
+  whyTakenSecond: '„Kein Platz für Sie“ heißt: Alle Plätze, die beim Projekt oder bei seiner Lehrperson übrig waren, gingen an '
+    + 'Studierende, die vor Ihnen geordnet waren.',
   whyHigherTitle: 'Warum keine höhere Wahl?',
-  whyHigher: (count) => (count === 1 ? 'Ihre 1. Wahl hatte keinen Platz für Sie: Alle ihre Plätze oder alle ihrer Lehrperson gingen an Studierende, die vor Ihnen geordnet waren.' : `Ihre ersten ${count} Wahlen hatten keinen Platz für Sie. Bei jeder von ihnen gingen alle Plätze des Projekts oder alle seiner Lehrperson an Studierende, die vor Ihnen geordnet waren.`),
-  whyHigherSecond: (count) => (count === 1 ? 'Ihre 1. Wahl in dieser Runde hatte keinen Platz für Sie: Alle Plätze, die bei ihr oder bei ihrer Lehrperson übrig waren, gingen an Studierende, die vor Ihnen geordnet waren.' : `Ihre ersten ${count} Wahlen in dieser Runde hatten keinen Platz für Sie. Bei jeder von ihnen gingen alle Plätze, die beim Projekt oder bei seiner Lehrperson übrig waren, an Studierende, die vor Ihnen geordnet waren.`),
-  whyNoOther: 'Bei denselben Rangfolgen und denselben Listen der anderen hätte Ihnen keine andere Liste eine Wahl über Ihrem Ergebnis gebracht.',
-  whyFilled: 'Die Rangfolgen machen die Lehrenden. Wo eine fehlte, hat das Studienbüro sie nach der ID der Studierenden ergänzen lassen, was niedrige IDs begünstigt.',
+  whyHigher: (count) => (count === 1
+    ? 'Ihre 1. Wahl hatte keinen Platz für Sie: Alle ihre Plätze oder alle ihrer Lehrperson gingen an Studierende, die vor Ihnen geordnet '
+      + 'waren.'
+    : `Ihre ersten ${count} Wahlen hatten keinen Platz für Sie. Bei jeder von ihnen gingen alle Plätze des Projekts oder alle seiner `
+      + 'Lehrperson an Studierende, die vor Ihnen geordnet waren.'),
+  whyHigherSecond: (count) => (count === 1
+    ? 'Ihre 1. Wahl in dieser Runde hatte keinen Platz für Sie: Alle Plätze, die bei ihr oder bei ihrer Lehrperson übrig waren, gingen an '
+      + 'Studierende, die vor Ihnen geordnet waren.'
+    : `Ihre ersten ${count} Wahlen in dieser Runde hatten keinen Platz für Sie. Bei jeder von ihnen gingen alle Plätze, die beim Projekt `
+      + 'oder bei seiner Lehrperson übrig waren, an Studierende, die vor Ihnen geordnet waren.'),
+  whyNoOther: 'Bei denselben Rangfolgen und denselben Listen der anderen hätte Ihnen keine andere Liste eine Wahl über Ihrem Ergebnis '
+    + 'gebracht.',
+  whyFilled: 'Die Rangfolgen machen die Lehrenden. Wo eine fehlte, hat das Studienbüro sie nach der ID der Studierenden ergänzen lassen, '
+    + 'was niedrige IDs begünstigt.',
   noneTitle: 'Sie haben diesmal kein Projekt bekommen.',
   noneTitleSecond: 'Sie haben in der zweiten Runde kein Projekt bekommen.',
-  whyNone: 'Bei jedem Projekt Ihrer Liste gingen alle seine Plätze oder alle seiner Lehrperson an Studierende, die vor Ihnen geordnet waren. Bei denselben Rangfolgen und denselben Listen der anderen hätte Ihnen keine andere Liste eines dieser Projekte gebracht.',
-  whyNoneSecond: 'Bei jedem Projekt Ihrer Liste gingen alle Plätze, die bei ihm oder bei seiner Lehrperson übrig waren, an Studierende, die vor Ihnen geordnet waren. Bei denselben Rangfolgen und denselben Listen der anderen hätte Ihnen keine andere Liste eines dieser Projekte gebracht.',
+  whyNone: 'Bei jedem Projekt Ihrer Liste gingen alle seine Plätze oder alle seiner Lehrperson an Studierende, die vor Ihnen geordnet '
+    + 'waren. Bei denselben Rangfolgen und denselben Listen der anderen hätte Ihnen keine andere Liste eines dieser Projekte gebracht.',
+  whyNoneSecond: 'Bei jedem Projekt Ihrer Liste gingen alle Plätze, die bei ihm oder bei seiner Lehrperson übrig waren, an Studierende, '
+    + 'die vor Ihnen geordnet waren. Bei denselben Rangfolgen und denselben Listen der anderen hätte Ihnen keine andere Liste eines dieser '
+    + 'Projekte gebracht.',
   noneNext: 'Fragen Sie das Studienbüro, wie es weitergeht.',
-  noneMayBe: 'Das Studienbüro kann für Studierende ohne Projekt eine zweite Runde öffnen. Dann wählen Sie hier noch einmal, unter den Plätzen, die übrig sind.',
+  noneMayBe: 'Das Studienbüro kann für Studierende ohne Projekt eine zweite Runde öffnen. Dann wählen Sie hier noch einmal, unter den '
+    + 'Plätzen, die übrig sind.',
   noneNextSecond: 'Eine dritte Runde gibt es nicht. Fragen Sie das Studienbüro, wie es weitergeht.',
   noProjectNoList: 'Sie haben kein Projekt bekommen, weil Sie keine Liste gespeichert haben.',
   noProjectNoListSecond: 'Sie haben in der zweiten Runde kein Projekt bekommen, weil Sie in ihr keine Liste gespeichert haben.',
   whatNext: 'Wie es weitergeht',
-  ownNext: 'Auch Ihre Lehrperson sieht, dass Sie dieses Projekt haben. Sprechen Sie miteinander darüber, wie Sie beginnen. Ist etwas unklar, fragen Sie das Studienbüro.',
+  ownNext: 'Auch Ihre Lehrperson sieht, dass Sie dieses Projekt haben. Sprechen Sie miteinander darüber, wie Sie beginnen. Ist etwas '
+    + 'unklar, fragen Sie das Studienbüro.',
 });

@@ -33,20 +33,25 @@ export const words = texts({
 
   // signing in
   yourCode: 'Ihr Code',
-  codeHint: `Sie haben diesen Code vom Studienbüro. Er hat ${shortestCode} bis ${longestCode} Buchstaben, Ziffern und Bindestriche. Verloren? Fragen Sie das Studienbüro.`,
+  codeHint: `Sie haben diesen Code vom Studienbüro. Er hat ${shortestCode} bis ${longestCode} Buchstaben, Ziffern und Bindestriche. `
+    + 'Verloren? Fragen Sie das Studienbüro.',
   showCode: 'Code zeigen',
   signIn: 'Anmelden',
   signOut: 'Abmelden',
-  noSuchCode: 'Diesen Code kennen wir nicht. Prüfen Sie jedes Zeichen, auch große und kleine Buchstaben. Wenn es nicht hilft, fragen Sie das Studienbüro.',
+  noSuchCode: 'Diesen Code kennen wir nicht. Prüfen Sie jedes Zeichen, auch große und kleine Buchstaben. Wenn es nicht hilft, fragen Sie '
+    + 'das Studienbüro.',
   noCodeForm: `Geben Sie den ganzen Code ein: ${shortestCode} bis ${longestCode} Buchstaben (ohne Akzente), Ziffern und Bindestriche.`,
   signedOut: 'Sie sind abgemeldet.',
   idleSoon: 'Sind Sie noch da?',
-  idleMeans: 'Hier ist eine Weile nichts geschehen. In zwei Minuten werden Sie abgemeldet. Was Sie nicht gespeichert haben, bleibt in diesem Tab.',
+  idleMeans: 'Hier ist eine Weile nichts geschehen. In zwei Minuten werden Sie abgemeldet. Was Sie nicht gespeichert haben, bleibt in '
+    + 'diesem Tab.',
   stay: 'Angemeldet bleiben',
   signedOutElsewhere: 'Sie sind abgemeldet, weil Sie sich in einem anderen Tab abgemeldet haben.',
-  signedOutKept: 'Sie sind abgemeldet, weil Sie sich in einem anderen Tab abgemeldet haben. Was hier nicht gespeichert war, bleibt in diesem Tab: Melden Sie sich hier wieder an, um weiterzumachen.',
+  signedOutKept: 'Sie sind abgemeldet, weil Sie sich in einem anderen Tab abgemeldet haben. Was hier nicht gespeichert war, bleibt in '
+    + 'diesem Tab: Melden Sie sich hier wieder an, um weiterzumachen.',
   signedOutAsk: 'Sie haben sich in einem anderen Tab abgemeldet. Auch hier abmelden?',
-  signedOutIdle: 'Sie sind abgemeldet, weil Sie 30 Minuten lang nichts getan haben. Melden Sie sich wieder an, um dort weiterzumachen, wo Sie waren.',
+  signedOutIdle: 'Sie sind abgemeldet, weil Sie 30 Minuten lang nichts getan haben. Melden Sie sich wieder an, um dort weiterzumachen, wo '
+    + 'Sie waren.',
   unsavedLeave: 'Verlassen, ohne zu speichern?',
   unsavedLost: 'Ihre nicht gespeicherten Änderungen gehen verloren.',
   roles: { student: 'Student/in', lecturer: 'Lehrperson', office: 'Studienbüro' },
@@ -56,7 +61,9 @@ export const words = texts({
   phases: { setup: 'Vorbereitung', choosing: 'Wahl', ranking: 'Rangfolgen', published: 'Ergebnisse' },
   round: (round) => `Runde ${round}`,
   roundFor: 'Die zweite Runde ist für Studierende, die in der ersten kein Projekt bekommen haben. Sie vergibt die Plätze, die übrig sind.',
-  moment: (when) => `${new Intl.DateTimeFormat('de', { weekday: 'long', day: 'numeric', month: 'long' }).format(when)} um ${new Intl.DateTimeFormat('de', { hour: '2-digit', minute: '2-digit' }).format(when)} Uhr`,
+  moment: (when) => `${new Intl.DateTimeFormat('de', { weekday: 'long', day: 'numeric', month: 'long' }).format(
+    when,
+  )} um ${new Intl.DateTimeFormat('de', { hour: '2-digit', minute: '2-digit' }).format(when)} Uhr`,
   closes: (phase, when, left) => `„${phase}“ endet am ${when} (${left}).`,
   overdue: (phase) => `„${phase}“ sollte jetzt beendet sein.`,
   past: (phase) => `Die angekündigte Zeit für „${phase}“ ist vorbei.`,
@@ -89,14 +96,16 @@ export const words = texts({
   next: {
     student: {
       setup: 'Danach wählen Sie Projekte.',
-      choosing: 'Sie können sie ändern, bis das Studienbüro die Wahl schließt. Es gilt, was Sie zuletzt gespeichert haben. Danach ordnen die Lehrenden die Bewerbungen.',
+      choosing: 'Sie können sie ändern, bis das Studienbüro die Wahl schließt. Es gilt, was Sie zuletzt gespeichert haben. Danach ordnen '
+        + 'die Lehrenden die Bewerbungen.',
       ranking: 'Danach sehen Sie hier Ihr Ergebnis.',
       published: '',
     },
     lecturer: {
       setup: 'Danach wählen die Studierenden Projekte.',
       choosing: 'Danach ordnen Sie die Bewerbungen um Ihre Projekte, wenn es welche gibt.',
-      ranking: 'Sie können sie ändern, bis das Studienbüro die Ergebnisse veröffentlicht. Danach sehen Sie hier, wer Ihre Projekte bekommen hat.',
+      ranking: 'Sie können sie ändern, bis das Studienbüro die Ergebnisse veröffentlicht. Danach sehen Sie hier, wer Ihre Projekte '
+        + 'bekommen hat.',
       published: '',
     },
     office: {},
@@ -113,7 +122,8 @@ export const words = texts({
   },
   nextSecond: {
     student: {
-      choosing: 'Sie können sie ändern, bis das Studienbüro die Wahl schließt. Es gilt, was Sie zuletzt gespeichert haben. Danach ordnen die Lehrenden die Bewerbungen.',
+      choosing: 'Sie können sie ändern, bis das Studienbüro die Wahl schließt. Es gilt, was Sie zuletzt gespeichert haben. Danach ordnen '
+        + 'die Lehrenden die Bewerbungen.',
       ranking: 'Danach sehen Sie hier Ihr Ergebnis.',
     },
     lecturer: {},
@@ -121,8 +131,10 @@ export const words = texts({
   },
   place: (phase, round) => (round === 2 ? `„${phase}“ der zweiten Runde` : `„${phase}“`),
   phaseMoved: (place) => `Das Portal ist inzwischen bei ${place}. Was Sie zuletzt getan haben, wurde nicht ausgeführt.`,
-  lastListCounts: 'Es gilt die Liste, die Sie zuletzt gespeichert haben. Was Sie danach geändert haben, bleibt auf dieser Seite, zum Lesen und Kopieren.',
-  lastRankingCounts: 'Es gilt die Rangfolge, die Sie zuletzt gespeichert haben. Was Sie danach geändert haben, bleibt auf dieser Seite, zum Lesen und Kopieren.',
+  lastListCounts: 'Es gilt die Liste, die Sie zuletzt gespeichert haben. Was Sie danach geändert haben, bleibt auf dieser Seite, zum Lesen '
+    + 'und Kopieren.',
+  lastRankingCounts: 'Es gilt die Rangfolge, die Sie zuletzt gespeichert haben. Was Sie danach geändert haben, bleibt auf dieser Seite, '
+    + 'zum Lesen und Kopieren.',
   columns: { title: 'Titel', lecturer: 'Lehrperson', places: 'Plätze', list: 'Ihre Liste' },
   named: (title, key) => `${title}, ${key}`,
   noMatches: 'Nichts gefunden. Versuchen Sie es mit weniger Wörtern, oder leeren Sie die Suche.',
@@ -136,7 +148,8 @@ export const words = texts({
   isAt: (name, place, count) => `${apart(name)} ist jetzt Nummer ${place} von ${count}.`,
   isGone: (name, count) => `${apart(name)} ist entfernt. ${count === 0 ? 'Es bleibt nichts übrig.' : `Es bleiben ${count}.`}`,
   orderHow: 'So ordnen Sie um',
-  orderHint: 'Zum Umordnen ziehen Sie einen Eintrag, drücken seine Pfeile oder geben seine Position ein. Mit der Tastatur: Gehen Sie mit Tab auf eine seiner Tasten, und drücken Sie ↑, ↓, Pos1 oder Ende; nach einem Klick zusammen mit Alt.',
+  orderHint: 'Zum Umordnen ziehen Sie einen Eintrag, drücken seine Pfeile oder geben seine Position ein. Mit der Tastatur: Gehen Sie mit '
+    + 'Tab auf eine seiner Tasten, und drücken Sie ↑, ↓, Pos1 oder Ende; nach einem Klick zusammen mit Alt.',
   undo: 'Rückgängig',
   undone: 'Die letzte Änderung ist zurückgenommen.',
   backToSaved: 'Änderungen verwerfen',
@@ -167,20 +180,27 @@ export const words = texts({
   decidedAndSeen: 'Wie entschieden wird und wer was sieht',
 
   // what goes wrong
-  lostSave: 'Das Portal antwortet nicht, wir wissen also nicht, ob es gespeichert ist. Es ist noch da, und die Seite sieht nach, ob es gespeichert wurde.',
+  lostSave: 'Das Portal antwortet nicht, wir wissen also nicht, ob es gespeichert ist. Es ist noch da, und die Seite sieht nach, ob es '
+    + 'gespeichert wurde.',
   notSaved: 'Das wurde nicht gespeichert. Es ist noch da. Versuchen Sie es noch einmal.',
   lost: 'Das Portal antwortet nicht. Was Sie eingegeben haben, ist noch da. Prüfen Sie Ihre Verbindung und versuchen Sie es noch einmal.',
   notCopied: 'Ihr Browser hat das Kopieren verhindert. Markieren und kopieren Sie die Namen selbst.',
   unexpected: 'Auf dieser Seite ist etwas schiefgegangen. Laden Sie sie neu, um weiterzumachen.',
-  listed: (names) => (names.length > 10 ? `${names.slice(0, 10).map(apart).join(', ')} und ${number(names.length - 10)} mehr` : names.map(apart).join(', ')),
+  listed: (names) =>
+    (names.length > 10 ? `${names.slice(0, 10).map(apart).join(', ')} und ${number(names.length - 10)} mehr` : names.map(apart).join(', ')),
   stillToRank: (names) => `Nicht veröffentlicht. Noch ohne Rangfolge: ${names.map(apart).join(', ')}.`,
   refusals: {
-    no_caller: 'Dieser Code gilt nicht mehr. Wenn Sie einen neuen bekommen haben, melden Sie sich damit an. Wenn nicht, fragen Sie das Studienbüro.',
+    no_caller: 'Dieser Code gilt nicht mehr. Wenn Sie einen neuen bekommen haben, melden Sie sich damit an. Wenn nicht, fragen Sie das '
+      + 'Studienbüro.',
     not_yours: 'Das dürfen Sie nicht tun.',
     wrong_phase: 'Das geht in dieser Phase nicht.',
     already_placed: 'Sie haben schon ein Projekt aus der ersten Runde und können deshalb keine Liste mehr speichern.',
-    roll_full: `Nichts wurde hinzugefügt: Es wären zu viele Zeilen. Das Portal nimmt bis zu ${lecturers(mostRows.lecturers)}, ${projects(mostRows.projects)} und ${students(mostRows.students)}.`,
-    too_large: `Diese Datei ist zu groß. Die Grenze ist ${number(largestFile)} Bytes. Teilen Sie sie und senden Sie die Teile nacheinander.`,
+    roll_full: `Nichts wurde hinzugefügt: Es wären zu viele Zeilen. Das Portal nimmt bis zu ${lecturers(
+      mostRows.lecturers,
+    )}, ${projects(mostRows.projects)} und ${students(mostRows.students)}.`,
+    too_large: `Diese Datei ist zu groß. Die Grenze ist ${number(
+      largestFile,
+    )} Bytes. Teilen Sie sie und senden Sie die Teile nacheinander.`,
     bad_body: 'Das konnte das Portal nicht lesen. Laden Sie die Seite neu und versuchen Sie es noch einmal.',
     other: (word) => `Das Portal hat das abgelehnt („${word}“). Laden Sie die Seite neu und versuchen Sie es noch einmal.`,
   },
@@ -191,5 +211,6 @@ export const words = texts({
     repeated: 'es steht zweimal auf der Liste',
     not_an_applicant: 'diese Person hat keines Ihrer Projekte gewählt',
   },
-  rankingMissing: 'Nicht gespeichert. In Ihrer Rangfolge fehlt mindestens eine Bewerbung. Es gilt weiter die Rangfolge, die Sie zuletzt gespeichert haben.',
+  rankingMissing: 'Nicht gespeichert. In Ihrer Rangfolge fehlt mindestens eine Bewerbung. Es gilt weiter die Rangfolge, die Sie zuletzt '
+    + 'gespeichert haben.',
 });

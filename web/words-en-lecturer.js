@@ -9,7 +9,8 @@ export const words = texts({
 
   ownProjects: 'Your projects',
   ownPlaces: (count) => `You take up to ${students(count)} in total, across all your projects.`,
-  ownPlacesLeft: (count, taken) => `You take up to ${students(count)} in total, across all your projects. You have ${number(taken)} from the first round.`,
+  ownPlacesLeft: (count, taken) =>
+    `You take up to ${students(count)} in total, across all your projects. You have ${number(taken)} from the first round.`,
   noOwnProjects: 'You have no projects in the portal yet. If one is missing, tell the office.',
   noOwnLeft: 'None of your projects is open in this round.',
   placesOf: (count) => `${places(count)}.`,
@@ -25,14 +26,16 @@ export const words = texts({
   ways: [
     'Download a file of your applicants.',
     'Put its rows in your order, best first, or add a column “rank” with your numbers.',
-    'Open the file here, as CSV. You see what was understood before it takes the place of your ranking.',
+    'Open the file here. You see what was understood before it takes the place of your ranking.',
   ],
   laterHint: 'Last resort: no time to finish? Add the others behind, in ID order, and change the order later.',
   rankingHint: 'One ranking covers all your projects. Every applicant needs a position: you can’t turn anybody down.',
   showApplicants: 'Show applicants',
   oneApplicant: 'You have one applicant. Save this ranking, and you’re done.',
   searchRanking: 'Search your ranking',
-  foundInRanking: (count) => (count === 0 ? 'Nobody in your ranking matches.' : `${number(count)} found, with ${count === 1 ? 'the position' : 'their positions'} in your ranking.`),
+  foundInRanking: (count) => (count === 0
+    ? 'Nobody in your ranking matches.'
+    : `${number(count)} found, with ${count === 1 ? 'the position' : 'their positions'} in your ranking.`),
   searchApplicants: 'Search applicants',
   noApplicantMatches: 'No applicant matches. Try fewer words, or clear the search.',
   sortBy: 'Sort by',
@@ -40,7 +43,12 @@ export const words = texts({
   applicantsOf: 'Show applicants for',
   allProjects: 'All your projects',
   chose: 'chose',
-  applicantsSheet: { print: 'Print applicants', copy: 'Copy applicants', download: 'Download applicants' },
+  applicantsSheet: {
+    print: 'Print applicants',
+    copy: 'Copy applicants',
+    book: 'Applicants as Excel file',
+    download: 'Download applicants',
+  },
   applicantsHeader: ['Student ID', 'Name', 'Projects'],
   noneMissing: 'All applicants are in your ranking.',
   noApplicants: 'You have no applicants, so there is nothing to rank.',
@@ -52,7 +60,9 @@ export const words = texts({
   inIdOrder: 'This ranking is in ID order. If you did not make it, the office filled it in.',
   inIdOrderOpen: 'This ranking is in ID order. If you did not make it, the office filled it in; you can still change it.',
   orderTitle: 'Paste or open an order',
-  orderOpenHow: 'Paste your order, best first: IDs in capital or small letters, with ranks or names beside them, or names alone. Or open a CSV file with a column “id”: “Download applicants” gives you one to sort. You see what was understood before it takes the place of your ranking.',
+  orderOpenHow: 'Paste your order, best first: IDs in capital or small letters, with ranks or names beside them, or names alone. Or open a '
+    + 'file with a column “id”: “Applicants as Excel file” gives you one. You see what was understood before it takes the place of your '
+    + 'ranking.',
   orderPaste: 'Or paste an order',
   orderPasteHow: 'Best first: IDs in capital or small letters, with ranks or names beside them, or names alone, one on each line.',
   orderField: 'IDs or names, best first',
@@ -77,10 +87,12 @@ export const words = texts({
   noRoom: 'None of your projects is open in this round, so you don’t need to do anything.',
   noRoomNext: 'Next: the office publishes the results of this round.',
   markPlaced: (title) => `Has ${apart(title)}`,
-  whyNotHere: 'Is an applicant missing from your students whom you ranked high? For each of your projects that they chose, they got a project they prefer, or all its places (or all yours) went to students ranked above them.',
-  whyNotHereSecond: 'Is an applicant missing from your students whom you ranked high? For each of your projects that they chose in this round, they got a project they prefer, or all places left in it (or with you) went to students ranked above them.',
+  whyNotHere: 'Is an applicant missing from your students whom you ranked high? For each of your projects that they chose, they got a '
+    + 'project they prefer, or all its places (or all yours) went to students ranked above them.',
+  whyNotHereSecond: 'Is an applicant missing from your students whom you ranked high? For each of your projects that they chose in this '
+    + 'round, they got a project they prefer, or all places left in it (or with you) went to students ranked above them.',
   whoHasWhat: 'Your students',
   nobodyHasIt: 'No students',
-  resultSheet: { print: 'Print results', copy: 'Copy results', download: 'Download results' },
+  resultSheet: { print: 'Print results', copy: 'Copy results', book: 'Results as Excel file', download: 'Download results' },
   resultHeader: ['Student ID', 'Name', 'Project ID', 'Title'],
 });

@@ -1,29 +1,36 @@
 // The texts of the office's page in English. words-en.js has all others.
 
-import { largestCapacity, longestCode, longestKey, longestName, mostRows, shortestCode } from './config.js';
+import { largestCapacity, longestCode, longestKey, shortestCode } from './config.js';
 import { lecturers, many, number, places, projects, students } from './words-en.js';
 import { apart, texts } from './words.js';
 
-const saveAs = 'In your spreadsheet program, choose “Save as” or “Download”, then “CSV UTF-8”. Open the new file here.';
-const keyForm = () => `use 1 to ${longestKey} letters (no accents), digits, hyphens, underscores or dots.`;
 /** @type {Counted} */
 const addresses = (count) => many(count, 'email address', 'email addresses');
-
 /** @type {Record<string, Record<string, string>>} What each column of a file means; where it differs, by the file. */
 const meanings = {
   id: { all: `Unique in this file. 1 to ${longestKey} letters (no accents), digits, hyphens, underscores or dots. Example: p017.` },
   name: { all: 'As it is shown to others. Example: Zoë Müller.' },
-  code: { all: `The sign-in code: ${shortestCode} to ${longestCode} letters (no accents), digits or hyphens. Leave it empty, and codes are made here.` },
-  capacity: { all: '', lecturers: `How many students the lecturer takes in total: 1 to ${largestCapacity}.`, projects: `How many students can have the project: 1 to ${largestCapacity}.` },
+  code: { all: `The sign-in code: ${shortestCode} to ${longestCode} letters (no accents), digits or hyphens. Leave it empty, and codes are `
+    + 'made here.' },
+  capacity: {
+    all: '',
+    lecturers: `How many students the lecturer takes in total: 1 to ${largestCapacity}.`,
+    projects: `How many students can have the project: 1 to ${largestCapacity}.`,
+  },
   lecturer: { all: 'The ID of the lecturer, as in the lecturers file. Example: l07.' },
   title: { all: 'The title of the project. Example: Graph neural networks.' },
   email: { all: 'Optional. It is not sent: this browser keeps it, so that you can copy addresses.' },
+  description: {
+    all: 'Optional, up to 4,000 characters. It is not sent: you get it back in a file, with which the administrator puts it on the page.',
+  },
+  link: { all: 'Optional: an address that begins with https://. It goes with the description.' },
 };
 
 export const words = texts({
   // the office: people and projects
   rolls: 'People and projects',
-  rollsHint: 'Choose three CSV files with a header row, in this order. You see a preview first, and nothing is sent until you press “Send” and confirm it. To add more rows later, choose the longer file again.',
+  rollsHint: 'Choose three files in this order: Excel workbooks (.xlsx) or CSV files. You see all rows first, and nothing is added until '
+    + 'you press “Send” and confirm it. To add more rows later, choose the longer file again.',
   roll: { lecturers: 'Lecturers', projects: 'Projects', students: 'Students' },
   countOf: { lecturers, projects, students },
   rollCounts: (count) => `${number(count)} in the portal`,
@@ -32,103 +39,23 @@ export const words = texts({
   columnsOfRoll: 'What the columns mean',
   columnMeans: (roll, column) => meanings[column][roll] ?? meanings[column].all,
   template: 'Download a template',
-  templateOf: { lecturers: 'Download a template for lecturers', projects: 'Download a template for projects', students: 'Download a template for students' },
-  rollFile: 'Choose a lecturer or student file',
-  readFileHint: 'People and projects can no longer be added. You can still open a lecturer or student file here to print slips or read names. It is not sent.',
-  rollTaken: (roll, added, same) => `${roll}: ${number(added)} added, ${number(same)} already there.`,
-  inHand: (roll, file) => `${roll}: ${apart(file)}`,
-
-  // how a file was read
-  noTable: {
-    workbook: `This is a workbook (.xlsx, .xls or .ods), not a CSV file. ${saveAs}`,
-    noText: `This isn’t a text file. ${saveAs}`,
-    empty: 'This file has no rows below its header.',
+  templateOf: {
+    lecturers: 'Download a template for lecturers',
+    projects: 'Download a template for projects',
+    students: 'Download a template for students',
   },
-  encodings: { 'utf-16le': 'in UTF-16', 'utf-16be': 'in UTF-16', 'windows-1252': 'in Windows-1252' },
-  separators: { ';': 'separated by semicolons', '\t': 'separated by tabs' },
-  readAs: (found) => `This file is ${found.join(' and ')}. That’s fine: it is converted when you send it.`,
-  columnsOfFile: 'Match the columns',
-  idWanted: (count, example) => `${many(count, 'row has', 'rows have')} no ID. Each row needs one that no other row has: ${example}.`,
-  idOf: { lecturers: 'such as l07', projects: 'such as p017', students: 'such as the student number' },
-  columnsMissing: (columns) => `Choose the column for: ${columns.join(', ')}.`,
-  columnFor: (column) => `Column for ${column === 'first' ? 'first name' : column}`,
-  noColumn: 'Not in this file',
-  looksLike: (other, own) => `This looks like the “${other}” file, not the “${own}” file. Nothing was sent.`,
-  hasColumn: (name, other) => `It has a column “${apart(name)}”, as “${other}” files have.`,
-  hasHeader: (other) => `Its columns are those of the “${other}” file.`,
-  hasPeople: (count, all, other) => `${number(count)} of its ${many(all, 'row', 'rows')} are already in the portal under “${other}”.`,
-  useAs: (other) => `Use it as the “${other}” file`,
-  columnsLeft: (names) => `Won’t be sent: ${names.map(apart).join(', ')}.`,
+  rollFile: 'Choose a lecturer or student file',
+  readFileHint: 'People and projects can no longer be added. You can still open a lecturer or student file here to print slips or read '
+    + 'names. It is not sent.',
 
   // what a file would do
-  rowNumber: 'Row',
-  firstRows: (count) => (count === 1 ? 'First row' : `First ${count} rows`),
-  noCode: 'none yet',
-  rowCount: (count) => `The file has ${many(count, 'row', 'rows')}.`,
-  newCount: (fresh, old, isSure) => `New: ${number(fresh)}. Already in the portal: ${number(old)}.${isSure ? '' : ' These numbers may be off: this browser doesn’t know everybody in the portal.'}`,
-  wouldRefuse: 'This file can’t be sent yet. Correct it in your spreadsheet and open it again:',
-  rowFault: (row, column, why) => `Row ${row}, ${apart(column)}: ${why}`,
-  rowFaults: {
-    empty: () => 'this cell is empty.',
-    id: keyForm,
-    lecturer: () => 'no lecturer, or more than one, is known by this name. Use the ID.',
-    name: () => `too long, or with a line break. The limit is ${longestName} bytes; accented and non-Latin letters take two or more.`,
-    title: () => `too long, or with a line break. The limit is ${longestName} bytes; accented and non-Latin letters take two or more.`,
-    code: () => `use ${shortestCode} to ${longestCode} letters (no accents), digits or hyphens.`,
-    capacity: () => `use a whole number from 1 to ${largestCapacity}.`,
-    keyTwice: (other) => `row ${other} has the same ID with different details.`,
-    codeTwice: (other) => `row ${other} has the same code.`,
-    tooMany: () => `too many rows from here on. The portal holds up to ${lecturers(mostRows.lecturers)}, ${projects(mostRows.projects)} and ${students(mostRows.students)}.`,
-  },
-  moreFaults: (count) => `and ${number(count)} more`,
-  lookAt: 'Check this before you send:',
-  rows: (named, more) => `${named.length + Math.max(0, more) === 1 ? 'row' : 'rows'} ${named.join(', ')}${more > 0 ? ` and ${number(more)} more` : ''}`,
-  doubts: {
-    differs: (rows) => `Seems to differ from what the portal has under the same ID. If so, the portal refuses the file: ${rows}.`,
-    weakCode: (rows) => `Code is easy to guess: ${rows}.`,
-    noLecturer: (rows) => `Lecturer doesn’t seem to be in the portal. Add lecturers first: ${rows}.`,
-    sameTitle: (rows) => `Another project has the same title: ${rows}.`,
-    formula: (rows) => `Name or title begins with =, +, - or @. A spreadsheet may take it for a formula: ${rows}.`,
-  },
-  codesMissing: (count) => `${many(count, 'new person has', 'new people have')} no code to sign in with. You can make random codes here, in your browser.`,
-  lecturersNamed: (count) => `${many(count, 'lecturer stands', 'lecturers stand')} in this file by name. Check that these are meant:`,
-  useNamed: 'Use these IDs',
-  notChanged: (rows) => `Differs from what was sent before, and is NOT changed: ${rows}. Ask the administrator to correct it.`,
-  askCorrected: 'Has the administrator corrected this?',
-  correctedIf: (rows) => `The file differs from what the portal has, as far as this browser knows: ${rows}.`,
-  takeCorrected: 'Corrected: use the file',
-  keepSent: 'Keep what was sent',
-  leftOut: (count) => `${many(count, 'person is', 'people are')} already in the portal and ${count === 1 ? 'keeps the old code' : 'keep their codes'}. ${count === 1 ? 'This row isn’t' : 'These rows aren’t'} sent.`,
-  codesMade: (count) => `Made ${many(count, 'code', 'codes')}. Press “Send” next. Then you get a file with the codes, and slips to print.`,
-  final: 'Check before you send: rows can’t be changed or removed here afterwards.',
-  keepsNames: (withEmails) => (withEmails ? 'When you send, this browser stores the names and email addresses, but never the codes. The addresses aren’t sent.' : 'When you send, this browser stores the names, but never the codes.'),
-  makeCodes: 'Make codes',
-  send: 'Send',
-  askAdd: (what) => `Add ${what}?`,
-  addedForGood: 'You can’t remove or change them later.',
-  askSendAgain: (what) => `Send ${what} again?`,
-  allThere: 'As far as this browser knows, they are all in the portal already.',
-  fromFile: (file) => `From the file ${apart(file)}.`,
-  doAdd: (what) => `Add ${what}`,
   notNow: 'Not now',
-  keepNames: 'Read names only',
-  namesKept: (count, emails) => `Read ${many(count, 'name', 'names')}${emails === 0 ? '' : ` and ${addresses(emails)}`}. Nothing was sent.`,
-  leaveOut: 'Leave this row out',
-  discardCodes: 'Discard the new codes?',
-  discardMeans: (count) => `${many(count, 'new code has', 'new codes have')} not been sent yet and will be lost.`,
-  discard: 'Discard codes',
-  keepCodes: 'Keep codes',
-  codesSaved: (file) => `The codes are in the file ${file}, in your downloads. Keep it safe: the portal never shows codes again.`,
-  keepFile: 'Download the codes again',
-  printSlips: 'Print slips',
-  slipCode: 'Code',
-  slipAddress: 'Sign in at',
-  slipSecret: 'Keep your code secret. Anyone who has it can act in your name.',
-  row: (row) => `Row ${row}`,
 
   // names in this browser
   names: 'Names in this browser',
-  namesAre: (count, emails) => `This browser stores ${many(count, 'name', 'names')}${emails === 0 ? '' : ` and ${addresses(emails)}`}, so that you see names and not only IDs. It stores no codes. On a shared computer, forget the names before you leave.`,
+  namesAre: (count, emails) => `This browser stores ${many(count, 'name', 'names')}${emails === 0 ? '' : ` and ${addresses(
+    emails,
+  )}`}, so that you see names and not only IDs. It stores no codes. On a shared computer, forget the names before you leave.`,
   noNames: 'This browser stores no names.',
   forgetNames: 'Forget names',
   namesForgotten: 'Names forgotten.',
@@ -142,7 +69,8 @@ export const words = texts({
   ranked: (done, all) => `Rankings done: ${number(done)} of ${lecturers(all)}`,
   withoutApplicants: (count) => `${many(count, 'other lecturer has', 'other lecturers have')} no applicants.`,
   rankingsMissing: (count) => `Rankings missing: ${number(count)}`,
-  rankersUnknown: (count) => `Of at most ${lecturers(count)}: those with a project in this round. Who of them has applicants, this browser can’t know.`,
+  rankersUnknown: (count) =>
+    `Of at most ${lecturers(count)}: those with a project in this round. Who of them has applicants, this browser can’t know.`,
   withoutPlace: (count) => `At least ${number(count)} will get no project.`,
   assigned: (count, all) => `With a project: ${number(count)} of ${students(all)}`,
   missing: {
@@ -151,22 +79,39 @@ export const words = texts({
     project: 'Without a project',
   },
   nobody: 'Nobody',
-  noneAre: (none, list, round) => `${number(none)} saved no list${round === 2 ? ' in this round' : ''}. ${number(list)} saved one, and got no place.`,
+  noneAre: (none, list, round) =>
+    `${number(none)} saved no list${round === 2 ? ' in this round' : ''}. ${number(list)} saved one, and got no place.`,
   allNames: (count) => `Show all ${number(count)} names`,
-  keysAlone: 'The portal shows only IDs here. To see names, open the lecturer or student file again and press “Read names only”. Nothing is sent.',
+  keysAlone: 'The portal shows only IDs here. To see names, open the lecturer or student file again and press “Read names only”. Nothing '
+    + 'is sent.',
   person: (key, name) => (name === undefined ? key : `${apart(name)} (${key})`),
   copyNames: 'Copy names',
   copied: (count) => `Copied ${many(count, 'name', 'names')}.`,
   copyEmails: 'Copy email addresses',
   copiedEmails: (count, unknown) => `Copied ${addresses(count)}${unknown === 0 ? '' : `, ${number(unknown)} unknown`}. Use “Bcc”.`,
   data: 'Check people and projects',
-  dataHint: 'Open a table to see what is in the portal now. Names, and how many students a lecturer takes, are those of the files that this browser has sent or read.',
-  dataColumns: { lecturer: 'Lecturer', takes: 'Takes', projects: 'Projects', places: 'Places', ranking: 'Ranking', has: 'Has', student: 'Student', list: 'List' },
+  dataHint: 'Open a table to see what is in the portal now. Names, and how many students a lecturer takes, are those of the files that '
+    + 'this browser has sent or read.',
+  dataColumns: {
+    lecturer: 'Lecturer',
+    takes: 'Takes',
+    projects: 'Projects',
+    places: 'Places',
+    ranking: 'Ranking',
+    has: 'Has',
+    student: 'Student',
+    list: 'List',
+  },
   standsList: { done: 'Saved', missing: 'None', placed: 'Has a project' },
   standsRanking: { done: 'Done', missing: 'Missing', none: 'No applicants', unknown: 'Done, or not needed' },
   searchRoll: { lecturers: 'Search lecturers', projects: 'Search projects', students: 'Search students' },
   rowsShown: (shown, all) => (shown === all ? many(all, 'row', 'rows') : `${number(shown)} of ${many(all, 'row', 'rows')}`),
-  unknownPeople: { lecturers: (count) => `${many(count, 'more lecturer is', 'more lecturers are')} in the portal. This browser doesn’t know who: it didn’t send their file.`, students: (count) => `${many(count, 'more student is', 'more students are')} in the portal. This browser doesn’t know who: it didn’t send their file.` },
+  unknownPeople: {
+    lecturers: (count) =>
+      `${many(count, 'more lecturer is', 'more lecturers are')} in the portal. This browser doesn’t know who: it didn’t send their file.`,
+    students: (count) =>
+      `${many(count, 'more student is', 'more students are')} in the portal. This browser doesn’t know who: it didn’t send their file.`,
+  },
   openProjects: (count) => `${projects(count)} open in the second round`,
 
   // the office: the next step
@@ -178,10 +123,14 @@ export const words = texts({
   openSecond: 'Open second round',
   does: {
     openChoosing: 'Students can make and save their lists. You can still add people and projects.',
-    openRanking: 'Choosing closes: lists can no longer change, and no people or projects can be added. Lecturers see who chose their projects, and rank them.',
-    publish: 'The portal allocates the projects. Students see their result, and lecturers see their students. Rankings can no longer change.',
-    fill: 'Only if lecturers don’t reply: the portal ranks their applicants in ID order. Lecturers can still change this ranking until you publish.',
-    openSecond: 'Optional. Students without a project choose again from the places that are left, and lecturers rank them. All other students keep their projects. No people or projects can be added.',
+    openRanking: 'Choosing closes: lists can no longer change, and no people or projects can be added. Lecturers see who chose their '
+      + 'projects, and rank them.',
+    publish: 'The portal allocates the projects. Students see their result, and lecturers see their students. Rankings can no longer '
+      + 'change.',
+    fill: 'Only if lecturers don’t reply: the portal ranks their applicants in ID order. This favours low IDs: if these are matriculation '
+      + 'numbers, the same, mostly older, students with every such lecturer. Lecturers can still change this ranking until you publish.',
+    openSecond: 'Optional. Students without a project choose again from the places that are left, and lecturers rank them. All other '
+      + 'students keep their projects. No people or projects can be added.',
   },
   ask: {
     openChoosing: 'Open choosing now?',
@@ -192,7 +141,11 @@ export const words = texts({
   },
   forGoodOf: (name) => (name === 'fill' ? 'You can’t remove a filled ranking; only its lecturer can replace it.' : 'You can’t undo this.'),
   early: (phase, when, left) => `Everybody was told that “${phase}” closes on ${when}. That is ${left}.`,
-  filledHere: (count, names) => `${many(count, 'ranking was', 'rankings were')} filled in by ID order from this browser; their lecturers may have replaced them since: ${names}.`,
+  filledHere: (count, names) => `${many(
+    count,
+    'ranking was',
+    'rankings were',
+  )} filled in by ID order from this browser; their lecturers may have replaced them since: ${names}.`,
   filledElsewhere: 'This page can’t know of rankings that were filled in from another browser.',
   noListNoProject: (count) => `${many(count, 'student has', 'students have')} no list, and so ${count === 1 ? 'gets' : 'get'} no project.`,
   fillWith: (names) => `Lecturers without a ranking: ${names}.`,
@@ -201,23 +154,32 @@ export const words = texts({
   lacks: {
     projects: 'Add projects first, so that students have something to choose.',
     students: 'Add students first.',
-    places: (count, all, isSure) => `${isSure ? '' : 'At most '}${places(count)} for ${students(all)}: at least ${number(all - count)} will get no project.`,
+    places: (count, all, isSure) =>
+      `${isSure ? '' : 'At most '}${places(count)} for ${students(all)}: at least ${number(all - count)} will get no project.`,
     offers: (count, names) => `${many(count, 'lecturer has', 'lecturers have')} no project${names === '' ? '' : `: ${names}`}.`,
     lists: 'No student has saved a list, so this round would give nobody a project.',
     room: (count) => `0 places for ${students(count)}: there is nothing left to choose.`,
   },
   withoutList: (count) => (count === 0 ? '' : `${many(count, 'student has', 'students have')} no list and can’t save one after this.`),
   secondFor: 'Every student has a project, so no second round is needed.',
-  secondRoom: (count, all) => `${places(count)} for ${students(all)}${count < all ? `: at least ${number(all - count)} will get no project` : ''}.`,
-  secondRange: (least, most, all, unknown) => `${number(least)} to ${places(most)} for ${students(all)}. This browser doesn’t know how many students ${unknown === 1 ? '1 lecturer takes' : `${lecturers(unknown)} take`}. Open the lecturers file to find out; it isn’t sent.`,
+  secondRoom: (count, all) =>
+    `${places(count)} for ${students(all)}${count < all ? `: at least ${number(all - count)} will get no project` : ''}.`,
+  secondRange: (least, most, all, unknown) => `${number(least)} to ${places(most)} for ${students(all)}. This browser doesn’t know how `
+    + `many students ${unknown === 1 ? '1 lecturer takes' : `${lecturers(unknown)} take`}. Open the lecturers file to find out; it isn’t `
+    + 'sent.',
   moved: (place) => `Done. The portal is now at ${place}.`,
   filled: (keys) => (keys.length === 0 ? 'No ranking is missing.' : `Filled for ${keys.join(', ')}.`),
   published: 'The second round is published. There are no further steps.',
   closing: 'When you are done',
   closingParts: [
-    'Download the CSV file and print the report: next year’s portal knows nothing of this year.',
-    'Destroy the files of codes, and on a shared computer forget the names (at the end of this page).',
-    'Next year begins with a new, empty portal. Ask the administrator for it.',
+    'Download the result and print the report: next year’s portal knows nothing of this year.',
+    'Has a student dropped out, or does a lecturer leave? The result stays as it is. For a lecturer’s successor the administrator corrects '
+      + 'the name and makes a new code, with which the successor sees the students.',
+    'Once nobody needs to sign in any more, destroy the files of codes, and on a shared computer forget the names (at the end of this '
+      + 'page).',
+    'Then ask the administrator to close the year. Until that is done, the database and its backups keep all lists, rankings, results and '
+      + 'codes.',
+    'Next year begins with a new, empty portal.',
   ],
 
   // the office: the result
@@ -230,6 +192,7 @@ export const words = texts({
   usage: 'Places taken',
   usageOf: (taken, count) => `Places taken: ${number(taken)} in ${projects(count)}`,
   used: (taken, all) => `${taken} of ${places(all)}`,
+  downloadBook: 'Download Excel file',
   downloadCsv: 'Download CSV',
   printReport: 'Print report',
   printAnswers: 'Print for the head of department',
@@ -238,9 +201,5 @@ export const words = texts({
 
   // the office: what goes wrong
   lostPost: 'No reply from the portal, so we don’t know if this worked. Check the progress before you try again.',
-  lostRoll: 'No reply from the portal, so we don’t know if the file arrived. You can safely send it again: rows already there are not added twice.',
   lookAgain: 'Check progress',
-  sendAgain: 'Send again',
-  badRow: (roll, row, lecturer) => `${roll}: nothing was added, because row ${row} has a mistake.${lecturer === undefined ? '' : ` No lecturer has the ID ${apart(lecturer)}.`}`,
-  rollConflict: (roll, row) => `${roll}: nothing was added. Row ${row} differs from what the portal has under the same ID, or its code belongs to somebody else.`,
 });

@@ -5,7 +5,8 @@ import { apart, texts } from './words.js';
 
 export const words = texts({
   orderEmpty: 'No applicant was found in it. Your ranking is as it was.',
-  orderWorkbook: 'This is a workbook, not a CSV file. In your spreadsheet program, choose “Save as” or “Download”, then “CSV UTF-8”, and open the new file here. Your ranking is as it was.',
+  orderWorkbook: 'No applicant was found in this file. If it is no workbook (.xlsx), choose “Save as” or “Download” in your spreadsheet '
+    + 'program, then “Excel workbook (.xlsx)”, and open the new file here. Your ranking is as it was.',
   orderBack: 'Go back',
   orderAsk: 'Is this your order?',
   orderByAsk: 'What decides the order?',
@@ -23,10 +24,13 @@ export const words = texts({
   orderUnranked: (names) => `Without a number, and so at the end: ${names}.`,
   orderTwice: (names) => `More than once in it; the first time counts: ${names}.`,
   orderShared: (count, rank) => `${number(count)} share the number ${rank}. Who comes first?`,
-  orderSharedMore: (count, isMore) => `${isMore ? `${number(count)} more` : number(count)} ${count === 1 ? 'number is' : 'numbers are'} shared. Those who share one stand as in your rows; you can change that in your ranking.`,
+  orderSharedMore: (count, isMore) => `${isMore ? `${number(count)} more` : number(count)} ${count === 1
+    ? 'number is'
+    : 'numbers are'} shared. Those who share one stand as in your rows; you can change that in your ranking.`,
   orderStart: 'First in this order',
   orderLast: (place) => `${number(place)}.`,
   orderOthers: (others) => `Not understood: ${others}.`,
-  orderLoses: (count) => `${many(count, 'student', 'students')} of your ranking ${count === 1 ? 'isn’t' : 'aren’t'} in this order, and would leave it.`,
+  orderLoses: (count) =>
+    `${many(count, 'student', 'students')} of your ranking ${count === 1 ? 'isn’t' : 'aren’t'} in this order, and would leave it.`,
   orderCrossed: (names) => `Beside these IDs stands the name of somebody else; the ID counts. Was one column sorted alone? ${names}.`,
 });

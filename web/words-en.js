@@ -1,5 +1,5 @@
-// The texts of the page in English that each role sees: the frame, lists and tables. The other files words-en-ROLE.js have those of one role.
-// Texts with parts are functions. The names of buttons, fields and lists are what tests and screen readers find them by.
+// The texts of the page in English that each role sees: the frame, lists and tables. The other files words-en-ROLE.js have those of one
+// role. Texts with parts are functions. The names of buttons, fields and lists are what tests and screen readers find them by.
 
 import { largestFile, longestCode, longestList, mostRows, shortestCode } from './config.js';
 import { apart, texts } from './words.js';
@@ -40,14 +40,16 @@ export const words = texts({
   showCode: 'Show code',
   signIn: 'Sign in',
   signOut: 'Sign out',
-  noSuchCode: 'We don’t know this code. Check every character, including capital and small letters. If it still doesn’t work, ask the office.',
+  noSuchCode: 'We don’t know this code. Check every character, including capital and small letters. If it still doesn’t work, ask the '
+    + 'office.',
   noCodeForm: `Enter your whole code: ${shortestCode} to ${longestCode} letters (no accents), digits and hyphens.`,
   signedOut: 'You’re signed out.',
   idleSoon: 'Are you still there?',
   idleMeans: 'Nothing was done here for a while, so you’ll be signed out in two minutes. What you haven’t saved stays in this tab.',
   stay: 'Stay signed in',
   signedOutElsewhere: 'You’re signed out, because you signed out in another tab.',
-  signedOutKept: 'You’re signed out, because you signed out in another tab. What you hadn’t saved here is kept in this tab: sign in here again to continue.',
+  signedOutKept: 'You’re signed out, because you signed out in another tab. What you hadn’t saved here is kept in this tab: sign in here '
+    + 'again to continue.',
   signedOutAsk: 'You signed out in another tab. Sign out here too?',
   signedOutIdle: 'You’re signed out, because you did nothing for 30 minutes. Sign in again to continue where you left off.',
   unsavedLeave: 'Leave without saving?',
@@ -59,7 +61,9 @@ export const words = texts({
   phases: { setup: 'Setup', choosing: 'Choosing', ranking: 'Ranking', published: 'Results' },
   round: (round) => `Round ${round}`,
   roundFor: 'The second round is for students who didn’t get a project in the first. It offers the places that are left.',
-  moment: (when) => new Intl.DateTimeFormat('en-GB', { weekday: 'long', day: 'numeric', month: 'long', hour: '2-digit', minute: '2-digit' }).format(when).replace(',', ''),
+  moment: (when) => new Intl.DateTimeFormat('en-GB', { weekday: 'long', day: 'numeric', month: 'long', hour: '2-digit', minute: '2-digit' })
+    .format(when)
+    .replace(',', ''),
   closes: (phase, when, left) => `${phase} closes on ${when} (${left}).`,
   overdue: (phase) => `${phase} should be closed by now.`,
   past: (phase) => `The time announced for “${phase}” has passed.`,
@@ -141,7 +145,8 @@ export const words = texts({
   isAt: (name, place, count) => `${apart(name)} is now number ${place} of ${count}.`,
   isGone: (name, count) => `Removed ${apart(name)}. ${count === 0 ? 'Nothing is left.' : `${count} left.`}`,
   orderHow: 'How to reorder',
-  orderHint: 'To reorder, drag an entry, use its arrows or type its position. By keyboard: go to one of its buttons with Tab, and press ↑, ↓, Home or End; after a click, hold Alt.',
+  orderHint: 'To reorder, drag an entry, use its arrows or type its position. By keyboard: go to one of its buttons with Tab, and press ↑, '
+    + '↓, Home or End; after a click, hold Alt.',
   undo: 'Undo',
   undone: 'Last change undone.',
   backToSaved: 'Discard changes',
@@ -172,19 +177,23 @@ export const words = texts({
   decidedAndSeen: 'How it is decided, and who sees what',
 
   // what goes wrong
-  lostSave: 'No reply from the portal, so we don’t know whether this is saved. It is still here, and the page is looking whether it was saved.',
+  lostSave: 'No reply from the portal, so we don’t know whether this is saved. It is still here, and the page is looking whether it was '
+    + 'saved.',
   notSaved: 'This wasn’t saved. It is still here. Try again.',
   lost: 'No reply from the portal. What you entered is still here. Check your connection and try again.',
   notCopied: 'Your browser blocked copying. Select the names and copy them yourself.',
   unexpected: 'Something went wrong on this page. Reload it to continue.',
-  listed: (names) => (names.length > 10 ? `${names.slice(0, 10).map(apart).join(', ')} and ${number(names.length - 10)} more` : names.map(apart).join(', ')),
+  listed: (names) =>
+    (names.length > 10 ? `${names.slice(0, 10).map(apart).join(', ')} and ${number(names.length - 10)} more` : names.map(apart).join(', ')),
   stillToRank: (names) => `Not published. Still to rank: ${names.map(apart).join(', ')}.`,
   refusals: {
     no_caller: 'This code no longer works. If you were given a new one, sign in with it. If not, ask the office.',
     not_yours: 'You don’t have permission to do this.',
     wrong_phase: 'This isn’t possible at this stage.',
     already_placed: 'You already have a project from the first round, so you can’t save another list.',
-    roll_full: `Nothing was added: there would be too many rows. The portal holds up to ${lecturers(mostRows.lecturers)}, ${projects(mostRows.projects)} and ${students(mostRows.students)}.`,
+    roll_full: `Nothing was added: there would be too many rows. The portal holds up to ${lecturers(
+      mostRows.lecturers,
+    )}, ${projects(mostRows.projects)} and ${students(mostRows.students)}.`,
     too_large: `This file is too large. The limit is ${number(largestFile)} bytes. Split it, and send one part after the other.`,
     bad_body: 'The portal couldn’t read this. Reload the page and try again.',
     other: (word) => `The portal refused this (“${word}”). Reload the page and try again.`,

@@ -1,6 +1,7 @@
-// Every text of the page, in the language that was chosen. Each language has its texts in files of their own: words-LANGUAGE.js for everybody,
-// and words-LANGUAGE-PART.js for each role, and for what comes when it is asked for, with the same keys. No browser loads another language, or
-// what another role alone sees. English is the source: a new text is written there. A new language is one more line of LANGUAGES.
+// Every text of the page, in the language that was chosen. Each language has its texts in files of their own: words-LANGUAGE.js for
+// everybody, and words-LANGUAGE-PART.js for each role, and for what comes when it is asked for, with the same keys. No browser loads
+// another language, or what another role alone sees. English is the source: a new text is written there. A new language is one more line of
+// LANGUAGES.
 
 import { keep, kept } from './store.js';
 
@@ -17,6 +18,7 @@ export const LANGUAGES = {
     student: () => import('./words-en-student.js'),
     lecturer: () => import('./words-en-lecturer.js'),
     office: () => import('./words-en-office.js'),
+    rolls: () => import('./words-en-rolls.js'),
     order: () => import('./words-en-order.js'),
     answers: () => import('./words-en-answers.js'),
   },
@@ -26,6 +28,7 @@ export const LANGUAGES = {
     student: () => import('./words-de-student.js'),
     lecturer: () => import('./words-de-lecturer.js'),
     office: () => import('./words-de-office.js'),
+    rolls: () => import('./words-de-rolls.js'),
     order: () => import('./words-de-order.js'),
     answers: () => import('./words-de-answers.js'),
   },

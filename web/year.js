@@ -1,4 +1,5 @@
-// Where the year stands, until when, what is to be done now and what comes next, in both rounds. A reply that tells no round is of the first.
+// Where the year stands, until when, what is to be done now and what comes next, in both rounds. A reply that tells no round is of the
+// first.
 
 import { make } from './dom.js';
 import { words } from './words.js';
@@ -11,8 +12,8 @@ const SOON = 30 * 60_000;
 
 /**
  * @param {Me} me who is signed in
- * @param {{ now?: string, next?: string, saves?: boolean }} own what is said to this person, where the phase alone does not tell it; `saves`:
- *   this person has something to save
+ * @param {{ now?: string, next?: string, saves?: boolean }} own what is said to this person, where the phase alone does not tell it;
+ *   `saves`: this person has something to save
  * @param {Record<string, End>} until the end of a stage, by the stage's name
  */
 export function yearPart(me, own = {}, until = {}) {
@@ -125,7 +126,8 @@ function ahead({ at, offset }, now) {
 }
 
 /** @param {Date} at */
-const zoneOf = (at) => new Intl.DateTimeFormat(words.dates, { timeZoneName: 'short' }).formatToParts(at).find(({ type }) => type === 'timeZoneName')?.value ?? '';
+const zoneOf = (at) => new Intl.DateTimeFormat(words.dates, { timeZoneName: 'short' }).formatToParts(at).find(({ type }) =>
+  type === 'timeZoneName')?.value ?? '';
 
 /**
  * How far away something is, in whole days, from two days on; before that in hours, and then in minutes.

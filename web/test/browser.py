@@ -20,8 +20,9 @@ class Browser:
     def __init__(self, downloads, width=1280, height=900):
         options = Options()
         options.binary_location = "/usr/bin/chromium"
-        for word in ("--headless=new", "--no-sandbox", "--disable-dev-shm-usage", "--ignore-certificate-errors", "--disable-gpu", f"--window-size={width},{height}",
-                     "--disable-background-networking", "--disable-component-update", "--no-first-run", "--lang=en"):
+        for word in ("--headless=new", "--no-sandbox", "--disable-dev-shm-usage", "--ignore-certificate-errors", "--disable-gpu",
+                     f"--window-size={width},{height}", "--disable-background-networking", "--disable-component-update", "--no-first-run",
+                     "--lang=en"):
             options.add_argument(word)
         options.add_experimental_option("prefs", {"download.default_directory": str(downloads), "intl.accept_languages": "en"})
         options.set_capability("goog:loggingPrefs", {"browser": "ALL", "performance": "ALL"})
@@ -120,13 +121,17 @@ class Browser:
 
     def text(self, role):
         """What the page's status or alert says."""
-        return "".join(self.script("[...document.querySelectorAll(`[role=${arguments[0]}]`)].map((e) => e.innerText)", role)).replace("\u2068", "").replace("\u2069", "")
+        return "".join(self.script("[...document.querySelectorAll(`[role=${arguments[0]}]`)].map((e) => e.innerText)",
+                                   role)).replace("\u2068", "").replace("\u2069", "")
 
     def says(self, part, role="status", wait=WAIT):
         try:
             self.wait(lambda: part in self.text(role), part, wait)
         except AssertionError:
-            raise AssertionError(f"the {role} says {self.text(role)!r}, not {part!r}; the other says {self.text('alert' if role == 'status' else 'status')!r}") from None
+            raise AssertionError(
+                f"the {role} says {self.text(role)!r}, not {part!r}; the other says "
+                f"{self.text('alert' if role == 'status' else 'status')!r}"
+            ) from None
         return self.text(role)
 
     def warns(self, part, wait=WAIT):

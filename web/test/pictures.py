@@ -10,6 +10,14 @@ from door import Door
 
 LARGEST = 100_000
 SCALE = 0.7
+# An export with a title, names in place of IDs, a place in words and a total.
+EXPORT = """Abschlussarbeiten 2026/27;;;
+Nr.;Titel;Betreuer/in;Plätze
+P11;Waves in shallow water;Noether, Emmy;2
+P12;Trees with few leaves;A. Turing;ca. 2
+P13;Light curves by hand;Prof. Bell;1
+;;Summe;5
+"""
 
 
 def main(folder):
@@ -30,6 +38,11 @@ def play(door, browser, folder):
     door.load_rolls()
     sign_in(browser, OFFICE, "Setup")
     take(browser, folder / "office-setup.png")
+    (door.path / "export.csv").write_text(EXPORT)
+    browser.driver.find_element("css selector", "#projects-file").send_keys(str(door.path / "export.csv"))
+    browser.find("button", "Use these IDs")
+    take(browser, folder / "office-file.png", 1000)
+    browser.press("Cancel")
     door.move("choosing")
     door.do(BEN, "PUT", "/choices", {"projects": ["pulsars", "comets"]})
     door.do(CLEO, "PUT", "/choices", {"projects": ["rings", "patterns"]})
@@ -68,9 +81,9 @@ def sign_in(browser, code, phase):
     browser.in_phase(phase)
 
 
-def take(browser, path):
+def take(browser, path, most=1200):
     """The whole page, as far as it goes down."""
-    height = browser.script("Math.min(1600, document.documentElement.scrollHeight)")
+    height = browser.script("Math.min(arguments[0], document.documentElement.scrollHeight)", most)
     browser.resize(1000, height, SCALE)
     data = base64.b64decode(browser.cdp("Page.captureScreenshot", format="png", optimizeForSpeed=False)["data"])
     browser.resize(1000)

@@ -1,5 +1,5 @@
-"""The largest department: 300 lecturers, 1,000 projects, 2,000 students; how long the page takes after a press is told. And the year of a clerk in a
-department of 200 students, who takes the wrong file each time."""
+"""The largest department: 300 lecturers, 1,000 projects, 2,000 students; how long the page takes after a press is told. And the year of
+a clerk in a department of 200 students, who takes the wrong file each time."""
 
 import csv
 import datetime
@@ -76,7 +76,8 @@ class Large(PageCase):
         return f"document.querySelector('[aria-label^=\"{verb} \"][aria-label$=\", {key}\"]')"
 
     def timed(self, element, act):
-        script = f"const done = arguments[0]; const e = {element}; const begun = performance.now(); {act}; requestAnimationFrame(() => setTimeout(() => done(performance.now() - begun)))"
+        script = (f"const done = arguments[0]; const e = {element}; const begun = performance.now(); {act}; requestAnimationFrame(() => "
+                  "setTimeout(() => done(performance.now() - begun)))")
         self.longest = max(self.longest, self.browser.driver.execute_async_script(script))
 
 
@@ -105,7 +106,8 @@ class DepartmentCase(PageCase):
 
 
 class Office(DepartmentCase):
-    ROWS = """[...document.querySelectorAll(`table[aria-label="${arguments[0]}"] tbody tr:not([hidden])`)].map((row) => row.cells[0].querySelector('bdi').textContent)"""
+    ROWS = """[...document.querySelectorAll(`table[aria-label="${arguments[0]}"] tbody tr:not([hidden])`)]
+    .map((row) => row.cells[0].querySelector('bdi').textContent)"""
 
     def read_names(self, field, roll):
         self.choose_file(field, self.files / f"{roll}.csv")
@@ -114,7 +116,8 @@ class Office(DepartmentCase):
 
     def shown(self, table, count):
         """The names in the rows of a table, once there are as many as that."""
-        return self.browser.wait(lambda: (lambda rows: len(rows) == count and rows)(self.browser.script(self.ROWS, table)), f"{count} {table}")
+        return self.browser.wait(lambda: (lambda rows: len(rows) == count and rows)(self.browser.script(self.ROWS, table)),
+                                 f"{count} {table}")
 
     def test_tables(self):
         """Lecturers, projects and students as they stand are searched by names in any script, with or without accents."""
@@ -122,7 +125,8 @@ class Office(DepartmentCase):
         self.open(OFFICE, "Setup")
         for field in ("Lecturers", "Students"):
             self.read_names(field, field.lower())
-        for roll, people, what in (("Lecturers", self.department.lecturers, "name"), ("Projects", self.department.projects, "title"), ("Students", self.department.students, "name")):
+        for roll, people, what in (("Lecturers", self.department.lecturers, "name"), ("Projects", self.department.projects, "title"),
+                                   ("Students", self.department.students, "name")):
             name = f"{len(people)} {roll.lower()}"
             self.browser.script("[...document.querySelectorAll('summary')].find((e) => e.textContent === arguments[0]).click()", name)
             self.assertEqual(set(self.shown(roll, len(people))), {one[what] for one in people})
@@ -131,7 +135,8 @@ class Office(DepartmentCase):
         names = [one["name"] for one in self.department.students]
         from_right = [name for name in names if "א" <= name[0] <= "ي"]
         self.assertGreater(len(from_right), 3)
-        for word, found in (("muller", [name for name in names if name.endswith("Müller")]), *((name.split()[-1], [name]) for name in from_right)):
+        for word, found in (("muller", [name for name in names if name.endswith("Müller")]), *((name.split()[-1], [name])
+                                                                                               for name in from_right)):
             field.clear()
             field.send_keys(word)
             self.assertEqual(sorted(self.shown("Students", len(found))), sorted(found))
@@ -163,16 +168,22 @@ class Office(DepartmentCase):
         self.door.load_large("published")
         self.open(OFFICE, "Results")
         self.assertEqual(len(self.shown("Results", 200)), 200)
-        self.browser.script("[...document.querySelectorAll('summary')].find((e) => e.textContent === 'Places taken: 110 in 80 projects').click()")
+        self.browser.script(
+            "[...document.querySelectorAll('summary')].find((e) => e.textContent === 'Places taken: 110 in 80 projects').click()")
         for width, height in self.SIZES:
             self.browser.resize(width, height)
             self.assertEqual(self.browser.script("document.querySelectorAll('.usage li').length"), 80)
-            self.assertTrue(self.browser.script("document.querySelector('.usage').getBoundingClientRect().bottom <= document.querySelector('table[aria-label=Results]').getBoundingClientRect().top"))
+            self.assertTrue(
+                self.browser.script(
+                    "document.querySelector('.usage').getBoundingClientRect().bottom <= "
+                    "document.querySelector('table[aria-label=Results]').getBoundingClientRect().top"
+                ))
             self.assertLessEqual(self.browser.script("document.documentElement.scrollWidth"), width)
 
 
 class ClerksYear(DepartmentCase):
-    """Both rounds of examples/large.py from an empty portal on, by somebody who sees the page for the first time. Nothing is lost on the way."""
+    """Both rounds of examples/large.py from an empty portal on, by somebody who sees the page for the first time. Nothing is lost on the
+    way."""
 
     def test_year(self):
         students = self.without_codes()
@@ -230,16 +241,19 @@ class ClerksYear(DepartmentCase):
         self.assertEqual(self.status("lecturers", "projects", "students"), before)
         self.browser.press(f"Use it as the “{roll}” file")
         if makes_codes:
-            self.browser.press("Make codes")
+            self.browser.press("Make codes and save them")
+            self.browser.press("The file is there")
         said = self.answer("Send", f"Add {what}?", f"Add {what}")
         self.assertIn("You can’t remove or change them later.", said)
         self.browser.says(f"{roll}: {what.split()[0]} added, 0 already there.", wait=60)
 
     def step(self, name, risk, phase, told=None):
-        """Takes a step. What some would regret is told on the page, perhaps shorter, and is the bold line of the question; the blue button does nothing."""
+        """Takes a step. What some would regret is told on the page, perhaps shorter, and is the bold line of the question; the blue
+        button does nothing."""
         self.sees(told or risk)
         self.browser.press(name)
-        self.browser.wait(lambda: self.browser.script("document.querySelector('dialog .risk')?.textContent.includes(arguments[0])", risk), risk)
+        self.browser.wait(lambda: self.browser.script("document.querySelector('dialog .risk')?.textContent.includes(arguments[0])", risk),
+                          risk)
         self.assertEqual(self.browser.script("[...document.querySelectorAll('dialog button.main')].map((e) => e.textContent)"), ["Not now"])
         self.browser.press(name)
         self.browser.in_phase(phase, wait=60)

@@ -1,11 +1,13 @@
-"""Lecturers of a department of 200 students, on a desk and on a phone: rankings of many applicants, drafts, filled rankings, results, the second round."""
+"""Lecturers of a department of 200 students, on a desk and on a phone: rankings of many applicants, drafts, filled rankings, results,
+the second round."""
 
 import json
 
 from case import OFFICE
 from largecase import LargeCase
 
-WAITING = "[...document.querySelectorAll('ul[aria-label=Applicants] li:not([hidden])')].map((e) => e.querySelector('.chosen').textContent.split(' ')[0])"
+WAITING = ("[...document.querySelectorAll('ul[aria-label=Applicants] li:not([hidden])')].map((e) => "
+           "e.querySelector('.chosen').textContent.split(' ')[0])")
 FILLED = "This ranking is in ID order. If you did not make it, the office filled it in"
 
 
@@ -71,7 +73,8 @@ class Rankings(LecturerCase):
             self.assertLessEqual(self.browser.script("document.documentElement.scrollWidth"), width)
 
     def test_rest(self):
-        """The rest is added in the order of the IDs and saved at once; the page then shows what was added; this browser knows that it saved it."""
+        """The rest is added in the order of the IDs and saved at once; the page then shows what was added; this browser knows that it
+        saved it."""
         self.open_as(self.key)
         keys = list(self.people)
         for _ in self.sizes():
@@ -79,7 +82,9 @@ class Rankings(LecturerCase):
             self.browser.press(f"Add {self.people[keys[3]][0]}, {keys[3]}")
             self.browser.press("Add the rest in ID order")
             self.assertEqual(self.browser.entries("Your ranking"), [keys[3], *keys[:3], *keys[4:]])
-            shown = "((r) => r.top >= 0 && r.bottom <= document.querySelector('.dock').getBoundingClientRect().top)(document.querySelector(`ol li[data-key='${arguments[0]}']`).getBoundingClientRect())"
+            shown = ("((r) => r.top >= 0 && r.bottom <= "
+                     "document.querySelector('.dock').getBoundingClientRect().top)(document.querySelector(`ol "
+                     "li[data-key='${arguments[0]}']`).getBoundingClientRect())")
             self.browser.wait(lambda: self.browser.script(shown, keys[0]), "the first of the rest in view")
             self.browser.press("Undo")
             self.browser.press("Undo")
@@ -92,10 +97,14 @@ class Rankings(LecturerCase):
         self.assertNotIn(FILLED, self.text())
 
     def test_order(self):
-        """An order is pasted, one ID a line, or opened as the sorted file of the applicants. What is no applicant is named. It stands first."""
+        """An order is pasted, one ID a line, or opened as the sorted file of the applicants. What is no applicant is named. It stands
+        first."""
         self.open_as(self.key)
         keys = list(self.people)
-        tops = [self.browser.find("button", name).rect["y"] for name in ("Download applicants", "Open a file", f"Add {self.people[keys[0]][0]}, {keys[0]}")]
+        tops = [
+            self.browser.find("button", name).rect["y"]
+            for name in ("Applicants as Excel file", "Open a file", f"Add {self.people[keys[0]][0]}, {keys[0]}")
+        ]
         self.assertEqual(tops, sorted(tops))
         self.browser.press("Download applicants")
         head, *rows = self.downloaded("applicants.csv").read_text(encoding="utf-8-sig").splitlines()
@@ -106,7 +115,8 @@ class Rankings(LecturerCase):
         others = [f"s99{n}" for n in range(10, 22)]
         field.send_keys(f"{keys[5]}\n\n {keys[2]} \n{keys[5]}\n" + "\n".join(others))
         said = self.order()
-        for part in (f"2 of {len(keys)} applicants found.", f"Not in it, and so without a position: {len(keys) - 2}.", f"More than once in it; the first time counts: {self.people[keys[5]][0]} ({keys[5]}).",
+        for part in (f"2 of {len(keys)} applicants found.", f"Not in it, and so without a position: {len(keys) - 2}.",
+                     f"More than once in it; the first time counts: {self.people[keys[5]][0]} ({keys[5]}).",
                      "Not understood: " + ", ".join(others[:10]) + " and 2 more."):
             self.assertIn(part, said)
         self.browser.says("Your ranking now has 2 students, in this order. Nothing is saved yet.")
@@ -116,7 +126,8 @@ class Rankings(LecturerCase):
         self.browser.press("Use this order")
         self.browser.warns("No applicant was found in it. Your ranking is as it was.")
         self.assertEqual(self.browser.entries("Your ranking"), [keys[5], keys[2]])
-        sorted_file = self.write("sorted.csv", "\ufeffname;id;projects\r\n" + "".join(f"{self.people[key][0]};{key};\r\n" for key in keys[::-1]))
+        sorted_file = self.write("sorted.csv",
+                                 "\ufeffname;id;projects\r\n" + "".join(f"{self.people[key][0]};{key};\r\n" for key in keys[::-1]))
         self.browser.driver.find_element("css selector", "input[type=file]").send_keys(str(sorted_file))
         self.assertIn(f"{len(keys)} of {len(keys)} applicants found.", self.order(press=False))
         self.browser.says(f"Your ranking now has {len(keys)} students, in this order.")
@@ -129,7 +140,8 @@ class Rankings(LecturerCase):
         if press:
             self.browser.press("Use this order")
         said = self.plain(self.browser.find("dialog", "Is this your order?").text)
-        self.browser.driver.execute_script("[...document.querySelectorAll('dialog button')].find((e) => e.textContent === arguments[0]).click()", answer)
+        self.browser.driver.execute_script(
+            "[...document.querySelectorAll('dialog button')].find((e) => e.textContent === arguments[0]).click()", answer)
         return said
 
     def open_order(self, text):
@@ -152,7 +164,8 @@ class Rankings(LecturerCase):
         self.assertEqual(self.browser.entries("Your ranking")[0], keys[-1])
         self.open_order("id;ECTS\n" + "".join(f"{key};{30 * (at % 5)}\n" for at, key in enumerate(keys)))
         self.browser.find("dialog", "What decides the order?")
-        self.browser.driver.execute_script("[...document.querySelectorAll('dialog button')].find((e) => e.textContent.includes('largest')).click()")
+        self.browser.driver.execute_script(
+            "[...document.querySelectorAll('dialog button')].find((e) => e.textContent.includes('largest')).click()")
         self.assertIn("numbers are shared. Those who share one stand as in your rows", self.order("Go back", press=False))
 
     def test_a_ranking_is_searched(self):
@@ -177,7 +190,10 @@ class Rankings(LecturerCase):
         self.browser.wait(lambda: self.browser.entries("Your ranking")[0] == wanted[-1], "the first position")
         self.browser.resize(800, 900)
         self.browser.driver.execute_script("document.querySelector('.own').scrollIntoView()")
-        bottom, top = self.browser.script("[document.querySelector('.columns > .whole').getBoundingClientRect().bottom, document.querySelector('.own').getBoundingClientRect().top]")
+        bottom, top = self.browser.script(
+            "[document.querySelector('.columns > .whole').getBoundingClientRect().bottom, "
+            "document.querySelector('.own').getBoundingClientRect().top]"
+        )
         self.assertLessEqual(bottom, top)  # in a narrow window the applicants do not lie over the ranking
 
     def test_one_applicant(self):
@@ -196,7 +212,8 @@ class Rankings(LecturerCase):
         self.open_as(self.key)
         self.browser.driver.find_element("css selector", ".decided > summary").click()
         self.browser.wait(lambda: "Who sees what?" in self.text(), "the answers")
-        self.sees("only the lecturer who made it sees it", "whoever keeps the file of codes could sign in as anybody", "This favours low IDs", "Not if the first list has every project that the student would take")
+        self.sees("only the lecturer who made it sees it", "whoever keeps the file of codes could sign in as anybody",
+                  "This favours low IDs", "Not if the first list has every project that the student would take")
 
     def test_order_as_people_write_it(self):
         """IDs in another case with ranks and names beside them, or names alone; what would leave the ranking is asked first."""
@@ -246,7 +263,10 @@ class Rankings(LecturerCase):
         self.browser.in_phase("Results")
         for _ in self.sizes():
             self.assertEqual(self.parts(), ["Your students", "Your ranking", "Not saved in time", "Your projects"])
-            shown = self.browser.script("[...document.querySelectorAll(\"ol[aria-label='Not saved in time'] .titled\")].map((e) => e.querySelector('bdi').textContent)")
+            shown = self.browser.script(
+                "[...document.querySelectorAll(\"ol[aria-label='Not saved in time'] .titled\")].map((e) => "
+                "e.querySelector('bdi').textContent)"
+            )
             self.assertEqual(shown, [self.people[key][0] for key in [*keys[3:5], *keys[:3], *keys[5:]]])
             self.sees(f"{FILLED}.")
 
@@ -270,19 +290,23 @@ class Rankings(LecturerCase):
         self.assertNotIn(FILLED, self.text())
 
     def test_layout(self):
-        """No button is cut, in German too; what somebody chose stands beside the word; on a phone an entry has its arrows beside its name."""
+        """No button is cut, in German too; what somebody chose stands beside the word; on a phone an entry has its arrows beside its
+        name."""
         self.open_as(self.key)
         self.browser.choose("Language", "Deutsch")
         self.browser.find("button", "Abmelden")
         self.browser.wait(lambda: self.browser.script("document.querySelector('.chosen') !== null"), "the applicants")
         for _ in self.sizes():
-            cut = "[...document.querySelectorAll('button')].filter((e) => e.offsetParent && e.scrollWidth > e.clientWidth).map((e) => e.textContent)"
+            cut = ("[...document.querySelectorAll('button')].filter((e) => e.offsetParent && e.scrollWidth > e.clientWidth).map((e) => "
+                   "e.textContent)")
             self.assertEqual(self.browser.script(cut), [])
         first = list(self.people)[0]
-        line = "new Set([...document.querySelector('.chosen').querySelectorAll('span, bdi:first-of-type')].map((e) => Math.round(e.getClientRects()[0].top))).size"
+        line = ("new Set([...document.querySelector('.chosen').querySelectorAll('span, bdi:first-of-type')].map((e) => "
+                "Math.round(e.getClientRects()[0].top))).size")
         self.assertEqual(self.browser.script(line), 1)
         self.browser.press(f"Hinzufügen: {self.people[first][0]}, {first}")
-        parts = "((e) => ['.handle', '.titled', '.up', '.down', '.remove'].map((name) => e.querySelector(name).getBoundingClientRect()))(document.querySelector('ol.ordered > li'))"
+        parts = ("((e) => ['.handle', '.titled', '.up', '.down', '.remove'].map((name) => "
+                 "e.querySelector(name).getBoundingClientRect()))(document.querySelector('ol.ordered > li'))")
         handle, titled, up, down, remove = self.browser.script(parts)
         self.assertGreaterEqual(handle["width"], 24)
         for button in (up, down, remove):
@@ -293,7 +317,10 @@ class Rankings(LecturerCase):
 
 class Phases(LecturerCase):
     def describe(self):
-        projects = [{**one, "description": f"<b>About</b> {one['title']}.", "link": "https://example.org/more"} for one in self.large.projects if one["id"] != "p061"]
+        projects = [{
+            **one, "description": f"<b>About</b> {one['title']}.",
+            "link": "https://example.org/more"
+        } for one in self.large.projects if one["id"] != "p061"]
         (self.door.notice / "projects.json").write_text(json.dumps({"projects": projects}))
 
     def test_checking_descriptions(self):
@@ -320,8 +347,14 @@ class Phases(LecturerCase):
         self.open(self.large.codes["l01"], "Results")
         for _ in self.sizes():
             self.assertEqual(self.parts(), ["Your students", "Your ranking", "Your projects"])
-            self.sees("For each of your projects that they chose, they got a project they prefer, or all its places (or all yours) went to students ranked above them.")
-            marks = self.browser.script("[...document.querySelectorAll(\"ol[aria-label='Your ranking'] > li\")].map((e) => e.querySelector('.mark')?.textContent ?? '')")
+            self.sees(
+                "For each of your projects that they chose, they got a project they prefer, or all its places (or all yours) went to "
+                "students ranked above them."
+            )
+            marks = self.browser.script(
+                "[...document.querySelectorAll(\"ol[aria-label='Your ranking'] > li\")].map((e) => e.querySelector('.mark')?.textContent "
+                "?? '')"
+            )
             has = {key: self.title(project) for project, keys in placed.items() for key in keys}
             self.assertEqual([self.plain(mark) for mark in marks], [f"Has {has[key]}" if key in has else "" for key in ranking])
 
@@ -334,7 +367,8 @@ class Phases(LecturerCase):
         for phase in ("Choosing", "Ranking"):
             self.open(self.large.codes[full], phase)
             for _ in self.sizes():
-                self.sees("None of your projects is open in this round, so you don’t need to do anything.", "Next: the office publishes the results of this round.")
+                self.sees("None of your projects is open in this round, so you don’t need to do anything.",
+                          "Next: the office publishes the results of this round.")
                 for part in ("Next: you rank", "Put all your applicants"):
                     self.assertNotIn(part, self.text())
             self.browser.sign_out()

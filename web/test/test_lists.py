@@ -1,4 +1,5 @@
-"""The own list and the own ranking: what saves them stays in view, two tabs, undo, places by number, dragging at the edge, receipts, messages."""
+"""The own list and the own ranking: what saves them stays in view, two tabs, undo, places by number, dragging at the edge, receipts,
+messages."""
 
 import time
 
@@ -10,7 +11,8 @@ from case import OFFICE, PageCase
 ADA, BEN, BELL = "student-ada-0001", "student-ben-0001", "lecturer-bell-01"
 LECTURERS = f"id,name,code,capacity\nbell,Jocelyn Bell,{BELL},3\nmoe,Max Moe,lecturer-moe-001,9\n"
 PROJECTS = "id,lecturer,title,capacity\n" + "".join(f"p{n:02},{'bell' if n < 2 else 'moe'},Project number {n},2\n" for n in range(30))
-STUDENTS = f"id,name,code\nada,Ada Ames,{ADA}\nben,Ben Bode,{BEN}\n" + "".join(f"s{n:02},Student {n},student-number-{n:02}\n" for n in range(60))
+STUDENTS = f"id,name,code\nada,Ada Ames,{ADA}\nben,Ben Bode,{BEN}\n" + "".join(f"s{n:02},Student {n},student-number-{n:02}\n"
+                                                                               for n in range(60))
 KEYS = [f"p{n:02}" for n in range(30)]
 
 
@@ -20,9 +22,11 @@ def named(key):
 
 
 # An element is seen: it is within the window, and what is seen at its middle is itself.
-SEEN = "((e) => { const r = e.getBoundingClientRect(); return r.top >= 0 && r.bottom <= innerHeight && e.contains(document.elementFromPoint(r.left + r.width / 2, r.top + r.height / 2)); })(arguments[0])"
+SEEN = ("((e) => { const r = e.getBoundingClientRect(); return r.top >= 0 && r.bottom <= innerHeight && "
+        "e.contains(document.elementFromPoint(r.left + r.width / 2, r.top + r.height / 2)); })(arguments[0])")
 # What scrolls within the page; there is nothing of that kind.
-SCROLLS = "[...document.querySelectorAll('body *')].filter((e) => ['auto', 'scroll'].includes(getComputedStyle(e).overflowY) && e.scrollHeight > e.clientHeight + 1).map((e) => e.className || e.tagName)"
+SCROLLS = ("[...document.querySelectorAll('body *')].filter((e) => ['auto', 'scroll'].includes(getComputedStyle(e).overflowY) && "
+           "e.scrollHeight > e.clientHeight + 1).map((e) => e.className || e.tagName)")
 
 
 class ListCase(PageCase):
@@ -113,7 +117,8 @@ class Saving(ListCase):
         self.door.do(ADA, "PUT", "/choices", {"projects": ["p05", "p06"]})
         self.browser.press("Save list")
         dialog = self.browser.find("dialog", "Which list do you want to keep?")
-        for part in ("A different version was saved in another tab or on another device", "Project number 0", "Project number 1", "Project number 5", "Project number 6"):
+        for part in ("A different version was saved in another tab or on another device", "Project number 0", "Project number 1",
+                     "Project number 5", "Project number 6"):
             self.assertIn(part, dialog.text)
         self.browser.press("Cancel")
         self.assertEqual((self.entries(), self.saved()), (["p00", "p01"], ["p05", "p06"]))
@@ -158,7 +163,8 @@ class Ordering(ListCase):
         self.browser.driver.execute_script("window.print = () => { window.seen = document.querySelector('.printed').innerText; }")
         self.click("Print receipt")
         paper = self.browser.script("window.seen").replace("\u2068", "").replace("\u2069", "")
-        for part in ("Ada Ames (ada)", "Your list", "Project number 0", "Jocelyn Bell · p00", "Project number 2", "Max Moe · p02", "Last saved version on localhost"):
+        for part in ("Ada Ames (ada)", "Your list", "Project number 0", "Jocelyn Bell · p00", "Project number 2", "Max Moe · p02",
+                     "Last saved version on localhost"):
             self.assertIn(part, paper)
         self.assertLess(paper.index("Project number 0"), paper.index("Project number 1"))
         self.assertNotIn("Project number 9", paper)
@@ -202,7 +208,9 @@ class Ordering(ListCase):
     def test_undo_brings_the_row_back(self):
         """After a project was put on the list or taken off it, taking that back brings its row of the catalogue into sight."""
         self.open(ADA, "Choosing")
-        row = "((r) => r.top >= 0 && r.bottom <= document.querySelector('.dock').getBoundingClientRect().top)([...document.querySelectorAll('.catalogue tbody tr')].find((r) => r.innerText.includes(arguments[0])).getBoundingClientRect())"
+        row = ("((r) => r.top >= 0 && r.bottom <= "
+               "document.querySelector('.dock').getBoundingClientRect().top)([...document.querySelectorAll('.catalogue tbody "
+               "tr')].find((r) => r.innerText.includes(arguments[0])).getBoundingClientRect())")
         for width, height in ((1280, 900), (390, 844)):
             self.browser.resize(width, height)
             for name in (f"Add {named('p01')}", f"Remove from your list: {named('p01')}"):
@@ -220,7 +228,8 @@ class Ordering(ListCase):
         self.open(ADA, "Choosing")
         self.add("p03", "p04")
         self.assertFalse(self.browser.has("button", f"Add {named('p03')}"))
-        row = "[...document.querySelectorAll('table[aria-label=Projects] tbody tr')].find((r) => r.innerText.includes(arguments[0])).innerText"
+        row = ("[...document.querySelectorAll('table[aria-label=Projects] tbody tr')].find((r) => "
+               "r.innerText.includes(arguments[0])).innerText")
         self.assertIn("Choice 1", self.browser.script(row, "p03"))
         self.click(f"Move {named('p04')} up")
         self.assertIn("Choice 2", self.browser.script(row, "p03"))
@@ -244,7 +253,8 @@ class Ordering(ListCase):
         handle = self.browser.driver.find_element("css selector", "ol[aria-label='Your list'] li:first-child .handle")
         self.browser.driver.execute_script("arguments[0].scrollIntoView({ block: 'center' })", handle)
         before = self.browser.script("scrollY")
-        edge = self.browser.script("document.querySelector('.dock').getBoundingClientRect().top - arguments[0].getBoundingClientRect().top - 30", handle)
+        edge = self.browser.script(
+            "document.querySelector('.dock').getBoundingClientRect().top - arguments[0].getBoundingClientRect().top - 30", handle)
         mouse = ActionChains(self.browser.driver).click_and_hold(handle).move_by_offset(0, int(edge / 2)).move_by_offset(0, int(edge / 2))
         mouse.perform()
         self.browser.wait(lambda: self.entries()[-1] == "p00", "the first entry at the end")
@@ -283,13 +293,17 @@ class Rankings(ListCase):
 
     def filter(self):
         self.browser.choose("Show applicants for", "Project number 1")
-        shown = "[...document.querySelectorAll('ul[aria-label=Applicants] li')].filter((e) => !e.hidden).map((e) => e.querySelector('.key').textContent.split(' ')[0])"
+        shown = ("[...document.querySelectorAll('ul[aria-label=Applicants] li')].filter((e) => !e.hidden).map((e) => "
+                 "e.querySelector('.key').textContent.split(' ')[0])")
         self.assertEqual(self.browser.script(shown), ["ben", "s58", "s59"])
         self.browser.choose("Show applicants for", "All your projects")
         self.assertEqual(len(self.browser.script(shown)), 61)
 
     def take_along(self):
-        self.browser.driver.execute_script("window.print = () => { window.seen = [...document.querySelectorAll('.printed tbody tr')].map((r) => [...r.cells].map((c) => c.textContent)); }")
+        self.browser.driver.execute_script(
+            "window.print = () => { window.seen = [...document.querySelectorAll('.printed tbody tr')].map((r) => [...r.cells].map((c) => "
+            "c.textContent)); }"
+        )
         self.click("Print applicants")
         rows = self.browser.script("window.seen")
         self.assertEqual(len(rows), 61)

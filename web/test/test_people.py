@@ -1,4 +1,5 @@
-"""What students and lecturers are told: results, titles in both rounds, descriptions, the department, another language; and ways through the page."""
+"""What students and lecturers are told: results, titles in both rounds, descriptions, the department, another language; and ways through
+the page."""
 
 import json
 
@@ -6,12 +7,41 @@ from selenium.webdriver.common.keys import Keys
 
 from case import ADA, BELL, BEN, CLEO, DORA, EMIL, NOETHER, OFFICE, PageCase, TURING
 
-DESCRIBED = {"projects": [
-    {"id": "pulsars", "title": "Pulsars in old sky surveys", "lecturer": "bell", "lecturer_name": "Jocelyn Bell", "description": "Plates from 1950.\n<b>Bring</b> patience.", "link": "https://example.org/pulsars"},
-    {"id": "rings", "title": "Rings and their ideals", "lecturer": "noether", "lecturer_name": "Emmy Noether", "description": "", "link": "http://example.org/rings"},
-    {"id": "patterns", "title": "Patterns on shells", "lecturer": "turing", "lecturer_name": "Alan Turing", "description": "Why they have stripes.", "link": ""},
-]}
-DEPARTMENT = {"name": "Department of <b>Mathematics</b>", "contact": "office@example.org", "privacy": "https://example.org/privacy", "accessibility": "javascript:alert(1)", "languages": ["en", "de"]}
+DESCRIBED = {
+    "projects": [
+        {
+            "id": "pulsars",
+            "title": "Pulsars in old sky surveys",
+            "lecturer": "bell",
+            "lecturer_name": "Jocelyn Bell",
+            "description": "Plates from 1950.\n<b>Bring</b> patience.",
+            "link": "https://example.org/pulsars"
+        },
+        {
+            "id": "rings",
+            "title": "Rings and their ideals",
+            "lecturer": "noether",
+            "lecturer_name": "Emmy Noether",
+            "description": "",
+            "link": "http://example.org/rings"
+        },
+        {
+            "id": "patterns",
+            "title": "Patterns on shells",
+            "lecturer": "turing",
+            "lecturer_name": "Alan Turing",
+            "description": "Why they have stripes.",
+            "link": ""
+        },
+    ]
+}
+DEPARTMENT = {
+    "name": "Department of <b>Mathematics</b>",
+    "contact": "office@example.org",
+    "privacy": "https://example.org/privacy",
+    "accessibility": "javascript:alert(1)",
+    "languages": ["en", "de"]
+}
 
 
 class PeopleCase(PageCase):
@@ -52,22 +82,28 @@ class Results(PeopleCase):
         self.sees("You take up to 1 student in total, across all your projects.")
         self.browser.sign_out()
         self.door.move("published")
-        for code, parts in ((BEN, ["Your project is Pulsars in old sky surveys, with Jocelyn Bell.", "first choice. Only you can see this."]),
-                            (CLEO, ["Your project is Rings and their ideals, with Emmy Noether.", "It was your 2nd choice."]),
-                            (ADA, ["You didn’t get a project this time.", "all its places, or all its lecturer’s places, went to students ranked above you"]),
-                            (EMIL, ["You didn’t get a project, because you didn’t save a list."])):
+        for code, parts in ((BEN,
+                             ["Your project is Pulsars in old sky surveys, with Jocelyn Bell.", "first choice. Only you can see this."]),
+                            (CLEO, ["Your project is Rings and their ideals, with Emmy Noether.", "It was your 2nd choice."]), (ADA, [
+                                "You didn’t get a project this time.",
+                                "all its places, or all its lecturer’s places, went to students ranked above you"
+                            ]), (EMIL, ["You didn’t get a project, because you didn’t save a list."])):
             self.sign_in(code, "Results")
             self.sees(*parts)
             self.browser.sign_out()
         self.sign_in(BELL, "Results")
         self.browser.press("Copy results")
         self.browser.says("Copied 1 row.")
-        self.assertEqual(self.browser.driver.execute_async_script("navigator.clipboard.readText().then(arguments[0])"), "ben\tBen Bode\tpulsars\tPulsars in old sky surveys")
+        self.assertEqual(self.browser.driver.execute_async_script("navigator.clipboard.readText().then(arguments[0])"),
+                         "ben\tBen Bode\tpulsars\tPulsars in old sky surveys")
         self.browser.press("Download results")
-        self.assertEqual(self.downloaded("result.csv").read_bytes().decode(), "\ufeffstudent,name,project,title\nben,Ben Bode,pulsars,Pulsars in old sky surveys\n")
+        self.assertEqual(
+            self.downloaded("result.csv").read_bytes().decode(),
+            "\ufeffstudent,name,project,title\nben,Ben Bode,pulsars,Pulsars in old sky surveys\n")
 
     def test_titles_from_what_this_browser_saw(self):
-        """Without projects.json a browser that saw the first round knows the titles of the second; what is said is said by the phase and the person."""
+        """Without projects.json a browser that saw the first round knows the titles of the second; what is said is said by the phase and
+        the person."""
         self.door.move("choosing")
         self.door.do(BEN, "PUT", "/choices", {"projects": ["pulsars"]})
         self.open(BEN, "Choosing")
@@ -110,7 +146,8 @@ class Describing(PeopleCase):
         opener.click()
         self.sees("Plates from 1950.\n<b>Bring</b> patience.")
         self.assertEqual(opener.get_attribute("aria-expanded"), "true")
-        self.assertEqual(self.browser.find("link", "More about this project (new tab)").get_attribute("href"), "https://example.org/pulsars")
+        self.assertEqual(
+            self.browser.find("link", "More about this project (new tab)").get_attribute("href"), "https://example.org/pulsars")
         self.assertFalse(self.browser.has("button", "Rings and their ideals"))  # nothing is said of it but a link that is none by https
         self.browser.find("searchbox", "Search projects").send_keys("stripes")
         self.browser.wait(lambda: "1 of 5 projects" in self.text(), "one project")
@@ -152,15 +189,19 @@ class Describing(PeopleCase):
 
 class Ways(PeopleCase):
     def test_by_keyboard(self):
-        """The first Tab leads to the own list; sections have names; a question says what it means; how it is decided is told until a list is saved."""
+        """The first Tab leads to the own list; sections have names; a question says what it means; how it is decided is told until a
+        list is saved."""
         self.door.move("choosing")
         self.open()
         self.browser.sign_in("student–ada—1 ")  # as a letter or a spreadsheet writes it
         self.browser.in_phase("Choosing")
-        decided = ("they go to the students whom the lecturer ranks higher", "Lecturers rank without seeing your order", "It makes no difference when you save.")
+        decided = ("they go to the students whom the lecturer ranks higher", "Lecturers rank without seeing your order",
+                   "It makes no difference when you save.")
         self.sees(*decided)
         self.browser.unfold(".decided details")
-        self.sees("Only you see your whole list and its order.", "Waiting for a second round gains nothing if your list has every project that you would take", "no group of friends can agree on lists", "The office made the codes", "That favours low IDs")
+        self.sees("Only you see your whole list and its order.",
+                  "Waiting for a second round gains nothing if your list has every project that you would take",
+                  "no group of friends can agree on lists", "The office made the codes", "That favours low IDs")
         for name in ("Stages", "Projects", "Your list"):
             self.browser.find("region", name)
         self.browser.keys(Keys.TAB)
@@ -201,14 +242,20 @@ class Ways(PeopleCase):
         self.browser.resize(1280)
         title, *others = self.browser.script(widths)
         self.assertGreater(title, max(others) * 1.3)
-        self.assertFalse(self.browser.script("[...document.querySelectorAll('table[aria-label=Projects] .under')].some((e) => e.offsetParent)"))
+        self.assertFalse(
+            self.browser.script("[...document.querySelectorAll('table[aria-label=Projects] .under')].some((e) => e.offsetParent)"))
         self.browser.resize(390)
         self.browser.press("Pulsars in old sky surveys")
-        self.assertFalse(self.browser.script("[...document.querySelectorAll('table[aria-label=Projects] td.beside')].some((e) => e.offsetWidth > 0)"))
-        self.assertTrue(self.browser.script("[...document.querySelectorAll('table[aria-label=Projects] .under')].every((e) => e.offsetParent && e.innerText)"))
+        self.assertFalse(
+            self.browser.script("[...document.querySelectorAll('table[aria-label=Projects] td.beside')].some((e) => e.offsetWidth > 0)"))
+        self.assertTrue(
+            self.browser.script(
+                "[...document.querySelectorAll('table[aria-label=Projects] .under')].every((e) => e.offsetParent && e.innerText)"))
         # each word stands on one line
-        broken = """[...document.querySelectorAll('table[aria-label=Projects] bdi')].filter((e) => e.offsetParent).flatMap((e) => [...e.firstChild.data.matchAll(/\\S+/g)].filter((m) => {
-          const range = document.createRange(); range.setStart(e.firstChild, m.index); range.setEnd(e.firstChild, m.index + m[0].length); return new Set([...range.getClientRects()].map((r) => r.top)).size > 1;
+        broken = """[...document.querySelectorAll('table[aria-label=Projects] bdi')].filter((e) => e.offsetParent)
+        .flatMap((e) => [...e.firstChild.data.matchAll(/\\S+/g)].filter((m) => {
+          const range = document.createRange(); range.setStart(e.firstChild, m.index); range.setEnd(e.firstChild, m.index + m[0].length);
+          return new Set([...range.getClientRects()].map((r) => r.top)).size > 1;
         }).map((m) => m[0]))"""
         self.assertEqual(self.browser.script(broken), [])
         self.assertLessEqual(self.browser.script("document.documentElement.scrollWidth"), 390)

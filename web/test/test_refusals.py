@@ -29,16 +29,22 @@ class SigningIn(PageCase):
 
 
 class Rolls(PageCase):
-    """What the portal alone can know of a roll: a file that looks right is sent and refused. test_files.py has what the page sees in a file."""
+    """What the portal alone can know of a roll: a file that looks right is sent and refused. test_files.py has what the page sees in a
+    file."""
 
     def test_refused_rolls(self):
         self.open(OFFICE, "Setup")
-        self.refused("Projects", YEAR / "projects.csv", "Projects: nothing was added, because row 2 has a mistake. No lecturer has the ID bell.", "pulsars, bell, Pulsars in old sky surveys, 1")
+        self.choose_file("Projects", YEAR / "projects.csv")
+        self.browser.wait(lambda: "the portal has no lecturers yet. Add them first." in self.browser.page_text(),
+                          "that lecturers come first")
+        self.assertFalse(self.browser.find("button", "Send").is_enabled())
+        self.browser.press("Cancel")
         self.send_file("Lecturers", YEAR / "lecturers.csv")
         self.browser.says("3 added, 0 already there")
         other = (YEAR / "lecturers.csv").read_text().replace("Alan Turing", "Alan M. Turing")
         self.refused("Lecturers", self.write("other.csv", other), "Row 4 differs", "turing, Alan M. Turing, 1")
-        self.refused("Students", self.write("taken.csv", "id,name,code\n\nada,Ada Ames,k4mz-pq7w-9xyd\nben,Ben,lecturer-bell-1\n"), "Row 4 differs", "ben, Ben")
+        self.refused("Students", self.write("taken.csv", "id,name,code\n\nada,Ada Ames,k4mz-pq7w-9xyd\nben,Ben,lecturer-bell-1\n"),
+                     "Row 4 differs", "ben, Ben")
         self.send_file("Students", YEAR / "students.csv")
         self.browser.says("Students: 5 added, 0 already there")
 

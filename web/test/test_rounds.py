@@ -77,7 +77,8 @@ class Rounds(PageCase):
 
     def student_without_a_project(self):
         self.sign_in(EMIL, "Choosing")
-        self.sees("Round 2", "You didn’t get a project in the first round. Add those you want now", "At most 1 place is left, in 1 project.")
+        self.sees("Round 2", "You didn’t get a project in the first round. Add those you want now",
+                  "At most 1 place is left, in 1 project.")
         self.browser.unfold(".decided, .decided details")
         self.sees("No project from your first list has a place left for you.")
         self.assertNotIn("You didn’t get a project this time", self.text())
@@ -92,15 +93,17 @@ class Rounds(PageCase):
 
     def student_with_a_project(self, phase):
         self.sign_in(ADA, phase)
-        self.sees("Round 2", "Your project is Rings and their ideals, with Emmy Noether.", "You already have a project from the first round")
+        self.sees("Round 2", "Your project is Rings and their ideals, with Emmy Noether.",
+                  "You already have a project from the first round")
         for name in ("Save list", "Add *, comets"):
             self.assertFalse(self.browser.has("button", name))
         self.browser.sign_out()
 
     def lecturers_in_choosing(self):
         self.sign_in(BELL, "Choosing")
-        self.sees("Round 2", "Students without a project are choosing again", "Your students", "Ben Bode", "1 place left after the first round.",
-                  "Not open in this round", "Pulsars in old sky surveys", "You take up to 2 students in total, across all your projects. You have 1 from the first round.")
+        self.sees("Round 2", "Students without a project are choosing again", "Your students", "Ben Bode",
+                  "1 place left after the first round.", "Not open in this round", "Pulsars in old sky surveys",
+                  "You take up to 2 students in total, across all your projects. You have 1 from the first round.")
         self.browser.sign_out()
 
     def lecturers_in_ranking(self):
@@ -117,8 +120,8 @@ class Rounds(PageCase):
         self.browser.sign_out()
 
     def results(self):
-        for code, part in ((EMIL, "Your project is Comets, seen twice, with Jocelyn Bell."), (ADA, "Your project is Rings and their ideals, with Emmy Noether."),
-                           (BELL, "Emil Eke"), (TURING, "Dora Dahl")):
+        for code, part in ((EMIL, "Your project is Comets, seen twice, with Jocelyn Bell."),
+                           (ADA, "Your project is Rings and their ideals, with Emmy Noether."), (BELL, "Emil Eke"), (TURING, "Dora Dahl")):
             self.sign_in(code, "Results")
             self.sees("Round 2", part)
             self.browser.sign_out()

@@ -86,14 +86,17 @@ class Texts(PageCase):
         for width in (360, 1280):
             self.browser.resize(width)
             self.assertLessEqual(self.browser.script("document.documentElement.scrollWidth"), width)
-            small = "[...document.querySelectorAll('button, .button, input:not([type=file])')].filter((e) => e.offsetParent).filter((e) => { const r = e.getBoundingClientRect(); return r.width < 24 || r.height < 24; }).map((e) => [e.outerHTML, e.offsetWidth, e.offsetHeight])"
+            small = ("[...document.querySelectorAll('button, .button, input:not([type=file])')].filter((e) => e.offsetParent).filter((e) "
+                     "=> { const r = e.getBoundingClientRect(); return r.width < 24 || r.height < 24; }).map((e) => [e.outerHTML, "
+                     "e.offsetWidth, e.offsetHeight])")
             self.assertEqual(self.browser.script(small), [], f"in a window of {width}")
 
 
 class German(PageCase):
     """German words are longer: no button is cut, and nothing stands out at the side."""
 
-    CUT = "[...document.querySelectorAll('button, .button, select, .state, .count')].filter((e) => e.offsetParent && e.scrollWidth > e.clientWidth + 1).map((e) => e.outerHTML)"
+    CUT = ("[...document.querySelectorAll('button, .button, select, .state, .count')].filter((e) => e.offsetParent && e.scrollWidth > "
+           "e.clientWidth + 1).map((e) => e.outerHTML)")
 
     def test_buttons_are_whole(self):
         large = self.door.load_large("ranking")
@@ -123,10 +126,13 @@ class Looks(PageCase):
     """Every text that is seen has its contrast, in light and in dark; what can have the focus has a name; no id stands twice."""
 
     CONTRAST = """
-    const luminance = ([r, g, b]) => [r, g, b].map((c) => c / 255).map((c) => c <= 0.04045 ? c / 12.92 : ((c + 0.055) / 1.055) ** 2.4).reduce((sum, c, i) => sum + c * [0.2126, 0.7152, 0.0722][i], 0);
+    const luminance = ([r, g, b]) => [r, g, b].map((c) => c / 255).map((c) => c <= 0.04045 ? c / 12.92 : ((c + 0.055) / 1.055) ** 2.4)
+    .reduce((sum, c, i) => sum + c * [0.2126, 0.7152, 0.0722][i], 0);
     const colour = (text) => text.match(/[\\d.]+/g).map(Number);
-    const ground = (e) => { for (; e; e = e.parentElement) { const c = colour(getComputedStyle(e).backgroundColor); if (c.length < 4 || c[3] > 0) return c; } return [255, 255, 255]; };
-    return [...document.querySelectorAll('body *')].filter((e) => e.offsetParent && [...e.childNodes].some((n) => n.nodeType === 3 && n.data.trim())).map((e) => {
+    const ground = (e) => { for (; e; e = e.parentElement) { const c = colour(getComputedStyle(e).backgroundColor); if (c.length < 4 ||
+    c[3] > 0) return c; } return [255, 255, 255]; };
+    return [...document.querySelectorAll('body *')].filter((e) => e.offsetParent && [...e.childNodes].some((n) => n.nodeType === 3 &&
+    n.data.trim())).map((e) => {
       const [a, b] = [luminance(colour(getComputedStyle(e).color)), luminance(ground(e))].sort((x, y) => y - x);
       return [e.textContent.slice(0, 30), (a + 0.05) / (b + 0.05)];
     }).filter(([, ratio]) => ratio < 4.5)
@@ -134,15 +140,32 @@ class Looks(PageCase):
 
     # Sections without a name, and questions that are described by nothing.
     UNTOLD = """
-    const said = (e, by) => (e.getAttribute(by) ?? '').split(' ').map((id) => document.getElementById(id)?.innerText ?? '').join('').trim() || (by === 'aria-labelledby' && e.getAttribute('aria-label'));
+    const said = (e, by) => (e.getAttribute(by) ?? '').split(' ').map((id) => document.getElementById(id)?.innerText ?? '')
+    .join('').trim() || (by === 'aria-labelledby' && e.getAttribute('aria-label'));
     return [...document.querySelectorAll('section')].filter((e) => !said(e, 'aria-labelledby')).map((e) => e.innerText.slice(0, 30))
-      .concat([...document.querySelectorAll('dialog')].filter((e) => !said(e, 'aria-describedby') || !said(e, 'aria-labelledby')).map((e) => e.innerText))
+      .concat([...document.querySelectorAll('dialog')].filter((e) => !said(e, 'aria-describedby') || !said(e, 'aria-labelledby'))
+      .map((e) => e.innerText))
     """
 
     def test_every_page(self):
         self.door.load_rolls()
-        (self.door.notice / "projects.json").write_text(json.dumps({"projects": [{"id": "rings", "title": "Rings", "lecturer": "noether", "lecturer_name": "Emmy Noether", "description": "Of integers.", "link": "https://example.org"}]}))
-        (self.door.notice / "department.json").write_text(json.dumps({"name": "Mathematics", "contact": "office@example.org", "privacy": "https://example.org/privacy"}))
+        (self.door.notice / "projects.json").write_text(
+            json.dumps({
+                "projects": [{
+                    "id": "rings",
+                    "title": "Rings",
+                    "lecturer": "noether",
+                    "lecturer_name": "Emmy Noether",
+                    "description": "Of integers.",
+                    "link": "https://example.org"
+                }]
+            }))
+        (self.door.notice / "department.json").write_text(
+            json.dumps({
+                "name": "Mathematics",
+                "contact": "office@example.org",
+                "privacy": "https://example.org/privacy"
+            }))
         self.open(OFFICE, "Setup")
         self.choose_file("Students", self.write("bad.csv", "id,name,code,group\n,Ann,student-ann-1,1\n"))
         self.browser.wait(lambda: "1 row has no ID." in self.browser.page_text(), "the fault")
@@ -203,7 +226,10 @@ class Looks(PageCase):
             self.browser.prefer(scheme)
             self.assertEqual(self.browser.driver.execute_script(self.CONTRAST), [])
         nodes = self.browser.cdp("Accessibility.getFullAXTree")["nodes"]
-        nameless = [node["role"]["value"] for node in nodes if not node["ignored"] and self.is_focusable(node) and not node.get("name", {}).get("value")]
+        nameless = [
+            node["role"]["value"] for node in nodes
+            if not node["ignored"] and self.is_focusable(node) and not node.get("name", {}).get("value")
+        ]
         self.assertEqual([role for role in nameless if role not in ("main", "RootWebArea", "generic")], [])
         self.assertEqual(self.browser.driver.execute_script(self.UNTOLD), [])
         doubled = "[...document.querySelectorAll('[id]')].map((e) => e.id).filter((id, at, all) => all.indexOf(id) !== at)"

@@ -95,8 +95,10 @@ class YearByClicks(PageCase):
         self.browser.sign_out()
 
     def office_table(self):
-        column = "[...document.querySelectorAll('table[aria-label=\"Results\"] tbody tr')].filter((r) => !r.hidden).map((r) => r.cells[arguments[0]].querySelector('.key, em').textContent)"
-        for name, sorted_by_title in (("Project", ["groups", "patterns", "pulsars", "rings"]), ("Student", ["ada", "ben", "cleo", "dora", "emil"])):
+        column = ("[...document.querySelectorAll('table[aria-label=\"Results\"] tbody tr')].filter((r) => !r.hidden).map((r) => "
+                  "r.cells[arguments[0]].querySelector('.key, em').textContent)")
+        for name, sorted_by_title in (("Project", ["groups", "patterns", "pulsars",
+                                                   "rings"]), ("Student", ["ada", "ben", "cleo", "dora", "emil"])):
             at = 1 if name == "Project" else 0
             self.browser.press(name)
             rising = self.browser.script(column, at)
@@ -107,10 +109,12 @@ class YearByClicks(PageCase):
         self.assertEqual(sorted(self.browser.script(column, 0)), ["ada", "cleo"])
 
     def print_report(self):
-        self.browser.script("(window.print = () => { window.seen = [...document.querySelectorAll('.printed')].map((e) => e.textContent); })")
+        self.browser.script(
+            "(window.print = () => { window.seen = [...document.querySelectorAll('.printed')].map((e) => e.textContent); })")
         self.browser.press("Print report")
         (printed,) = self.browser.script("window.seen")
-        for part in ("Results", "With a project: 4 of 5 students", "Ada Ames", "Emil Eke", "Rings and their ideals", "Emmy Noether", "2 of 2 places"):
+        for part in ("Results", "With a project: 4 of 5 students", "Ada Ames", "Emil Eke", "Rings and their ideals", "Emmy Noether",
+                     "2 of 2 places"):
             self.assertIn(part, printed)
 
     def results(self):

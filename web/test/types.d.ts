@@ -7,12 +7,20 @@ type Known = import('../known.js').Known;
 type Names = import('../names.js').Names;
 type RollFile = import('../rollfile.js').RollFile;
 
-/** Texts that not everybody needs, or not at once: those of a role, of an order made elsewhere, and of the answers. */
-type TextPart = Role | 'order' | 'answers';
+/** Texts that not everybody needs, or not at once: of a role, of the office's files, of an order made elsewhere, and of the answers. */
+type TextPart = Role | 'rolls' | 'order' | 'answers';
+
+/** Unpacks what archives press; the types of Debian's tsc do not have it yet. */
+declare var DecompressionStream: { new (format: 'deflate-raw'): GenericTransformStream };
 
 /** Every text of the page. */
-type Words = typeof import('../words-en.js').words & typeof import('../words-en-student.js').words & typeof import('../words-en-lecturer.js').words
-  & typeof import('../words-en-office.js').words & typeof import('../words-en-order.js').words & typeof import('../words-en-answers.js').words;
+type Words = typeof import('../words-en.js').words
+  & typeof import('../words-en-student.js').words
+  & typeof import('../words-en-lecturer.js').words
+  & typeof import('../words-en-office.js').words
+  & typeof import('../words-en-rolls.js').words
+  & typeof import('../words-en-order.js').words
+  & typeof import('../words-en-answers.js').words;
 
 // ---- what the portal replies: docs/FORMATS.md
 
@@ -65,7 +73,8 @@ type LinkName = 'contact' | 'privacy' | 'accessibility';
 type End = { at: Date; offset: number };
 
 /** What department.json says. `names`: the name by language; `until`: the end of a stage, by the stage's name. */
-type Department = { name: string; names?: Record<string, string>; languages?: string[]; until?: Record<string, End> } & Partial<Record<LinkName, string>>;
+type Department = { name: string; names?: Record<string, string>; languages?: string[]; until?: Record<string, End> }
+  & Partial<Record<LinkName, string>>;
 
 /** A text with a count in it. */
 type Counted = (count: number) => string;
@@ -143,9 +152,11 @@ interface Content {
   /** whether something would be lost by leaving */
   isChanged: () => boolean;
   /** what is not saved stands there again when the page is shown anew in this tab */
-  isKept?: boolean;
+  isKept?: () => boolean;
   /** what is said to this person of the year */
   year?: { now?: string; next?: string; saves?: boolean };
+  /** what leaving would mean, where that is another thing than losing what is not saved */
+  risk?: () => string | undefined;
   /** what stays in view */
   bar?: HTMLElement;
   /** where the skip links lead */
@@ -320,124 +331,3 @@ interface EditorOf {
 
 /** A list that is not saved, and what was saved when it was begun. */
 type Draft = { base: string[]; keys: string[] };
-
-// ---- the office's files
-
-/** A row of a file that is not blank, with its number in a spreadsheet, counted from 1. */
-type FileRow = { row: number; fields: string[] };
-
-type FileTable = { encoding: string; separator: string; rows: FileRow[] };
-
-/** How a file was read. */
-type ReadAs = { encoding: string; separator: string };
-
-/** `first`: the first name, where the file has it apart. */
-type Column = 'id' | 'name' | 'first' | 'code' | 'capacity' | 'lecturer' | 'title' | 'email';
-
-/** Where the file has each column, counted from 0; -1 where it has it not. */
-type Columns = Partial<Record<Column, number>>;
-
-/** A row of a roll: its number in the spreadsheet, and its texts. */
-type Entry = { row: number; id: string } & Partial<Record<Column, string>>;
-
-/** What is known of those who are in the portal, by key. */
-type There = Record<Roll, Map<string, Partial<Record<Column, string>>>>;
-
-/** What the portal would refuse. `other` is the row that it differs from. */
-type Fault = { row: number; column: Column; fault: string; other?: number };
-
-type Doubt = { doubt: string; rows: number[] };
-
-/** Another roll that a file looks like, and why. */
-type Likeness = { roll: Roll; why: 'column' | 'header' | 'people'; name?: string; count?: number; all?: number };
-
-type Plan = ReturnType<RollFile['plan']>;
-
-/** What the part for files is made of. */
-interface RollsOf {
-  portal: Portal;
-  messages: Messages;
-  attempt: Attempt;
-  names: Names;
-  /** files may be sent */
-  canSend: boolean;
-  /** is called after a file was taken or names were read */
-  sent: () => Promise<void>;
-}
-
-/** Takes a file and the field that it came from. */
-type Take = (file: File, from: HTMLElement) => unknown;
-
-// ---- the office's steps and result
-
-type StepName = 'openChoosing' | 'openRanking' | 'fill' | 'publish' | 'openSecond';
-
-/** A step of the year. `body` is what is sent to /phase, and a fill has none; `isMain`: the year cannot go on without it. */
-type Move = { name: StepName; body?: { phase: string; round?: number }; isMain?: boolean };
-
-/** Who has to rank, as far as it is known; `isWhole`: nobody else has applicants. */
-type Rankers = { keys: Set<string>; isWhole: boolean };
-
-/** What is known of the year before a step. */
-interface Standing {
-  status: Status;
-  /** those of the catalogue */
-  projects: Project[];
-  /** who is still to rank, in words */
-  toRank: string[];
-  /** what is known of those in the portal */
-  lecturers: There['lecturers'];
-  /** a lecturer's name */
-  nameOf: (lecturer: string) => string | undefined;
-  /** how many places of each project are taken */
-  used: Used[];
-  /** that the stage was announced to end later, if that is so */
-  end?: string;
-  /** whose rankings were filled in from this browser, in words */
-  filled?: string[];
-}
-
-/** What stands in the way of a step. */
-interface Lack {
-  text: string;
-  /** the step can be taken, but some would regret it */
-  isRisk?: boolean;
-  /** the step cannot be taken, or would be for nobody */
-  ends?: boolean;
-  /** the question alone tells it: it stands above on the page */
-  isAskedOnly?: boolean;
-  /** the file of the lecturers would tell more */
-  needsLecturers?: boolean;
-}
-
-/** The places of a lecturer's projects that are free and that are taken. */
-type OwnPlaces = { free: number; taken: number };
-
-type ResultColumn = 'student' | 'project' | 'lecturer';
-
-/** A student, and what the student has. */
-type GivenRow = { student: string; name: string; project: string; title: string; lecturer: string };
-
-/** The places of a project. */
-type Used = { key: string; taken: number; all: number };
-
-/** The result as the portal tells it, and what that says. */
-type Result = { csv: string; report: string; rows: GivenRow[]; used: Used[] };
-
-/** `noneOf`: what is said of a student without a project. */
-type Shown = Result & { titleOf: (project: string) => string; nameOf: (lecturer: string) => string; noneOf: (student: string) => string };
-
-/** What the office's tables of people and projects show. */
-interface OfficeData {
-  status: Status;
-  /** those of the catalogue */
-  projects: Project[];
-  there: There;
-  names: Names;
-  /** how many places of each project are taken, once that is known */
-  used: Used[];
-  /** who has to rank, while that is done */
-  rankers: Rankers | null;
-}
-
-type Sheet = { columns: TableColumn[]; rows: TableRow[] };

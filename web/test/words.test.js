@@ -13,11 +13,12 @@ const textsOf = async (language) => {
   const parts = Object.values(LANGUAGES[language]).filter((part) => typeof part === 'function');
   return Object.assign({}, ...(await Promise.all(parts.map((part) => part()))).map((part) => part.words));
 };
-await speak('en', 'student', 'lecturer', 'office', 'order', 'answers');
+await speak('en', 'student', 'lecturer', 'office', 'rolls', 'order', 'answers');
 
 /** Each text by the path of its keys. */
 function flat(texts, path = '') {
-  return Object.entries(texts).flatMap(([key, value]) => (typeof value === 'object' ? flat(value, `${path}${key}.`) : [[`${path}${key}`, value]]));
+  return Object.entries(texts).flatMap(([key, value]) =>
+    (typeof value === 'object' ? flat(value, `${path}${key}.`) : [[`${path}${key}`, value]]));
 }
 
 for (const language of Object.keys(LANGUAGES)) {
@@ -36,7 +37,8 @@ for (const language of Object.keys(LANGUAGES)) {
 
 test('sentences are translated', async () => {
   const german = new Map(flat(await textsOf('de')));
-  const same = flat(await textsOf('en')).filter(([path, text]) => typeof text === 'string' && text.split(' ').length > 3 && german.get(path) === text);
+  const same = flat(await textsOf('en')).filter(([path, text]) =>
+    typeof text === 'string' && text.split(' ').length > 3 && german.get(path) === text);
   assert.deepEqual(same, []);
 });
 
@@ -49,18 +51,19 @@ test('every text that is used is there, and every text that is there is used', (
 });
 
 test('no role needs a text of another one', async () => {
-  const later = { student: [], lecturer: ['order', 'answers'], office: ['answers'] };
+  const later = { student: [], lecturer: ['order', 'answers'], office: ['answers', 'rolls'] };
   for (const role of ['student', 'lecturer', 'office']) {
     const seen = new Set();
     const walk = (name) => {
       if (seen.has(name)) return;
       seen.add(name);
-      for (const [, other] of source(name).matchAll(/^import .*from '\.\/(.+)';$/gm)) walk(other);
+      for (const [, other] of source(name).matchAll(/^import [^;]*?from '\.\/(.+?)';$/gm)) walk(other);
       if (!['main.js', 'words.js'].includes(name)) for (const [, other] of source(name).matchAll(/import\('\.\/(.+?)'\)\.?/g)) walk(other);
     };
     for (const name of ['main.js', `${role}.js`]) walk(name);
     const { all, ...parts } = LANGUAGES.en;
-    const own = Object.assign({}, ...(await Promise.all([all(), ...[role, ...later[role]].map((part) => parts[part]())])).map((part) => part.words));
+    const own = Object.assign({}, ...(await Promise.all([all(), ...[role, ...later[role]].map((part) => parts[part]())])).map((part) =>
+      part.words));
     for (const name of seen) {
       for (const [, text] of source(name).matchAll(/(?<!\/)\bwords\.(\w+)/g)) assert.ok(text in own, `${role}, ${name}: ${text}`);
     }
@@ -70,7 +73,10 @@ test('no role needs a text of another one', async () => {
 test('what is said otherwise in the second round is said of phases that it has', () => {
   for (const texts of [words.nowSecond, words.nextSecond]) {
     assert.deepEqual(Object.keys(texts).sort(), ['lecturer', 'office', 'student']);
-    for (const of of Object.values(texts)) for (const phase of Object.keys(of)) assert.ok(['choosing', 'ranking', 'published'].includes(phase), phase);
+    for (const of of Object.values(texts)) for (const phase of Object.keys(of)) assert.ok(
+      ['choosing', 'ranking', 'published'].includes(phase),
+      phase,
+    );
   }
 });
 
@@ -96,7 +102,8 @@ test('ordinal numbers in English', () => {
 
 test('days come before months, and hours go to 23', async () => {
   const when = new Date(2027, 4, 12, 15, 5);
-  const said = { en: ['12 May 2027 at 15:05', 'Wednesday 12 May at 15:05'], de: ['12. Mai 2027 um 15:05', 'Mittwoch, 12. Mai um 15:05 Uhr'] };
+  const said =
+    { en: ['12 May 2027 at 15:05', 'Wednesday 12 May at 15:05'], de: ['12. Mai 2027 um 15:05', 'Mittwoch, 12. Mai um 15:05 Uhr'] };
   for (const [language, expected] of Object.entries(said)) {
     const { dates, moment } = await textsOf(language);
     assert.deepEqual([when.toLocaleString(dates, { dateStyle: 'long', timeStyle: 'short' }), moment(when)], expected);
