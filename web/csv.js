@@ -117,18 +117,19 @@ function weightOf(text, separator) {
 /**
  * Rows as text: a separator between fields, quotes where they are needed, lines ended by LF.
  * @param {string[][]} rows
+ * @param {string} [separator]
+ * @param {string} [cuts] the signs at which whoever reads the text may cut it
  */
-export function written(rows, separator = ',') {
-  return rows.map((fields) => `${fields.map((field) => quoted(field, separator)).join(separator)}\n`).join('');
+export function written(rows, separator = ',', cuts = separator) {
+  const isQuoted = (/** @type {string} */ field) => [...field].some((sign) => `"\r\n${cuts}`.includes(sign));
+  const quoted = (/** @type {string} */ field) => (isQuoted(field) ? `"${field.replaceAll('"', '""')}"` : field);
+  return rows.map((fields) => `${fields.map(quoted).join(separator)}\n`).join('');
 }
 
-/** @param {string} field @param {string} separator */
-const quoted = (field, separator) => (field.includes(separator) || /["\r\n]/.test(field) ? `"${field.replaceAll('"', '""')}"` : field);
-
-// What a formula begins with. Some spreadsheets begin a new cell at each semicolon or tab.
+// What a formula begins with. Some spreadsheets begin a new cell at each comma, semicolon or tab.
 const SIGN = '[=+\\-@\\t\\r＝＋－＠]';
-const INNER = new RegExp(`([;\\t])(?=["']*${SIGN})`, 'g');
-const WRITTEN_INNER = new RegExp(`([;\\t])'(?=["']*${SIGN})`, 'g');
+const INNER = new RegExp(`([,;\\t])(?=["']*${SIGN})`, 'g');
+const WRITTEN_INNER = new RegExp(`([,;\\t])'(?=["']*${SIGN})`, 'g');
 
 /**
  * Rows as text for a spreadsheet, which would take a cell that begins with one of these signs for a formula: it gets an apostrophe in
@@ -136,7 +137,7 @@ const WRITTEN_INNER = new RegExp(`([;\\t])'(?=["']*${SIGN})`, 'g');
  * @param {string[][]} rows
  * @param {string} [separator] that spreadsheets of the reader's language read without being asked
  */
-export const writtenForSpreadsheets = (rows, separator) => written(rows.map((fields) => fields.map(asText)), separator);
+export const writtenForSpreadsheets = (rows, separator) => written(rows.map((fields) => fields.map(asText)), separator, ',;\t');
 
 /** @param {string} field */
 const asText = (field) => field.replace(INNER, "$1'").replace(new RegExp(`^(?='*${SIGN})`), "'");
@@ -151,4 +152,4 @@ const meant = (field) => /^="([^"]*)"$/.exec(field)?.[1] ?? field.replace(WRITTE
  * A spreadsheet takes the text, or a part of it, for a formula, where it stands in a cell as it is.
  * @param {string} text
  */
-export const isLikeFormula = (text) => new RegExp(`(^|[;\\t]"*)${SIGN}`).test(text);
+export const isLikeFormula = (text) => new RegExp(`(^|[,;\\t]"*)${SIGN}`).test(text);

@@ -105,8 +105,8 @@ const SLOW = 700;
 const SHOWN = 5_000;
 
 /**
- * What was done, and what went wrong, said once: `say` tells an outcome, which goes by itself; `warn` a refusal, which stays until it is
- * closed or something else is begun, whatever is said meanwhile. `announce` speaks to screen readers alone.
+ * What was done, and what went wrong: `say` tells an outcome, which goes by itself; `warn` a refusal, which stays until it is closed or
+ * something else is begun. `announce` speaks to screen readers alone.
  */
 export class Messages {
   #status = make('p', { role: 'status', class: 'says' });

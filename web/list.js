@@ -1,6 +1,5 @@
-// The own list or ranking of a person: changed, taken back, saved, and printed as it is saved. What is not saved stays in this tab when the
-// page is loaded anew. Where somebody saved another one meanwhile, in another tab or on another device, the person is asked which one
-// stays.
+// The own list or ranking: changed, taken back, saved, and printed as it is saved. What is not saved stays in this tab. Where another one
+// was saved meanwhile, elsewhere, it is asked which one stays.
 
 import { button, isUsable, make, part, setUsable } from './dom.js';
 import { choose } from './frame.js';
@@ -13,8 +12,7 @@ import { isSameStep, roundOf, soonText } from './year.js';
 
 // So many changes can be taken back.
 const STEPS = 200;
-// How often it is looked how near the end of the stage is; and how often, and how many times, whether what got no reply was saved. In
-// milliseconds.
+// How often it is looked how near the end of the stage is; how often, and how many times, whether what got no reply was saved.
 const NEAR = 20_000;
 const LOOK = 3_000;
 const LOOKS = 20;
@@ -22,7 +20,7 @@ const LOOKS = 20;
 /** @param {Me} me */
 const draftName = (me) => `${me.role} ${me.key} ${roundOf(me)}`;
 
-// When this tab has saved a list is kept beside the list: where it is another one by now, nothing is said.
+// When this tab saved a list stands beside it: of another one nothing is said.
 /** @param {Me} me */
 const savingName = (me) => `${draftName(me)} saved`;
 

@@ -6,7 +6,7 @@ import { make } from './dom.js';
 import { Messages, ask, choose, dismiss, frame } from './frame.js';
 import { knownProjects } from './known.js';
 import { Lost, Portal, Refused, attempts, told } from './requests.js';
-import { forgetCode, forgetIdle, keepCode, keptCode, signInForm, watch } from './signin.js';
+import { forgetCode, forgetGone, forgetIdle, keepCode, keptCode, signInForm, watch } from './signin.js';
 import { forgetDrafts } from './store.js';
 import { chooseLanguage, firstLanguage, offeredLanguages, speak, words } from './words.js';
 import { yearPart } from './year.js';
@@ -47,8 +47,11 @@ async function start() {
   for (const name of ['dragover', 'drop']) addEventListener(name, (event) =>
     /** @type {DragEvent} */ (event).dataTransfer?.types.includes('Files') && event.preventDefault());
   addEventListener('beforeunload', (event) => isChanged() && event.preventDefault());
-  tellOtherTabs = watch({ elsewhere: leaveToo, idle: () => signIn({ message: words.signedOutIdle }), soon: askWhoIsThere });
-  show(forgetIdle() ? words.signedOutIdle : '');
+  const gone = () => signIn({ message: words.signedOutElsewhere });
+  tellOtherTabs = watch({ elsewhere: leaveToo, idle: () => signIn({ message: words.signedOutIdle }), gone, soon: askWhoIsThere });
+  const how = performance.getEntriesByType('navigation')[0]?.toJSON().type;
+  if (forgetIdle()) show(words.signedOutIdle);
+  else show(forgetGone(how === 'back_forward') ? words.signedOutElsewhere : '');
 }
 
 /**
@@ -139,6 +142,7 @@ async function leaveToo() {
   dismiss();
   const question = { title: words.signedOutAsk, risk: riskOf?.() ?? words.unsavedLost, verb: words.signOut, stay: words.stay };
   if (await ask(question)) leave(words.signedOutElsewhere);
+  else keepCode(/** @type {string} */ (keptCode()));
 }
 
 /**

@@ -2,7 +2,8 @@
 // when the longer file comes again. No element of the page is touched here.
 
 import { longestKey } from './config.js';
-import { nameKey, plain } from './found.js';
+import { plain } from './found.js';
+import { nameKey } from './meant.js';
 
 /** The rolls for which IDs can be made: students have a number of their own. @type {Roll[]} */
 const MAKES = ['lecturers', 'projects'];

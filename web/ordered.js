@@ -30,8 +30,8 @@ export const isSame = (a, b) => a.length === b.length && a.every((key, place) =>
 
 /** @type {{ [key: string]: (at: number) => number }} */
 const KEYS = { ArrowUp: (at) => at - 1, ArrowDown: (at) => at + 1, Home: () => 0, End: () => Infinity };
-// They are meant where the focus came by keyboard, or with Alt: after a click they scroll. A browser takes the focus of an entry that was
-// put to another place for one of a script, so that it does not tell. In the field of a position these keys move within its number.
+// They are meant where the focus came by keyboard, or with Alt: after a click they scroll. Of an entry that was moved the browser does not
+// tell. In the field of a position these keys move within its number.
 const OF_FIELD = ['Home', 'End'];
 
 let isByKeyboard = true;
@@ -269,7 +269,7 @@ export class OrderedList {
 }
 
 /**
- * What is typed takes the place of the number that stands there, also where the field was clicked: the click would take the selection away.
+ * What is typed takes the place of the number that stands there, also after a click, which would take the selection away.
  * @param {HTMLInputElement} field
  */
 function selectsAll(field) {
@@ -293,13 +293,12 @@ export function fixedList(label, nodes) {
   return make('ol', { class: 'ordered fixed', role: 'list', 'aria-label': label }, nodes.map((node) => make('li', {}, [node])));
 }
 
-// An entry follows the pointer; near the edge of the window the page scrolls: so near to it, in pixels, and by this part of how far the
-// pointer is past that line, in each picture.
+// Near the edge of the window, in pixels, the page scrolls in each picture by this part of how far the pointer is past that line.
 const EDGE = 80;
 const PART = 0.25;
 
 /**
- * How far the page scrolls while the pointer, which began at `from`, is at the height `y` of a window that ends at `bottom`.
+ * How far the page scrolls while the pointer, which began at `from`, is at `y` in a window that ends at `bottom`.
  * @param {number} y
  * @param {number} bottom
  * @param {number} from

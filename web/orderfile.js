@@ -2,7 +2,7 @@
 // names or commas beside them, or names alone. What its numbers may mean, and the order that comes of it, is in orderranks.js.
 
 import { table } from './csv.js';
-import { meantBy } from './found.js';
+import { meantBy } from './meant.js';
 
 /** The column of the numbers that stand before each line; -1 is a column that is not there. */
 export const FRONT = -2;

@@ -62,8 +62,7 @@ const isRankedHere = (me) => kept(RANKED, []).includes(rankedName(me));
 export const forgetRanked = () => forget(RANKED);
 
 /**
- * What is said of a ranking that the office may have filled in: nothing, unless it is in the order of the keys and this browser did not
- * save it.
+ * What is said of a ranking that the office may have filled in: one in the order of the keys that this browser did not save.
  * @param {Me} me
  * @param {string[] | null} saved
  */
@@ -187,7 +186,7 @@ export class RankingMaking {
   }
 
   /**
-   * Many applicants are put in order elsewhere, so that this stands first; few are added one by one.
+   * Many applicants are put in order elsewhere; few are added one by one.
    * @param {Element} tools
    */
   #applicantsPart(tools) {

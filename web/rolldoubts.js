@@ -3,7 +3,7 @@
 
 import { hasCodes } from './columns.js';
 import { isLikeFormula } from './csv.js';
-import { nameKey } from './found.js';
+import { nameKey } from './meant.js';
 
 /** What may do lasting harm: nothing is sent before a person has said that the rows are right. The rest is told alone. */
 export const STOPPING = new Set(['total', 'hidden', 'idLength', 'noName', 'sameEmail', 'sameName', 'sameTitle']);

@@ -4,7 +4,7 @@
 import { makeCode } from './codes.js';
 import { KINDS, ROLLS, columnsOf, entriesOf, extraOf, hasCodes, headAt, missingOf, rollOf, strangerIn } from './columns.js';
 import { written } from './csv.js';
-import { allMeantBy } from './found.js';
+import { allMeantBy } from './meant.js';
 import { canMakeIds, newIds } from './newids.js';
 import { STOPPING, doubtsOf, totalsIn, unlikeIn } from './rolldoubts.js';
 import { faultsOf } from './rollfaults.js';

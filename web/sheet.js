@@ -19,7 +19,8 @@ export function tableButtons({ texts, title, header, fileHeader, rows, file, mes
   const { sheet, printed } = paper();
   const copy = async () => {
     try {
-      await navigator.clipboard.writeText(rows().map((row) => row.join('\t')).join('\n'));
+      const { writtenForSpreadsheets } = await import('./csv.js');
+      await navigator.clipboard.writeText(writtenForSpreadsheets(rows(), '\t').trimEnd());
       messages.settle();
       messages.say(words.copiedLines(rows().length));
     } catch {

@@ -1,23 +1,32 @@
 // Signing in with a code and signing out: the form, and the code, which is kept for as long as the browser's tab is open.
 
 import { labelled, make } from './dom.js';
+import { keep, kept } from './store.js';
 import { words } from './words.js';
 
 const KEPT = 'portal-code';
 const ACTIVE = 'portal-active';
+const ENTERED = 'portal-entered';
+const AWAY = 'portal-away';
+// When somebody last signed out in this browser.
+const OUT = 'portal-signed-out';
 // Whoever does nothing for so many milliseconds is signed out.
 const IDLE = 30 * 60_000;
-// So many milliseconds before that the page asks whether anybody is there.
+// So long before that the page asks whether anybody is there.
 const BEFORE = 2 * 60_000;
+// A reload takes less.
+const RELOAD = 15_000;
 // How often that is looked at, and how seldom a sign of life is written.
 const LOOK = 10_000;
 const SELDOM = 5_000;
 
-const lastActive = () => Number(sessionStorage.getItem(ACTIVE) ?? Date.now());
-const isIdle = () => Date.now() - lastActive() > IDLE;
-const isNearlyIdle = () => Date.now() - lastActive() > IDLE - BEFORE;
+/** @param {string} name */
+const note = (name) => sessionStorage.setItem(name, `${Date.now()}`);
+/** @param {string} name */
+const since = (name) => Date.now() - Number(sessionStorage.getItem(name) ?? Date.now());
+const isIdle = () => since(ACTIVE) > IDLE;
 
-// What tells that somebody is there: what is pressed, typed, pointed at and scrolled, and the focus, which screen readers move.
+// What tells that somebody is there; screen readers move the focus.
 const SIGNS = ['pointerdown', 'pointermove', 'keydown', 'wheel', 'touchmove', 'scroll', 'focusin'];
 
 /** The code of whoever is signed in in this tab, or null. */
@@ -26,12 +35,11 @@ export const keptCode = () => sessionStorage.getItem(KEPT);
 /** @param {string} code */
 export function keepCode(code) {
   sessionStorage.setItem(KEPT, code);
-  sessionStorage.setItem(ACTIVE, `${Date.now()}`);
+  [ACTIVE, ENTERED].forEach(note);
 }
 
 export function forgetCode() {
-  sessionStorage.removeItem(KEPT);
-  sessionStorage.removeItem(ACTIVE);
+  for (const name of [KEPT, ACTIVE, ENTERED, AWAY]) sessionStorage.removeItem(name);
 }
 
 /** Signs out whoever did nothing for too long, and answers whether there was somebody. */
@@ -42,18 +50,29 @@ export function forgetIdle() {
 }
 
 /**
- * Watches over this tab: `elsewhere` is called when somebody signs out in another tab, `idle` when nothing was done here for too long,
- * `soon` a while before, to ask whether anybody is there; the answer is a sign of life then, and nothing else.
- * @param {{ elsewhere: () => void, idle: () => void, soon: () => Promise<unknown> }} calls
+ * The same of whoever left this page, or signed out in another tab.
+ * @param {boolean} isBack by Back, or in a tab that was closed
+ */
+export function forgetGone(isBack) {
+  const isGone = keptCode() !== null && (isBack || since(AWAY) > RELOAD || kept(OUT, 0) > Number(sessionStorage.getItem(ENTERED)));
+  if (isGone) forgetCode();
+  sessionStorage.removeItem(AWAY);
+  return isGone;
+}
+
+/**
+ * Watches over this tab. `elsewhere`: somebody signed out in another tab. `idle`: nothing was done for too long. `soon`: so it will be; its
+ * answer is the one sign of life then. `gone`: the page comes back.
+ * @param {{ elsewhere: () => void, idle: () => void, gone: () => void, soon: () => Promise<unknown> }} calls
  * @returns a function that tells the other tabs that somebody signs out here
  */
-export function watch({ elsewhere, idle, soon }) {
+export function watch({ elsewhere, idle, gone, soon }) {
   let isAsked = false;
   const channel = new BroadcastChannel(KEPT);
   channel.addEventListener('message', () => keptCode() !== null && elsewhere());
   const look = async () => {
     if (forgetIdle()) return idle();
-    if (isAsked || keptCode() === null || !isNearlyIdle()) return;
+    if (isAsked || keptCode() === null || since(ACTIVE) <= IDLE - BEFORE) return;
     isAsked = true;
     await soon();
     isAsked = false;
@@ -62,13 +81,18 @@ export function watch({ elsewhere, idle, soon }) {
   const live = () => {
     if (isAsked) return;
     if (forgetIdle()) return idle();
-    if (keptCode() !== null && Date.now() - lastActive() > SELDOM) sessionStorage.setItem(ACTIVE, `${Date.now()}`);
+    if (keptCode() !== null && since(ACTIVE) > SELDOM) note(ACTIVE);
   };
   for (const event of SIGNS) addEventListener(event, live, { capture: true, passive: true });
-  // a computer that slept, or a page that comes back, is looked at at once
+  // a computer that slept is looked at at once
   for (const event of ['focus', 'pageshow']) addEventListener(event, look);
   setInterval(look, LOOK);
-  return () => channel.postMessage('');
+  addEventListener('pagehide', () => keptCode() !== null && note(AWAY));
+  addEventListener('pageshow', ({ persisted }) => forgetGone(persisted) && gone());
+  return () => {
+    keep(OUT, Date.now());
+    channel.postMessage('');
+  };
 }
 
 /**

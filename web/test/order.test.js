@@ -5,7 +5,7 @@ import test from 'node:test';
 
 import { added, isSame, moved, removed, step } from '../ordered.js';
 import { told } from '../requests.js';
-import { meantBy } from '../found.js';
+import { meantBy } from '../meant.js';
 import { readOrder } from '../orderfile.js';
 import { BY_LINES, isAsGiven, orderBy, usualBy } from '../orderranks.js';
 

@@ -188,7 +188,7 @@ test('a file to keep has the addresses that were read, opens in columns in each 
     const { rows: read, separator } = table(new TextEncoder().encode(`\ufeff${fileText('students', all)}`));
     return [separator, entriesOf(read, columnsOf('students', read[0].fields))];
   };
-  assert.equal(fileText('students', all), 'id,name,code,email\na,Roe; Ann,code-of-a-1,ann@example.edu\nb,Bea,code-of-b-1,\n');
+  assert.equal(fileText('students', all), 'id,name,code,email\na,"Roe; Ann",code-of-a-1,ann@example.edu\nb,Bea,code-of-b-1,\n');
   assert.deepEqual(back(), [',', all]);
   await speak('de');
   assert.equal(fileText('students', all), 'id;name;code;email\na;"Roe; Ann";code-of-a-1;ann@example.edu\nb;Bea;code-of-b-1;\n');
