@@ -2,6 +2,7 @@ mod GoodWorld
 mod Keepers
 mod PortalAnswer
 mod PortalCore
+mod PortalCoreLaws
 mod PortalDeciding
 mod PortalDesk
 mod PortalDeskPromise
@@ -17,6 +18,7 @@ mod PortalTables
 mod PortalWire
 mod SpaCheck
 mod SpaHonest
+mod SpaHonestLaws
 mod SpaHonestLists
 mod SpaModel
 mod SpaRows
