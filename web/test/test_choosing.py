@@ -132,7 +132,7 @@ class Choosing(StudentCase):
             "Whichever projects you list, list them in your honest order: no other order of them, and no shorter list of some of them, "
             "gives you one that you like better.",
             "A list has room for 20; if you like more, no rule says which 20 to list.",
-            "Waiting for a second round gains nothing if your list has every project that you would take")
+            "If your list has every project that you would take, waiting for the second round gains nothing")
 
     def saving_time(self, state):
         """It survives a reload and stands on the receipt; of a list that was saved elsewhere it is not said."""

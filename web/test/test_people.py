@@ -200,7 +200,7 @@ class Ways(PeopleCase):
         self.sees(*decided)
         self.browser.unfold(".decided details")
         self.sees("Only you see your whole list and its order.",
-                  "Waiting for a second round gains nothing if your list has every project that you would take",
+                  "If your list has every project that you would take, waiting for the second round gains nothing",
                   "no group of friends can agree on lists", "The office made the codes", "That favours low IDs")
         for name in ("Stages", "Projects", "Your list"):
             self.browser.find("region", name)
