@@ -163,7 +163,7 @@ class Spreadsheets(FileCase):
         self.browser.script("document.querySelectorAll('.rolls details').forEach((fold) => { fold.open = true; })")
         self.sees("How many students the lecturer takes in total: 1 to 200.", "How many students can have the project: 1 to 200.",
                   "The ID of the lecturer, as in the lecturers file.")
-        for roll, header in (("lecturers", "id,name,code,capacity,email"), ("projects", "id,lecturer,title,capacity"),
+        for roll, header in (("lecturers", "id,name,code,capacity,email"), ("projects", "id,lecturer,title,capacity,description,link"),
                              ("students", "id,name,code,email")):
             self.browser.press(f"Download a template for {roll}")
             self.assertEqual(self.downloaded(f"{roll}.csv").read_text(), f"{MARK}{header}\n")
