@@ -1,6 +1,9 @@
 -- What a call that succeeded ensures.
 use Rattle.std.proofs.Common.{Ok, Err, Result, OnOk, IfOk}
-use Rattle.std.specs.Prelude.{IfErr}
+use Rattle.std.specs.Prelude.{IfErr, MatchResult}
+use Rattle.sqlite_disk.specs.declared.Files.{Files}
+use Rattle.portal_file.specs.Closing.{IfStands}
+use Rattle.portal_file.specs.declared.closing.NotCopied.{NotCopied}
 
 pub on_ok : {A E : Type 0} (r : Result A E) (P Q : Type 0) → (P → Q) → OnOk r P → OnOk r Q
 on_ok (Ok x) P Q more h = more h
@@ -23,3 +26,17 @@ if_ok_on (Err e) L P Q more h k = tt
 pub if_err : {A E : Type 0} (r : Result A E) (P Q : E → Type 0) → ((e : E) → P e → Q e) → IfErr r P → IfErr r Q
 if_err (Ok x) P Q more h = tt
 if_err (Err e) P Q more h = more e h
+
+pub if_stands_both : {D : Type 0} (closed : Result (Files D) (NotCopied D)) (P Q R : Files D → Type 0)
+    → ((files : Files D) → P files → Q files → R files)
+    → IfStands closed P → IfStands closed Q → IfStands closed R
+if_stands_both (Ok files) P Q R more h k = more files h k
+if_stands_both (Err left) P Q R more h k = λ stands. more left.files (h stands) (k stands)
+
+pub on_told : {A E : Type 0} (r : Result A E) (P Q : Type 0) → MatchResult r (λ _. P) (λ _. Q) → OnOk r P
+on_told (Ok x) P Q h = h
+on_told (Err e) P Q h = tt
+
+pub if_untold : {A E : Type 0} (r : Result A E) (P Q : Type 0) → MatchResult r (λ _. P) (λ _. Q) → IfErr r (λ _. Q)
+if_untold (Ok x) P Q h = tt
+if_untold (Err e) P Q h = h

@@ -11,7 +11,7 @@ use Rattle.portal_store.specs.declared.store.CreateFault.{CreateFault}
 use Rattle.portal_store.specs.declared.store.OpenFault.{OpenFault}
 use Rattle.portal_store.specs.declared.store.UpgradeFault.{UpgradeFault}
 use Rattle.portal_file.specs.Tables.{Work, First, Current, Either}
-use Rattle.portal_file.specs.Jobs.{Denies, Devices, MakesTables, PipesStream, ReportsWorld, ServesRequests}
+use Rattle.portal_file.specs.Jobs.{Devices, MakesTables, OpensTables, PipesStream, ReportsWorld, ServesRequests}
 use Rattle.portal_file.specs.Jobs.{UpgradesTables}
 use Rattle.portal_file.proofs.Base.{on_ok, if_ok, if_err}
 use Rattle.portal_file.proofs.Held.{Carries}
@@ -21,8 +21,11 @@ pub makes : {A : Type 0} (office : Key) (r : Result A CreateFault) (a b : Work) 
 makes office r a b on is = record {
   serves = on.serves [] None is.serves;
   made = on_ok r _ _ (λ made. (made.0, on.leaves Current _ made.1)) is.made;
+  lasting = on_ok r _ _ (λ lasting. on.ends _ lasting) is.lasting;
   none = on_ok r _ _ (λ none w finds. none w (on.finds Either w finds)) is.none;
+  judged = on.begins _ is.judged;
   exists = λ exists new. is.exists exists (on.is_new new);
+  kept = if_err r _ _ (λ fault kept. on.ends _ kept) is.kept;
 }
 
 pub upgrades : {A : Type 0} (r : Result A UpgradeFault) (a b : Work) → Carries a b → UpgradesTables r a
@@ -30,31 +33,39 @@ pub upgrades : {A : Type 0} (r : Result A UpgradeFault) (a b : Work) → Carries
 upgrades r a b on is = record {
   serves = on.serves [] None is.serves;
   upgraded = on_ok r _ _ (λ upgraded w finds. on.leaves Current _ (upgraded w (on.finds First w finds))) is.upgraded;
+  lasting = on_ok r _ _ (λ lasting. on.ends _ lasting) is.lasting;
   none = on_ok r _ _ (λ none w finds. none w (on.finds Current w finds)) is.none;
+  judged = on.begins _ is.judged;
   refused = if_err r _ _ (λ fault refused w finds. refused w (on.finds First w finds)) is.refused;
+  kept = if_err r _ _ (λ fault kept. on.ends _ kept) is.kept;
 }
 
-denies : {A : Type 0} (r : Result A OpenFault) (a b : Work) → Carries a b → Denies r a → Denies r b
-denies r a b on is = if_err r _ _ (λ fault refused w finds. refused w (on.finds Current w finds)) is
+opens : {A : Type 0} (r : Result A OpenFault) (a b : Work) → Carries a b → OpensTables r a → OpensTables r b
+opens r a b on is = record {
+  judged = on.begins _ is.judged;
+  refused = if_err r _ _ (λ fault refused w finds. refused w (on.finds Current w finds)) is.refused;
+  lasting = on_ok r _ _ (λ lasting. on.ends _ lasting) is.lasting;
+  kept = if_err r _ _ (λ fault kept. on.ends _ kept) is.kept;
+}
 
 pub reports : (r : Result (Result (Vec _ Global) KeepFault) OpenFault) (a b : Work) → Carries a b → ReportsWorld r a
     → ReportsWorld r b
 reports r a b on is = record {
   serves = on.serves [] None is.serves;
+  opens = opens r a b on is.opens;
   text = if_ok r _ _ (λ told. if_ok told _ _ (λ text of w finds. of w (on.finds Either w finds))) is.text;
-  refused = denies r a b on is.refused;
 }
 
 pub serves : {A : Type 0} (Told : List Exchange → Type 0) (r : Result A OpenFault) (a b : Work) → Carries a b
     → ServesRequests r Told a → ServesRequests r Told b
 serves Told r a b on is = record {
   serves = let s = is.serves in (s.0, on.serves s.0 None s.1, s.2);
-  refused = denies r a b on is.refused;
+  opens = opens r a b on is.opens;
 }
 
 pub pipes : (ends : Devices) (r : Result (Result Served ServeFault) OpenFault) (a b : Work) → Carries a b
     → PipesStream r ends a → PipesStream r ends b
 pipes ends r a b on is = record {
   serves = let s = is.serves in (s.0, s.1, on.serves s.0 s.1 s.2, s.3);
-  refused = denies r a b on is.refused;
+  opens = opens r a b on is.opens;
 }

@@ -1,5 +1,5 @@
 -- From what the files hold to what a connection shows, and from what a connection leaves to what the files hold.
-use Rattle.std.proofs.Common.{◌≡◌, Option, List, [], length, IsTrue, Result, IfOk, refl, sym, ap, subst, ◌∙◌, arith}
+use Rattle.std.proofs.Common.{◌≡◌, Option, List, [], length, IsTrue, Result, Ok, Err, IfOk, refl, sym, ap, subst, ◌∙◌, arith}
 use Rattle.std.proofs.Common.{inl, inr}
 use Rattle.std.proofs.Math.Logic.{∥∥₁_elim, ∥∥₁_map}
 use Rattle.sqlite_disk.specs.declared.Disk.{Ghosts}
@@ -12,10 +12,10 @@ use Rattle.sqlite_trees.specs.Sound.{is_sound_list}
 use Rattle.sqlite_store.specs.declared.store.FileStore.{FileStore}
 use Rattle.sqlite_store.specs.FileStore.{state, view, recovers}
 use Rattle.sqlite.specs.Effect.{Database, IsDatabase}
-use Rattle.sqlite.specs.State.{State, IsLive, Opens}
-use Rattle.sqlite.specs.Held.{AreDatabases}
+use Rattle.sqlite.specs.State.{State, HasCleanDisk, IsLive, Opens}
+use Rattle.sqlite.specs.Held.{AreDatabases, Held}
 use Rattle.sqlite.specs.Start.{FindsIn}
-use Rattle.sqlite.specs.Files.{HoldsDatabase, file_state}
+use Rattle.sqlite.specs.Files.{AreFoundIn, HoldsDatabase, file_state}
 use Rattle.sqlite.proofs.Theorems.{opens_again}
 use Rattle.portal_rules.specs.World.{World}
 use Rattle.portal_wire.specs.Conversation.{Exchange}
@@ -26,18 +26,19 @@ use Rattle.sqlite_catalog.proofs.ReadLemmas.{lists_once}
 use Rattle.portal_tables.specs.Tables.{no_schema}
 use Rattle.portal_tables.proofs.Owned.{one_schema}
 use Rattle.portal_file.specs.Tables.{Stands, Stream, Version, First, Current, Either, Work}
-use Rattle.portal_file.specs.inner.Connected.{AllStand, Shows, work_of}
-use Rattle.portal_file.specs.Files.{Holds, HoldsSome}
-use Rattle.portal_file.specs.inner.Lift.{HoldsLeft}
-use Rattle.portal_file.specs.Chain.{OverFiles, work_over}
-use Rattle.portal_file.specs.inner.Lift.{RunsOver}
+use Rattle.portal_file.specs.inner.Connected.{AllStand, IsUnlimited, Shows, work_of}
+use Rattle.portal_file.specs.Files.{Holds, HoldsSome, HoldsTrees, ShownIn}
+use Rattle.portal_file.specs.Chain.{OverClosed, OverFiles, work_over}
+use Rattle.portal_file.specs.declared.closing.NotCopied.{NotCopied}
+use Rattle.portal_file.specs.Closing.{ComesOf, HoldsLeft}
+use Rattle.portal_file.specs.inner.Lift.{OpensOver, RunsOver, WorksOver}
 use Rattle.portal_file.proofs.Base.{if_ok}
 
 -- what stands for a world obeys its schema
 stands_sound : (version : Version) (db : Database) (w : World) → Stands version db w → IsDatabase db
 stands_sound First db w first = first.sound
-stands_sound Current db w current = current.consistent.1.sound
-stands_sound Either db w (inl current) = current.consistent.1.sound
+stands_sound Current db w current = current.sound
+stands_sound Either db w (inl current) = current.sound
 stands_sound Either db w (inr first) = first.sound
 
 -- nothing is listed by no schema but the empty one
@@ -57,6 +58,14 @@ module _ (found : Image) (s : State) (opens : Opens s) (live : IsLive s) (finds 
     is_open = opens.is_open;
     stands = ∥∥₁_map holds
         (λ h. subst (λ d. Stands version d w) (sym (same_database h.0 (stands_sound version h.0 w h.2) h.1)) h.2);
+  }
+
+  -- the database that a connection shows
+  pub shown_in : ShownIn found s.now
+  shown_in = record {
+    sound = (live opens.is_open).0;
+    holds = λ trees holds. ap (λ (d : Database). d.trees) opens.clean ∙ finds.holds trees holds;
+    reads = subst (λ (d : Database). AreFoundIn found d.trees) (sym opens.clean) finds.reads;
   }
 
   -- over a missing or an empty database file, a connection shows no table
@@ -94,56 +103,81 @@ module _ {D : Type 0} {g : Ghosts D} (it : FileStore D g) (numbered : IsTrue (vi
 pub record Carries (a b : Work) : Type 1 where
   pub finds : (version : Version) (w : World) → b.finds version w → a.finds version w
   pub is_new : b.is_new → a.is_new
+  pub begins : (Kind : Database → Type 0) → a.begins Kind → b.begins Kind
+  pub ends : (Comes : Database → Trees → Type 0) → a.ends Comes → b.ends Comes
   pub leaves : (version : Version) (Kind : World → Type 0) → a.leaves version Kind → b.leaves version Kind
   pub serves : (es : List Exchange) (stream : Option Stream) → a.serves es stream → b.serves es stream
 
-module _ {D : Type 0} {g : Ghosts D} (found : Image) (files : Files D) where
-  carries : (Does : Work → Type 0) (ran : RunsOver g found Does files) → AreClean g files.log files.db
-      → Carries (work_of (file_state ran.first) (file_state ran.last)) (work_over found (outcomes g files.log files.db))
-  carries Does ran honest =
-      let old = file_state ran.first in
-      let new = file_state ran.last in
-      let first = ran.opened (ran.works.disk (ran.comes.clean honest)) in
+module _ {D : Type 0} {g : Ghosts D} (found : Image) (first last : Held (FileStore D g)) (opened : OpensOver found first) (files : Files D) (comes : ComesOf (file_state last) (AreClean g files.log files.db) (outcomes g files.log files.db)) where
+  carries : HasCleanDisk (file_state first) → AreClean g files.log files.db
+      → Carries (work_of (file_state first) (file_state last)) (work_over found (outcomes g files.log files.db))
+  carries early honest =
+      let old = file_state first in
+      let new = file_state last in
+      let shows = opened early in
+      let shown = shown_in found old shows.0.0 shows.0.1 shows.1 in
+      let free : IsUnlimited old = record { is_open = shows.0.0.is_open; unlimited = shows.2 } in
       let finds : (version : Version) (w : World) → Holds version found w
-      → Shows version old w = found_shows found old first.0.0 first.0.1 first.1 in
+      → Shows version old w = found_shows found old shows.0.0 shows.0.1 shows.1 in
       record {
         finds = finds;
-        is_new = found_none found old first.0.0 first.0.1 first.1;
-        leaves = λ version Kind stand left may. left_holds version new left Kind stand
-            (ran.comes.holds honest left may);
+        is_new = found_none found old shows.0.0 shows.0.1 shows.1;
+        begins = λ Kind kind.
+            let r : (db : Database) × ShownIn found db × Kind db = (old.now, shown, kind free) in ∣ r ∣₁;
+        ends = λ Comes so.
+            let r : (db : Database) × ShownIn found db × ((left : Image) → outcomes g files.log files.db left → HoldsTrees left (Comes db)) = (
+              old.now,
+              shown,
+              λ left may. ∥∥₁_map (comes.holds honest left may) (λ h.
+                  let t : (t : Trees) × Comes old.now t × HoldsDatabase left t = (h.0, so free h.0 h.1, h.2) in t),
+            ) in ∣ r ∣₁;
+        leaves = λ version Kind stand left may. left_holds version new left Kind stand (comes.holds honest left may);
         serves = λ es stream turn left may. record {
           stops = λ w holds. left_holds Either new left _ (turn.stops w (finds Either w holds))
-              (ran.comes.holds honest left may);
+              (comes.holds honest left may);
           turns = λ w holds all.
               let t = turn.turns w (finds Either w holds) all in
-              (t.0, t.1, left_holds Either new left _ t.2 (ran.comes.holds honest left may));
+              (t.0, t.1, left_holds Either new left _ t.2 (comes.holds honest left may));
           tells = turn.tells;
         };
       }
 
-  over : (Does : Work → Type 0) → ((a b : Work) → Carries a b → Does a → Does b) → RunsOver g found Does files
-      → OverFiles g found Does files
-  over Does on ran honest =
-      on (work_of (file_state ran.first) (file_state ran.last)) (work_over found (outcomes g files.log files.db))
-      (carries Does ran honest)
-      (ran.works.did (ran.comes.clean honest))
+  over : (Does : Work → Type 0) → ((a b : Work) → Carries a b → Does a → Does b)
+      → WorksOver (file_state first) (file_state last) Does → OverFiles g found Does files
+  over Does on works honest =
+      let late = comes.clean honest in
+      on (work_of (file_state first) (file_state last)) (work_over found (outcomes g files.log files.db))
+      (carries (works.disk late) honest)
+      (works.did late)
+
+over_closed : {D : Type 0} (g : Ghosts D) (found : Image) (Does : Work → Type 0)
+    → ((a b : Work) → Carries a b → Does a → Does b) → (closed : Result (Files D) (NotCopied D))
+    → RunsOver g found Does closed → OverClosed g found Does closed
+over_closed g found Does on (Ok files) ran = record {
+  did = over found ran.first ran.last ran.opened files ran.closes.comes Does on ran.works;
+  failed = ran.closes.failed;
+}
+over_closed g found Does on (Err left) ran = record {
+  did = λ stands. over found ran.first ran.last ran.opened left.files (ran.closes.comes stands) Does on ran.works;
+  failed = ran.closes.failed;
+}
 
 -- what a job says of work over a connection, it says of the files, whatever it returned
-pub over_files : {D : Type 0} (g : Ghosts D) {O E X : Type 0} (found : Image) (Does : O → Work → Type 0)
+pub over_files : {D : Type 0} (g : Ghosts D) {O X : Type 0} (found : Image) (Does : O → Work → Type 0)
     → ((out : O) (a b : Work) → Carries a b → Does out a → Does out b)
-    → (result : Result (O × Result (Files D) E) X) → IfOk result (λ r. IfOk r.1 (RunsOver g found (Does r.0)))
-    → IfOk result (λ r. IfOk r.1 (OverFiles g found (Does r.0)))
+    → (result : Result (O × Result (Files D) (NotCopied D)) X) → IfOk result (λ r. RunsOver g found (Does r.0) r.1)
+    → IfOk result (λ r. OverClosed g found (Does r.0) r.1)
 over_files g found Does on result ran =
-    if_ok result _ _ (λ r did. if_ok r.1 _ _ (λ files runs. over found files (Does r.0) (on r.0) runs) did) ran
+    if_ok result _ _ (λ r did. over_closed g found (Does r.0) (on r.0) r.1 did) ran
 
 -- the same where the job lends two values, which end as these
-pub over_files_with : {D : Type 0} (g : Ghosts D) {O E X R W : Type 0} (found : Image)
+pub over_files_with : {D : Type 0} (g : Ghosts D) {O X R W : Type 0} (found : Image)
     (Does : R → W → O → Work → Type 0)
     → ((r : R) (w : W) (out : O) (a b : Work) → Carries a b → Does r w out a → Does r w out b)
-    → (r s : R) (v w : W) → r ≡ s → v ≡ w → (result : Result (O × Result (Files D) E) X)
-    → IfOk result (λ x. IfOk x.1 (RunsOver g found (Does r v x.0)))
-    → IfOk result (λ x. IfOk x.1 (OverFiles g found (Does s w x.0)))
+    → (r s : R) (v w : W) → r ≡ s → v ≡ w → (result : Result (O × Result (Files D) (NotCopied D)) X)
+    → IfOk result (λ x. RunsOver g found (Does r v x.0) x.1)
+    → IfOk result (λ x. OverClosed g found (Does s w x.0) x.1)
 over_files_with g found Does on r s v w same alike result ran =
-    subst (λ y. IfOk result (λ x. IfOk x.1 (OverFiles g found (Does y w x.0)))) same
-    (subst (λ y. IfOk result (λ x. IfOk x.1 (OverFiles g found (Does r y x.0)))) alike
+    subst (λ y. IfOk result (λ x. OverClosed g found (Does y w x.0) x.1)) same
+    (subst (λ y. IfOk result (λ x. OverClosed g found (Does r y x.0) x.1)) alike
     (over_files g found (Does r v) (on r v) result ran))

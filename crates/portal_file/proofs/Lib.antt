@@ -3,6 +3,7 @@ pub mod Sets
 pub mod Taken
 pub mod Served
 pub mod Held
+pub mod Judged
 pub mod Carried
 pub mod Chained
 pub mod Made

@@ -28,7 +28,7 @@ use Rattle.sqlite.specs.Schema.{Schema}
 use Rattle.sqlite.specs.Effect.{Database}
 use Rattle.portal_file.specs.Tables.{Stands, First, Current, Either}
 use Rattle.portal_file.specs.inner.Connected.{AllStand, TreesStand, ClosesAs, Shows}
-use Rattle.portal_file.proofs.Served.{closed_world, no_proof}
+use Rattle.portal_file.proofs.Served.{closed_world, no_proof, stands_by}
 
 -- tables of version 1 that were upgraded
 pub same_world : {S : Type 0} (g : Ghosts S) (old new : Held S) (made : Seen S) → ClosesAs g made new
@@ -81,7 +81,7 @@ none_taken s none taken = both_ways _ (ap (has_names All) none ∙ none_named) t
 
 -- over them no tables are made
 none_free_in : (db : Database) (w : World) → Stands Either db w → IsTrue (has_names All db.schema)
-none_free_in db w (inl current) = named_as All db.schema portal_schema current.consistent.1.current ∙ current_named All
+none_free_in db w (inl current) = named_as All db.schema portal_schema current.schema ∙ current_named All
 none_free_in db w (inr first) = named_as All db.schema first_schema first.schema ∙ first_named
 
 pub none_free : {S : Type 0} (g : Ghosts S) (old : Held S) (w : World) → Stands Either (state g old).now w
@@ -96,7 +96,7 @@ shows_none s w none shows = ∥∥₁_elim shows.stands no_proof (λ stands. non
 pub current_taken : {S : Type 0} (g : Ghosts S) (old : Held S) (w : World) → has_names OfSecond old.schema ≡ false
     → Shows Current (state g old) w → ⊥
 current_taken g old w free shows =
-    ∥∥₁_elim shows.stands no_proof (λ stands. both_ways _ free (named_as OfSecond old.schema portal_schema stands.consistent.1.current ∙ current_named OfSecond))
+    ∥∥₁_elim shows.stands no_proof (λ stands. both_ways _ free (named_as OfSecond old.schema portal_schema stands.schema ∙ current_named OfSecond))
 
 -- an upgrade leaves those of version 2 as they are, and those of version 1 with the same world
 pub upgrade_leaves : (old new : State) → Survives old new (LeavesUpgraded old)
@@ -105,10 +105,10 @@ pub upgrade_leaves : (old new : State) → Survives old new (LeavesUpgraded old)
     → old.may_leave db ⊎ TreesStand Either db w
 upgrade_leaves old new upgrades left clean w (inl current) db may = elim (upgrades.crash clean db may) [
   | inl was ↦ inl was
-  | inr made ↦ absurd (both_ways _ made.0 (named_as OfSecond old.now.schema portal_schema current.consistent.1.current ∙ current_named OfSecond))
+  | inr made ↦ absurd (both_ways _ made.0 (named_as OfSecond old.now.schema portal_schema current.schema ∙ current_named OfSecond))
 ]
 upgrade_leaves old new upgrades left clean w (inr first) db may = elim ((left first.schema).crash clean db may) [
   | inl was ↦ inl was
   | inr up ↦
-      inr (up.after, sym up.trees, inl (record { consistent = up.holds; good = subst Good first.world first.stands.good; world = ap world_of (sym up.trees) ∙ up.world ∙ first.world }))
+      inr (up.after, sym up.trees, inl (stands_by up.after w up.holds (subst Good first.world first.stands.good) (ap world_of (sym up.trees) ∙ up.world ∙ first.world)))
 ]

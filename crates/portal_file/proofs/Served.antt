@@ -23,9 +23,12 @@ use Rattle.sqlite.specs.Tree.{Trees}
 use Rattle.sqlite.specs.Effect.{Database}
 use Rattle.sqlite.specs.Store.{Ghosts}
 use Rattle.sqlite.specs.Held.{Held, state}
-use Rattle.sqlite.specs.State.{State, HasCleanDisk}
+use Rattle.sqlite.specs.State.{State, HasCleanDisk, IsLive}
 use Rattle.sqlite_trees.specs.Objects.{number_in}
-use Rattle.portal_store.specs.Kept.{Seen, IsCleanStore, HasDisk, LeavesWorld, kept_state, kept_world}
+use Rattle.portal_store.specs.Kept.{AreConsistent, HasDisk, HasGoodWorld, IsCleanStore, IsConsistent, LeavesWorld}
+use Rattle.portal_store.specs.Kept.{Seen, kept_state, kept_world}
+use Rattle.portal_store.specs.Crash.{Refutes}
+use Rattle.portal_tables.specs.Tables.{IsCurrentSchema}
 use Rattle.portal_store.specs.inner.Keeping.{KeepsClean}
 use Rattle.portal_store.specs.World.{world_of}
 use Rattle.portal_store.specs.Calls.{OpensStore, RefusesToOpen, RefusesToUpgrade}
@@ -37,11 +40,12 @@ use Rattle.portal_store.proofs.Again.{holds_again, none_but_store}
 use Rattle.portal_tables.proofs.Owned.{first_own}
 use Rattle.portal_tables.proofs.InTurn.{clean_before}
 use Rattle.portal_file.specs.Tables.{IsTurn, Stands, StandsCurrent, StandsFirst}
-use Rattle.portal_file.specs.inner.Connected.{AllStand, TreesStand, ClosesAs, Shows}
+use Rattle.portal_file.specs.inner.Connected.{AllStand, IsUnlimited, TreesStand, ClosesAs, Shows}
 use Rattle.portal_file.specs.Tables.{Stream}
 use Rattle.portal_file.specs.inner.Connected.{TellsIn}
 use Rattle.portal_file.specs.Tables.{First, Current, Either}
-use Rattle.portal_file.specs.Jobs.{IsOfStore, ReportsStream}
+use Rattle.portal_file.specs.Jobs.{AreOpened, IsOfStore, ReportsStream}
+use Rattle.portal_file.proofs.Judged.{are_opened}
 use Rattle.portal_file.proofs.Sets.{World-set}
 
 pub good_end : (w : World) (worlds : List World) → Good w → AllByRecursion Good worlds → Good (end_of w worlds)
@@ -115,17 +119,20 @@ unserved old new settled law leaves =
 all_stand : (Finds : Trees → Type 0) (Kind : World → Type 0) → AllStand Current Finds Kind → AllStand Either Finds Kind
 all_stand Finds Kind all db may = ∥∥₁_map (all db may) (λ t. (t.0, t.1, (t.2.0, t.2.1, inl t.2.2)))
 
+-- tables such as each change may rely on stand for their world, if it is good
+pub stands_by : (db : Database) (w : World) → IsConsistent db → Good w → world_of db.trees ≡ w → StandsCurrent db w
+stands_by db w holds good world =
+    let again = holds_again db db holds (subst Good (sym world) good) refl holds.1.sound in
+    record { schema = again.current; sound = holds.1.sound; stands = again.stands; world = world }
+
 -- a clean store that was closed leaves its world alone
 pub closed_world : {S : Type 0} (g : Ghosts S) (s : Seen S) (new : Held S) → ClosesAs g s new → IsCleanStore g s
     → (w : World) → kept_world g s ≡ w → Good w
     → AllStand Current (state g new).may_leave (λ v. v ≡ w)
 closed_world g s new closes on w same good db may =
     let live : IsTrue (state g new).is_open = subst (λ h. IsTrue (state g h).is_open) (sym closes.same) on.1 in
-    let stands : StandsCurrent (state g new).now w = record {
-      consistent = closes.kept on;
-      good = good;
-      world = ap (λ h. world_of (state g h).now.trees) closes.same ∙ same;
-    } in
+    let world : world_of (state g new).now.trees ≡ w = ap (λ h. world_of (state g h).now.trees) closes.same ∙ same in
+    let stands = stands_by (state g new).now w (closes.kept on) good world in
     let is : (v : World) × (v ≡ w)
     × TreesStand Current db v = (w, refl, ((state g new).now, sym (closes.only live db may), stands)) in
     ∣ is ∣₁
@@ -154,7 +161,7 @@ module _ {S : Type 0} (g : Ghosts S) (old new : Held S) (opened served : Seen S)
       × (kept_world g opened ≡ w)
   at_first w shows disk =
       let current = shown w shows disk in
-      let mine : IsTrue opened.own = ∥∥₁_elim current (hlevel props) (λ stands. opens.makes.own.1 stands.consistent.1.current) in
+      let mine : IsTrue opened.own = ∥∥₁_elim current (hlevel props) (λ stands. opens.makes.own.1 stands.schema) in
       let same = opens.same (opens.makes.own.0 mine) disk in
       ((mine, same.0.is_open), ap (λ (d : Database). world_of d.trees) same.0.now_is ∙ ∥∥₁_elim current (World-set (world_of (state g old).now.trees) w) (λ stands. stands.world))
 
@@ -169,11 +176,8 @@ module _ {S : Type 0} (g : Ghosts S) (old new : Held S) (opened served : Seen S)
       let last = subst (λ h. (state g h).may_leave db) closes.same may in
       let reach = leaves (opens.makes.settled first.0) first.0 (disk_at clean) (world_of db) (record { own = own; db = db; left = last; world = refl }) in
       let d = closes.left own (disk_at clean) db last in
-      let stands : StandsCurrent d.0 (world_of db) = record {
-        consistent = d.2;
-        good = good_reach run_good (kept_world g opened) (world_of db) es (opens.makes.good first.0) reach;
-        world = ap world_of (sym d.1);
-      } in
+      let good = good_reach run_good (kept_world g opened) (world_of db) es (opens.makes.good first.0) reach in
+      let stands = stands_by d.0 (world_of db) d.2 good (ap world_of (sym d.1)) in
       let is : (v : World) × MayReach w es v
       × TreesStand Either db v =
       (world_of db, subst (λ u. MayReach u es (world_of db)) first.1 reach, (d.0, sym d.1, inl stands)) in
@@ -196,6 +200,21 @@ module _ {S : Type 0} (g : Ghosts S) (old new : Held S) (opened served : Seen S)
   pub disk_before : LastsOrBreaks (keeper opened) (keeper served) → HasCleanDisk (state g new)
       → HasCleanDisk (state g old)
   disk_before breaks clean = disk_first (breaks (disk_at clean)).0
+
+  -- the tables that the connection showed were opened
+  pub opened_so : LastsOrBreaks (keeper opened) (keeper served) → HasCleanDisk (state g new) → IsLive (state g old)
+      → IsUnlimited (state g old) → AreOpened (state g old).now
+  opened_so breaks clean live free = are_opened g old opened opens (breaks (disk_at clean)).0 live free
+
+  -- own tables are left such as each change may rely on
+  pub left_consistent : LastsOrBreaks (keeper opened) (keeper served) → HasCleanDisk (state g new) → (db : Trees)
+      → (state g new).may_leave db
+      → IsCurrentSchema old.schema → AreConsistent db
+  left_consistent breaks clean db may current =
+      let broke = breaks (disk_at clean) in
+      let same = opens.same current broke.0 in
+      let own : IsTrue served.own = elim (broke.1 (opens.makes.own.1 current, same.0.is_open)) [ inl up ↦ up.0 | inr down ↦ down.own ] in
+      closes.left own (disk_at clean) db (subst (λ h. (state g h).may_leave db) closes.same may)
 
   pub serves : (es : List Exchange) (stream : Option Stream) → TellsIn stream es
       → Moves (keeper opened) (keeper served) es → HasCleanDisk (state g new)
@@ -262,13 +281,19 @@ of_store opening.Store told = inl refl
 of_store opening.Memory told = inr refl
 of_store _ told = absurd (∥∥₁_elim told no_proof (λ t. elim t [ inl e ↦ absurd (cc) | inr e ↦ absurd (cc) ]))
 
+only_store : (db : Trees) → HasGoodWorld db → (fault : OpenFault) → Refutes fault db → IsOfStore fault
+only_store db stands opening.NotPortal none = absurd (let e = sym stands.1.office.is ∙ none in cc)
+only_store db stands opening.OtherVersion not_so = absurd (not_so.other _ stands.1.office.is refl)
+only_store db stands opening.Damaged not_so = absurd (not_so.1 stands)
+only_store db stands opening.Store told = inl refl
+only_store db stands opening.Memory told = inr refl
+
 pub denied : {S : Type 0} (g : Ghosts S) (old new : Held S) (fault : OpenFault) → RefusesToOpen g fault old new
     → HasCleanDisk (state g new)
     → (w : World) → Shows Current (state g old) w → IsOfStore fault
 denied g old new fault refuses clean w shows =
     of_store fault (∥∥₁_map shows.stands (λ stands.
-    let again = holds_again (state g old).now (state g old).now stands.consistent (subst Good (sym stands.world) stands.good) refl stands.consistent.1.sound in
-    again.faults fault (refuses.refuted stands.consistent.1.current clean)))
+    only_store (state g old).now.trees stands.stands fault (refuses.refuted stands.schema clean)))
 
 abbrev IsOfStoreToo : UpgradeFault → Type 0
 IsOfStoreToo fault = (fault ≡ upgrading.Store) ⊎ (fault ≡ upgrading.Memory)

@@ -1,7 +1,8 @@
 -- Processes over one database file, each of which finds what the one before may leave, and what is
 -- promised of them.
-use Rattle.std.specs.Prelude.{◌≡◌, ◌⊎◌, List, [], ◌∷◌, Option, Some, IsSome}
+use Rattle.std.specs.Prelude.{◌≡◌, ◌⊎◌, List, [], ◌∷◌, Option, Some, IsSome, Result}
 use Rattle.std.specs.List.{AllByRecursion, flat_map}
+use Rattle.sqlite.specs.Effect.{Database}
 use Rattle.sqlite_disk.specs.declared.Disk.{Ghosts}
 use Rattle.sqlite_disk.specs.declared.Files.{Files}
 use Rattle.sqlite_wal.specs.Files.{outcomes}
@@ -14,8 +15,10 @@ use Rattle.portal_core.specs.Honest.{ShowsBest}
 use Rattle.portal_rules.specs.Run.{Run, AllAnswered, end_of, unavailable}
 use Rattle.portal_wire.specs.Conversation.{Exchange, requests_of, replies_of}
 use Rattle.portal_desk.specs.Headline.{Visit, AreVisits, worlds_of, AreUnseen, HasPromise, IsLikeAll, PublishesBest}
+use Rattle.portal_file.specs.Closing.{IfNotCopied, IfStands}
 use Rattle.portal_file.specs.Tables.{IsTurn, Stream, Work, Either}
-use Rattle.portal_file.specs.Files.{Holds, HoldsSome, HoldsWorld}
+use Rattle.portal_file.specs.declared.closing.NotCopied.{NotCopied}
+use Rattle.portal_file.specs.Files.{Holds, HoldsSome, HoldsTrees, HoldsWorld, ShownIn}
 
 -- a process over the files: what they hold before it and after it, its requests with their replies,
 -- and its stream, if the bytes are known
@@ -101,6 +104,9 @@ abbrev pub work_over : Image → (Image → Type 0) → Work
 work_over found Leaves = record {
   finds = λ version. Holds version found;
   is_new = found.db ≡ [];
+  begins = λ Kind. ∥ ((db : Database) × ShownIn found db × Kind db) ∥₁;
+  ends = λ Comes. ∥ ((db : Database) × ShownIn found db
+      × ((left : Image) → Leaves left → HoldsTrees left (Comes db))) ∥₁;
   leaves = λ version Kind. (left : Image) → Leaves left → HoldsSome version left Kind;
   serves = λ es stream. (left : Image) → Leaves left
       → IsProcess (record { found = found; left = left; exchanges = es; stream = stream });
@@ -109,3 +115,10 @@ work_over found Leaves = record {
 -- if the disk of the closed files was clean, this was done over what they held before
 abbrev pub OverFiles : {D : Type 0} (g : Ghosts D) → Image → (Work → Type 0) → Files D → Type 0
 OverFiles g found Does files = AreClean g files.log files.db → Does (work_over found (outcomes g files.log files.db))
+
+-- the same of files that were closed, also where copying their log failed and the store still stood
+pub record OverClosed {D : Type 0} (g : Ghosts D) (found : Image) (Does : Work → Type 0)
+    (closed : Result (Files D) (NotCopied D)) : Type 0 where
+  pub did : IfStands closed (OverFiles g found Does)
+  -- why it failed
+  pub failed : IfNotCopied g closed

@@ -1,15 +1,16 @@
 -- The portal's tables, as a database stands for a world, and what work over them finds and leaves.
-use Rattle.std.specs.Prelude.{◌≡◌, ◌⊎◌, ℕ, List, Option, IfSome}
+use Rattle.std.specs.Prelude.{◌≡◌, ◌⊎◌, ℕ, pos, true, false, List, [], Option, None, IfSome}
 use Rattle.sqlite.specs.Effect.{Database, IsDatabase}
+use Rattle.sqlite.specs.State.{State}
+use Rattle.sqlite.specs.Tree.{Trees}
 use Rattle.portal_rules.specs.World.{World}
-use Rattle.portal_rules.specs.Good.{Good}
 use Rattle.portal_rules.specs.Run.{Run, AllAnswered, end_of}
 use Rattle.portal_rules.specs.declared.phase.Round.TheVariants as round
 use Rattle.portal_wire.specs.Conversation.{Exchange, requests_of, replies_of}
 use Rattle.portal_desk.specs.Kept.{MayReach}
 use Rattle.portal_desk.specs.Session.{Finish, TellsExchanges}
-use Rattle.portal_tables.specs.Tables.{IsFirstSchema, first_version}
-use Rattle.portal_store.specs.Kept.{HasGoodFirst, IsConsistent}
+use Rattle.portal_tables.specs.Tables.{IsCurrentSchema, IsFirstSchema, first_version}
+use Rattle.portal_store.specs.Kept.{HasGoodFirst, HasGoodWorld}
 use Rattle.portal_store.specs.World.{world_in, world_of}
 
 -- the version of the portal's tables: 1, 2, or either
@@ -20,8 +21,9 @@ pub data Version : Type 0 where
 
 -- the database is the portal's own, of version 2, and stands for this good world
 pub record StandsCurrent (db : Database) (w : World) : Type 0 where
-  pub consistent : IsConsistent db
-  pub good : Good w
+  pub schema : IsCurrentSchema db.schema
+  pub sound : IsDatabase db
+  pub stands : HasGoodWorld db.trees
   pub world : world_of db.trees ≡ w
 
 -- the same of version 1
@@ -36,6 +38,24 @@ abbrev pub Stands : Version → Database → World → Type 0
 Stands First db w = StandsFirst db w
 Stands Current db w = StandsCurrent db w
 Stands Either db w = StandsCurrent db w ⊎ StandsFirst db w
+
+-- a connection that was just opened over this database
+abbrev pub opened_over : Database → State
+opened_over db = record {
+  now = db;
+  committed = db;
+  in_transaction = false;
+  marks = [];
+  is_open = true;
+  is_clean = true;
+  faults = 0;
+  blamed = None;
+  changes = 0;
+  last_rowid = pos 0;
+  step_limit = None;
+  may_leave = λ left. left ≡ db.trees;
+  IsShielded = Unit {0};
+}
 
 -- what is read and written, and how serving it ends
 pub record Stream : Type 0 where
@@ -60,6 +80,10 @@ pub record Work : Type 1 where
   pub finds : Version → World → Type 0
   -- it finds no table
   pub is_new : Type 0
+  -- the database that it finds is of this kind
+  pub begins : (Database → Type 0) → Type 0
+  -- whatever database it leaves comes so of the one that it finds
+  pub ends : (Database → Trees → Type 0) → Type 0
   -- whatever it leaves is tables of this version that stand for a world of this kind
   pub leaves : Version → (World → Type 0) → Type 0
   -- it serves these requests, of this stream, if its bytes are known

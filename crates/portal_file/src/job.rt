@@ -7,7 +7,7 @@ ghost use Rattle.sqlite_wal.specs.Recovery.{Image};
 ghost use Rattle.portal_file.specs.Tables.{Work};
 ghost use Rattle.portal_file.specs.inner.Lift.{OpensOver, RunsOver, WorksOver};
 
-use crate::closing::close_files;
+use crate::closing::{NotCopied, close_files};
 use sqlite::{Alter, Connection, Error, FileFrom, FileStore, Files, Start};
 use sqlite_disk::Disk;
 use std::alloc::Global;
@@ -21,8 +21,8 @@ pub(crate) trait Job {
     /// What the work does, by what it returns, if the disk is clean.
     ghost does: { Self → Self → Result Self.Done Self.Fault → Work → Type 0 };
 
-    /// What becomes of the job in any case.
-    ghost becomes: { Self → Self → Type 0 } = { λ _ _. Unit {0} };
+    /// What becomes of the job in any case, by what the work returns.
+    ghost becomes: { Self → Self → Result Self.Done Self.Fault → Type 0 } = { λ _ _ _. Unit {0} };
 
     /// Does the work over the database of a connection, and gives the connection back.
     fn run<S: Alter>(
@@ -34,7 +34,7 @@ pub(crate) trait Job {
         ensures idle { result.1.in_transaction ≡ false }
         ensures works { WorksOver (state S.Store conn) (state S.Store result.1)
             (does self.old self.new result.0) }
-        ensures becomes { becomes self.old self.new };
+        ensures becomes { becomes self.old self.new result.0 };
 }
 
 /// Connects to a database file, which is created if it does not exist. `S` stands for what the
@@ -58,19 +58,20 @@ fn run_closing<D: Disk + Drop, J: Job>(
     alloc: Global,
     conn: Connection<FileStore<D>>,
     job: &mut J,
-) -> (Result<J::Done, J::Fault>, Result<Files<D>, Files<D>>)
+) -> (Result<J::Done, J::Fault>, Result<Files<D>, NotCopied<D>>)
     requires idle { conn.in_transaction ≡ false }
-    ensures runs { IfOk result.1 (λ files. (found : Image) → OpensOver found conn
-        → RunsOver D.Disk found (J.does job.old job.new result.0) files) }
-    ensures becomes { J.becomes job.old job.new }
+    ensures runs { (found : Image) → OpensOver found conn
+        → RunsOver D.Disk found (J.does job.old job.new result.0) result.1 }
+    ensures becomes { J.becomes job.old job.new result.0 }
 {
     let (done, conn) = job.run(alloc, conn);
     let copies = done.is_ok();
     (done, close_files(conn, copies))
 }
 
-/// Opens a database file, does a job over it, and closes it. `S` stands for what the files held
-/// before. Gives the files back, as `Ok` unless closing failed.
+/// Opens a database file, does a job over it, and closes it; the log is copied into the file if the
+/// job succeeded. `S` stands for what the files held before. Gives the files back, as `Ok` unless
+/// copying the log failed.
 pub(crate) fn over_file<S: Start, J: Job>(
     rt: &HostRuntime,
     path: &str,
@@ -79,13 +80,13 @@ pub(crate) fn over_file<S: Start, J: Job>(
 ) -> Result<
     (
         Result<J::Done, J::Fault>,
-        Result<Files<FileFrom<S>>, Files<FileFrom<S>>>,
+        Result<Files<FileFrom<S>>, NotCopied<FileFrom<S>>>,
     ),
     Error,
 >
-    ensures runs { IfOk result (λ r. IfOk r.1 (RunsOver ⟦<FileFrom<S> as Disk>⟧
-        (image_at S.Start) (J.does job.old job.new r.0))) }
-    ensures becomes { IfOk result (λ _. J.becomes job.old job.new) }
+    ensures runs { IfOk result (λ r. RunsOver ⟦<FileFrom<S> as Disk>⟧
+        (image_at S.Start) (J.does job.old job.new r.0) r.1) }
+    ensures becomes { IfOk result (λ r. J.becomes job.old job.new r.0) }
     ensures same { IfErr result (λ _. job.new ≡ job.old) }
 {
     match open_file(rt, path, start) {

@@ -3,8 +3,9 @@
 ghost use Rattle.std.specs.Prelude.{IfOk};
 ghost use Rattle.sqlite_wal.specs.Files.{image_at};
 ghost use Rattle.portal_file.specs.Jobs.{MakesTables};
-ghost use Rattle.portal_file.specs.Chain.{OverFiles};
+ghost use Rattle.portal_file.specs.Chain.{OverClosed};
 
+use crate::closing::NotCopied;
 use crate::job::{Job, over_file};
 use crate::tables::close_tables;
 use portal_core::Code;
@@ -47,11 +48,19 @@ impl Job for MakeTables {
     }
 }
 
-/// Makes the portal's tables in a database file that has no table and no view, and closes the file.
-/// `S` stands for what the files held before. Gives the files back, as `Ok` unless closing failed.
+/// Makes the portal's tables in a database file that has no table, index or view, and closes the
+/// file. `S` stands for what the files held before. Gives the files back, as `Ok` unless copying
+/// the log failed; the promises hold then, too, if the store still stood.
+///
 /// If the tables were made and the disk was clean, then each thing that a crash may leave of the
 /// files holds the world that is empty and in setup, in version 2, and before the files held no
-/// world. Files that hold a world keep it. Missing and empty files are never refused as `Exists`.
+/// world. Files that hold a world keep it.
+///
+/// # Errors
+///
+/// `Exists`: the database has a table, an index or a view; it is the answer to all of these, and
+/// they keep their rows. `Store`, `Memory`: no clause says when; a crash leaves no table, or all of
+/// the new ones.
 pub fn make_file<S: Start>(
     rt: &HostRuntime,
     path: &str,
@@ -60,12 +69,12 @@ pub fn make_file<S: Start>(
 ) -> Result<
     (
         Result<(), CreateFault>,
-        Result<Files<FileFrom<S>>, Files<FileFrom<S>>>,
+        Result<Files<FileFrom<S>>, NotCopied<FileFrom<S>>>,
     ),
     Error,
 >
-    ensures { IfOk result (λ r. IfOk r.1 (OverFiles ⟦<FileFrom<S> as Disk>⟧ (image_at S.Start)
-        (MakesTables office r.0))) }
+    ensures { IfOk result (λ r. OverClosed ⟦<FileFrom<S> as Disk>⟧ (image_at S.Start)
+        (MakesTables office r.0) r.1) }
 {
     let mut job = MakeTables { office };
     over_file(rt, path, start, &mut job)

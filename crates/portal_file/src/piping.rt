@@ -1,11 +1,12 @@
 //! Serves a reader and a writer over a database file.
 
-ghost use Rattle.std.specs.Prelude.{◌≡◌, IfOk};
+ghost use Rattle.std.specs.Prelude.{◌≡◌, IfErr, IfOk};
 ghost use Rattle.sqlite_wal.specs.Files.{image_at};
 ghost use Rattle.portal_desk.specs.Kept.{TakesAtMost, taken_limit};
 ghost use Rattle.portal_file.specs.Jobs.{PipesStream};
-ghost use Rattle.portal_file.specs.Chain.{OverFiles};
+ghost use Rattle.portal_file.specs.Chain.{OverClosed};
 
+use crate::closing::NotCopied;
 use crate::job::{Job, over_file};
 use crate::tables::{close_tables, open_tables};
 use portal_core::laws::run_good;
@@ -35,9 +36,10 @@ impl<'r, 'w, R: Read, W: Write> Job for PipeStream<'r, 'w, R, W> {
       after = W.contents new.writer.now;
     }) };
 
-    ghost becomes = { λ old new. (new.reader.ghost_name ≡ old.reader.ghost_name)
+    ghost becomes = { λ old new r. (new.reader.ghost_name ≡ old.reader.ghost_name)
         × (new.writer.ghost_name ≡ old.writer.ghost_name)
-        × TakesAtMost taken_limit (R.remaining old.reader.now) (R.remaining new.reader.now) };
+        × TakesAtMost taken_limit (R.remaining old.reader.now) (R.remaining new.reader.now)
+        × IfErr r (λ _. new.writer.now ≡ old.writer.now) };
 
     #[tactic(auto, using(crate::proofs::Taken::same_left))]
     fn run<S: Alter>(
@@ -58,13 +60,20 @@ impl<'r, 'w, R: Read, W: Write> Job for PipeStream<'r, 'w, R, W> {
 }
 
 /// Serves a reader and a writer as one connection, over a database file, and closes the file. `S`
-/// stands for what the files held before. Gives the files back, as `Ok` unless closing failed. If
-/// the disk was clean, this was a process for each thing that a crash may leave of them. If the
+/// stands for what the files held before. Gives the files back, as `Ok` unless copying the log
+/// failed; the promises hold then, too, if the store still stood.
+///
+/// If the disk was clean, this was a process for each thing that a crash may leave of them. If the
 /// disk failed in a request, then this says what a stop in that request leaves. If the bytes of
 /// reader and writer are known, the process has them, and the result counts its requests and says
-/// how it ended. If the tables are refused, there is no request, and none of these bytes is read or
-/// written; other than `Store` and `Memory`, such a fault means that the files held no good world
-/// of version 2.
+/// how it ended. Own tables that were opened held a good world of version 2, and the work begins
+/// with it; of other ones only this is said: the first row of `portal` has version 2.
+///
+/// # Errors
+///
+/// If the tables are refused, there is no request, none of these bytes is read or written, and any
+/// tables keep their rows. Other than `Store` and `Memory`, such a fault means that the files held
+/// no good world of version 2, and `AreRefused` says why.
 #[tactic(auto, using(crate::proofs::Taken::same_left))]
 pub fn pipe_file<S: Start, R: Read, W: Write>(
     rt: &HostRuntime,
@@ -75,18 +84,20 @@ pub fn pipe_file<S: Start, R: Read, W: Write>(
 ) -> Result<
     (
         Result<Result<Served, ServeFault>, OpenFault>,
-        Result<Files<FileFrom<S>>, Files<FileFrom<S>>>,
+        Result<Files<FileFrom<S>>, NotCopied<FileFrom<S>>>,
     ),
     Error,
 >
     ensures taken { TakesAtMost taken_limit (R.remaining reader.old) (R.remaining reader.new) }
-    ensures pipes { IfOk result (λ r. IfOk r.1 (OverFiles ⟦<FileFrom<S> as Disk>⟧
+    ensures pipes { IfOk result (λ r. OverClosed ⟦<FileFrom<S> as Disk>⟧
         (image_at S.Start) (PipesStream r.0 (record {
           remaining = R.remaining reader.old;
           left = R.remaining reader.new;
           before = W.contents writer.old;
           after = W.contents writer.new;
-        })))) }
+        })) r.1) }
+    ensures refused { IfOk result (λ r. IfErr r.0 (λ _. writer.new ≡ writer.old)) }
+    ensures closed { IfErr result (λ _. writer.new ≡ writer.old) }
 {
     let mut job = PipeStream {
         reader: &mut *reader,

@@ -8,8 +8,9 @@ ghost use Rattle.portal_rules.specs.View.{office_sees};
 ghost use Rattle.portal_serve.specs.Hall.{office_report};
 ghost use Rattle.portal_store.specs.Kept.{IsCleanStore, kept_state, kept_world};
 ghost use Rattle.portal_file.specs.Jobs.{ReportsWorld};
-ghost use Rattle.portal_file.specs.Chain.{OverFiles};
+ghost use Rattle.portal_file.specs.Chain.{OverClosed};
 
+use crate::closing::NotCopied;
 use crate::job::{Job, over_file};
 use crate::tables::{close_tables, open_tables};
 use portal_core::KeepFault;
@@ -64,10 +65,12 @@ impl Job for ReportWorld {
 }
 
 /// Returns the office's report on the world that a database file holds, and closes the file. `S`
-/// stands for what the files held before. Gives the files back, as `Ok` unless closing failed. If
-/// the disk was clean, the report is of that world, and each thing that a crash may leave of the
-/// files holds the same world, also without a report. Other than `Store` and `Memory`, a refusal
-/// means that the files held no good world of version 2.
+/// stands for what the files held before. Gives the files back, as `Ok` unless copying the log
+/// failed; the promises hold then, too, if the store still stood.
+///
+/// If the disk was clean, the report is of that world, and each thing that a crash may leave of the
+/// files holds the same world, also without a report. The tables were opened or refused as
+/// `pipe_file` says.
 pub fn report_file<S: Start>(
     rt: &HostRuntime,
     path: &str,
@@ -75,12 +78,12 @@ pub fn report_file<S: Start>(
 ) -> Result<
     (
         Result<Result<Vec<u8>, KeepFault>, OpenFault>,
-        Result<Files<FileFrom<S>>, Files<FileFrom<S>>>,
+        Result<Files<FileFrom<S>>, NotCopied<FileFrom<S>>>,
     ),
     Error,
 >
-    ensures { IfOk result (λ r. IfOk r.1 (OverFiles ⟦<FileFrom<S> as Disk>⟧ (image_at S.Start)
-        (ReportsWorld r.0))) }
+    ensures { IfOk result (λ r. OverClosed ⟦<FileFrom<S> as Disk>⟧ (image_at S.Start)
+        (ReportsWorld r.0) r.1) }
 {
     let mut job = ReportWorld;
     over_file(rt, path, start, &mut job)

@@ -1,10 +1,12 @@
 //! Lets a service, such as a listener, serve requests over a database file.
 
-ghost use Rattle.std.specs.Prelude.{◌≡◌, IfOk};
+ghost use Rattle.std.specs.Prelude.{◌≡◌, IfErr, IfOk, List, MatchResult, OnOk};
 ghost use Rattle.sqlite_wal.specs.Files.{image_at};
+ghost use Rattle.portal_wire.specs.Conversation.{Exchange};
 ghost use Rattle.portal_file.specs.Jobs.{ServesRequests};
-ghost use Rattle.portal_file.specs.Chain.{OverFiles};
+ghost use Rattle.portal_file.specs.Chain.{OverClosed};
 
+use crate::closing::NotCopied;
 use crate::job::{Job, over_file};
 use crate::tables::{close_tables, open_tables};
 use portal_core::laws::run_good;
@@ -28,7 +30,9 @@ impl<'l, L: Service> Job for ServeRequests<'l, L> {
 
     ghost does = { λ old new r. ServesRequests r (L.told old.service.now new.service.now) };
 
-    ghost becomes = { λ old new. new.service.ghost_name ≡ old.service.ghost_name };
+    ghost becomes = { λ old new r. (new.service.ghost_name ≡ old.service.ghost_name)
+        × MatchResult r (λ _. (es : List Exchange) × L.told old.service.now new.service.now es)
+        (λ _. new.service.now ≡ old.service.now) };
 
     fn run<S: Alter>(
         &mut self,
@@ -48,10 +52,12 @@ impl<'l, L: Service> Job for ServeRequests<'l, L> {
 }
 
 /// Lets a service serve requests over a database file, and closes the file. `S` stands for what the
-/// files held before. Gives the files back, as `Ok` unless closing failed. If the disk was clean,
-/// this was a process for each thing that a crash may leave of them, whatever callers sent. If the
-/// tables are refused, there is no request; other than `Store` and `Memory`, such a fault means
-/// that the files held no good world of version 2.
+/// files held before. Gives the files back, as `Ok` unless copying the log failed; the promises
+/// hold then, too, if the store still stood.
+///
+/// If the disk was clean, this was a process for each thing that a crash may leave of them,
+/// whatever callers sent. The tables were opened or refused as `pipe_file` says. If they were
+/// refused, or no file was opened, there is no request, and the service is as before.
 pub fn serve_file<S: Start, L: Service>(
     rt: &HostRuntime,
     path: &str,
@@ -60,12 +66,16 @@ pub fn serve_file<S: Start, L: Service>(
 ) -> Result<
     (
         Result<(), OpenFault>,
-        Result<Files<FileFrom<S>>, Files<FileFrom<S>>>,
+        Result<Files<FileFrom<S>>, NotCopied<FileFrom<S>>>,
     ),
     Error,
 >
-    ensures { IfOk result (λ r. IfOk r.1 (OverFiles ⟦<FileFrom<S> as Disk>⟧ (image_at S.Start)
-        (ServesRequests r.0 (L.told service.old service.new)))) }
+    ensures serves { IfOk result (λ r. OverClosed ⟦<FileFrom<S> as Disk>⟧ (image_at S.Start)
+        (ServesRequests r.0 (L.told service.old service.new)) r.1) }
+    ensures refused { IfOk result (λ r. IfErr r.0 (λ _. service.new ≡ service.old)) }
+    ensures told { IfOk result (λ r. OnOk r.0 ((es : List Exchange)
+        × L.told service.old service.new es)) }
+    ensures closed { IfErr result (λ _. service.new ≡ service.old) }
 {
     let mut job = ServeRequests {
         service: &mut *service,

@@ -2,6 +2,7 @@
 
 ghost use Rattle.std.specs.Prelude.{◌≡◌, false, IfOk, IfErr};
 ghost use Rattle.sqlite.specs.Held.{state};
+ghost use Rattle.sqlite.specs.State.{IsLive};
 ghost use Rattle.portal_store.specs.Calls.{OpensStore};
 ghost use Rattle.portal_file.specs.inner.Connected.{ClosesAs};
 ghost use Rattle.portal_file.specs.inner.Lift.{RefusesTables, WorksOver};
@@ -18,6 +19,7 @@ pub(crate) fn open_tables<S: Alter>(
 ) -> Result<Store<S>, (OpenFault, Connection<S>)>
     requires idle { conn.in_transaction ≡ false }
     ensures opens { IfOk result (OpensStore S.Store conn) }
+    ensures live { IsLive (state S.Store conn) }
     ensures idle { IfErr result (λ e. e.1.in_transaction ≡ false) }
     ensures refused { IfErr result (λ e. WorksOver (state S.Store conn) (state S.Store e.1)
         (RefusesTables e.0)) }

@@ -3,8 +3,9 @@
 ghost use Rattle.std.specs.Prelude.{IfOk};
 ghost use Rattle.sqlite_wal.specs.Files.{image_at};
 ghost use Rattle.portal_file.specs.Jobs.{UpgradesTables};
-ghost use Rattle.portal_file.specs.Chain.{OverFiles};
+ghost use Rattle.portal_file.specs.Chain.{OverClosed};
 
+use crate::closing::NotCopied;
 use crate::job::{Job, over_file};
 use crate::tables::close_tables;
 use portal_store::{NotOpened, Store, UpgradeFault};
@@ -38,11 +39,18 @@ impl Job for UpgradeTables {
 }
 
 /// Upgrades the portal's tables in a database file from version 1 to version 2, and closes the
-/// file. `S` stands for what the files held before. Gives the files back, as `Ok` unless closing
-/// failed. If the tables were upgraded and the disk was clean, then each thing that a crash may
-/// leave of the files holds the same world as before, in version 2. Whatever the answer, files that
-/// hold a world in either version keep it. Without a fault, the files held no good world of version
-/// 2; other than `Store` and `Memory`, a fault means that they held none of version 1.
+/// file. `S` stands for what the files held before. Gives the files back, as `Ok` unless copying
+/// the log failed; the promises hold then, too, if the store still stood.
+///
+/// If the tables were upgraded and the disk was clean, then own ones had a good world in version 1,
+/// and each thing that a crash may leave of the files holds the same world, in version 2; before,
+/// the files held none in version 2. Whatever the answer, files that hold a world in either version
+/// keep it. Of other tables only this is said: no new name was taken.
+///
+/// # Errors
+///
+/// Other than `Store` and `Memory`, a fault means that the files held no good world of version 1,
+/// and `AreBarred` says why. After `Exists`, any tables keep their rows.
 pub fn upgrade_file<S: Start>(
     rt: &HostRuntime,
     path: &str,
@@ -50,12 +58,12 @@ pub fn upgrade_file<S: Start>(
 ) -> Result<
     (
         Result<(), UpgradeFault>,
-        Result<Files<FileFrom<S>>, Files<FileFrom<S>>>,
+        Result<Files<FileFrom<S>>, NotCopied<FileFrom<S>>>,
     ),
     Error,
 >
-    ensures { IfOk result (λ r. IfOk r.1 (OverFiles ⟦<FileFrom<S> as Disk>⟧ (image_at S.Start)
-        (UpgradesTables r.0))) }
+    ensures { IfOk result (λ r. OverClosed ⟦<FileFrom<S> as Disk>⟧ (image_at S.Start)
+        (UpgradesTables r.0) r.1) }
 {
     let mut job = UpgradeTables;
     over_file(rt, path, start, &mut job)

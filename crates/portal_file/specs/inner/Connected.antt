@@ -1,5 +1,5 @@
 -- What work over a connection to the portal's tables finds and leaves.
-use Rattle.std.specs.Prelude.{◌≡◌, List, Option, IfSome, IsTrue}
+use Rattle.std.specs.Prelude.{◌≡◌, List, Option, None, IfSome, IsTrue}
 use Rattle.sqlite.specs.State.{State}
 use Rattle.sqlite.specs.Store.{Ghosts}
 use Rattle.sqlite.specs.Held.{Held, state}
@@ -37,11 +37,18 @@ pub record ClosesAs {S : Type 0} (g : Ghosts S) (s : Seen S) (new : Held S) : Ty
   pub only : IsTrue (state g new).is_open → LeavesOnly (state g new)
   pub left : LeavesConsistent g s
 
+-- the connection is open, and the steps of a query are not limited
+pub record IsUnlimited (s : State) : Type 0 where
+  pub is_open : IsTrue s.is_open
+  pub unlimited : s.step_limit ≡ None
+
 -- work over a connection: what it shows before, and what a stop after it may leave
 abbrev pub work_of : State → State → Work
 work_of old new = record {
   finds = λ version. Shows version old;
   is_new = old.now.schema ≡ no_schema;
+  begins = λ Kind. IsUnlimited old → Kind old.now;
+  ends = λ Comes. IsUnlimited old → (db : Trees) → new.may_leave db → Comes old.now db;
   leaves = λ version. AllStand version new.may_leave;
   serves = IsTurn (Shows Either old) (AllStand Either new.may_leave);
 }

@@ -1,7 +1,7 @@
 use Rattle.std.proofs.Common.{None, [], refl, sym, subst}
 use Rattle.portal_store.specs.Calls.{OpensStore}
 use Rattle.portal_file.specs.inner.Connected.{ClosesAs}
-use Rattle.portal_file.proofs.Served.{disk_before, serves_stream}
+use Rattle.portal_file.proofs.Served.{disk_before, left_consistent, opened_so, serves_stream}
 use Rattle.portal_file.proofs.piping.PipeStreamJob.run.Goals as goal
 
 pub returns-in-Ok-clause-works : goal.returns-in-Ok-clause-works
@@ -17,7 +17,14 @@ returns-in-Ok-clause-works g c =
         serves = serves_stream g.S.Store c.args.conn c.close_tables.result c.new-desk.result.keeper
             c.pipe-ended.new.desk.keeper c.run_good.ensures opens closes
             c.pipe-ended.result c.pipe-ended.new.desk.failed _ _ _ _ did.worked.moves did.served clean;
-        refused = tt;
+        opens = record {
+          judged = opened_so g.S.Store c.args.conn c.close_tables.result c.new-desk.result.keeper
+              c.pipe-ended.new.desk.keeper c.run_good.ensures opens closes did.worked.moves.1.breaks clean c.in-Ok.ensures.live;
+          refused = tt;
+          lasting = λ free. left_consistent g.S.Store c.args.conn c.close_tables.result c.new-desk.result.keeper
+              c.pipe-ended.new.desk.keeper c.run_good.ensures opens closes did.worked.moves.1.breaks clean;
+          kept = tt;
+        };
       };
     }
 
@@ -27,5 +34,8 @@ returns-in-Err-clause-works g c =
     record {
       disk = refused.disk;
       did = λ clean. let is = refused.did clean in
-          record { serves = ([], None, is.serves, (refl, refl, refl)); refused = is.denies };
+          record {
+            serves = ([], None, is.serves, (refl, refl, refl));
+            opens = record { judged = is.judged; refused = is.denies; lasting = tt; kept = is.kept };
+          };
     }

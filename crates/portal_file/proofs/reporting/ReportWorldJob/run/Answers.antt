@@ -1,5 +1,5 @@
 use Rattle.portal_file.proofs.Base.{if_ok_on}
-use Rattle.portal_file.proofs.Served.{disk_before, reported, serves_none}
+use Rattle.portal_file.proofs.Served.{disk_before, left_consistent, opened_so, reported, serves_none}
 use Rattle.portal_file.proofs.reporting.ReportWorldJob.run.Goals as goal
 
 pub returns-in-Ok-clause-works : goal.returns-in-Ok-clause-works
@@ -16,7 +16,14 @@ returns-in-Ok-clause-works g c =
             c.report_of-told.new.store c.run_good.ensures c.in-Ok.ensures.opens c.close_tables.ensures.closes
             lasts text.items is clean)
             did.uses.lasts did.text;
-        refused = tt;
+        opens = record {
+          judged = opened_so g.S.Store c.args.conn c.close_tables.result c.in-Ok.store c.report_of-told.new.store
+              c.run_good.ensures c.in-Ok.ensures.opens c.close_tables.ensures.closes did.uses.breaks clean c.in-Ok.ensures.live;
+          refused = tt;
+          lasting = λ free. left_consistent g.S.Store c.args.conn c.close_tables.result c.in-Ok.store c.report_of-told.new.store
+              c.run_good.ensures c.in-Ok.ensures.opens c.close_tables.ensures.closes did.uses.breaks clean;
+          kept = tt;
+        };
       };
     }
 
@@ -25,5 +32,10 @@ returns-in-Err-clause-works g c =
     let refused = c.in-Err.ensures.refused in
     record {
       disk = refused.disk;
-      did = λ clean. let is = refused.did clean in record { serves = is.serves; text = tt; refused = is.denies };
+      did = λ clean. let is = refused.did clean in
+          record {
+            serves = is.serves;
+            text = tt;
+            opens = record { judged = is.judged; refused = is.denies; lasting = tt; kept = is.kept };
+          };
     }

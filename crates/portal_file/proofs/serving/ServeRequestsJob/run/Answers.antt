@@ -1,7 +1,7 @@
-use Rattle.std.proofs.Common.{None, [], refl, sym, subst}
+use Rattle.std.proofs.Common.{None, [], refl, rules, sym, subst}
 use Rattle.portal_store.specs.Calls.{OpensStore}
 use Rattle.portal_file.specs.inner.Connected.{ClosesAs}
-use Rattle.portal_file.proofs.Served.{disk_before, serves}
+use Rattle.portal_file.proofs.Served.{disk_before, left_consistent, opened_so, serves}
 use Rattle.portal_file.proofs.serving.ServeRequestsJob.run.Goals as goal
 
 pub returns-in-Ok-clause-works : goal.returns-in-Ok-clause-works
@@ -20,7 +20,14 @@ returns-in-Ok-clause-works g c =
               c.run_good.ensures opens closes moved.0 None tt moved.1 clean,
           moved.2,
         );
-        refused = tt;
+        opens = record {
+          judged = opened_so g.S.Store c.args.conn c.close_tables.result c.new-desk.result.keeper
+              c.serve.new.desk.keeper c.run_good.ensures opens closes moved.1.breaks clean c.in-Ok.ensures.live;
+          refused = tt;
+          lasting = λ free. left_consistent g.S.Store c.args.conn c.close_tables.result c.new-desk.result.keeper
+              c.serve.new.desk.keeper c.run_good.ensures opens closes moved.1.breaks clean;
+          kept = tt;
+        };
       };
     }
 
@@ -29,5 +36,13 @@ returns-in-Err-clause-works g c =
     let refused = c.in-Err.ensures.refused in
     record {
       disk = refused.disk;
-      did = λ clean. let is = refused.did clean in record { serves = ([], is.serves, refl); refused = is.denies };
+      did = λ clean. let is = refused.did clean in
+          record {
+            serves = ([], is.serves, refl);
+            opens = record { judged = is.judged; refused = is.denies; lasting = tt; kept = is.kept };
+          };
     }
+
+pub returns-in-Ok-clause-becomes : goal.returns-in-Ok-clause-becomes
+returns-in-Ok-clause-becomes g c =
+    let moved = c.serve.ensures.moves in (search rules, (moved.0, moved.2))

@@ -2,6 +2,7 @@ use Rattle.std.proofs.Common.{None, [], sym, subst}
 use Rattle.sqlite.specs.Held.{state}
 use Rattle.sqlite.specs.State.{HasCleanDisk}
 use Rattle.portal_tables.proofs.InTurn.{clean_before}
+use Rattle.portal_file.proofs.Judged.{are_barred, are_upgraded, may_upgrade}
 use Rattle.portal_file.proofs.Made.{current_taken, same_world, upgrade_leaves}
 use Rattle.portal_file.proofs.Served.{IsTurnOf, denied_first, unserved}
 use Rattle.portal_file.proofs.upgrading.UpgradeTablesJob.run.Goals as goal
@@ -21,8 +22,14 @@ returns-in-Ok-clause-works g c =
             (upgrade_leaves old new is.makes.crash is.left
             (subst (λ h. HasCleanDisk (state g.S.Store h)) closes.same clean)));
         upgraded = same_world g.S.Store c.args.conn c.close_tables.result c.in-Ok.store closes is clean;
+        lasting = λ free db may first. closes.left (is.makes.own.1 first)
+            (subst (λ h. HasCleanDisk (state g.S.Store h)) closes.same clean) db
+            (subst (λ h. (state g.S.Store h).may_leave db) closes.same may);
         none = λ w shows. current_taken g.S.Store c.args.conn w is.free shows;
+        judged = are_upgraded g.S.Store c.args.conn c.in-Ok.store is
+            (subst (λ h. HasCleanDisk (state g.S.Store h)) closes.same clean) c.settled.ensures.live;
         refused = tt;
+        kept = tt;
       };
     }
 
@@ -37,7 +44,11 @@ returns-in-Err-clause-works g c =
         serves = unserved old new c.settled.ensures.settled (g.met.S.Store.settled c.args.conn.store)
             (upgrade_leaves old new is.back.crash is.left clean);
         upgraded = tt;
+        lasting = tt;
         none = tt;
+        judged = are_barred g.S.Store c.args.conn c.in-Err.field-0.connection c.in-Err.field-0.fault is clean;
         refused = denied_first g.S.Store c.args.conn c.in-Err.field-0.connection c.in-Err.field-0.fault is clean;
+        kept = λ free. may_upgrade old c.settled.ensures.settled (g.met.S.Store.settled c.args.conn.store) free new clean
+            c.in-Err.field-0.fault is.back.crash is.taken;
       };
     }
