@@ -212,7 +212,7 @@ class Rankings(LecturerCase):
         self.open_as(self.key)
         self.browser.driver.find_element("css selector", ".decided > summary").click()
         self.browser.wait(lambda: "Who sees what?" in self.text(), "the answers")
-        self.sees("the portal shows a ranking to the code of its lecturer alone", "whoever keeps the file of codes could sign in as anybody",
+        self.sees("the portal shows a ranking to the code of its lecturer alone", "whoever keeps the file of codes could sign in as",
                   "This favours low IDs", "If the list has every project that the student would take, waiting for the second round gains")
 
     def test_order_as_people_write_it(self):
