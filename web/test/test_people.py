@@ -199,9 +199,9 @@ class Ways(PeopleCase):
                    "It makes no difference when you save.")
         self.sees(*decided)
         self.browser.unfold(".decided details")
-        self.sees("Only you see your whole list and its order.",
+        self.sees("To the office’s own code the portal shows no list",
                   "If your list has every project that you would take, waiting for the second round gains nothing",
-                  "no group of friends can agree on lists", "The office made the codes", "That favours low IDs")
+                  "no group of friends can agree on lists", "the office made your code", "That favours low IDs")
         for name in ("Stages", "Projects", "Your list"):
             self.browser.find("region", name)
         self.browser.keys(Keys.TAB)
