@@ -20,7 +20,7 @@ class SigningIn(PageCase):
         self.browser.find("table", "Projects")
         self.browser.open(self.door.address)  # the code is kept while the tab is open
         self.browser.in_phase("Setup")
-        self.assertEqual(self.browser.script("Object.keys(sessionStorage).sort()"), ["portal-active", "portal-code"])
+        self.assertEqual(self.browser.script("Object.keys(sessionStorage).sort()"), ["portal-active", "portal-code", "portal-entered"])
         self.browser.sign_out()
         self.browser.says("You’re signed out")
         self.assertEqual(self.browser.script("sessionStorage.length"), 0)
