@@ -16,7 +16,7 @@ use Rattle.portal_rules.specs.World.{World, Choices, changed}
 use Rattle.portal_core.specs.Honest.{ShowsBest}
 use Rattle.portal_wire.specs.Conversation.{Closed, Exchange, common_lines, reply_text}
 use Rattle.portal_wire.specs.Wish.{route_at, the_paths}
-use Rattle.portal_desk.specs.Headline.{AreAnswered, Hears, IsLikeAll, IsUpheld, IsVisit, Visit}
+use Rattle.portal_desk.specs.Headline.{IsAnswered, Hears, IsLikeAll, IsUpheld, IsVisit, Visit}
 use Rattle.portal_desk.specs.Session.{Ended, Finish}
 use Rattle.spa_model.specs.Spa.{IsBest}
 use Rattle.spa_model.specs.declared.letter.Letter.TheVariants.{A}
@@ -126,29 +126,31 @@ right_visit_is_upheld = record {
 
 -- ---- alike: other replies to a caller who asks the same
 
-right_answered : AreAnswered (right ∷ [])
+right_answered : IsAnswered [] (exchange ∷ [])
 right_answered = ((λ is. omega (arith, ap (λ (a : Answer). a.status) is)), tt)
 
 abbrev heard : List HeardItem
 heard = Asked false true exchange.request.wish ∷ []
 
+-- the same request with another reply
+abbrev replied : Answer → List Exchange
+replied a = record exchange { reply = a } ∷ []
+
 -- whoever asks without a code hears the own request alone
-hears : (bytes written : List ℕ) (finish : Finish) (a : Answer)
-    → Hears [] published (visit bytes written finish (record exchange { reply = a }) published ∷ []) heard
+hears : (a : Answer) → Hears [] published (replied a) (published ∷ []) heard
 unfolding route_at the_paths
-hears bytes written finish a = (heard, [], ([], refl, refl), refl, refl)
+hears a = (heard, [], ([], refl, refl), refl, refl)
 
 first_text : List (List ℕ) → List ℕ
 first_text [] = []
 first_text (t ∷ ts) = t
 
--- any reply whose status begins with a digit other than 4
-pub other_reply_is_not_alike : (bytes written : List ℕ) (finish : Finish) (a : Answer)
-    → digit (reply_text a false true) < 52
-    → IsLikeAll published (visit bytes written finish (record exchange { reply = a }) published ∷ []) → ⊥
+-- any reply but a 503 whose status begins with a digit other than 4
+pub other_reply_is_not_alike : (a : Answer) → digit (reply_text a false true) < 52 → IsAnswered [] (replied a)
+    → IsLikeAll published (replied a) (published ∷ []) → ⊥
 unfolding first_text
-other_reply_is_not_alike bytes written finish a low like =
-    let same = like published (right ∷ []) (is_right, tt) right_answered [] heard refl (hears bytes written finish a) (hears plain_bytes sent (Ended Closed) no_route_reply) in
+other_reply_is_not_alike a low answered like =
+    let same = like published (exchange ∷ []) (published ∷ []) is_right.run [] heard answered right_answered refl (hears a) (hears no_route_reply) in
     omega (arith, low, not_found, ap (λ ts. digit (first_text ts)) same.0)
 
 abbrev yes_to_all : Answer
@@ -157,3 +159,6 @@ yes_to_all = record { status = 200; allow = []; body = no_route_reply.body }
 pub yes_to_all_begins_lower : digit (reply_text yes_to_all false true) < 52
 unfolding common_lines digits
 yes_to_all_begins_lower = omega arith
+
+pub yes_to_all_is_answered : IsAnswered [] (replied yes_to_all)
+yes_to_all_is_answered = ((λ is. omega (arith, ap (λ (a : Answer). a.status) is)), tt)
