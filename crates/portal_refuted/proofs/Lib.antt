@@ -8,6 +8,7 @@ mod PortalDesk
 mod PortalDeskPromise
 mod PortalDeskServe
 mod PortalDeskStreams
+mod PortalFile
 mod PortalFrame
 mod PortalReports
 mod PortalRolls
