@@ -1,11 +1,13 @@
 """Reads definitions (specs/), and the types and contracts that code declares (src/), and follows the names in them."""
 import os
 import re
+import shutil
 import sys
 from functools import cache
 
 TOP = os.path.dirname(os.path.dirname(os.path.abspath(__file__)))
-KIT = os.environ.get("RATTLE_KIT", "/opt/rattle/rattle")
+# the toolchain's folder, which has each of its crates
+KIT = os.path.join(os.path.dirname(os.path.dirname(os.path.realpath(shutil.which("rt") or "/opt/rattle/bin/rt"))), "rattle")
 STD = ("std", "core", "alloc")
 
 MODIFIERS = ("abbrev", "pub", "unfoldable", "data", "record", "operator")
