@@ -214,12 +214,12 @@ def banned():
     holds("nor for 1,200 requests without a code, which another web page can have its visitors send", told == {403} and failed() == begun, (told, failed()))
     told = {campus.status() for _ in range(800)} | {campus.status(lines={"Portal-Code": "a-wrong-code", "User-Agent": "a" * 50000}) for _ in range(100)}
     holds("900 codes are refused", told == {403}, told)
-    holds("fail2ban counts each", waits_for(lambda: failed() >= begun + 900, 60) and failed() == begun + 900, (begun, failed()))
+    holds("fail2ban counts each", waits_for(lambda: failed() >= begun + 900, 180) and failed() == begun + 900, (begun, failed()))
     time.sleep(3)
     holds("and lets the campus in", locked_out() == [] and campus.status() == 403, locked_out())
     for _ in range(120):
         campus.status()
-    holds("after 1,000 the address is locked out", waits_for(lambda: locked_out() == ["127.0.0.9"], 60), locked_out())
+    holds("after 1,000 the address is locked out", waits_for(lambda: locked_out() == ["127.0.0.9"], 180), locked_out())
     holds("it gets no connection", waits_for(lambda: Browser("127.0.0.9").status() == 0, 20), Browser("127.0.0.9").status())
     holds("others do", other.status() == 403)
     run("fail2ban-client set portal unbanip 127.0.0.9")
@@ -238,7 +238,7 @@ def banned_network(locked_out):
     first, second = Browser(near[0]), Browser(near[1])
     told = {one.status() for one in (first, second) for _ in range(520)}
     holds("a network of IPv6 guesses with two of its addresses", told <= {403, 0}, told)
-    holds("it is locked out", waits_for(lambda: locked_out() == ["fd00:1:2:3::"], 60), locked_out())
+    holds("it is locked out", waits_for(lambda: locked_out() == ["fd00:1:2:3::"], 180), locked_out())
     told = {address: Browser(address, 6).status() for address in near}
     holds("with all its addresses", set(told.values()) == {0}, (told, run("nft list ruleset")))
     holds("another network is not", Browser(other).status() == 403)
