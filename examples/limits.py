@@ -1,9 +1,12 @@
 #!/usr/bin/env python3
 """Writes an instance file at the limits: 2,000 students with 20 projects each, 1,000 projects, 300 lecturers
 and 2,000 pairs, so 5,300 records. The same file each time. Usage: limits.py > limits.csv"""
+import json
 import random
+from pathlib import Path
 
-STUDENTS, PROJECTS, LECTURERS, CHOICES = 2000, 1000, 300, 20
+LIMITS = json.loads((Path(__file__).resolve().parents[1] / "checks/constants.json").read_text())["limits"]
+STUDENTS, PROJECTS, LECTURERS, CHOICES = (LIMITS[name] for name in ("students", "projects", "lecturers", "list"))
 
 
 def main():

@@ -9,7 +9,7 @@ import sqlite3
 import sys
 
 sys.path.insert(0, os.path.join(os.path.dirname(os.path.dirname(os.path.dirname(os.path.abspath(__file__)))), "checks", "plain"))
-from asking import OFFICE, PHASES  # noqa: E402
+from asking import CONSTANTS, LIMITS, OFFICE, PHASES  # noqa: E402
 from tables import FIRST  # noqa: E402
 from year import best  # noqa: E402
 
@@ -61,7 +61,7 @@ def show_choices(db, role, who, body):
 def put_choices(db, role, who, body):
     projects = json.loads(body)["projects"]
     known = {key for key, in db.execute("SELECT key FROM project")}
-    if len(projects) > 20 or len(set(projects)) < len(projects) or not known.issuperset(projects):
+    if len(projects) > LIMITS["list"] or len(set(projects)) < len(projects) or not known.issuperset(projects):
         raise Refused(422, "bad_list")
     put_list(db, "choice", "student", who[0], projects)
     return {"projects": projects}
@@ -174,18 +174,19 @@ def allocation_csv(db, role, who, body):
     return out.getvalue()
 
 
-ANY = ("office", "lecturer", "student")
-ROUTES = {
-    ("GET", "/me"): (ANY, (0, 1, 2, 3), me), ("GET", "/catalogue"): (ANY, (0, 1, 2, 3), catalogue),
-    ("GET", "/choices"): (("student",), (0, 1, 2, 3), show_choices), ("PUT", "/choices"): (("student",), (1,), put_choices),
-    ("GET", "/applicants"): (("lecturer",), (2, 3), applicants),
-    ("GET", "/ranking"): (("lecturer",), (2, 3), show_ranking), ("PUT", "/ranking"): (("lecturer",), (2,), put_ranking),
-    ("GET", "/result"): (("lecturer", "student"), (3,), result),
-    ("POST", "/rolls/lecturers"): (("office",), (0, 1), roll("lecturer", (0,))), ("POST", "/rolls/projects"): (("office",), (0, 1), roll("project", ())),
-    ("POST", "/rolls/students"): (("office",), (0, 1), roll("student", (None,))),
-    ("POST", "/phase"): (("office",), (0, 1, 2, 3), move), ("POST", "/ranking/fill"): (("office",), (2,), fill),
-    ("GET", "/status"): (("office",), (0, 1, 2, 3), status), ("GET", "/allocation.csv"): (("office",), (3,), allocation_csv),
+ACTS = {
+    "Me": me, "Catalogue": catalogue, "ShowChoices": show_choices, "SetChoices": put_choices, "Applicants": applicants, "ShowRanking": show_ranking,
+    "SetRanking": put_ranking, "Result": result, "AddLecturers": roll("lecturer", (0,)), "AddProjects": roll("project", ()),
+    "AddStudents": roll("student", (None,)), "Move": move, "FillRankings": fill, "Status": status, "AllocationCsv": allocation_csv,
 }
+
+
+def rules(call):
+    """Who may make a call, in which phases of the first round, and what it does."""
+    return CONSTANTS["calls"][call]["who"].split(), list(map(PHASES.index, CONSTANTS["calls"][call]["first"].split())), ACTS[call]
+
+
+ROUTES = {(method, path): rules(call) for path, calls in CONSTANTS["routes"].items() for method, call in calls.items() if call in ACTS}
 
 
 def phase_of(db):

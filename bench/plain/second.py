@@ -1,10 +1,10 @@
 """The requests of a department at the limits in two rounds: those of the first, which leaves a quarter of the students without a project, and
 those of the second, which are timed, each kind with the milliseconds that one of them may take, or None."""
-from asking import FILL, OFFICE, SECOND, chosen, moved, ranked, request, roll, texts
+from asking import FILL, LIMITS, OFFICE, SECOND, chosen, moved, ranked, request, roll, texts
 
-LECTURERS, PROJECTS, CHOICES, FEW = 300, 1000, 20, 40
+LECTURERS, PROJECTS, CHOICES, FEW = LIMITS["lecturers"], LIMITS["projects"], LIMITS["list"], 40
 # the projects that the last students all list, those that the others list, and those that nobody lists in the first round
-CROWDED, LISTED, EMPTY = [*range(2, 21), 0], range(21, 898), range(900, 1000)
+CROWDED, LISTED, EMPTY = [*range(2, CHOICES + 1), 0], range(CHOICES + 1, 898), range(900, PROJECTS)
 PLACES = 3
 STUDENT, STAFF, PUBLICATION = 2, 60, 300
 

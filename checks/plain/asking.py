@@ -1,12 +1,15 @@
 """What the scripts share that ask the built program: the program and its processes, the bytes of requests and replies, and connections."""
+import json
 import os
 import socket
 import subprocess
 
 TOP = os.path.dirname(os.path.dirname(os.path.dirname(os.path.abspath(__file__))))
+with open(os.path.join(TOP, "checks", "constants.json"), encoding="utf-8") as _file:
+    CONSTANTS = json.load(_file)
+LIMITS, PHASES = CONSTANTS["limits"], tuple(CONSTANTS["phases"])
+HEADERS = {kind.encode(): ",".join(columns).encode() for kind, columns in CONSTANTS["rolls"].items()}
 OFFICE = b"office-code-0"
-PHASES = ("setup", "choosing", "ranking", "published")
-HEADERS = {b"lecturers": b"id,name,code,capacity", b"projects": b"id,lecturer,title,capacity", b"students": b"id,name,code"}
 SECOND = b',"round":2'  # what a move says more that opens the second round
 JSON = b"application/json"
 

@@ -1,5 +1,5 @@
 """Random years of small departments, in one round or in two: requests that are made from the world as it stands, legal ones and others."""
-from asking import FILL, OFFICE, PHASES, SECOND, chosen, moved, ranked, request, roll, texts
+from asking import FILL, LIMITS, OFFICE, PHASES, SECOND, chosen, moved, ranked, request, roll, texts
 
 OWN = {
     "office": [b"/me", b"/catalogue", b"/status", b"/allocation", b"/allocation.csv", b"/report"],
@@ -53,7 +53,7 @@ class Department:
             elif what == "fewer" and keys:
                 keys.pop()
             elif what == "long" and known and self.chance.random() < 0.3:
-                keys += self.chance.choices(known, k=21)
+                keys += self.chance.choices(known, k=LIMITS["list"] + 1)
         return keys
 
     def odd(self):
@@ -81,7 +81,7 @@ class Department:
     def wish(self):
         """Some projects of the round, in some order."""
         offered = sorted(self.year.offered())[:self.favourites if self.year.round == 1 else None]
-        return self.chance.sample(offered, self.chance.randint(0, min(len(offered), 20)))
+        return self.chance.sample(offered, self.chance.randint(0, min(len(offered), LIMITS["list"])))
 
     def order(self, lecturer):
         """The lecturer's applicants, in some order."""

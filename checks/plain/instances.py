@@ -1,13 +1,12 @@
 """What `check` and `solve` tell of an instance file, written plainly from docs/RULES.md and docs/FORMATS.md."""
 import csv
 import io
-import re
 
-from streams import KEY
+from asking import LIMITS
+from streams import DIGITS, KEY
 from year import best
 
-MOST = {"L": 300, "P": 1000, "S": 2000}
-CAPACITY = re.compile(rb"[0-9]{1,7}\Z")
+MOST = {"L": LIMITS["lecturers"], "P": LIMITS["projects"], "S": LIMITS["students"], "M": LIMITS["students"]}
 
 
 class Refused(Exception):
@@ -29,14 +28,14 @@ def bad_column(kind, value, listed):
     """The leftmost field that has not its form; 0 where each has it."""
     if kind not in (b"L", b"P", b"S", b"M"):
         return 1
-    if kind in (b"L", b"P") and not CAPACITY.match(value) or kind == b"S" and value:
+    if kind in (b"L", b"P") and not DIGITS.match(value) or kind == b"S" and value:
         return 3
     return 4 if kind == b"M" and listed else 0
 
 
 def read(data):
     """The rows of the file, each with its number, kind, key, value and list."""
-    if len(data) > 4194304:
+    if len(data) > LIMITS["file_bytes"]:
         refuse("too_large")
     text = data.removeprefix(b"\xef\xbb\xbf").decode("latin-1")
     records = [[field.encode("latin-1") for field in one] for one in csv.reader(io.StringIO(text, newline="")) if one]
@@ -45,7 +44,7 @@ def read(data):
     if records[0] != [b"kind", b"key", b"value", b"list"]:
         refuse("bad_header")
     for row, fields in enumerate(records[1:], 1):
-        if row > 5300:
+        if row > sum(MOST.values()):
             refuse("too_many_rows")
         if len(fields) != 4:
             refuse("field_count", row)
@@ -81,7 +80,7 @@ class Instance:
     @staticmethod
     def look(of):
         """The faults of single rows, in the order in which they are told."""
-        if any(len(of[kind]) > most for kind, most in MOST.items()):
+        if any(len(of[kind]) > most for kind, most in MOST.items() if kind != "M"):
             refuse("too_many")
         own = of["L"] + of["P"] + of["S"]
         first("bad_key", [row for row, _, key, _, _ in own if not KEY.match(key)])
@@ -90,11 +89,11 @@ class Instance:
             twice += [row] if (kind, key) in keys else []
             keys.add((kind, key))
         first("key_twice", twice)
-        first("bad_capacity", [row for row, _, _, value, _ in of["L"] + of["P"] if not 1 <= int(value) <= 200])
+        first("bad_capacity", [row for row, _, _, value, _ in of["L"] + of["P"] if not LIMITS["smallest_capacity"] <= int(value) <= LIMITS["largest_capacity"]])
         first("no_such_lecturer", [row for row, _, _, _, lecturer in of["P"] if ("L", lecturer) not in keys])
         first("no_such_project", [row for row, _, _, _, listed in of["S"] if any(("P", key) not in keys for key in listed)])
         first("repeat_in_list", [row for row, _, _, _, listed in of["S"] + of["L"] if len(set(listed)) < len(listed)])
-        first("list_too_long", [row for row, _, _, _, listed in of["S"] if len(listed) > 20])
+        first("list_too_long", [row for row, _, _, _, listed in of["S"] if len(listed) > LIMITS["list"]])
 
     def applicants(self, lecturer):
         return {key for key, listed in self.choices.items() if any(self.projects[project][0] == lecturer for project in listed)}

@@ -1,7 +1,8 @@
 """Whether the rows of the eleven tables stand for a good world, and for which, judged plainly by docs/FORMATS.md and docs/RULES.md."""
+from asking import LIMITS
 from instances import told
-from streams import CODE, KEY, is_name
-from year import MOST, Round, Year
+from streams import CODE, KEY, MOST, is_name
+from year import Round, Year
 
 
 class Damaged(Exception):
@@ -43,7 +44,7 @@ def rolls_of(rows):
     people = [*year.lecturers.items(), *year.students.items()]
     need(all(is_key(key) and is_name(row[0].encode()) and is_code(row[1]) for key, row in people), "a person's form")
     need(all(is_key(key) and is_name(row[1].encode()) and row[0] in year.lecturers for key, row in year.projects.items()), "a project's form")
-    need(all(1 <= row[2] <= 200 for row in [*year.lecturers.values(), *year.projects.values()]), "a capacity")
+    need(all(LIMITS["smallest_capacity"] <= row[2] <= LIMITS["largest_capacity"] for row in [*year.lecturers.values(), *year.projects.values()]), "a capacity")
     codes = [office, *(row[1] for _, row in people)]
     need(is_code(office) and len(set(codes)) == len(codes), "a code")
     need(all(len(getattr(year, kind)) <= most for kind, most in MOST.items()), "a roll is too long")
@@ -55,7 +56,7 @@ def look_at_round(year):
     offered, left = year.offered(), year.left()
     for student, listed in year.choices.items():
         need(student in left and year.phase > 0, "a list of somebody who makes none, or before choosing")
-        need(len(listed) <= 20 and len(set(listed)) == len(listed) and set(listed) <= set(offered), "a list")
+        need(len(listed) <= LIMITS["list"] and len(set(listed)) == len(listed) and set(listed) <= set(offered), "a list")
     for lecturer, ranking in year.rankings.items():
         need(lecturer in year.lecturers and year.phase > 1, "a ranking before its time")
         need(sorted(ranking) == year.applicants(lecturer), "a ranking")

@@ -6,15 +6,18 @@ import io
 import json
 import re
 
-from asking import PHASES
+from asking import CONSTANTS, LIMITS, PHASES
 
-HEAD, BODY, LINES = 16384, 1048576, 32
+HEAD, BODY, LINES = LIMITS["head_bytes"], LIMITS["body_bytes"], LIMITS["head_lines"]
+MOST = {kind: LIMITS[kind] for kind in CONSTANTS["rolls"]}
 TOKEN = rb"[A-Za-z0-9!#$%&'*+\-.^_`|~]"
 METHOD = re.compile(TOKEN + rb"*")
 TARGET = re.compile(rb"[\x21-\x7e\x80-\xff]*")
 VALUE = re.compile(rb"[\t\x20-\x7e\x80-\xff]*")
-KEY = re.compile(rb"[A-Za-z0-9._-]{1,16}\Z")
-CODE = re.compile(rb"[A-Za-z0-9-]{8,40}\Z")
+KEY = re.compile(rb"[A-Za-z0-9._-]{1,%d}\Z" % LIMITS["longest_key"])
+CODE = re.compile(rb"[A-Za-z0-9-]{%d,%d}\Z" % (LIMITS["shortest_code"], LIMITS["longest_code"]))
+DIGITS = re.compile(rb"[0-9]{1,%d}\Z" % LIMITS["capacity_digits"])
+LENGTH = re.compile(rb"[0-9]{1,%d}\Z" % LIMITS["length_digits"])
 csv.field_size_limit(1 << 24)
 
 
@@ -86,11 +89,11 @@ def head_of(data):
 
 
 def is_overlong(data):
-    """Whether 34 lines, each ended, stand after the leading empty ones and none of them is empty."""
+    """Whether two lines more than a head may have of header lines, each ended, stand after the leading empty ones and none of them is empty."""
     found = data.split(b"\n")[:-1]
     while found and found[0] in (b"", b"\r"):
         del found[0]
-    return len(found) >= 34 and not any(line in (b"", b"\r") for line in found[:34])
+    return len(found) >= LINES + 2 and not any(line in (b"", b"\r") for line in found[:LINES + 2])
 
 
 def fault_of(minor, lines):
@@ -102,7 +105,7 @@ def fault_of(minor, lines):
         return (400, "bad_host"), 0
     if values(b"transfer-encoding"):
         return (501, "coded_body"), 0
-    if len(lengths) > 1 or lengths and not re.match(rb"[0-9]{1,18}\Z", lengths[0]):
+    if len(lengths) > 1 or lengths and not LENGTH.match(lengths[0]):
         return (400, "bad_length"), 0
     length = int(lengths[0]) if lengths else 0
     return ((413, "too_large") if length > BODY else None), length
@@ -136,14 +139,8 @@ def frame(data, ended):
     return "Request", request, length + size
 
 
-SHOW, POST = "GET, HEAD", "POST"
-ROUTES = {
-    b"/me": (SHOW, "Me"), b"/catalogue": (SHOW, "Catalogue"), b"/choices": ("GET, HEAD, PUT", "ShowChoices"),
-    b"/applicants": (SHOW, "Applicants"), b"/ranking": ("GET, HEAD, PUT", "ShowRanking"), b"/ranking/fill": (POST, "FillRankings"),
-    b"/result": (SHOW, "Result"), b"/rolls/lecturers": (POST, "AddLecturers"), b"/rolls/projects": (POST, "AddProjects"),
-    b"/rolls/students": (POST, "AddStudents"), b"/phase": (POST, "Move"), b"/status": (SHOW, "Status"),
-    b"/allocation": (SHOW, "Allocation"), b"/allocation.csv": (SHOW, "AllocationCsv"), b"/report": (SHOW, "Report"),
-}
+# of each path the calls by their methods
+ROUTES = {path.encode(): calls | ({"HEAD": calls["GET"]} if "GET" in calls else {}) for path, calls in CONSTANTS["routes"].items()}
 
 
 class Members(list):
@@ -198,18 +195,15 @@ def move_of(members):
 
 
 def capacity(field):
-    return re.match(rb"[0-9]{1,7}\Z", field) and 1 <= int(field) <= 200
+    return DIGITS.match(field) and LIMITS["smallest_capacity"] <= int(field) <= LIMITS["largest_capacity"]
 
 
 def is_name(field):
-    return 1 <= len(field) <= 160 and all(b >= 0x20 and b != 0x7F for b in field)
+    return 1 <= len(field) <= LIMITS["longest_name"] and all(b >= 0x20 and b != 0x7F for b in field)
 
 
-ROLLS = {
-    "AddLecturers": (["id", "name", "code", "capacity"], 300, [KEY.match, is_name, CODE.match, capacity]),
-    "AddProjects": (["id", "lecturer", "title", "capacity"], 1000, [KEY.match, KEY.match, is_name, capacity]),
-    "AddStudents": (["id", "name", "code"], 2000, [KEY.match, is_name, CODE.match]),
-}
+FORMS = {"id": KEY.match, "lecturer": KEY.match, "name": is_name, "title": is_name, "code": CODE.match, "capacity": capacity}
+ROLLS = {ROUTES[f"/rolls/{kind}".encode()]["POST"]: (columns, MOST[kind], [FORMS[name] for name in columns]) for kind, columns in CONSTANTS["rolls"].items()}
 
 
 def roll_of(kind, body):
@@ -240,10 +234,10 @@ def call_of(request):
     """The call that a request makes, after its code, or its refusal."""
     if request["path"] not in ROUTES:
         return "! 404 no_route []"
-    allow, call = ROUTES[request["path"]]
-    method = request["method"].decode()
-    if method not in allow.split(", "):
-        return f"! 405 bad_method [{allow}]"
+    calls, method = ROUTES[request["path"]], request["method"].decode()
+    if method not in calls:
+        return f"! 405 bad_method [{', '.join(sorted(calls))}]"
+    call = calls[method]
     before, body = request["code"].hex() + " ", request["body"]
     if method in ("GET", "HEAD"):
         return before + call
@@ -257,8 +251,8 @@ def call_of(request):
         return bad if members else before + call
     if call == "Move":
         return before + f"Move {move_of(members)}" if move_of(members) else bad
-    name = {"ShowChoices": "projects", "ShowRanking": "students"}[call]
+    name = {"SetChoices": "projects", "SetRanking": "students"}[call]
     value = members.get(name)
     if set(members) == {name} and type(value) is list and all(isinstance(text, str) for text in value):
-        return before + call.replace("Show", "Set") + "".join("," + text.encode("utf-8").hex() for text in value)
+        return before + call + "".join("," + text.encode("utf-8").hex() for text in value)
     return bad

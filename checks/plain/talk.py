@@ -1,11 +1,10 @@
 """A connection as docs/FORMATS.md has it: which bytes are answered when, by a year that answers each request, and the bytes of a reply."""
 import json
 
+from asking import CONSTANTS, LIMITS
 from streams import frame
 
-PHRASES = {200: "OK", 400: "Bad Request", 403: "Forbidden", 404: "Not Found", 405: "Method Not Allowed", 409: "Conflict",
-           413: "Content Too Large", 422: "Unprocessable Content", 501: "Not Implemented", 503: "Service Unavailable"}
-MOST = 256  # requests of one connection
+PHRASES = {int(status): phrase for status, phrase in CONSTANTS["statuses"].items()}
 
 
 class Talk:
@@ -30,7 +29,7 @@ class Talk:
 
     def answer(self, asked, used):
         self.data, self.count = self.data[used:], self.count + 1
-        self.is_over = asked["close"] or self.count == MOST
+        self.is_over = asked["close"] or self.count == LIMITS["requests"]
         return self.year.reply(asked, self.is_over)
 
 

@@ -1,12 +1,15 @@
 """Streams of requests, good ones and such with faults, at random and at each limit: what a hostile caller may send."""
-OWN = [b"/me", b"/catalogue", b"/choices", b"/applicants", b"/ranking", b"/result", b"/status", b"/allocation", b"/allocation.csv", b"/report"]
+from asking import HEADERS, LIMITS, PHASES
+from streams import BODY, HEAD, LINES, MOST, ROUTES
+
+OWN = [path for path, calls in ROUTES.items() if "GET" in calls]
 CODES = [b"office-code-0", b"lee-code-01", b"moe-code-02", b"ann-code-1", b"bea-code-2", b"cyr-code-3"]
 ODD_CODES = [b"", b"nobody-code", b"a b\tc", "é".encode(), b"\xff"]
 LISTS = {b"/choices": b"projects", b"/ranking": b"students"}
 ROLLS = {
-    b"/rolls/lecturers": (b"id,name,code,capacity", [b"L1,Lee,lee-code-01,2", b'L2,"Roe, Bea",roe-code-02,200']),
-    b"/rolls/projects": (b"id,lecturer,title,capacity", [b"P1,L1,Tides,1", b'P2,L1,"a ""b"" c",0000012']),
-    b"/rolls/students": (b"id,name,code", [b"S1,Ann,ann-code-1", b'S2,"Roe,\nBea",bea-code-22', "S3,Łuk,luk-code-3".encode()]),
+    b"/rolls/lecturers": (HEADERS[b"lecturers"], [b"L1,Lee,lee-code-01,2", b'L2,"Roe, Bea",roe-code-02,200']),
+    b"/rolls/projects": (HEADERS[b"projects"], [b"P1,L1,Tides,1", b'P2,L1,"a ""b"" c",0000012']),
+    b"/rolls/students": (HEADERS[b"students"], [b"S1,Ann,ann-code-1", b'S2,"Roe,\nBea",bea-code-22', "S3,Łuk,luk-code-3".encode()]),
 }
 BAD_ROWS = [b"S1", b"a b,Ann,ann-code-1", b"S1,Ann,ann-code-1,0", b"S1,\xff,ann-code-1", b"L1,Lee,lee-code-01,201", b"P1,L1,,1", b"S1,\x7f,ann-code-1",
             b"S1,Ann,short", b"L1,Lee,lee-code-01,12345678", b",,", b"L1,Lee,lee-code-01,0", b"L1,Lee,lee-code-01,00000001", b"P1,L1,Tides,00000001", b'S1,"Ann,ann-code-1', b"S1,A\"nn,ann-code-1"]
@@ -17,11 +20,11 @@ ODD = [b'"\\ud800"', b'"\\ude00\\ud83d"', b"1", b"null", b'["P1"]', b'"\x01"', b
 
 def json_of(chance, path):
     """A body for a path whose body is JSON: most are good."""
-    texts = [chance.choice(TEXTS if chance.random() < 0.97 else ODD) for _ in range(chance.choice([0, 1, 1, 2, 3, 20]))]
+    texts = [chance.choice(TEXTS if chance.random() < 0.97 else ODD) for _ in range(chance.choice([0, 1, 1, 2, 3, LIMITS["list"]]))]
     blank = chance.choice([b"", b"", b" ", b"\r\n\t "])
     listed = b"[" + (blank + b"," + blank).join(texts) + b"]"
     name = LISTS.get(path, b"phase")
-    value = listed if path in LISTS else b'"' + chance.choice([b"setup", b"choosing", b"ranking", b"published", b"choosin\\u0067", b"Setup", b""]) + b'"'
+    value = listed if path in LISTS else b'"' + chance.choice([*(phase.encode() for phase in PHASES), b"choosin\\u0067", b"Setup", b""]) + b'"'
     members = [] if path == b"/ranking/fill" else [b'"' + name + b'"' + blank + b":" + value]
     if path == b"/phase" and chance.random() < 0.3:
         members.insert(chance.randint(0, 1), b'"round"' + blank + b":" + chance.choice([b"1", b"2"] * 6 + ODD_ROUNDS))
@@ -42,7 +45,7 @@ def roll_of(chance, path):
     header, rows = ROLLS[path]
     count = chance.choice([0, 1, 2, 3, 8, 40])
     if chance.random() < 0.01:
-        count = {b"/rolls/lecturers": 300, b"/rolls/projects": 1000, b"/rolls/students": 2000}[path] + chance.choice([0, 1])
+        count = MOST[path.decode().removeprefix("/rolls/")] + chance.choice([0, 1])
     lines = [header] + [chance.choice(rows) for _ in range(count)]
     if chance.random() < 0.3:
         lines.insert(chance.randint(0, min(len(lines), 50)), chance.choice(BAD_ROWS + [b"", b"", header]))
@@ -60,7 +63,7 @@ def lengths_of(chance, size):
     if chance.random() < 0.9:
         return [said] if size or chance.random() < 0.3 else []
     return chance.choice([[b"+" + said], [b"-" + said], [said, said], [b" " + said + b"\t"], [said.zfill(18)], [said.zfill(19)], [b"1" * 18], [b"1" * 19],
-                          [b"1048576"], [b"1048577"], [b""], [b"0x10"], [said + b" 1"], [said + b",", said], [b"\xd9\xa1"], [str(size + 1).encode()], [str(max(size - 1, 0)).encode()], []])
+                          [b"%d" % BODY], [b"%d" % (BODY + 1)], [b""], [b"0x10"], [said + b" 1"], [said + b",", said], [b"\xd9\xa1"], [str(size + 1).encode()], [str(max(size - 1, 0)).encode()], []])
 
 
 def request(chance):
@@ -90,7 +93,7 @@ def request(chance):
     if chance.random() < 0.05:
         lines.append((b"Expect", b"100-continue"))
     if chance.random() < 0.05:
-        lines += [(b"x-%d" % n, b"y") for n in range(chance.choice([31, 32, 33, 34, 35]) - len(lines))]
+        lines += [(b"x-%d" % n, b"y") for n in range(LINES + chance.choice([-1, 0, 1, 2, 3]) - len(lines))]
     chance.shuffle(lines)
     end = chance.choice([b"\r\n"] * 6 + [b"\n"])
     version = chance.choice([b"HTTP/1.1"] * 30 + [b"HTTP/1.0"] * 3 + [b"HTTP/1.2", b"HTTP/2.0", b"http/1.1", b"HTTP/1.", b"HTTP/1.11"][:chance.choice([0, 0, 5])])
@@ -107,7 +110,7 @@ def request(chance):
 
 def filled(chance, before, head, end):
     """The head with one more line, which brings it near the greatest size."""
-    size = chance.choice([16382, 16383, 16384, 16385, 16390])
+    size = HEAD + chance.choice([-2, -1, 0, 1, 6])
     filler = size - len(before + end.join(head) + end + end) - len(b"f:" + end)
     if chance.random() < 0.2:
         return end * (size // len(end)) + b"GET /me HTTP/1.1"
@@ -126,17 +129,17 @@ def mutated(chance, text):
 def stream_of(chance):
     kind = chance.random()
     if kind < 0.01:
-        close = chance.choice([254, 255, 256, 300])
+        close = LIMITS["requests"] + chance.choice([-2, -1, 0, 44])
         one = [b"GET /me HTTP/1.1\r\nHost: h\r\n\r\n", b"HEAD /choices HTTP/1.1\nhost:h\n\n"]
         return b"".join(chance.choice(one) for _ in range(close)) + chance.choice([b"", b"GET /me HTTP/1.0\r\n\r\n", b"GET"])
     if kind < 0.02:
-        size = chance.choice([1048575, 1048576, 1048577])
+        size = BODY + chance.choice([-1, 0, 1])
         return b"PUT /choices HTTP/1.1\r\nHost: h\r\nContent-Length: %d\r\n\r\n" % size + b" " * chance.choice([size, size - 15, size - 16]) + b'{"projects":[]}' + request(chance)
     if kind < 0.04:
-        return chance.choice([b"", b"\r\n", b"\n\r\n", b"\r", b"\r\r\n", b"\n" * 16383, b"\n" * 16384, b"\r\n" * 8191 + b"\r", b"\r\n" * 8192]) + chance.choice([b"", request(chance)])
+        return chance.choice([b"", b"\r\n", b"\n\r\n", b"\r", b"\r\r\n", b"\n" * (HEAD - 1), b"\n" * HEAD, b"\r\n" * (HEAD // 2 - 1) + b"\r", b"\r\n" * (HEAD // 2)]) + chance.choice([b"", request(chance)])
     if kind < 0.06:
         start = chance.choice([b"GET /me HTTP/1.1", b"\r\nGET /me HTTP/1.0"])
-        return start + b"\r\n" + b"".join(b"x: %d\r\n" % n for n in range(chance.choice([30, 31, 32, 33, 34, 40]))) + chance.choice([b"", b"\r\n", b"Host: h\r\n\r\n", b"\x01", b"y"])
+        return start + b"\r\n" + b"".join(b"x: %d\r\n" % n for n in range(LINES + chance.choice([-2, -1, 0, 1, 2, 8]))) + chance.choice([b"", b"\r\n", b"Host: h\r\n\r\n", b"\x01", b"y"])
     text = b"".join(request(chance) for _ in range(chance.choice([1, 1, 2, 3, 6])))
     text = mutated(chance, text)
     return text[:chance.randint(0, len(text))] if chance.random() < 0.12 else text
@@ -148,20 +151,20 @@ def post(path, body):
 
 def at_limits():
     """Streams at each limit, and one beyond."""
-    for path, limit in ((b"/rolls/lecturers", 300), (b"/rolls/projects", 1000), (b"/rolls/students", 2000)):
-        header, rows = ROLLS[path]
+    for path, (header, rows) in ROLLS.items():
+        limit = MOST[path.decode().removeprefix("/rolls/")]
         for count in (limit, limit + 1):
             yield post(path, header + b"\n" + (rows[0] + b"\n") * count)
         yield post(path, header + b"\n" + (rows[0] + b"\n") * limit + b"x\n")
-    for size in (1048576, 1048577):
+    for size in (BODY, BODY + 1):
         yield b"PUT /choices HTTP/1.1\r\nHost: h\r\nContent-Length: %d\r\n\r\n" % size + b" " * (size - 15) + b'{"projects":[]}'
-    for count in (255, 256, 257):
+    for count in (LIMITS["requests"] - 1, LIMITS["requests"], LIMITS["requests"] + 1):
         yield b"GET /me HTTP/1.1\r\nHost: h\r\n\r\n" * count
         yield b"GET /me HTTP/1.1\r\nHost: h\r\n\r\n" * (count - 1) + b"GET /me HTTP/1.0\r\nHost: h\r\n\r\n"
-    for count in (31, 32, 33, 34):
+    for count in range(LINES - 1, LINES + 3):
         lines = b"GET /me HTTP/1.1\r\nHost: h\r\n" + b"x: y\r\n" * (count - 1)
         yield from (lines, lines + b"\r\n", lines + b"x", lines + b"\x01", b"\r\n\n" + lines + b"x: y\r")
-    for size in (16383, 16384, 16385):
+    for size in (HEAD - 1, HEAD, HEAD + 1):
         head = b"GET /me HTTP/1.1\r\nHost: h\r\nf: "
         yield head + b"z" * (size - len(head) - 4) + b"\r\n\r\n"
         yield head + b"z" * (size - len(head))

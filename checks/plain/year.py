@@ -2,11 +2,10 @@
 is answered, and the rows of the tables that the world stands in."""
 import collections
 
-from asking import PHASES
-from streams import call_of
+from asking import CONSTANTS, LIMITS, PHASES
+from streams import MOST, call_of
 from talk import Talk, read_call, refusal_bytes, reply_bytes, status_of
 
-MOST = {"lecturers": 300, "projects": 1000, "students": 2000}
 Round = collections.namedtuple("Round", "choices rankings result")
 
 
@@ -109,34 +108,32 @@ class Year:
     def answer(self, code, call, given):
         """What a call of a code with what it was given is answered: a body for JSON, or a text."""
         role, key = self.caller(code)
-        allowed, phases, act = self.calls()[call]
-        if role not in allowed:
+        said = CONSTANTS["calls"][call]
+        if role not in said["who"].split():
             raise Refused(403, "not_yours")
-        if self.phase not in phases:
+        if PHASES[self.phase] not in said["first" if self.round == 1 else "second"].split():
             raise Refused(409, "wrong_phase")
-        return act(role, key, given)
+        return self.calls()[call](role, key, given)
 
     def calls(self):
-        every = (0, 1, 2, 3)
-        early, late = ((0, 1), (3,)) if self.round == 1 else ((), every)
         return {
-            "Me": (("office", "lecturer", "student"), every, self.me),
-            "Catalogue": (("office", "lecturer", "student"), every, self.catalogue),
-            "ShowChoices": (("student",), every, lambda role, key, given: {"projects": self.choices.get(key, [])}),
-            "SetChoices": (("student",), (1,), self.set_choices),
-            "Applicants": (("lecturer",), (2, 3), self.show_applicants),
-            "ShowRanking": (("lecturer",), (2, 3), lambda role, key, given: {"students": self.rankings.get(key)}),
-            "SetRanking": (("lecturer",), (2,), self.set_ranking),
-            "Result": (("student", "lecturer"), late, self.show_result),
-            "AddLecturers": (("office",), early, lambda role, key, given: self.add("lecturers", given)),
-            "AddProjects": (("office",), early, lambda role, key, given: self.add("projects", given)),
-            "AddStudents": (("office",), early, lambda role, key, given: self.add("students", given)),
-            "Move": (("office",), every, self.move),
-            "FillRankings": (("office",), (2,), self.fill),
-            "Status": (("office",), every, self.status),
-            "Allocation": (("office",), late, self.allocation),
-            "AllocationCsv": (("office",), late, self.allocation_csv),
-            "Report": (("office",), late, self.report),
+            "Me": self.me,
+            "Catalogue": self.catalogue,
+            "ShowChoices": lambda role, key, given: {"projects": self.choices.get(key, [])},
+            "SetChoices": self.set_choices,
+            "Applicants": self.show_applicants,
+            "ShowRanking": lambda role, key, given: {"students": self.rankings.get(key)},
+            "SetRanking": self.set_ranking,
+            "Result": self.show_result,
+            "AddLecturers": lambda role, key, given: self.add("lecturers", given),
+            "AddProjects": lambda role, key, given: self.add("projects", given),
+            "AddStudents": lambda role, key, given: self.add("students", given),
+            "Move": self.move,
+            "FillRankings": self.fill,
+            "Status": self.status,
+            "Allocation": self.allocation,
+            "AllocationCsv": self.allocation_csv,
+            "Report": self.report,
         }
 
     def me(self, role, key, given):
@@ -156,7 +153,7 @@ class Year:
             raise Refused(409, "already_placed")
         offered = self.offered()
         for at, project in enumerate(given, 1):
-            fault = "too_long" if at == 21 else "unknown_project" if project not in offered else "repeated" if project in given[:at - 1] else None
+            fault = "too_long" if at == LIMITS["list"] + 1 else "unknown_project" if project not in offered else "repeated" if project in given[:at - 1] else None
             if fault:
                 raise Refused(422, "bad_list", at=at, fault=fault)
         self.choices[key] = list(given)

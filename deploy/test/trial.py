@@ -1,6 +1,7 @@
 """What the checks share: the program, counting, a portal that is stopped and started, the reverse proxy before it, and requests."""
 import contextlib
 import http.client
+import json
 import os
 import re
 import socket
@@ -12,6 +13,9 @@ import time
 
 TOP = os.path.dirname(os.path.dirname(os.path.dirname(os.path.abspath(__file__))))
 DEPLOY = os.path.join(TOP, "deploy")
+with open(os.path.join(TOP, "checks", "constants.json"), encoding="utf-8") as file:
+    CONSTANTS = json.load(file)
+LIMITS = CONSTANTS["limits"]
 OFFICE = "office-code-0"
 LECTURERS = b"id,name,code,capacity\nL1,Lee,lee-code-01,2\nL2,Moe,moe-code-02,1\n"
 PROJECTS = b"id,lecturer,title,capacity\nP1,L1,Tides,1\nP2,L1,Kites,1\nP3,L2,Bells,1\n"
@@ -31,11 +35,12 @@ def free_port():
 
 def low_port():
     """One of the ports of departments that nobody listens on. Only root can."""
-    for port in range(801, 900):
+    first, last = LIMITS["smallest_server_port"], LIMITS["largest_server_port"]
+    for port in range(first, last + 1):
         with contextlib.suppress(OSError), socket.socket() as free:
             free.bind(("127.0.0.1", port))
             return port
-    raise RuntimeError("none of the ports 801 to 899 is free")
+    raise RuntimeError(f"none of the ports {first} to {last} is free")
 
 
 class Checks:
