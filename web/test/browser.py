@@ -44,6 +44,11 @@ class Browser:
 
     def resize(self, width, height=900, scale=1):
         self.cdp("Emulation.setDeviceMetricsOverride", width=width, height=height, deviceScaleFactor=scale, mobile=False)
+        self.wait(lambda: self.script("window.innerWidth") == width, f"a window {width} wide")
+
+    def slow(self, milliseconds):
+        """Each request takes so long at least."""
+        self.cdp("Network.emulateNetworkConditions", offline=False, latency=milliseconds, downloadThroughput=-1, uploadThroughput=-1)
 
     def prefer(self, scheme):
         self.cdp("Emulation.setEmulatedMedia", features=[{"name": "prefers-color-scheme", "value": scheme}])

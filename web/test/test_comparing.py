@@ -87,11 +87,15 @@ class Comparing(FileCase):
         before = self.world()
         text = "id;name;capacity\n" + "".join(f"s{n:03d};Name {n};3\n" for n in range(140))
         self.choose_file("Lecturers", self.write("longer.csv", text))
-        self.browser.press("Compare with the portal")
-        self.browser.says("Compared ")
-        self.browser.press("Cancel")
-        self.browser.wait(lambda: not self.browser.has("button", "Send"), "the file to be closed")
-        self.browser.wait(lambda: not self.rolls_sent() and not self.rolls_sent(), "no more requests")
+        self.browser.slow(100)
+        try:
+            self.browser.press("Compare with the portal")
+            self.browser.says("Compared ")
+            self.browser.press("Cancel")
+            self.browser.wait(lambda: not self.browser.has("button", "Send"), "the file to be closed")
+            self.browser.wait(lambda: not self.rolls_sent() and not self.rolls_sent(), "no more requests")
+        finally:
+            self.browser.slow(0)
         self.assertEqual(self.world(), before)
         self.assertEqual(self.count("lecturers"), 120)
 
