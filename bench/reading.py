@@ -333,8 +333,8 @@ def is_own(item):
     return item.file.crate in crates()
 
 
-def find(wanted):
-    """The function or definition of a name; a law before a definition, and a public promise before what is inner."""
+def called(wanted):
+    """The functions and definitions of a name, or of a crate and a name."""
     crate, _, name = wanted.partition("::") if wanted.split("::")[0] in crates() else ("", "", wanted)
     found = []
     for one in [crate] if crate else crates():
@@ -345,9 +345,18 @@ def find(wanted):
             item = source(path, one).items.get(name)
             if item:
                 found.append(item)
-    found.sort(key=lambda item: (isinstance(item.file, Definitions), "inner" in item.file.path))
+    return found
+
+
+def is_inner(item):
+    return is_own(item) and "/specs/inner/" in item.file.path
+
+
+def find(wanted):
+    """The function or definition of a name; a law before a definition, and a public promise before what is inner."""
+    found = sorted(called(wanted), key=lambda item: (isinstance(item.file, Definitions), is_inner(item)))
     if not found:
         sys.exit(f"unfold: nothing is called {wanted}")
     if len(found) > 1 and isinstance(found[0].file, type(found[1].file)):
-        sys.exit(f"unfold: which {wanted}: {', '.join(f'{item.file.crate}::{name} ({item.place()})' for item in found)}")
+        sys.exit(f"unfold: which {wanted}: {', '.join(f'{item.file.crate}::{item.name} ({item.place()})' for item in found)}")
     return found[0]

@@ -10,7 +10,7 @@ use Rattle.portal_rules.proofs.Base.{Sound, at_lecturer, count_with, KeepsCapaci
 use Rattle.portal_rules.proofs.Base.{placed_with, limit_of, IsBest, StudentSees}
 use Rattle.portal_core.specs.Honest.{HasBest, DifferInLists, ListAlike, IsNoWorse, OneGainsNothing, DifferInOneList}
 use Rattle.spa_honest.proofs.Gains.{no_group_gains_over_both as no_group_over_by_number}
-use Rattle.spa_honest.specs.inner.ByNumber as instances
+use Rattle.spa_honest.specs.ByNumber as instances
 use Rattle.portal_rules.specs.declared.view.View.TheVariants as sees
 use Rattle.portal_rules.specs.World.{Lecturer, Student}
 use Rattle.portal_rules.specs.declared.rows.ProjectRow.{ProjectRow}

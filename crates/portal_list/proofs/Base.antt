@@ -50,10 +50,10 @@ pub use Rattle.portal_rules.specs.declared.phase.Round.TheVariants.{First, Secon
 pub use Rattle.portal_rules.specs.declared.rows.LecturerRow.{LecturerRow}
 pub use Rattle.portal_rules.specs.declared.rows.ProjectRow.{ProjectRow}
 pub use Rattle.portal_rules.specs.Alone.{alone_lecturer, alone_student, alone}
-pub use Rattle.portal_list.specs.inner.Rows.{AllEntries, HasEntries, entries_in, choices_in, earlier_choices_in}
-pub use Rattle.portal_list.specs.inner.Rows.{rankings_with, RowsOfWorld, world_rows}
+pub use Rattle.portal_list.specs.Rows.{AllEntries, HasEntries, entries_in, choices_in, earlier_choices_in}
+pub use Rattle.portal_list.specs.Rows.{rankings_with, RowsOfWorld, world_rows, is_followed, fill_missing}
 pub use Rattle.portal_list.specs.inner.ApplicantIndex.{IsApplicantIndex, is_among, is_noted, is_noted_in, passes_at}
-pub use Rattle.portal_list.specs.inner.Fill.{filled, missing, with_missing, unless_empty, fill_missing}
+pub use Rattle.portal_list.specs.inner.Fill.{filled, missing, with_missing, unless_empty}
 pub use Rattle.portal_list.specs.inner.Fit.{IsFitted, lecturers_fitting, students_fitting, next_for, rest_for}
 pub use Rattle.portal_list.specs.inner.Fit.{earlier_for, earlier_rest, with_lists}
 pub use Rattle.portal_list.specs.inner.Lines.{instance_lecturer, instance_project, instance_rows, instance_student}
@@ -61,7 +61,7 @@ pub use Rattle.portal_list.specs.inner.Parts.{HasNothingEarlier, HasRanking, Lis
 pub use Rattle.portal_list.specs.inner.Parts.{wanting, codes_in, lecturer_row_keys, student_row_keys, RollsFit}
 pub use Rattle.portal_list.specs.inner.Parts.{IsOutIfPlaced, IsStableIfPublished}
 pub use Rattle.portal_list.specs.inner.Played.{world_with, all_played, lecturer_played, project_played, takes_part}
-pub use Rattle.portal_list.specs.inner.Played.{is_followed, placed_now}
+pub use Rattle.portal_list.specs.inner.Played.{placed_now}
 pub use Rattle.portal_rules.specs.inner.Offers.{name_of, offered}
 pub use Rattle.portal_list.specs.inner.Shown.{applicants_shown, catalogue_in, is_waiting, placements_shown, is_wanted}
 pub use Rattle.spa_model.proofs.OneInstance.{never_itself, own_number, numbers_back, choices_below, ranking_below}

@@ -1,4 +1,3 @@
-pub mod Rows
 pub mod Lines
 pub mod Shown
 pub mod Fit

@@ -4,8 +4,7 @@ ghost use Rattle.std.specs.Prelude.{◌≡◌, true, false, Ok, IfOk, OnOk, OnEr
 ghost use Rattle.portal_rules.specs.World.{World, changed, with_place};
 ghost use Rattle.portal_rules.specs.Good.{Sound};
 ghost use Rattle.portal_rules.specs.Meaning.{change_model};
-ghost use Rattle.portal_list.specs.inner.Rows.{HasEntries};
-ghost use Rattle.portal_list.specs.inner.Played.{is_followed};
+ghost use Rattle.portal_list.specs.Rows.{HasEntries, is_followed};
 
 use crate::changes::{fill_rankings, place_all, replace_choice, replace_ranking};
 use portal_rules::{Change, LecturerRow, ProjectRow, Round, StudentRow};
@@ -70,7 +69,7 @@ pub struct Entries {
 }
 
 impl Model for Entries {
-    ghost use Rattle.portal_list.specs.inner.Rows.{AllEntries};
+    ghost use Rattle.portal_list.specs.Rows.{AllEntries};
 
     ghost Value = { AllEntries };
 

@@ -3,7 +3,7 @@
 ghost use Rattle.std.specs.Prelude.{◌≡◌, Err, IfOk};
 ghost use Rattle.portal_rules.specs.World.{World};
 ghost use Rattle.portal_rules.specs.Good.{Sound};
-ghost use Rattle.portal_list.specs.inner.Rows.{HasEntries, HasSoundFirst, world_rows};
+ghost use Rattle.portal_list.specs.Rows.{HasEntries, HasSoundFirst, world_rows};
 ghost use Rattle.portal_list.specs.inner.Parts.{RollsFit, RollsOf};
 ghost use Rattle.portal_list.specs.inner.Fit.{IsFitted};
 ghost use Rattle.portal_list.specs.inner.Played.{world_with};
@@ -44,7 +44,7 @@ pub struct WorldRows {
 
 impl Model for WorldRows {
     ghost use Rattle.std.specs.Prelude.{map};
-    ghost use Rattle.portal_list.specs.inner.Rows.{RowsOfWorld};
+    ghost use Rattle.portal_list.specs.Rows.{RowsOfWorld};
 
     ghost Value = { RowsOfWorld };
 

@@ -6,7 +6,7 @@ ghost use Rattle.portal_rules.specs.World.{World, is_still_to_rank};
 ghost use Rattle.portal_rules.specs.declared.phase.Round.TheVariants.{First};
 ghost use Rattle.portal_rules.specs.Good.{Sound};
 ghost use Rattle.portal_rules.specs.Good as meant_by;
-ghost use Rattle.portal_list.specs.inner.Rows.{HasEntries};
+ghost use Rattle.portal_list.specs.Rows.{HasEntries};
 ghost use Rattle.portal_list.specs.inner.Lines.{instance_lecturer, instance_project};
 ghost use Rattle.portal_list.specs.inner.Lines.{instance_student, instance_rows};
 

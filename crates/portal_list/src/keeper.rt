@@ -7,7 +7,7 @@ ghost use Rattle.portal_rules.specs.Good as meant_by;
 ghost use Rattle.portal_rules.specs.World.{changed, Lecturers, Projects, Students, Placements};
 ghost use Rattle.portal_rules.specs.World.{SecondRound};
 ghost use Rattle.portal_rules.specs.Meaning.{change_model};
-ghost use Rattle.portal_list.specs.inner.Played.{is_followed};
+ghost use Rattle.portal_list.specs.Rows.{is_followed};
 
 use crate::changes::{add_rows, lay_by_lists, lay_by_rankings, new_lecturers, new_students};
 use crate::copies::project_rows_of;

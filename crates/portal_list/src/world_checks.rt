@@ -5,7 +5,7 @@ ghost use Rattle.spa_model.specs.Pairs.{number_in};
 ghost use Rattle.spa_model.specs.Spa.{IsStable};
 ghost use Rattle.portal_rules.specs.Good.{Good, Sound, IsRound};
 ghost use Rattle.portal_rules.specs.World.{first, first_published, is_second};
-ghost use Rattle.portal_list.specs.inner.Rows.{HasSoundFirst};
+ghost use Rattle.portal_list.specs.Rows.{HasSoundFirst};
 ghost use Rattle.portal_list.specs.inner.Parts.{IsStableIfPublished, RollsOf};
 ghost use Rattle.portal_list.specs.inner.Played.{takes_part};
 

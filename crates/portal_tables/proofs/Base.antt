@@ -87,10 +87,12 @@ pub use Rattle.portal_tables.specs.inner.Owners.{IsListOf}
 pub use Rattle.portal_tables.specs.inner.Placements.{pair_shown, placed_project, first_pair, HasPairKeys}
 pub use Rattle.portal_tables.specs.inner.Placements.{HasPlacementAsked}
 pub use Rattle.portal_tables.specs.inner.Putting.{PutsList, PutsPlacements, RanksSecond, list_cells, numbered, placed}
-pub use Rattle.portal_tables.specs.inner.Queries.{columns_of, given, roll_tree, round_asked, selection, table_round}
-pub use Rattle.portal_tables.specs.inner.Queries.{table_tree, query_text}
-pub use Rattle.portal_tables.specs.inner.Reads.{IfOpen, Always, Blames, IsCommitted, IsUnchangedOrUndone, OnlyLooks}
-pub use Rattle.portal_tables.specs.inner.Reads.{Reading, Anyhow, Gives, HasRound}
+pub use Rattle.portal_tables.specs.inner.Queries.{columns_of, roll_tree, round_asked, selection, table_round}
+pub use Rattle.portal_tables.specs.inner.Queries.{table_tree}
+pub use Rattle.portal_tables.specs.QueryTexts.{given, query_text, names, choice2_names, choice_names, ranking2_names}
+pub use Rattle.portal_tables.specs.QueryTexts.{ranking_names}
+pub use Rattle.portal_tables.specs.Reads.{IfOpen, Always, Blames, IsCommitted, IsUnchangedOrUndone, OnlyLooks}
+pub use Rattle.portal_tables.specs.Reads.{Reading, Anyhow, Gives, HasRound}
 pub use Rattle.portal_tables.specs.inner.Rising.{is_above, rises}
 pub use Rattle.portal_tables.specs.inner.Rolls.{by_key}
 pub use Rattle.portal_tables.specs.inner.RowChanges.{IsOffice, IsSecond, Adds, AddsBy, Assigned, Assigns, portal_cells}
@@ -99,13 +101,13 @@ pub use Rattle.portal_tables.specs.inner.RowChanges.{MarksRanked}
 pub use Rattle.portal_tables.specs.inner.RowChanges.{assigned_by, lecturer_cells, lecturer_new, lecturer_values}
 pub use Rattle.portal_tables.specs.inner.RowChanges.{pair_new, place_cells, place_new, project_new, student_new}
 pub use Rattle.portal_tables.specs.inner.RowChanges.{student_columns, student_values, text_or_null_cell, with_assigned}
-pub use Rattle.portal_tables.specs.inner.Running.{Does, GoesOn, Made, Ran}
-pub use Rattle.portal_tables.specs.inner.Schema.{assigned2, choice, choice2, choice2_names, choice_names, column_of}
+pub use Rattle.portal_tables.specs.Running.{Does, GoesOn, Made, Ran}
+pub use Rattle.portal_tables.specs.inner.Schema.{assigned2, choice, choice2, column_of}
 pub use Rattle.portal_tables.specs.inner.Schema.{first_written, lecturer_schema, list_table, portal, portal_written}
-pub use Rattle.portal_tables.specs.inner.Schema.{project_schema, ranked2, ranking, ranking2, ranking2_names}
-pub use Rattle.portal_tables.specs.inner.Schema.{ranking_names, schema_of, second, student_schema}
+pub use Rattle.portal_tables.specs.inner.Schema.{project_schema, ranked2, ranking, ranking2, schema_of}
+pub use Rattle.portal_tables.specs.inner.Schema.{second, student_schema}
 pub use Rattle.portal_tables.specs.inner.Shown.{as_list, first_cell, shown_name, shown_rank, shown_student}
-pub use Rattle.portal_tables.specs.inner.Texts.{add_eight_text, add_text, clear_text, names, place_among, round_of}
+pub use Rattle.portal_tables.specs.inner.Texts.{add_eight_text, add_text, clear_text, place_among, round_of}
 pub use Rattle.portal_tables.specs.inner.Texts.{assigned2_text, choice2_text, choice_text, lecturer_text, portal_text}
 pub use Rattle.portal_tables.specs.inner.Texts.{project_text, ranked2_text, ranking2_text, ranking_text, second_text}
 pub use Rattle.portal_tables.specs.inner.Texts.{student_text}

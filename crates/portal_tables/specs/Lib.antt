@@ -1,6 +1,9 @@
 pub mod Base
 pub mod Tables
+pub mod QueryTexts
 pub mod Steps
+pub mod Running
+pub mod Reads
 pub mod Making
 pub mod Rows
 pub mod inner

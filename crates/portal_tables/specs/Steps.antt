@@ -5,7 +5,7 @@ use Rattle.sqlite.specs.declared.error.Error.{Error}
 use Rattle.sqlite_trees.specs.declared.error.StoreError.{StoreError}
 use Rattle.portal_tables.specs.Base.{IsTrue, Row, Trees, Database, State}
 use Rattle.portal_tables.specs.declared.select.Query.{Query}
-use Rattle.portal_tables.specs.inner.Queries.{given, query_text}
+use Rattle.portal_tables.specs.QueryTexts.{given, query_text}
 
 -- the change is made and committed
 pub record Commits (Change : Database → Database → Type 0) (old new : State) : Type 0 where

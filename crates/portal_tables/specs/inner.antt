@@ -4,7 +4,6 @@ pub mod Named
 pub mod Schema
 pub mod Texts
 pub mod Changes
-pub mod Running
 pub mod MakingSteps
 pub mod RowChanges
 pub mod Rising
@@ -15,4 +14,3 @@ pub mod Shown
 pub mod Placements
 pub mod Owners
 pub mod Putting
-pub mod Reads

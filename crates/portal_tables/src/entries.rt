@@ -4,7 +4,7 @@ ghost use Rattle.std.specs.Prelude.{◌≡◌, if◌then◌else◌};
 ghost use Rattle.portal_tables.specs.inner.Base.{[], false, true, Err, IfOk, OnOk, IsTrue, Some};
 ghost use Rattle.portal_tables.specs.inner.Base.{None, option_map, map, AllByRecursion, ⊤};
 ghost use Rattle.portal_tables.specs.inner.Base.{IsDatabase, has, Rise};
-ghost use Rattle.portal_tables.specs.inner.Reads.{MayRead, Always, GivesOrFails, Blames, Reads, Gives};
+ghost use Rattle.portal_tables.specs.Reads.{MayRead, Always, GivesOrFails, Blames, Reads, Gives};
 ghost use Rattle.portal_tables.specs.inner.Texts.{round_of};
 ghost use Rattle.portal_tables.specs.Tables.{tree_of};
 ghost use Rattle.portal_tables.specs.inner.Owners.{AreOwned, has_list, entry, with_list, IsRead};

@@ -3,7 +3,7 @@
 
 ghost use Rattle.std.specs.Prelude.{◌≡◌, ◌<◌, ◌≤◌, ◌++◌, ◌∷◌};
 ghost use Rattle.portal_tables.specs.inner.Base.{ℕ, [], pos, map, OnOk, flat_map, Row, bound};
-ghost use Rattle.portal_tables.specs.inner.Running.{Does, Ran, Made, GoesOn};
+ghost use Rattle.portal_tables.specs.Running.{Does, Ran, Made, GoesOn};
 ghost use Rattle.portal_tables.specs.Tables.{portal_tree, second_tree, version};
 ghost use Rattle.portal_tables.specs.inner.RowChanges.{portal_cells, second_cells};
 ghost use Rattle.portal_tables.specs.inner.RowChanges.{Adds, AddsBy};

@@ -2,8 +2,10 @@
 
 ghost use Rattle.std.specs.Prelude.{◌≡◌};
 ghost use Rattle.portal_tables.specs.Tables as meant;
+ghost use Rattle.portal_tables.specs.QueryTexts as asked;
+ghost use Rattle.portal_tables.specs.QueryTexts.{names};
 ghost use Rattle.portal_tables.specs.inner.Texts as texts;
-ghost use Rattle.portal_tables.specs.inner.Texts.{names, round_of};
+ghost use Rattle.portal_tables.specs.inner.Texts.{round_of};
 
 use portal_rules::Round;
 
@@ -57,7 +59,7 @@ impl Lists {
 
     /// Returns the query of all rows.
     pub(crate) fn all_text(self) -> &'static str
-        ensures { result.now ≡ texts.all_text (names self) }
+        ensures { result.now ≡ asked.all_text (names self) }
     {
         match self {
             Lists::Choices => "SELECT student, place, project FROM choice",
@@ -69,7 +71,7 @@ impl Lists {
 
     /// Returns the query of one owner's list.
     pub(crate) fn list_text(self) -> &'static str
-        ensures { result.now ≡ texts.list_text (names self) }
+        ensures { result.now ≡ asked.list_text (names self) }
     {
         match self {
             Lists::Choices => "SELECT place, project FROM choice WHERE student = ?1 ORDER BY place",

@@ -4,7 +4,7 @@ ghost use Rattle.std.specs.Prelude.{◌≡◌};
 ghost use Rattle.portal_tables.specs.inner.Base.{false, Err, OnOk, OnErr, IsTrue, HasCleanDisk};
 ghost use Rattle.portal_tables.specs.inner.Base.{Survives, state};
 ghost use Rattle.portal_tables.specs.Steps.{Commits, IsAfter, LeavesOnly, Stays};
-ghost use Rattle.portal_tables.specs.inner.Running.{Does, Made};
+ghost use Rattle.portal_tables.specs.Running.{Does, Made};
 ghost use Rattle.portal_tables.specs.Making.{Creates, Upgrades};
 ghost use Rattle.portal_tables.specs.inner.MakingSteps.{Makes, MakesFirst, MakesSecond};
 

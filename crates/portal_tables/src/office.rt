@@ -5,7 +5,7 @@ ghost use Rattle.portal_tables.specs.inner.Base.{[], pos, true, Err, IfOk, IfSom
 ghost use Rattle.portal_tables.specs.inner.Base.{List, ℕ, Int, Cells, column, is_code};
 ghost use Rattle.portal_tables.specs.inner.Base.{ThePhase, First, InSecond, IsDatabase};
 ghost use Rattle.portal_tables.specs.Tables.{portal_tree, second_tree};
-ghost use Rattle.portal_tables.specs.inner.Reads.{Always, GivesOrFails, Blames, Reads};
+ghost use Rattle.portal_tables.specs.Reads.{Always, GivesOrFails, Blames, Reads};
 ghost use Rattle.portal_tables.specs.Rows.{portal_row, second_row, number_of_phase, HasOffice};
 ghost use Rattle.portal_tables.specs.inner.RowChanges.{IsOffice, IsSecond};
 

@@ -3,7 +3,7 @@
 ghost use Rattle.std.specs.Prelude.{◌≡◌, is_none};
 ghost use Rattle.portal_tables.specs.inner.Base.{true, Err, None, IfOk, AllByRecursion, filter_map};
 ghost use Rattle.portal_tables.specs.inner.Base.{IsDatabase, IsStudent, First, InSecond};
-ghost use Rattle.portal_tables.specs.inner.Reads.{MayRead, Always, GivesOrFails, Blames, Reads};
+ghost use Rattle.portal_tables.specs.Reads.{MayRead, Always, GivesOrFails, Blames, Reads};
 ghost use Rattle.portal_tables.specs.inner.Shown.{shown_student};
 ghost use Rattle.portal_tables.specs.inner.Placements as meant;
 ghost use Rattle.portal_tables.specs.Rows.{second_placement};

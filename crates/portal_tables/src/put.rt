@@ -2,7 +2,7 @@
 
 ghost use Rattle.std.specs.Prelude.{◌≡◌, ◌≤◌};
 ghost use Rattle.portal_tables.specs.inner.Base.{length, map, IfOk};
-ghost use Rattle.portal_tables.specs.inner.Running.{Does, Made, GoesOn};
+ghost use Rattle.portal_tables.specs.Running.{Does, Made, GoesOn};
 ghost use Rattle.portal_tables.specs.Tables.{tree_of};
 ghost use Rattle.portal_tables.specs.inner.RowChanges.{Clears, place_new};
 ghost use Rattle.portal_tables.specs.inner.Putting.{list_cells, PutsList};

@@ -4,7 +4,7 @@ ghost use Rattle.std.specs.Prelude.{◌≡◌, ◌∷◌};
 ghost use Rattle.portal_tables.specs.inner.Base.{[], option_map, owned};
 ghost use Rattle.portal_tables.specs.Tables.{assigned2_tree};
 ghost use Rattle.portal_tables.specs.inner.Putting.{PutsPlacements};
-ghost use Rattle.portal_tables.specs.inner.Running.{Does, Made, GoesOn};
+ghost use Rattle.portal_tables.specs.Running.{Does, Made, GoesOn};
 ghost use Rattle.portal_tables.specs.inner.RowChanges.{Assigns, pair_new};
 ghost use Rattle.portal_tables.specs.inner.RowChanges.{text_or_null_cell};
 

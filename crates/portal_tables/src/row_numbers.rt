@@ -4,7 +4,7 @@ ghost use Rattle.std.specs.Prelude.{◌≡◌};
 ghost use Rattle.portal_tables.specs.inner.Base.{true, IfSome, IsTrue, None, Int, column};
 ghost use Rattle.portal_tables.specs.Rows.{RowNumbersDiffer};
 ghost use Rattle.portal_tables.specs.inner.Queries.{table_tree, table_round};
-ghost use Rattle.portal_tables.specs.inner.Reads.{Always, Reads, Gives};
+ghost use Rattle.portal_tables.specs.Reads.{Always, Reads, Gives};
 ghost use Rattle.portal_tables.specs.inner.Rising.{rises};
 
 use crate::select::{Query, Table, read};

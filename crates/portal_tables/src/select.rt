@@ -4,10 +4,11 @@ ghost use Rattle.std.specs.Prelude.{◌≡◌, ◌⊎◌, IfErr};
 ghost use Rattle.portal_tables.specs.inner.Base.{Err, HasCleanDisk, IfOk, List};
 ghost use Rattle.portal_tables.specs.inner.Base.{AllByRecursion, Cells, bound, state};
 ghost use Rattle.portal_tables.specs.inner.Decoding.{ShowsAs, FindsAny};
-ghost use Rattle.portal_tables.specs.inner.Queries.{QueryShows, round_asked, query_text, given};
-ghost use Rattle.portal_tables.specs.inner.Queries as texts;
+ghost use Rattle.portal_tables.specs.inner.Queries.{QueryShows, round_asked};
+ghost use Rattle.portal_tables.specs.QueryTexts.{query_text, given};
+ghost use Rattle.portal_tables.specs.QueryTexts as texts;
 ghost use Rattle.portal_tables.specs.Steps.{HasAnswer, HasRefusal, IsStoreError};
-ghost use Rattle.portal_tables.specs.inner.Reads.{Always, GivesOrFails, Blames, Reads, Gives};
+ghost use Rattle.portal_tables.specs.Reads.{Always, GivesOrFails, Blames, Reads, Gives};
 ghost use Rattle.portal_tables.specs.inner.Shown.{as_list};
 
 use crate::decode::FromCells;

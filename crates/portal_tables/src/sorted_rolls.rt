@@ -6,7 +6,7 @@ ghost use Rattle.portal_tables.specs.inner.Base.{AllByRecursion, IsDatabase, IsL
 ghost use Rattle.portal_tables.specs.inner.Base.{IsStudent, Rise, First, has, nat_cmp};
 ghost use Rattle.portal_tables.specs.inner.Base.{slice_cmp};
 ghost use Rattle.portal_tables.specs.inner.Queries.{QueryShows, round_asked};
-ghost use Rattle.portal_tables.specs.inner.Reads.{Always, GivesOrFails, Blames, Reads};
+ghost use Rattle.portal_tables.specs.Reads.{Always, GivesOrFails, Blames, Reads};
 ghost use Rattle.portal_tables.specs.inner.Rolls.{roll_rows, RollRises, AreRolls, RollsRise};
 ghost use Rattle.portal_tables.specs.inner.Shown.{first_cell, shown_lecturer, shown_project};
 ghost use Rattle.portal_tables.specs.inner.Shown.{shown_student};

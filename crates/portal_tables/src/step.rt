@@ -4,8 +4,8 @@ ghost use Rattle.std.specs.Prelude.{◌≡◌};
 ghost use Rattle.portal_tables.specs.inner.Base.{false, Err, OnOk, OnErr, IsTrue, HasCleanDisk};
 ghost use Rattle.portal_tables.specs.inner.Base.{Survives, state, Database, IsLive};
 ghost use Rattle.portal_tables.specs.Steps.{Commits, IsAfter, LeavesOnly, Stays};
-ghost use Rattle.portal_tables.specs.inner.Running.{Does, GoesOn};
-ghost use Rattle.portal_tables.specs.inner.Reads.{IsCommitted};
+ghost use Rattle.portal_tables.specs.Running.{Does, GoesOn};
+ghost use Rattle.portal_tables.specs.Reads.{IsCommitted};
 
 use crate::fault::TableFault;
 use sqlite::{Alter, Connection, Error, Transaction};

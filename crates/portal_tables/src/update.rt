@@ -1,7 +1,7 @@
 //! Sets a round's phase or the version, and records that a lecturer has a ranking.
 
 ghost use Rattle.portal_tables.specs.Rows.{number_of_phase};
-ghost use Rattle.portal_tables.specs.inner.Running.{Does, Made};
+ghost use Rattle.portal_tables.specs.Running.{Does, Made};
 ghost use Rattle.portal_tables.specs.inner.RowChanges.{IsOfVersion, MovesSecond, MovesTo, MarksRanked};
 ghost use Rattle.portal_tables.specs.inner.Putting.{RanksSecond};
 

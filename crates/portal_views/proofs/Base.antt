@@ -58,7 +58,7 @@ pub use Rattle.portal_tables.specs.inner.Owners.{AreOwned, choice_shown, has_lis
 pub use Rattle.portal_tables.specs.inner.Placements.{HasPlacement, HasPlacementAsked, HasSecondPlace, placement_before}
 pub use Rattle.portal_tables.specs.inner.Placements.{HasFirstPlace, first_pairs}
 pub use Rattle.portal_tables.specs.inner.Queries.{columns_of, roll_tree}
-pub use Rattle.portal_tables.specs.inner.Reads.{MayRead, Always, Reading, Gives, HasRound}
+pub use Rattle.portal_tables.specs.Reads.{MayRead, Always, Reading, Gives, HasRound}
 pub use Rattle.portal_tables.specs.inner.Rolls.{by_key, lecturers_shown, projects_shown, roll_columns, students_shown}
 pub use Rattle.portal_tables.specs.inner.Rolls.{RollRises}
 pub use Rattle.portal_tables.specs.inner.Shown.{first_cell, shown_lecturer, shown_project, shown_student}

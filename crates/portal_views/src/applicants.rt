@@ -8,7 +8,7 @@ ghost use Rattle.portal_views.specs.inner.Callers.{with_persons, lines_shown, pe
 ghost use Rattle.portal_views.specs.inner.Callers.{persons_before, placed_at_shown};
 ghost use Rattle.portal_views.specs.inner.Callers.{AreStudentsOf, person_key};
 ghost use Rattle.portal_views.specs.inner.Lines.{HasTables, HasStudents};
-ghost use Rattle.portal_tables.specs.inner.Reads.{MayRead, GivesOrFails};
+ghost use Rattle.portal_tables.specs.Reads.{MayRead, GivesOrFails};
 
 use crate::lines::{ApplicantLine, lines_to, persons_of};
 use portal_rules::{Person, Phase, Round};

@@ -7,7 +7,7 @@ ghost use Rattle.portal_views.specs.inner.Base.{IfOk, filter_map, map, IsDatabas
 ghost use Rattle.portal_views.specs.inner.Catalogue.{offered_in, catalogue_shown, HasOffers};
 ghost use Rattle.portal_views.specs.inner.Catalogue.{HasFirstPairs};
 ghost use Rattle.portal_tables.specs.inner.Placements.{first_pairs};
-ghost use Rattle.portal_tables.specs.inner.Reads.{MayRead, Always, GivesOrFails, Blames, Reads};
+ghost use Rattle.portal_tables.specs.Reads.{MayRead, Always, GivesOrFails, Blames, Reads};
 ghost use Rattle.portal_tables.specs.inner.Rolls.{lecturers_shown, projects_shown};
 ghost use Rattle.portal_tables.specs.inner.Shown.{shown_lecturer, shown_project};
 

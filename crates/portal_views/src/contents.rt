@@ -2,7 +2,7 @@
 
 ghost use Rattle.portal_views.specs.inner.Base.{IsDatabase};
 ghost use Rattle.portal_views.specs.inner.Contents.{rows_held, HasRead, HasFineRolls};
-ghost use Rattle.portal_tables.specs.inner.Reads.{GivesOrFails, Blames, Reads};
+ghost use Rattle.portal_tables.specs.Reads.{GivesOrFails, Blames, Reads};
 
 use portal_rules::{LecturerRow, ProjectRow, Round, StudentRow};
 use portal_tables::list_table::Lists;

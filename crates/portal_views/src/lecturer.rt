@@ -9,7 +9,7 @@ ghost use Rattle.portal_views.specs.inner.Lines.{HasTables, HasKeyForm};
 ghost use Rattle.portal_views.specs.inner.Catalogue.{IsCatalogue, own_listed};
 ghost use Rattle.portal_tables.specs.Tables.{ranking_table};
 ghost use Rattle.portal_tables.specs.inner.Owners.{IsFine, with_list, ranking_shown};
-ghost use Rattle.portal_tables.specs.inner.Reads.{MayRead, GivesOrFails, Blames};
+ghost use Rattle.portal_tables.specs.Reads.{MayRead, GivesOrFails, Blames};
 ghost use Rattle.portal_tables.specs.inner.Shown.{first_cell};
 
 use crate::applicants::project_students;

@@ -5,7 +5,7 @@ ghost use Rattle.portal_views.specs.inner.Base.{[], Err, IfOk, Some, AllByRecurs
 ghost use Rattle.portal_views.specs.inner.Base.{Row as Cells, column, bytes, IsDatabase};
 ghost use Rattle.portal_views.specs.inner.Base.{Contradicts};
 ghost use Rattle.portal_tables.specs.inner.Placements.{HasPlacement};
-ghost use Rattle.portal_tables.specs.inner.Reads.{MayRead, GivesOrFails, Blames, Reads};
+ghost use Rattle.portal_tables.specs.Reads.{MayRead, GivesOrFails, Blames, Reads};
 ghost use Rattle.portal_tables.specs.inner.Shown.{first_cell};
 ghost use Rattle.portal_views.specs.inner.Lines.{HasTables, HasStudents, IsNamed, IsStudentKey};
 ghost use Rattle.portal_views.specs.inner.Lines.{IsNamedWithPlacement, placement_line, in_round, applicant_at};

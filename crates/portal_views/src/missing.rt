@@ -7,7 +7,7 @@ ghost use Rattle.portal_views.specs.inner.Base.{not, filter, has, equals, Rise};
 ghost use Rattle.portal_views.specs.inner.Office.{HasWholeLists, is_chosen_shown, is_wanted_shown};
 ghost use Rattle.portal_views.specs.inner.Office.{waiting_key, waiting_keys, unlisted};
 ghost use Rattle.portal_views.specs.inner.Lines.{HasKeyForm};
-ghost use Rattle.portal_tables.specs.inner.Reads.{MayRead, GivesOrFails, Blames, Reads, Gives};
+ghost use Rattle.portal_tables.specs.Reads.{MayRead, GivesOrFails, Blames, Reads, Gives};
 ghost use Rattle.portal_tables.specs.inner.Placements.{placement_before};
 ghost use Rattle.portal_tables.specs.inner.Shown.{first_cell, shown_project};
 

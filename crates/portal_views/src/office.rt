@@ -4,7 +4,7 @@ ghost use Rattle.std.specs.Prelude.{◌≡◌};
 ghost use Rattle.portal_views.specs.inner.Base.{Err, IfOk, AllByRecursion, map, Contradicts};
 ghost use Rattle.portal_views.specs.inner.Base.{IsLecturer, IsProject, IsStudent};
 ghost use Rattle.portal_views.specs.inner.Office.{HasWholeLists, office_shown, IsReadableByOffice};
-ghost use Rattle.portal_tables.specs.inner.Reads.{GivesOrFails, Reads};
+ghost use Rattle.portal_tables.specs.Reads.{GivesOrFails, Reads};
 ghost use Rattle.portal_tables.specs.inner.Shown.{shown_lecturer, shown_project, shown_student};
 
 use crate::missing::{still_to_rank, without_list};

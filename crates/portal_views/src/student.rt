@@ -3,7 +3,7 @@
 ghost use Rattle.std.specs.Prelude.{◌≡◌};
 ghost use Rattle.portal_views.specs.inner.Base.{IsDatabase};
 ghost use Rattle.portal_views.specs.inner.Callers.{IsReadable, student_shown};
-ghost use Rattle.portal_tables.specs.inner.Reads.{MayRead, GivesOrFails, Blames};
+ghost use Rattle.portal_tables.specs.Reads.{MayRead, GivesOrFails, Blames};
 
 use crate::lines::person_at;
 use portal_rules::{Listing, Phase, Round, StudentView};

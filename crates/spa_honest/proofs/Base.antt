@@ -15,7 +15,7 @@ pub use Rattle.std.specs.declared.cmp.Ordering.TheVariants.{Less}
 pub use Rattle.spa_honest.specs.Honest.{GivesRoom, places_among, places_with, IsBusy, IsTaken, MorePlacesNeverHarm}
 pub use Rattle.spa_honest.specs.Honest.{with_room, DifferInLists, DifferInOneList, HasRoom, NobodyGains, AssignTheSame}
 pub use Rattle.spa_honest.specs.Honest.{IsNoWorse, first_with, IsAsGoodFor, with_rankings, NoRankingPays, IsCut}
-pub use Rattle.spa_honest.specs.inner.ByNumber.{AddsTo}
+pub use Rattle.spa_honest.specs.ByNumber.{AddsTo}
 pub use Rattle.spa_honest.specs.examples.Example.{ann, bells, cem, example, honest_list, kites, safe_list, short_list}
 pub use Rattle.spa_honest.specs.examples.Example.{tides}
 pub use Rattle.spa_model.proofs.Counts.{count_by-cons, count_by-lt, one_if, sum_below, sum_below-lt, count_by-le}

@@ -1,3 +1,3 @@
 pub mod Honest
-pub mod inner
+pub mod ByNumber
 pub mod examples

@@ -1,5 +1,5 @@
 //! Laws of stable matchings: best ones exist, honest lists are best, waiting never pays.
-//! Those of `specs/inner/ByNumber` are lemmas for the laws of worlds in `portal_core`.
+//! Those of `specs/ByNumber` are lemmas for the laws of worlds in `portal_core`.
 
 ghost use Rattle.std.specs.Prelude.{◌≡◌, ◌↔◌, ℕ, ◌∷◌, [], Some, None};
 ghost use Rattle.spa_model.specs.Spa.{Blocks, IsBest, IsLawful, IsStable};
@@ -8,9 +8,9 @@ ghost use Rattle.spa_honest.specs.Honest.{SameAssigned, BestThereIs, OrderHonest
 ghost use Rattle.spa_honest.specs.Honest.{BlockedOutside, DropoutStaysLocal, LecturersWorst};
 ghost use Rattle.spa_honest.specs.Honest.{NobodyGains, HasRoom, MoreRoomNeverHarms};
 ghost use Rattle.spa_honest.specs.Honest.{MorePlacesNeverHarm, NoRankingPays, first_with};
-ghost use Rattle.spa_honest.specs.inner.ByNumber.{HonestIsBest, LeftFindsNone, WaitingNeverPays};
-ghost use Rattle.spa_honest.specs.inner.ByNumber.{NoGroupGains, NoGroupGainsOverBoth};
-ghost use Rattle.spa_honest.specs.inner.ByNumber.{ShorterNeverHarm};
+ghost use Rattle.spa_honest.specs.ByNumber.{HonestIsBest, LeftFindsNone, WaitingNeverPays};
+ghost use Rattle.spa_honest.specs.ByNumber.{NoGroupGains, NoGroupGainsOverBoth};
+ghost use Rattle.spa_honest.specs.ByNumber.{ShorterNeverHarm};
 ghost use Rattle.spa_honest.specs.examples.Example.{bells, example, honest_list, kites, safe_list};
 ghost use Rattle.spa_honest.specs.examples.Example.{cem, short_list, tides};
 ghost use Rattle.spa_honest.specs.examples.Varied.{ben_first, judged, lee, popular_alone};

@@ -56,5 +56,5 @@ pub use Rattle.spa_rows.specs.declared.faults.InstanceFault.TheVariants.{Applica
 pub use Rattle.spa_rows.specs.declared.faults.InstanceFault.TheVariants.{KeyTwice, ListTooLong, Memory, NoSuchLecturer}
 pub use Rattle.spa_rows.specs.declared.faults.InstanceFault.TheVariants.{NotApplicant, RepeatInList, TooMany}
 pub use Rattle.spa_rows.specs.inner.Least.{IsLeastOf, lesser_row}
-pub use Rattle.spa_rows.specs.inner.Index.{AreListNumbers, HasNumber, HaveNumbers}
+pub use Rattle.spa_rows.specs.Numbers.{AreListNumbers, HasNumber, HaveNumbers}
 pub use Rattle.std.specs.Global.{Global}

@@ -5,7 +5,7 @@ mod numbers;
 
 ghost use Rattle.std.specs.Prelude.{IfErr, IfOk};
 ghost use Rattle.spa_rows.specs.Faults.{HasNoneBefore, IsRefusal};
-ghost use Rattle.spa_rows.specs.inner.Index.{AreListNumbers};
+ghost use Rattle.spa_rows.specs.Numbers.{AreListNumbers};
 ghost use Rattle.spa_rows.specs.declared.faults.InstanceFault.TheVariants.{NotApplicant};
 ghost use Rattle.spa_model.specs.Pairs.{IsInstanceOf};
 ghost use Rattle.spa_model.specs.inner.Numbers.{AreSorted, rows_of};

@@ -26,7 +26,8 @@ pub use Rattle.spa_rows.specs.declared.faults.InstanceFault.TheVariants.{Applica
 pub use Rattle.spa_rows.specs.declared.faults.InstanceFault.TheVariants.{KeyTwice, ListTooLong, Memory, NoSuchLecturer}
 pub use Rattle.spa_rows.specs.declared.faults.InstanceFault.TheVariants.{NoSuchProject, NotApplicant, RepeatInList}
 pub use Rattle.spa_rows.specs.declared.faults.InstanceFault.TheVariants.{TooMany}
-pub use Rattle.spa_rows.specs.inner.Index.{IsIndexOf, text_eq, HasPlace, HasNumber, HaveNumbers, AreListNumbers, Differ}
+pub use Rattle.spa_rows.specs.inner.Index.{IsIndexOf, text_eq, HasPlace, Differ}
+pub use Rattle.spa_rows.specs.Numbers.{HasNumber, HaveNumbers, AreListNumbers}
 pub use Rattle.spa_rows.specs.inner.Least.{IsLeastOf, IsLeastTold, least_row, lesser_row}
 pub use Rattle.std.specs.Global.{Global}
 pub use Rattle.std.specs.List.{AllZip, IsAnyAnswer}

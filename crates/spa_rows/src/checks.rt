@@ -3,7 +3,7 @@
 
 ghost use Rattle.std.specs.Prelude.{◌≡◌, Err, IfErr, IfOk, IsOk, MatchOption, OnOk};
 ghost use Rattle.spa_rows.specs.Faults.{HasFault, HasNoneBefore, IsRefusal};
-ghost use Rattle.spa_rows.specs.inner.Index.{AreListNumbers};
+ghost use Rattle.spa_rows.specs.Numbers.{AreListNumbers};
 ghost use Rattle.spa_rows.specs.inner.Least.{IsLeastOf, lesser_row};
 
 use crate::faults::{BadInstance, InstanceFault};

@@ -6,7 +6,8 @@ ghost use Rattle.std.specs.Ordering.{nat_cmp};
 ghost use Rattle.std.specs.Cmp.Lexicographic.{slice_cmp};
 ghost use Rattle.spa_rows.specs.Faults.{IsKeyOf};
 ghost use Rattle.std.specs.HashMap.{get};
-ghost use Rattle.spa_rows.specs.inner.Index.{text_eq, AreListNumbers, HasNumber, HaveNumbers};
+ghost use Rattle.spa_rows.specs.inner.Index.{text_eq};
+ghost use Rattle.spa_rows.specs.Numbers.{AreListNumbers, HasNumber, HaveNumbers};
 
 use crate::lines::{InstanceRows, Line, Listing};
 use std::alloc::{AllocError, Global};

@@ -1,8 +1,8 @@
 -- The rankings that a fill makes.
-use Rattle.std.specs.Prelude.{if◌then◌else◌, List, Option, Some, None, is_none, map, filter}
+use Rattle.std.specs.Prelude.{if◌then◌else◌, List, Option, Some, None, is_none}
 use Rattle.portal_rules.specs.declared.rows.ProjectRow.{ProjectRow}
 use Rattle.portal_rules.specs.Words.{Key, is_empty}
-use Rattle.portal_rules.specs.World.{World, Lecturer, Student, student_key, applicants_of, is_still_to_rank}
+use Rattle.portal_rules.specs.World.{Lecturer, Student}
 use Rattle.portal_list.specs.inner.Parts.{applicant_keys}
 
 -- the applicants by key, where there is one
@@ -21,8 +21,3 @@ with_missing l (Some list) = record l { ranking = Some list }
 -- the lecturer after a fill
 abbrev pub filled : List ProjectRow → List Student → Lecturer → Lecturer
 filled projects students l = with_missing l (missing projects students l)
-
--- the lecturers still to rank, each with the keys of the applicants
-abbrev pub fill_missing : World → List (Key × List Key)
-fill_missing w =
-    map (λ l. (l.row.key, map student_key (applicants_of w l.row.key))) (filter (is_still_to_rank w) w.lecturers)

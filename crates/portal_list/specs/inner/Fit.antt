@@ -8,7 +8,7 @@ use Rattle.portal_rules.specs.declared.rows.StudentRow.{StudentRow}
 use Rattle.portal_rules.specs.Words.{Key, equals, is_empty}
 use Rattle.portal_rules.specs.World.{Lecturer, Student, World}
 use Rattle.portal_rules.specs.Good.{Sound}
-use Rattle.portal_list.specs.inner.Rows.{RowsOfWorld, world_rows}
+use Rattle.portal_list.specs.Rows.{RowsOfWorld, world_rows}
 
 -- what stands next, if it is for this key
 abbrev pub next_for : {V : Type 0} → Key → List (Key × V) → Option V

@@ -4,7 +4,7 @@ use Rattle.spa_rows.specs.Lines
 use Rattle.spa_rows.specs.Lines.{Rows}
 use Rattle.portal_rules.specs.World.{Lecturer, Student}
 use Rattle.portal_rules.specs.declared.rows.ProjectRow.{ProjectRow}
-use Rattle.portal_list.specs.inner.Rows.{AllEntries}
+use Rattle.portal_list.specs.Rows.{AllEntries}
 
 -- no fault of these lines is ever told, so that they need no row
 abbrev pub instance_lecturer : Lecturer → Lines.LecturerWithList

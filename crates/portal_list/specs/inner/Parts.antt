@@ -14,7 +14,7 @@ use Rattle.portal_rules.specs.Good.{instance, matching_of, IsLecturer, IsProject
 use Rattle.portal_rules.specs.World.{World, Lecturer, Student, project_key, student_key, is_setup, is_published}
 use Rattle.portal_rules.specs.World.{is_from_ranking, is_second, is_left, projects_in}
 use Rattle.portal_rules.specs.inner.Room.{own_keys}
-use Rattle.portal_list.specs.inner.Rows.{AllEntries, entries_in}
+use Rattle.portal_list.specs.Rows.{AllEntries, entries_in}
 
 abbrev pub codes_in : Key → List LecturerRow → List StudentRow → List Key
 codes_in office lecturers students = office ∷ map (λ l. l.code) lecturers ++ map (λ s. s.code) students

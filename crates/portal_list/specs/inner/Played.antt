@@ -1,6 +1,6 @@
 -- Who takes part in the second round, as a world of a single round: with the room that the first
 -- left, and nothing before it.
-use Rattle.std.specs.Prelude.{Bool, true, if◌then◌else◌, List, map, Option, None, option_map, false}
+use Rattle.std.specs.Prelude.{Bool, true, if◌then◌else◌, List, map, Option, None, option_map}
 use Rattle.portal_rules.specs.declared.phase.Round.{Round}
 use Rattle.portal_rules.specs.declared.phase.Round.TheVariants.{First, Second}
 use Rattle.portal_rules.specs.declared.rows.ProjectRow.{ProjectRow}
@@ -8,10 +8,8 @@ use Rattle.std.specs.List.{list_any}
 use Rattle.portal_rules.specs.Words.{Key, equals}
 use Rattle.portal_rules.specs.inner.Room.{lecturer_left, project_left}
 use Rattle.portal_rules.specs.World.{Lecturer, Student, is_left, lecturers_left, projects_left, students_left, World}
-use Rattle.portal_rules.specs.World.{Change, Choices, Ranks, Lecturers, Projects, Students, To, Placements, Fill}
-use Rattle.portal_rules.specs.World.{SecondRound}
 use Rattle.portal_rules.specs.Alone.{alone_lecturer, alone_student}
-use Rattle.portal_list.specs.inner.Rows.{AllEntries}
+use Rattle.portal_list.specs.Rows.{AllEntries}
 use Rattle.portal_rules.specs.declared.phase.Phase.{Phase}
 
 -- the lecturer, if room is left
@@ -45,15 +43,3 @@ placed_now s place = if is_left s then record s { placed = place } else s
 -- the world with these entries
 abbrev pub world_with : Phase → Key → AllEntries → World
 world_with phase office e = record { round = e.round; phase = phase; office = office; lecturers = e.lecturers; projects = e.projects; students = e.students }
-
--- the changes that entries follow: all but those of rolls, the result and the second round
-abbrev pub is_followed : Change → Bool
-is_followed (Choices student list) = true
-is_followed (Ranks lecturer list) = true
-is_followed (To phase) = true
-is_followed Fill = true
-is_followed (Lecturers rows) = false
-is_followed (Projects rows) = false
-is_followed (Students rows) = false
-is_followed (Placements pairs) = false
-is_followed SecondRound = false

@@ -8,7 +8,7 @@ use Rattle.portal_rules.specs.declared.phase.Phase.{Phase}
 use Rattle.portal_rules.specs.declared.rows.Listing.{Listing}
 use Rattle.portal_rules.specs.declared.rows.ProjectRow.{ProjectRow}
 use Rattle.portal_rules.specs.declared.rows.Person.{Person}
-use Rattle.portal_list.specs.inner.Rows.{AllEntries}
+use Rattle.portal_list.specs.Rows.{AllEntries}
 
 -- a lecturer's projects, with the applicants once the lists are closed
 abbrev pub applicants_shown : Bool → List Student → Key → List ProjectRow → List (Key × List Person)

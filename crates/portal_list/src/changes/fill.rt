@@ -4,9 +4,9 @@
 ghost use Rattle.std.specs.Prelude.{◌≡◌, IfOk, OnOk, OnErr, List, map};
 ghost use Rattle.portal_rules.specs.Words as words;
 ghost use Rattle.portal_rules.specs.World.{World};
-ghost use Rattle.portal_list.specs.inner.Rows.{HasEntries};
+ghost use Rattle.portal_list.specs.Rows.{HasEntries, fill_missing};
 ghost use Rattle.portal_list.specs.inner.Parts.{applicant_keys};
-ghost use Rattle.portal_list.specs.inner.Fill.{missing, with_missing, filled, fill_missing};
+ghost use Rattle.portal_list.specs.inner.Fill.{missing, with_missing, filled};
 
 use crate::applicant_index::ApplicantIndex;
 use crate::entries::{Entries, LecturerEntry, StudentEntry};

@@ -5,7 +5,7 @@ use Rattle.portal_tables.specs.inner.Base.{is_empty, Result, Ok, Err, IfOk, OnOk
 use Rattle.portal_tables.specs.inner.Base.{Ghosts, HasCleanDisk, Survives, Shown, IsPlain, understood, Error}
 use Rattle.sqlite_resolve.specs.declared.compiled.Compiled.{Compiled}
 use Rattle.sqlite_resolve.specs.declared.error.CompileError.{CompileError}
-use Rattle.portal_tables.specs.inner.Reads.{IsUnchangedOrUndone}
+use Rattle.portal_tables.specs.Reads.{IsUnchangedOrUndone}
 use Rattle.portal_tables.specs.declared.fault.TableFault.{TableFault}
 use Rattle.portal_tables.specs.declared.fault.TableFault.TheVariants.{Damaged}
 

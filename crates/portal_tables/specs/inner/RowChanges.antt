@@ -5,7 +5,7 @@ use Rattle.portal_tables.specs.inner.Base.{is_eq, Value, Null, Int, Words, Row, 
 use Rattle.portal_tables.specs.inner.Base.{Ghosts, Held, state, Key, LecturerRow, ProjectRow, StudentRow, Phase}
 use Rattle.portal_tables.specs.declared.insert.lists.NewPlace.{NewPlace}
 use Rattle.portal_tables.specs.Tables.{portal_tree, lecturer_tree, student_tree, second_tree, IsCurrentSchema}
-use Rattle.portal_tables.specs.inner.Running.{Ran, Made}
+use Rattle.portal_tables.specs.Running.{Ran, Made}
 use Rattle.portal_tables.specs.Rows.{RowNumbersDiffer, has_text, portal_row, second_row, number_of_phase}
 use Rattle.portal_tables.specs.inner.Changes.{InsertsRows, Drops, Sets, Alters, Becomes, columns}
 

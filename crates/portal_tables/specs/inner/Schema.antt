@@ -1,5 +1,6 @@
 -- The portal's schemas, written out: what the CREATE texts of `Tables` define.
 use Rattle.std.specs.Prelude.{◌∷◌, ◌++◌}
+use Rattle.portal_tables.specs.QueryTexts.{ListTable, choice_names, ranking_names, choice2_names, ranking2_names}
 use Rattle.portal_tables.specs.inner.Base.{Binary, true, false, [], Some, None, codes, List, ℕ, pos, Bool, Option, Null}
 use Rattle.portal_tables.specs.inner.Base.{Int, Table, Schema, Kind, Integer, Text, Term, lit, col, op2, Compare, And}
 use Rattle.portal_tables.specs.inner.Base.{Or, Eq, Ge, Le, Column, Index, Reference, NoAction, Order, plain}
@@ -67,30 +68,13 @@ student_schema tree = schema_of (codes "student") tree
     column_of (codes "assigned") Text false ∷ [])
     None (1 ∷ []) ((1 ∷ []) ∷ (3 ∷ []) ∷ []) (plain ∷ plain ∷ []) [] (refers_to 4 (codes "project") ∷ [])
 
--- a table of lists; the columns `owner` and `item` have the names of the rolls that they refer to
-pub record ListTable : Type 0 where
-  pub name : List ℕ
-  pub owner : List ℕ
-  pub item : List ℕ
-
+-- a table of lists
 abbrev pub list_table : ListTable → ℕ → Table
 list_table t tree = schema_of t.name tree
     (column_of t.owner Text true ∷ column_of (codes "place") Integer true ∷ column_of t.item Text true ∷ [])
     None (1 ∷ 2 ∷ []) ((1 ∷ 2 ∷ []) ∷ (3 ∷ 1 ∷ []) ∷ []) (plain ∷ plain ∷ []) [] (refers_to 1 t.owner ∷ refers_to 3 t.item ∷ [])
 
 -- the tables of students' lists and of lecturers' rankings, for each round
-abbrev pub choice_names : ListTable
-choice_names = record { name = codes "choice"; owner = codes "student"; item = codes "project" }
-
-abbrev pub ranking_names : ListTable
-ranking_names = record { name = codes "ranking"; owner = codes "lecturer"; item = codes "student" }
-
-abbrev pub choice2_names : ListTable
-choice2_names = record choice_names { name = codes "choice2" }
-
-abbrev pub ranking2_names : ListTable
-ranking2_names = record ranking_names { name = codes "ranking2" }
-
 abbrev pub choice : ℕ → Table
 choice = list_table choice_names
 

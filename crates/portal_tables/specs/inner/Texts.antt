@@ -2,7 +2,7 @@
 use Rattle.std.specs.Prelude.{◌++◌, slice_index_or}
 use Rattle.portal_tables.specs.Tables.{first_texts, second_texts}
 use Rattle.portal_tables.specs.inner.Base.{[], codes, List, ℕ, Round, First, Second}
-use Rattle.portal_tables.specs.inner.Schema.{ListTable, choice_names, ranking_names, choice2_names, ranking2_names}
+use Rattle.portal_tables.specs.QueryTexts.{ListTable}
 use Rattle.portal_tables.specs.declared.list_table.Lists.{Lists}
 use Rattle.portal_tables.specs.declared.list_table.Lists.TheVariants.{Choices, Rankings, SecondChoices, SecondRankings}
 
@@ -40,18 +40,12 @@ ranking2_text = slice_index_or second_texts 3 []
 abbrev pub assigned2_text : List ℕ
 assigned2_text = slice_index_or second_texts 4 []
 
--- the round, the names, the place among the tables, and the tree
+-- the round, and the place among the tables
 abbrev pub round_of : Lists → Round
 round_of Choices = First
 round_of Rankings = First
 round_of SecondChoices = Second
 round_of SecondRankings = Second
-
-abbrev pub names : Lists → ListTable
-names Choices = choice_names
-names Rankings = ranking_names
-names SecondChoices = choice2_names
-names SecondRankings = ranking2_names
 
 abbrev pub place_among : Lists → ℕ
 place_among Choices = 4
@@ -69,10 +63,3 @@ add_text t = codes "INSERT INTO " ++ t.name ++ codes " (" ++ t.owner ++ codes ",
 
 abbrev pub add_eight_text : ListTable → List ℕ
 add_eight_text t = add_text t ++ codes ", (?4, ?5, ?6), (?7, ?8, ?9), (?10, ?11, ?12), (?13, ?14, ?15), (?16, ?17, ?18), (?19, ?20, ?21), (?22, ?23, ?24)"
-
--- the texts that show all rows, and the list of one owner
-abbrev pub all_text : ListTable → List ℕ
-all_text t = codes "SELECT " ++ t.owner ++ codes ", place, " ++ t.item ++ codes " FROM " ++ t.name
-
-abbrev pub list_text : ListTable → List ℕ
-list_text t = codes "SELECT place, " ++ t.item ++ codes " FROM " ++ t.name ++ codes " WHERE " ++ t.owner ++ codes " = ?1 ORDER BY place"

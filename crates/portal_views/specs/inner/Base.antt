@@ -1,5 +1,5 @@
 -- Names from below that the definitions and the contracts use, and what a fault refutes.
-use Rattle.portal_tables.specs.inner.Reads.{Blames}
+use Rattle.portal_tables.specs.Reads.{Blames}
 use Rattle.portal_tables.specs.declared.fault.TableFault.{TableFault}
 pub use Rattle.portal_rules.specs.Good.{IsLecturer, IsProject, IsStudent}
 pub use Rattle.portal_rules.specs.Sight.{LecturerSees, StudentSees}
