@@ -34,7 +34,7 @@ pub use Rattle.portal_desk.specs.Kept.{Acted, MayLeave, FailsByCount, Moves, IsM
 pub use Rattle.portal_desk.specs.Kept.{TakesAtMost}
 pub use Rattle.portal_desk.specs.declared.served.Cause.{Cause}
 pub use Rattle.portal_desk.specs.inner.Play.{CanDo, IsSolved, with_sheet}
-pub use Rattle.portal_desk.specs.inner.Served.{AreServed, ServesEach, IsEnded, AreSessionsOf}
+pub use Rattle.portal_desk.specs.Served.{AreServed, ServesEach, IsEnded, AreSessionsOf}
 pub use Rattle.portal_desk.specs.inner.Reading.{Follows, Heads, NoneWhole, ReadsMore, KeepsStream, IsWithin}
 pub use Rattle.portal_desk.specs.inner.Turns.{Broke, Partly, Replied}
 pub use Rattle.portal_frame.specs.Stream.{RequestContent, Opens, fault, is_head, refusal_content, request_content}

@@ -2,7 +2,7 @@
 use Rattle.portal_desk.proofs.Base.{Some, ◌≡◌, ℕ, ◌+◌, ◌<◌, length, take, map, get_or, add-one, inl, inr, true}
 use Rattle.portal_desk.proofs.Base.{false, List, [], ◌∷◌, ◌++◌, refl, sym, ap, ◌∙◌, subst, both_ways, Key, World, view}
 use Rattle.portal_desk.proofs.Base.{AbstractCall, Answer, Good, Request, Step, Run, Serves, requests_of}
-use Rattle.portal_desk.proofs.Base.{replies_of, KeeperState, Ended, Visit, AreVisits, exchanges_of, worlds_of, Session}
+use Rattle.portal_desk.proofs.Base.{Exchange, replies_of, KeeperState, Ended, Visit, AreVisits, exchanges_of, worlds_of, Session}
 use Rattle.portal_desk.proofs.Base.{IsSession, AreServed, ServesEach, take-suc, map-append, AllByRecursion}
 use Rattle.portal_desk.proofs.Base.{is_published, Wish, Calls, NoCall, Answers, Last, AreServedOn, left_by}
 use Rattle.portal_desk.proofs.Base.{IsServed, IsUnseen, AreUnseen, PublishesBest, IsUpheld, MainPromise, HasPromise}
@@ -60,14 +60,14 @@ one_best step_best w v r a good (inr none) off on = not_published w v none.1 off
 
 -- a run
 
-pub are_unseen : (c : Key) (w : World) (rs : List Request) (told : List Answer) (vs : List World) → Good w
+are_unseen : (c : Key) (w : World) (rs : List Request) (told : List Answer) (vs : List World) → Good w
     → AllByRecursion Good vs → Run w rs told vs → AreUnseen c w rs vs
 are_unseen c w [] told vs good all run = tt
 are_unseen c w (r ∷ rs) told [] good all run = tt
 are_unseen c w (r ∷ rs) [] (v ∷ vs) good all run = absurd run
 are_unseen c w (r ∷ rs) (a ∷ told) (v ∷ vs) good all run = (one_unseen c w v r a good run.0, are_unseen c v rs told vs all.0 all.1 run.1)
 
-pub publishes_best : StepsBest → (w : World) (rs : List Request) (told : List Answer) (vs : List World) → Good w
+publishes_best : StepsBest → (w : World) (rs : List Request) (told : List Answer) (vs : List World) → Good w
     → AllByRecursion Good vs → Run w rs told vs
     → PublishesBest w vs
 publishes_best step_best w rs told [] good all run = tt
@@ -77,26 +77,27 @@ publishes_best step_best w (r ∷ rs) [] (v ∷ vs) good all run = absurd run
 publishes_best step_best w (r ∷ rs) (a ∷ told) (v ∷ vs) good all run =
     (one_best step_best w v r a good run.0, publishes_best step_best v rs told vs all.0 all.1 run.1)
 
-pub upheld : RunsGood → StepsBest → RunsBest → (w : World) (visits : List Visit) → Good w → AreVisits w visits
-    → IsUpheld w visits
-upheld run_good step_best run_best w visits good are =
-    let run = whole_run w visits are in
-    let all = run_good w (requests_of (exchanges_of visits)) (replies_of (exchanges_of visits)) (worlds_of visits) good run in
+pub upheld : RunsGood → StepsBest → RunsBest → (w : World) (es : List Exchange) (worlds : List World) → Good w
+    → Run w (requests_of es) (replies_of es) worlds → IsUpheld w es worlds
+upheld run_good step_best run_best w es worlds good run =
+    let all = run_good w (requests_of es) (replies_of es) worlds good run in
     record {
-      are = are;
+      run = run;
       good = all;
-      unseen = λ c. are_unseen c w _ _ (worlds_of visits) good all run;
-      published = publishes_best step_best w _ _ (worlds_of visits) good all run;
-      best = λ first. run_best w _ _ (worlds_of visits) first run;
+      unseen = λ c. are_unseen c w _ _ worlds good all run;
+      published = publishes_best step_best w _ _ worlds good all run;
+      best = λ first. run_best w _ _ worlds first run;
     }
 
 -- the main promise of visits from a good world
 pub has_promise : RunsGood → StepsBest → RunsBest → (w : World) (visits : List Visit) → Good w → AreVisits w visits
     → HasPromise w visits
-has_promise run_good step_best run_best w visits good are = (
-  upheld run_good step_best run_best w visits good are,
-  λ v fs later run. same_texts w (exchanges_of visits) (worlds_of visits) v fs later (whole_run w visits are) run,
-)
+has_promise run_good step_best run_best w visits good are =
+    let run = whole_run w visits are in (
+      are,
+      upheld run_good step_best run_best w (exchanges_of visits) (worlds_of visits) good run,
+      λ v fs later other. same_texts w (exchanges_of visits) (worlds_of visits) v fs later run other,
+    )
 
 pub headline : RunsGood → StepsBest → RunsBest
     → {K : Type 0} (state : K → KeeperState) (k : K) (ss : List (Session K)) → IsServed state k ss → MainPromise state (state k).world ss

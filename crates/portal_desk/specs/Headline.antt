@@ -108,13 +108,18 @@ abbrev pub PublishesBest : World → List World → Type 0
 PublishesBest w [] = Unit {0}
 PublishesBest w (v ∷ vs) = (is_published w.phase ≡ false → is_published v.phase ≡ true → HasBest v) × PublishesBest v vs
 
--- what holds of all visits from a good world
-pub record IsUpheld (w : World) (visits : List Visit) : Type 0 where
-  pub are : AreVisits w visits
-  pub good : AllByRecursion Good (worlds_of visits)
-  pub unseen : (c : Key) → AreUnseen c w (requests_of (exchanges_of visits)) (worlds_of visits)
-  pub published : PublishesBest w (worlds_of visits)
-  pub best : ShowsBest w → AllByRecursion ShowsBest (worlds_of visits)
+-- a run from a good world, and what holds of it
+pub record IsUpheld (w : World) (es : List Exchange) (worlds : List World) : Type 0 where
+  -- the exchanges are a run, with these worlds
+  pub run : Run w (requests_of es) (replies_of es) worlds
+  -- each world is good
+  pub good : AllByRecursion Good worlds
+  -- no request of a student or a lecturer is seen by others
+  pub unseen : (c : Key) → AreUnseen c w (requests_of es) worlds
+  -- each step that publishes leaves the best result
+  pub published : PublishesBest w worlds
+  -- if the first world shows the best results, all do
+  pub best : ShowsBest w → AllByRecursion ShowsBest worlds
 
 -- a caller who gets no 503, starts with the same view and hears the same gets the same reply bytes
 -- and the same last view
@@ -130,9 +135,11 @@ IsLikeAll w es worlds =
     (v : World) (fs : List Exchange) (later : List World) → Run v (requests_of fs) (replies_of fs) later
     → AreEqual w es worlds v fs later
 
--- the main promise holds of these visits, compared with any other run
+-- the main promise holds of these visits: they are a run that is upheld, and like any other one
 abbrev pub HasPromise : World → List Visit → Type 0
-HasPromise w visits = IsUpheld w visits × IsLikeAll w (exchanges_of visits) (worlds_of visits)
+HasPromise w visits =
+    AreVisits w visits × IsUpheld w (exchanges_of visits) (worlds_of visits)
+    × IsLikeAll w (exchanges_of visits) (worlds_of visits)
 
 -- visits describe the sessions, and the main promise holds of these visits
 abbrev pub MainPromise : {K : Type 0} → (K → KeeperState) → World → List (Session K) → Type 0

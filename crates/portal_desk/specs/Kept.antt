@@ -2,8 +2,9 @@
 -- with their replies do to a keeper.
 use Rattle.std.specs.Prelude.{ℕ, Bool, ◌≡◌, ◌≢◌, ◌⊎◌, ◌+◌, ◌-◌, ◌^◌, ◌<◌, ◌≤◌, min, List, length, Option, Some, IfSome}
 use Rattle.std.specs.Prelude.{Result, MatchResult, true, false, ◌∷◌, ◌++◌}
+use Rattle.serde_json.specs.Written.{has_float}
 use Rattle.portal_rules.specs.World.{World}
-use Rattle.portal_rules.specs.Answer.{Answer}
+use Rattle.portal_rules.specs.Answer.{Answer, Said, Json, Unavailable}
 use Rattle.portal_rules.specs.Keeping.{KeeperState, IsSettled, StaysClean, LastsOrBreaks, LeavesBy}
 use Rattle.portal_rules.specs.Run.{AllAnswered, Request, Serves, unavailable}
 use Rattle.portal_wire.specs.Conversation.{Exchange, replies_of, Reaches}
@@ -114,3 +115,9 @@ abbrev pub AtFirst : Cause → ℕ → Type 0
 AtFirst cause.Read count = count ≡ 0
 AtFirst cause.Store count = count ≡ 1
 AtFirst _ count = count ≤ 1
+
+-- the body of an answer other than 503; JSON has whole numbers only
+abbrev pub IsAnsweredBody : Said → Type 0
+IsAnsweredBody (Json body) = has_float body ≡ false
+IsAnsweredBody Unavailable = ⊥
+IsAnsweredBody _ = Unit {0}

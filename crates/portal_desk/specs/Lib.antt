@@ -1,4 +1,5 @@
 pub mod Kept
 pub mod Session
 pub mod Headline
+pub mod Served
 pub mod inner

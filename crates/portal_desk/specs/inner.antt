@@ -1,4 +1,3 @@
 pub mod Play
 pub mod Turns
 pub mod Reading
-pub mod Served

@@ -11,7 +11,7 @@ ghost use Rattle.portal_wire.specs.Conversation.{requests_of, replies_of, Reques
 ghost use Rattle.portal_desk.specs.Headline.{IsServed, MainPromise, Visit, IsVisit, AreVisits};
 ghost use Rattle.portal_desk.specs.Headline.{AreAnswered};
 ghost use Rattle.portal_desk.specs.Headline.{exchanges_of, worlds_of, AreEqual, AlikeTexts, TellsOf};
-ghost use Rattle.portal_desk.specs.inner.Served.{AreServed};
+ghost use Rattle.portal_desk.specs.Served.{AreServed};
 ghost use Rattle.portal_desk.specs.Session.{Session, Ended};
 
 use portal_core::Keeper;

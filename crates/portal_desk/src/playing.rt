@@ -11,7 +11,8 @@ ghost use Rattle.portal_rules.specs.Good.{Good, CanPublish};
 ghost use Rattle.portal_rules.specs.inner.Room.{pairs_by};
 ghost use Rattle.portal_rules.specs.Run.{HasForm, StepLeaves, Step};
 ghost use Rattle.portal_rules.specs.View as seen;
-ghost use Rattle.portal_desk.specs.inner.Play.{CanDo, IsSolved, IsAnsweredBody, sheet_text, with_sheet};
+ghost use Rattle.portal_desk.specs.Kept.{IsAnsweredBody};
+ghost use Rattle.portal_desk.specs.inner.Play.{CanDo, IsSolved, sheet_text, with_sheet};
 
 use portal_core::{
     Act, Body, Call, Change, Decision, KeepFault, Keeper, OfficeView, Reply, Sheet, View, decide,

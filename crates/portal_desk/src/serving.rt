@@ -8,7 +8,7 @@ ghost use Rattle.portal_wire.specs.Conversation.{reply_text};
 ghost use Rattle.portal_wire.specs.inner.Calls.{last_for};
 ghost use Rattle.portal_desk.specs.Kept.{Blames, FailsByCount};
 ghost use Rattle.portal_desk.specs.Session.{ServesOne};
-ghost use Rattle.portal_desk.specs.inner.Served.{ServesEach};
+ghost use Rattle.portal_desk.specs.Served.{ServesEach};
 ghost use Rattle.portal_desk.specs.inner.Turns.{Broke, CountsFor, Replied};
 ghost use Rattle.portal_desk.specs.declared.served.Cause.TheVariants.{Read as ReadFailed};
 ghost use Rattle.portal_desk.specs.declared.served.Cause.TheVariants.{Write as WriteFailed};

@@ -9,7 +9,7 @@ use Rattle.portal_rules.specs.Keeping.{KeeperState}
 use Rattle.std.specs.Io.KnownBytes.{Appends}
 use Rattle.portal_desk.specs.Session.{Finish, Ended, Stopped, Session}
 use Rattle.portal_desk.specs.Headline.{Visit, TellsOf, AreServedOn}
-use Rattle.portal_desk.specs.inner.Served.{AreServed, IsEnded, AreSessionsOf, ServesEach}
+use Rattle.portal_desk.specs.Served.{AreServed, IsEnded, AreSessionsOf, ServesEach}
 use Rattle.portal_desk.proofs.Promised.{RunsGood, StepsBest, RunsBest, has_promise}
 use Rattle.portal_desk.proofs.Heeding.{are_visits}
 use Rattle.portal_whole.specs.Whole.{IsServedToEnd, KeepsPromise}

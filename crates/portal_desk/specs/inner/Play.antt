@@ -1,6 +1,5 @@
 -- What a call that is played over a keeper may do.
-use Rattle.std.specs.Prelude.{◌≡◌, ℕ, List, Option, false}
-use Rattle.serde_json.specs.Written.{has_float}
+use Rattle.std.specs.Prelude.{◌≡◌, ℕ, List, Option}
 use Rattle.spa_model.specs.Spa.{Spa, IsBest}
 use Rattle.portal_rules.specs.Words.{Key}
 use Rattle.portal_rules.specs.World.{World, changed}
@@ -11,7 +10,7 @@ use Rattle.portal_rules.specs.declared.view.View.TheVariants.{Office}
 use Rattle.portal_rules.specs.declared.decision.Sheet.{Sheet}
 use Rattle.portal_rules.specs.declared.decision.Sheet.TheVariants as sheet
 use Rattle.portal_rules.specs.inner.Room.{pairs_by}
-use Rattle.portal_rules.specs.Answer.{Answer, Said, Json, Csv, Plain, Unavailable, Act, Nothing, Apply, Publish, Render}
+use Rattle.portal_rules.specs.Answer.{Answer, Said, Csv, Plain, Act, Nothing, Apply, Publish, Render}
 use Rattle.portal_rules.specs.Good.{Good, CanPublish}
 
 -- an act that leaves a good world
@@ -35,9 +34,3 @@ sheet_text v sheet.Report = Plain (report_text v)
 abbrev pub with_sheet : Sight → Act → Answer → Answer
 with_sheet (Office v) (Render sheet) reply = record reply { body = sheet_text v sheet }
 with_sheet v act reply = reply
-
--- the body of an answer other than 503; JSON has whole numbers only
-abbrev pub IsAnsweredBody : Said → Type 0
-IsAnsweredBody (Json body) = has_float body ≡ false
-IsAnsweredBody Unavailable = ⊥
-IsAnsweredBody _ = Unit {0}
