@@ -12,6 +12,7 @@ use Rattle.portal_store.proofs.Base.{apart_none, HasVersion, RefusalSays, Number
 use Rattle.portal_store.proofs.Base.{Anyhow, IsCommitted, OnlyLooks, OnOk, HasFirstSchema, clean_before, HasRound}
 use Rattle.portal_store.proofs.Base.{IsErrAnd, reads_as, all_append, filter_all, nil_from_length, parts_of}
 use Rattle.portal_store.proofs.Base.{second_trees}
+use Rattle.portal_store.specs.inner.Asked.{Judges}
 use Rattle.sqlite.proofs.Callers.{one_permutation}
 use Rattle.portal_store.specs.inner.Keeping.{IsReady}
 use Rattle.portal_store.proofs.Absent.{as_many}
@@ -223,3 +224,22 @@ told_before {Right = Right} {Told = Told} (Ok v) a b c P settled looks reads cle
     let stays = looks.stays settled (clean_before b c _ reads.crash clean) (reads.same clean tt).0.was_open in
     told v (subst (λ d. Told d (Ok v)) stays.1 (reads.told (subst (λ (d : Database). HasFirstSchema d.schema) (sym stays.1) first) (subst Right (sym stays.1) (right stays.0)) clean))
 told_before (Err e) a b c P settled looks reads clean first right told = tt
+
+-- the same, of a fault too, if the connection was open between them
+pub judged_before : {V : Type 0} {Right : Database → Type 0} {Told : Database → Result V OpenFault → Type 0} (r : Result V OpenFault) (a b c : State) (P : Database → Type 0)
+    → IsCommitted a → OnlyLooks a b → IsTrue b.is_open
+    → Reading First Anyhow Right Told r b c → HasCleanDisk c → HasFirstSchema a.now.schema → (IsTrue a.is_open → Right a.now) → ((v : V) → Told a.now (Ok v) → P a.now) → ((f : OpenFault) → Told a.now (Err f) → f ≡ Damaged → P a.now → ⊥) → Judges r (P a.now)
+judged_before {Right = Right} {Told = Told} r a b c P settled looks on reads clean first right good bad =
+    let stays = looks.stays settled (clean_before b c _ reads.crash clean) on in
+    by (Told a.now) r (subst (λ d. Told d r) stays.1 (reads.told (subst (λ (d : Database). HasFirstSchema d.schema) (sym stays.1) first) (subst Right (sym stays.1) (right stays.0)) clean)) good bad
+  where
+    by : {V : Type 0} {P : Type 0} (Told : Result V OpenFault → Type 0) (r : Result V OpenFault) → Told r
+        → ((v : V) → Told (Ok v) → P) → ((f : OpenFault) → Told (Err f) → f ≡ Damaged → P → ⊥) → Judges r P
+    by Told (Ok v) told good bad = good v told
+    by Told (Err f) told good bad = bad f told
+
+-- a fault that is handed on, and is no damage
+pub not_judged : {V : Type 0} {fault : OpenFault} (r : Result V OpenFault) (P : Type 0) → IsErrAnd r (λ f. f ≡ fault)
+    → (fault ≡ Damaged → ⊥) → Judges r P
+not_judged (Ok v) P is other = absurd is
+not_judged (Err f) P is other = λ damaged so. other (sym is ∙ damaged)

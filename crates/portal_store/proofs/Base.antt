@@ -54,8 +54,8 @@ pub use Rattle.portal_rules.specs.declared.view.View.TheVariants.{Office as Offi
 pub use Rattle.portal_rules.specs.Alone.{alone, alone_student, alone_lecturer}
 pub use Rattle.portal_rules.specs.inner.ViewCache.{IsCacheOf}
 pub use Rattle.portal_list.proofs.Replaced.{ranking_elsewhere, ranking_here}
-pub use Rattle.portal_list.specs.inner.Rows.{HasEntries, RowsOfWorld, world_rows, choices_in, rankings_with, AllEntries}
-pub use Rattle.portal_list.specs.inner.Fill.{fill_missing}
+pub use Rattle.portal_list.specs.Rows.{HasEntries, RowsOfWorld, world_rows, choices_in, rankings_with, AllEntries}
+pub use Rattle.portal_list.specs.Rows.{fill_missing}
 pub use Rattle.portal_rules.specs.inner.Offers.{offered}
 pub use Rattle.portal_list.specs.inner.Shown.{is_wanted, is_waiting}
 pub use Rattle.portal_store.specs.Crash.{Refutes, Bars, Reopens, OpensAgain, OpensFresh, UpgradesAgain, HasVersion}
@@ -118,16 +118,16 @@ pub use Rattle.portal_tables.specs.inner.Owners.{choice_shown, list_in_order, ha
 pub use Rattle.portal_tables.specs.inner.Placements.{pair_shown, HasPlacement, first_pairs, first_pair}
 pub use Rattle.portal_tables.specs.inner.Putting.{HasPut, PutsList, RanksSecond, HasPlacements, PutsPlacements}
 pub use Rattle.portal_tables.specs.inner.Putting.{HasRanked}
-pub use Rattle.portal_tables.specs.inner.Reads.{GivesOrFails, Anyhow, Reading, IsCommitted, IsUnchangedOrUndone}
-pub use Rattle.portal_tables.specs.inner.Reads.{OnlyLooks}
-pub use Rattle.portal_tables.specs.inner.Reads.{Reads, HasRound}
+pub use Rattle.portal_tables.specs.Reads.{GivesOrFails, Anyhow, Reading, IsCommitted, IsUnchangedOrUndone}
+pub use Rattle.portal_tables.specs.Reads.{OnlyLooks}
+pub use Rattle.portal_tables.specs.Reads.{Reads, HasRound}
 pub use Rattle.portal_tables.specs.inner.Rolls.{RollsRise, by_key, lecturer_columns, lecturers_shown, projects_shown}
 pub use Rattle.portal_tables.specs.inner.Rolls.{roll_columns, students_shown}
 pub use Rattle.portal_tables.specs.inner.RowChanges.{Assigns, MovesSecond, MovesTo, pair_new, assigned_by}
 pub use Rattle.portal_tables.specs.inner.RowChanges.{with_assigned, student_columns, text_or_null_cell, Adds}
 pub use Rattle.portal_tables.specs.inner.RowChanges.{lecturer_new}
 pub use Rattle.portal_tables.specs.inner.RowChanges.{project_new, student_new, lecturer_cells}
-pub use Rattle.portal_tables.specs.inner.Running.{Does, GoesOn, Made}
+pub use Rattle.portal_tables.specs.Running.{Does, GoesOn, Made}
 pub use Rattle.portal_tables.specs.inner.Shown.{first_cell, shown_lecturer, shown_project, shown_student, as_list}
 pub use Rattle.portal_tables.specs.inner.Shown.{lecturer_row, project_row, student_row}
 pub use Rattle.portal_views.proofs.Turns.{reads_any, reads_first}

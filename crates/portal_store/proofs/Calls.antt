@@ -3,15 +3,17 @@ use Rattle.portal_store.proofs.Base.{◌≡◌, ◌≢◌, ◌↔◌, ◌∙◌,
 use Rattle.portal_store.proofs.Base.{HasCleanDisk, IsUnchanged, IsLive, Survives, Ghosts, Held, state, Key, is_code}
 use Rattle.portal_store.proofs.Base.{Good, HasFirstSchema, IsCurrentSchema, IsFirstSchema, first_version, no_schema}
 use Rattle.portal_store.proofs.Base.{version, Creates, IsFresh, has_names, Commits, IsAfter, LeavesOnly, IsCommitted}
-use Rattle.portal_store.proofs.Base.{OnlyLooks, HasGoodFirst, HasGoodWorld, IsCleanStore, Seen, world_of, OpenFault}
+use Rattle.portal_store.proofs.Base.{OnlyLooks, HasGoodFirst, IsCleanStore, Seen, world_of, OpenFault}
 use Rattle.portal_store.proofs.Base.{HasVersion, IsUpgradedFrom, LeavesUpgraded, RefusalSays, Refutes, IsKept, Admits}
 use Rattle.portal_store.proofs.Base.{[], survives_weaker, Ok, Second, Reads, GivesOrFails, HasEntries, IsSoundIfOpen}
-use Rattle.portal_list.specs.inner.Rows.{AllEntries}
+use Rattle.portal_store.proofs.Base.{SaysNothing, State}
+use Rattle.portal_list.specs.Rows.{AllEntries}
 use Rattle.portal_tables.proofs.Runs.{survives_same}
 use Rattle.portal_tables.specs.declared.names.Names.TheVariants.{All}
 use Rattle.portal_store.specs.Calls.{CreatesStore, HandsBack, MakesStore, OpensStore, RefusesToCreate, RefusesToUpgrade}
 use Rattle.portal_store.specs.Calls.{UpgradesStore}
-use Rattle.portal_store.specs.Crash.{Explains, ShowsVersion, as_upgrading}
+use Rattle.portal_store.specs.Crash.{AfterCreating, AfterUpgrading, Explains, Suits, as_upgrading, later_queries}
+use Rattle.portal_store.proofs.Explained.{suits_for}
 use Rattle.portal_store.specs.declared.store.CreateFault.{CreateFault}
 use Rattle.portal_store.specs.declared.store.CreateFault.TheVariants as creating
 use Rattle.portal_store.specs.declared.store.OpenFault.TheVariants as opening
@@ -57,7 +59,15 @@ module _
       → (IsCleanStore g made → Good (world_of (state g new).now.trees)) → Survives (state g old) (state g new) After
       → MakesStore g Own After old made
   makes_by Own After is kept good crash =
-      record { own = is; counted = refl; good = good; settled = rests_by g new own 0 settled kept; crash = crash }
+      record {
+        own = is;
+        counted = refl;
+        good = good;
+        settled = rests_by g new own 0 settled kept;
+        consistent = λ on. (kept.ready on.0 on.1).holds;
+        left = kept.left;
+        crash = crash;
+      }
 
   -- of new tables
   module _
@@ -112,16 +122,17 @@ module _
         subst (λ (d : Database). Good (world_of d.trees)) (sym f.0.0.now_is)
         (subst Good (sym (world_told stands.0 _ stands.1.second)) stands.1.good)
 
-    pub opened : (HasCleanDisk (state g new) → ShowsVersion version (state g new))
+    pub opened : (HasCleanDisk (state g new) → Suits (IsTrue own) version later_queries (state g old))
         → (HasFirstSchema old.schema → HasCleanDisk (state g new) → HasVersion version (state g old).now.trees) → OpensStore g old made
-    opened shows of_version = record {
+    opened suits of_version = record {
       makes = makes_by _ _ is_own open_kept open_good looks.crash;
       stays = looks.stays rest;
       same = λ current clean. (found (is_own.1 current) clean).0;
-      shows = shows;
-      version = of_version;
-      stands = λ current clean.
-          let f = found (is_own.1 current) clean in subst (λ (d : Database). HasGoodWorld d.trees) (sym f.0.0.now_is) f.1.stands;
+      judged = λ clean. record {
+        suits = suits_for _ _ is_own.0 (state g old) version later_queries (suits clean);
+        version_is = λ first. of_version first clean;
+        good = λ current. (found (is_own.1 current) clean).1.stands;
+      };
     }
 
   -- of tables that were upgraded
@@ -132,19 +143,30 @@ module _
     makes = makes_by _ _ is_first (upgraded_kept g own entries old new is_first.0 up shut)
         (λ on. still_good g own entries old new is_first.0 up on.0 (shut on.1)) up.crash;
     free = up.free;
-    stands = λ first clean. (up.admitted first clean).stands;
+    judged = λ clean. record { first = up.first clean; free = up.free };
     commits = up.commits;
     world = λ on. same_world g own entries old new is_first.0 up on.0 (shut on.1);
     durable = up.durable;
     left = up.left;
   }
 
+-- a fault that may come so late
+after_made : {fault : CreateFault} (office : Key) (old : State) (db : Trees) → fault ≢ creating.Exists
+    → IsAfter (Creates office) old db → AfterCreating fault office old db
+after_made {fault = creating.Exists} office old db other after = absurd (other refl)
+after_made {fault = creating.Store} office old db other after = after
+after_made {fault = creating.Memory} office old db other after = after
+
 -- no table has one of the names, so this is not told
 pub not_created : {S : Type 0} (g : Ghosts S) (office : Key) (fault : CreateFault) (old new : Held S)
     → HandsBack g (IsAfter (Creates office) (state g old)) old new → has_names All old.schema ≡ false → fault ≢ creating.Exists
     → RefusesToCreate g office fault old new
 not_created g office fault old new back free other = record {
-  back = back;
+  back = record {
+    idle = back.idle;
+    stays = back.stays;
+    crash = survives_weaker (state g old) (state g new) _ _ (λ clean db after. after_made office (state g old) db other after) back.crash;
+  };
   exists = (λ taken. absurd (not_both _ taken free), λ is. absurd (other is));
   untouched = λ is. absurd (other is);
 }
@@ -177,23 +199,40 @@ as_back opening.Memory = refl
 as_once : (a b : OpenFault) → as_upgrading a ≡ as_upgrading b → a ≡ b
 as_once a b same = sym (as_back a) ∙ ap opening_of same ∙ as_back b
 
+-- a fault that may come so late
+late : (found : OpenFault) (old : State) (db : Trees) → SaysNothing found → LeavesUpgraded old db
+    → AfterUpgrading (as_upgrading found) old db
+late opening.NotPortal old db nothing left = absurd nothing
+late opening.OtherVersion old db nothing left = absurd nothing
+late opening.Damaged old db nothing left = absurd (nothing tt)
+late opening.Store old db nothing left = left
+late opening.Memory old db nothing left = left
+
+pub after_late : (fault : UpgradeFault) (found : OpenFault) (old : State) (db : Trees) → fault ≡ as_upgrading found
+    → SaysNothing found → LeavesUpgraded old db → AfterUpgrading fault old db
+after_late fault found old db is nothing left = subst (λ f. AfterUpgrading f old db) (sym is) (late found old db nothing left)
+
 pub not_upgraded : {S : Type 0} (g : Ghosts S) (fault : UpgradeFault) (found : OpenFault) (old new : Held S)
     → fault ≡ as_upgrading found
-    → HandsBack g (LeavesUpgraded (state g old)) old new
-    → (HasCleanDisk (state g new) → Explains found first_version [] (state g old))
+    → HandsBack g (AfterUpgrading fault (state g old)) old new
+    → (HasCleanDisk (state g new) → Explains found (IsFirstSchema old.schema) first_version [] (state g old))
     → (IsFirstSchema old.schema → HasCleanDisk (state g new)
     → RefusalSays found first_version (HasGoodFirst first_version (state g old).now.trees) (state g old).now.trees)
+    → (found ≡ opening.Damaged → HasFirstSchema old.schema → HasCleanDisk (state g new)
+    → HasGoodFirst first_version (state g old).now.trees → ⊥)
     → (IsFirstSchema old.schema → Survives (state g old) (state g new) (IsUpgradedFrom (state g old).now.trees))
     → RefusesToUpgrade g fault old new
-not_upgraded g fault found old new is back so said left =
+not_upgraded g fault found old new is back so said harm left =
     let never : fault ≢ upgrading.Exists = λ e. never_exists found (sym is ∙ e) in
     record {
       back = back;
-      explained = λ other same clean.
-          subst (λ f. Explains f first_version [] (state g old)) (as_once found other (sym is ∙ same)) (so clean);
-      barred = λ first clean. (found, is, said first clean);
+      judged = λ clean. record {
+        explained = λ other same.
+            subst (λ f. Explains f (IsFirstSchema old.schema) first_version [] (state g old)) (as_once found other (sym is ∙ same)) (so clean);
+        barred = λ first. (found, is, said first clean);
+        damaged = λ e first. harm (as_once found opening.Damaged (sym is ∙ e)) first clean;
+        exists = λ e. absurd (never e);
+      };
       taken = λ e. absurd (never e);
-      order = λ e. absurd (never e);
-      judged = λ e. absurd (never e);
       left = left;
     }

@@ -8,7 +8,7 @@ use Rattle.portal_store.proofs.Base.{IsLecturerRow, IsStudentRow, has_text_of, l
 use Rattle.portal_store.proofs.Base.{student_rows_formed, student_sees, as_list, found, Anyhow, IfOk-weaker, Reading}
 use Rattle.portal_store.proofs.Base.{RemembersIn, Result, State, TableFault, reads_as, reads_first}
 use Rattle.portal_rules.specs.declared.view_cache.ViewCache.{ViewCache}
-use Rattle.portal_tables.specs.inner.Reads.{Always, Gives}
+use Rattle.portal_tables.specs.Reads.{Always, Gives}
 use Rattle.portal_store.proofs.Loaded.{lecturers_by_key, students_by_key}
 
 -- a row of a roll, and as it is shown, stand for one lecturer or student

@@ -20,7 +20,7 @@ use Rattle.portal_tables.specs.inner.Schema.{first_written}
 use Rattle.portal_tables.proofs.Named.{named_is}
 use Rattle.portal_tables.proofs.Defined.{first_as_written}
 use Rattle.portal_tables.specs.declared.names.Names.{Names}
-use Rattle.portal_list.specs.inner.Rows.{AllEntries}
+use Rattle.portal_list.specs.Rows.{AllEntries}
 use Rattle.portal_store.specs.inner.Upgrading.{UpgradesWithEntries}
 use Rattle.portal_store.proofs.Asked.{apart_all}
 use Rattle.portal_store.proofs.Rounds.{world_told}
@@ -142,7 +142,7 @@ module _
   made : (mine : IsTrue own) (clean : HasCleanDisk (state g new))
       → Upgraded (pos (number_of_phase (up.admitted (is_first mine) clean).stands.office.phase))
       (up.admitted (is_first mine) clean).stands.office.office (state g old).now (state g new).now
-  made mine clean = let first = is_first mine in (up.commits first clean).changed first _ _ (up.admitted first clean).stands.office.is
+  made mine clean = let first = is_first mine in (up.commits clean).changed first _ _ (up.admitted first clean).stands.office.is
 
   holds : IsTrue own → HasCleanDisk (state g new) → IsConsistent (state g new).now
   holds mine clean =
@@ -152,7 +152,7 @@ module _
   pub upgraded_kept : (IsTrue (state g new).is_open → HasCleanDisk (state g new)) → IsKept g new own
   upgraded_kept shut = record {
     idle = up.idle;
-    ready = λ mine on. record { settled = (up.commits (is_first mine) (shut on)).settled; holds = holds mine (shut on) };
+    ready = λ mine on. record { settled = (up.commits (shut on)).settled; holds = holds mine (shut on) };
     left = λ mine clean db may. ((state g new).now, up.durable clean db may, holds mine clean);
   }
 

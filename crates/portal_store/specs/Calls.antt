@@ -1,5 +1,5 @@
 -- What the calls of a store promise: those that make one, those that refuse to, and those of a keeper.
-use Rattle.std.specs.Prelude.{◌≡◌, ◌↔◌, [], Result, false, OnOk, IsTrue}
+use Rattle.std.specs.Prelude.{◌≡◌, ◌↔◌, Result, false, OnOk, IsTrue}
 use Rattle.sqlite.specs.Held.{Held, state}
 use Rattle.sqlite.specs.State.{HasCleanDisk, IsUnchanged, Survives}
 use Rattle.sqlite.specs.Store.{Ghosts}
@@ -8,16 +8,15 @@ use Rattle.portal_rules.specs.Words.{Key}
 use Rattle.portal_rules.specs.World.{Change}
 use Rattle.portal_rules.specs.Keeping.{IsSettled, KeepsGood}
 use Rattle.portal_rules.specs.declared.phase.Round.TheVariants.{First}
-use Rattle.portal_tables.specs.Tables.{HasFirstSchema, IsCurrentSchema, IsFirstSchema, first_version, no_schema}
-use Rattle.portal_tables.specs.Tables.{version}
+use Rattle.portal_tables.specs.Tables.{IsCurrentSchema, IsFirstSchema, no_schema}
 use Rattle.portal_tables.specs.Making.{Creates, Upgrades, has_names}
 use Rattle.portal_tables.specs.declared.names.Names.TheVariants.{All, OfSecond}
 use Rattle.portal_tables.specs.Steps.{Commits, IsAfter, LeavesOnly, Stays}
 use Rattle.portal_store.specs.World.{first_world, world_in}
-use Rattle.portal_store.specs.Kept.{HasDisk, HasGoodFirst, HasGoodWorld, IsCleanStore, IsTransition, Lasts, Seen}
+use Rattle.portal_store.specs.Kept.{HasDisk, IsCleanStore, IsConsistent, IsTransition, Lasts, LeavesConsistent, Seen}
 use Rattle.portal_store.specs.Kept.{kept_state, kept_world}
-use Rattle.portal_store.specs.Crash.{Bars, Explains, HasVersion, IsLeft, IsUpgradedFrom, LeavesUpgraded, Refutes}
-use Rattle.portal_store.specs.Crash.{ShowsVersion, as_upgrading, later_queries}
+use Rattle.portal_store.specs.Crash.{AfterCreating, AfterUpgrading, AreBarred, AreOpened, AreRefused, AreUpgraded}
+use Rattle.portal_store.specs.Crash.{IsLeft, IsUpgradedFrom, LeavesUpgraded}
 use Rattle.portal_store.specs.declared.store.CreateFault.{CreateFault}
 use Rattle.portal_store.specs.declared.store.CreateFault.TheVariants as creating
 use Rattle.portal_store.specs.declared.store.OpenFault.{OpenFault}
@@ -36,6 +35,10 @@ pub record MakesStore {S : Type 0} (g : Ghosts S) (Own : Type 0) (After : Trees 
   pub good : KeepsGood (kept_state g s)
   -- and a stop leaves only this world
   pub settled : IsCleanStore g s → IsSettled (kept_state g s)
+  -- its tables are such as each change may rely on
+  pub consistent : IsCleanStore g s → IsConsistent (state g s.conn).now
+  -- and so is, of own tables, whatever a stop may leave
+  pub left : LeavesConsistent g s
   -- on a clean disk, a crash leaves what one before the call left, or tables of which `After` holds
   pub crash : Survives (state g old) (state g s.conn) After
 
@@ -63,7 +66,7 @@ pub record CreatesStore {S : Type 0} (g : Ghosts S) (office : Key) (old : Held S
 -- they were not, for this fault
 pub record RefusesToCreate {S : Type 0} (g : Ghosts S) (office : Key) (fault : CreateFault)
     (old new : Held S) : Type 0 where
-  pub back : HandsBack g (IsAfter (Creates office) (state g old)) old new
+  pub back : HandsBack g (AfterCreating fault office (state g old)) old new
   -- `Exists` means that a table or view has one of the eleven names
   pub exists : IsTrue (has_names All old.schema) ↔ (fault ≡ creating.Exists)
   -- and the connection is untouched then
@@ -76,31 +79,25 @@ pub record OpensStore {S : Type 0} (g : Ghosts S) (old : Held S) (s : Seen S) : 
   pub stays : HasDisk g s → IsTrue (state g s.conn).is_open → Stays (state g old) (state g s.conn)
   -- and a connection to own tables is as before, so that the store is clean
   pub same : IsCurrentSchema old.schema → HasDisk g s → IsUnchanged (state g old) (state g s.conn)
-  -- the first row of `portal` has version 2
-  pub shows : HasDisk g s → ShowsVersion version (state g s.conn)
-  -- if the first six tables are the portal's, they have this version
-  pub version : HasFirstSchema old.schema → HasDisk g s → HasVersion version (state g old).now.trees
-  -- own tables stand for a good world
-  pub stands : IsCurrentSchema old.schema → HasDisk g s → HasGoodWorld (state g s.conn).now.trees
+  -- the tables are such as may be opened
+  pub judged : HasDisk g s → AreOpened (state g old)
 
 -- they were not, for this fault
 pub record RefusesToOpen {S : Type 0} (g : Ghosts S) (fault : OpenFault) (old new : Held S) : Type 0 where
   pub back : HandsBack g (λ _. ⊥) old new
-  -- of any tables, the fault tells what the queries of the eleven tables show, or that one is refused
-  pub explained : HasCleanDisk (state g new) → Explains fault version later_queries (state g old)
-  -- the fault tells why own tables were refused
-  pub refuted : IsCurrentSchema old.schema → HasCleanDisk (state g new) → Refutes fault (state g old).now.trees
+  -- the fault tells what was found
+  pub judged : HasCleanDisk (state g new) → AreRefused fault (state g old)
 
 -- tables of version 1 were upgraded to version 2
 pub record UpgradesStore {S : Type 0} (g : Ghosts S) (old : Held S) (s : Seen S) : Type 0 where
   pub makes : MakesStore g (IsFirstSchema old.schema) (LeavesUpgraded (state g old)) old s
   -- no table had one of the five new names
   pub free : has_names OfSecond old.schema ≡ false
-  -- own tables stood for a good world
-  pub stands : IsFirstSchema old.schema → HasDisk g s → HasGoodFirst first_version (state g old).now.trees
+  -- the tables were such as may be upgraded
+  pub judged : HasDisk g s → AreUpgraded (state g old)
   -- they were upgraded in one commit
-  pub commits : IsFirstSchema old.schema → HasDisk g s → Commits Upgrades (state g old) (state g s.conn)
-  -- and stand for the same world
+  pub commits : HasDisk g s → Commits Upgrades (state g old) (state g s.conn)
+  -- own ones stand for the same world
   pub world : IsCleanStore g s → kept_world g s ≡ world_in First (state g old).now.trees
   -- a crash leaves only what was committed
   pub durable : HasDisk g s → LeavesOnly (state g s.conn)
@@ -109,19 +106,11 @@ pub record UpgradesStore {S : Type 0} (g : Ghosts S) (old : Held S) (s : Seen S)
 
 -- they were not, for this fault
 pub record RefusesToUpgrade {S : Type 0} (g : Ghosts S) (fault : UpgradeFault) (old new : Held S) : Type 0 where
-  pub back : HandsBack g (LeavesUpgraded (state g old)) old new
-  -- of any tables, a fault of opening tells what the first six queries show, or that one is refused
-  pub explained : (found : OpenFault) → fault ≡ as_upgrading found → HasCleanDisk (state g new)
-      → Explains found first_version [] (state g old)
-  -- the fault tells why own tables were refused
-  pub barred : IsFirstSchema old.schema → HasCleanDisk (state g new) → Bars fault (state g old).now.trees
-  -- `Exists` means that a table or view has one of the five new names
+  pub back : HandsBack g (AfterUpgrading fault (state g old)) old new
+  -- the fault tells what was found
+  pub judged : HasCleanDisk (state g new) → AreBarred fault (state g old)
+  -- `Exists` means that a table or view has one of the five new names, whatever the disk is
   pub taken : fault ≡ upgrading.Exists → IsTrue (has_names OfSecond old.schema)
-  -- and that the first row of `portal` has version 1
-  pub order : fault ≡ upgrading.Exists → HasCleanDisk (state g new) → ShowsVersion first_version (state g new)
-  -- and that the first six tables, if they are the portal's, stand for a good world
-  pub judged : fault ≡ upgrading.Exists → HasFirstSchema old.schema → HasCleanDisk (state g new)
-      → HasGoodFirst first_version (state g old).now.trees
   -- of own tables, whatever a crash leaves has the same world
   pub left : IsFirstSchema old.schema → Survives (state g old) (state g new) (IsUpgradedFrom (state g old).now.trees)
 

@@ -1,6 +1,8 @@
 -- What a refusal to open or upgrade says of the tables, and what can be opened after a crash.
 use Rattle.portal_store.specs.Base.{Row, column, Trees, portal_tree, version, first_version, IsFirstSchema}
 use Rattle.portal_store.specs.Base.{IsCurrentSchema, Database, IsDatabase, First, is_code, Key, Change, changed, Good}
+use Rattle.portal_store.specs.Base.{HasFirstSchema}
+use Rattle.std.specs.List.{AllByRecursion}
 use Rattle.sqlite.specs.State.{State}
 use Rattle.sqlite.specs.declared.error.Error.{Error}
 use Rattle.portal_tables.specs.declared.list_table.Lists.TheVariants.{Choices, Rankings, SecondChoices, SecondRankings}
@@ -11,11 +13,13 @@ use Rattle.portal_tables.specs.declared.select.RollTable.TheVariants.{Lecturers,
 use Rattle.std.specs.Prelude.{◌≡◌, ◌≢◌, ℕ, List, [], ◌∷◌, pos, ◌⊎◌, IsTrue, false}
 use Rattle.sqlite.specs.declared.types.Value.TheVariants.{Int}
 use Rattle.portal_store.specs.Kept.{HasGoodWorld, HasGoodFirst, IsConsistent, HasChanged}
+use Rattle.portal_store.specs.declared.store.CreateFault.{CreateFault}
+use Rattle.portal_store.specs.declared.store.CreateFault.TheVariants as creating
 use Rattle.portal_store.specs.declared.store.OpenFault.{OpenFault}
 use Rattle.portal_store.specs.declared.store.OpenFault.TheVariants as opening
 use Rattle.portal_store.specs.declared.store.UpgradeFault.{UpgradeFault}
 use Rattle.portal_store.specs.declared.store.UpgradeFault.TheVariants as upgrading
-use Rattle.portal_tables.specs.Making.{IsFresh, Upgrades, has_names}
+use Rattle.portal_tables.specs.Making.{Creates, IsFresh, Upgrades, has_names}
 use Rattle.portal_tables.specs.declared.names.Names.TheVariants.{OfSecond}
 use Rattle.portal_tables.specs.Steps.{HasAnswer, HasRefusal, IsAfter, IsStoreError}
 use Rattle.portal_store.specs.World.{world_in, world_of, first_world}
@@ -67,15 +71,30 @@ abbrev pub RefusesOne : List Query → State → Type 0
 RefusesOne [] s = ⊥
 RefusesOne (query ∷ queries) s = IsRejected query s ⊎ RefusesOne queries s
 
--- what a refusal says of any tables, own or not, that should answer the first six queries, be of this
--- version, and only then answer the later ones; a fault of the store or want of memory says nothing
-abbrev pub Explains : OpenFault → ℕ → List Query → State → Type 0
-Explains opening.NotPortal of later s =
-    RefusesOne first_queries s ⊎ (ShowsOffice s [] ⊎ (ShowsVersion of s × RefusesOne later s))
-Explains opening.OtherVersion of later s = ShowsOther of s
-Explains opening.Damaged of later s = ShowsVersion of s
-Explains opening.Store of later s = Unit {0}
-Explains opening.Memory of later s = Unit {0}
+-- the query shows some rows
+abbrev pub IsAnswered : State → Query → Type 0
+IsAnswered s query = (rows : List Row) × HasAnswer query s rows
+
+-- the tables are the portal's own, or each of the queries shows some rows
+abbrev pub Passes : Type 0 → List Query → State → Type 0
+Passes Own queries s = Own ⊎ AllByRecursion (IsAnswered s) queries
+
+-- any tables, own or not, that are of this version and pass the first six queries and the later ones
+pub record Suits (Own : Type 0) (of : ℕ) (later : List Query) (s : State) : Type 0 where
+  pub passes : Passes Own first_queries s
+  pub shows : ShowsVersion of s
+  pub passes_later : Passes Own later s
+
+-- what a refusal says of any tables that should suit so; a fault of the store or want of memory says
+-- nothing
+abbrev pub Explains : OpenFault → Type 0 → ℕ → List Query → State → Type 0
+Explains opening.NotPortal Own of later s =
+    RefusesOne first_queries s
+    ⊎ (Passes Own first_queries s × (ShowsOffice s [] ⊎ (ShowsVersion of s × RefusesOne later s)))
+Explains opening.OtherVersion Own of later s = Passes Own first_queries s × ShowsOther of s
+Explains opening.Damaged Own of later s = Suits Own of later s
+Explains opening.Store Own of later s = Unit {0}
+Explains opening.Memory Own of later s = Unit {0}
 
 -- what a refusal says of own tables that should have the schema version `of` and satisfy `so`
 abbrev pub RefusalSays : OpenFault → ℕ → Type 0 → Trees → Type 0
@@ -103,6 +122,46 @@ Bars fault db =
     (found : OpenFault) × (fault ≡ as_upgrading found)
     × RefusalSays found first_version (HasGoodFirst first_version db) db
 
+-- tables that were opened, as a connection showed them before
+pub record AreOpened (s : State) : Type 0 where
+  -- they pass the eleven queries, and the first row of `portal` has version 2
+  pub suits : Suits (IsCurrentSchema s.now.schema) version later_queries s
+  -- if the first six are the portal's, they have this version
+  pub version_is : HasFirstSchema s.now.schema → HasVersion version s.now.trees
+  -- own ones stand for a good world
+  pub good : IsCurrentSchema s.now.schema → HasGoodWorld s.now.trees
+
+-- tables that were not, for this fault
+pub record AreRefused (fault : OpenFault) (s : State) : Type 0 where
+  -- of any tables, it tells what the eleven queries show, or that one is refused
+  pub explained : Explains fault (IsCurrentSchema s.now.schema) version later_queries s
+  -- it tells why own ones were refused
+  pub refuted : IsCurrentSchema s.now.schema → Refutes fault s.now.trees
+
+-- tables such as an upgrade looks for, as a connection showed them before
+pub record AreFirst (s : State) : Type 0 where
+  -- they pass the first six queries, and the first row of `portal` has version 1
+  pub suits : Suits (IsFirstSchema s.now.schema) first_version [] s
+  -- if the first six are the portal's, they stand for a good world
+  pub good : HasFirstSchema s.now.schema → HasGoodFirst first_version s.now.trees
+
+-- tables that were upgraded: no table or view had one of the five new names
+pub record AreUpgraded (s : State) : Type 0 where
+  pub first : AreFirst s
+  pub free : has_names OfSecond s.now.schema ≡ false
+
+-- tables that were not, for this fault
+pub record AreBarred (fault : UpgradeFault) (s : State) : Type 0 where
+  -- of any tables, a fault of opening tells what the first six queries show, or that one is refused
+  pub explained : (found : OpenFault) → fault ≡ as_upgrading found
+      → Explains found (IsFirstSchema s.now.schema) first_version [] s
+  -- it tells why own ones were refused
+  pub barred : IsFirstSchema s.now.schema → Bars fault s.now.trees
+  -- after `Damaged`, the first six, if they are the portal's, stand for no good world
+  pub damaged : fault ≡ upgrading.Damaged → HasFirstSchema s.now.schema → HasGoodFirst first_version s.now.trees → ⊥
+  -- `Exists` means that they are such as it looks for, and a table or view has one of the five new names
+  pub exists : fault ≡ upgrading.Exists → AreFirst s × IsTrue (has_names OfSecond s.now.schema)
+
 -- what a crash may leave: the tables before the change, or those of the changed world
 abbrev pub IsLeft : Change → Database → Trees → Type 0
 IsLeft change old db = (db ≡ old.trees) ⊎ ((after : Database) × HasChanged change old after × (db ≡ after.trees))
@@ -111,6 +170,17 @@ IsLeft change old db = (db ≡ old.trees) ⊎ ((after : Database) × HasChanged 
 -- was taken
 abbrev pub LeavesUpgraded : State → Trees → Type 0
 LeavesUpgraded old db = (has_names OfSecond old.now.schema ≡ false) × IsAfter Upgrades old db
+
+-- the same after this refusal to upgrade: only a fault of the store or want of memory may come so late
+abbrev pub AfterUpgrading : UpgradeFault → State → Trees → Type 0
+AfterUpgrading upgrading.Store old db = LeavesUpgraded old db
+AfterUpgrading upgrading.Memory old db = LeavesUpgraded old db
+AfterUpgrading _ old db = ⊥
+
+-- and after this refusal to create tables with this office code
+abbrev pub AfterCreating : CreateFault → Key → State → Trees → Type 0
+AfterCreating creating.Exists office old db = ⊥
+AfterCreating _ office old db = IsAfter (Creates office) old db
 
 -- these are the trees of a consistent database with the world of those tables of version 1
 pub record IsUpgradedFrom (first db : Trees) : Type 0 where

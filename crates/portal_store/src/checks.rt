@@ -13,17 +13,18 @@ ghost use Rattle.portal_rules.specs.declared.phase.Round.TheVariants.{First};
 ghost use Rattle.portal_tables.specs.Tables.{HasFirstSchema};
 ghost use Rattle.portal_tables.specs.Rows.{RowNumbersDiffer};
 ghost use Rattle.portal_tables.specs.inner.Queries.{table_tree, table_round};
-ghost use Rattle.portal_tables.specs.inner.Reads.{Always, GivesOrFails, Gives, IsCommitted};
-ghost use Rattle.portal_tables.specs.inner.Reads.{OnlyLooks, Reads};
-ghost use Rattle.portal_list.specs.inner.Rows.{HasEntries, world_rows};
+ghost use Rattle.portal_tables.specs.Reads.{Always, GivesOrFails, Gives, IsCommitted};
+ghost use Rattle.portal_tables.specs.Reads.{OnlyLooks, Reads};
+ghost use Rattle.portal_list.specs.Rows.{HasEntries, world_rows};
 ghost use Rattle.portal_store.specs.Kept.{HasGoodFirst};
 ghost use Rattle.portal_store.specs.inner.Keeping.{AllNumbersDiffer};
 ghost use Rattle.portal_store.specs.inner.Keeping.{early_trees};
 ghost use Rattle.portal_store.specs.inner.Loads.{HasNothingBefore};
 ghost use Rattle.portal_store.specs.World.{world_in};
-ghost use Rattle.portal_store.specs.Crash.{Explains, HasVersion, RefusalSays};
-ghost use Rattle.portal_store.specs.Crash.{RefusesOne, ShowsVersion};
+ghost use Rattle.portal_store.specs.Crash.{Explains, HasVersion, Passes, RefusalSays};
+ghost use Rattle.portal_store.specs.Crash.{RefusesOne, ShowsVersion, Suits};
 ghost use Rattle.portal_store.specs.inner.Asked.{AdmitsAs, SaysNot, IsOfRows, SaysNothing};
+ghost use Rattle.portal_store.specs.inner.Asked.{TellsOffice};
 ghost use Rattle.portal_store.specs.inner.Reading.{IsSoundIfOpen};
 
 use crate::fault::table_fault_of;
@@ -36,7 +37,8 @@ use portal_tables::{is_number, row_numbers_differ};
 use sqlite::{Alter, Connection, Row};
 use std::alloc::Global;
 
-/// Checks that tables can be queried, by these queries, unless they are the portal's own.
+/// Checks that tables can be queried, by these queries, unless they are the portal's own. So either
+/// they are, or each query was answered.
 pub(crate) fn see_tables<S: Alter>(
     conn: &mut Connection<S>,
     own: bool,
@@ -49,6 +51,8 @@ pub(crate) fn see_tables<S: Alter>(
     ensures version { result ≢ Err OpenFault.OtherVersion }
     ensures refused { IsCommitted (state S.Store conn.old) → HasCleanDisk (state S.Store conn.new)
         → result ≡ Err OpenFault.NotPortal → RefusesOne queries.now (state S.Store conn.old) }
+    ensures passes { IsCommitted (state S.Store conn.old) → HasCleanDisk (state S.Store conn.new)
+        → OnOk result (Passes (IsTrue own) queries.now (state S.Store conn.old)) }
 {
     if own {
         return Ok(());
@@ -90,8 +94,9 @@ fn see_office<S: Alter>(conn: &mut Connection<S>, version: u32) -> Result<(), Op
         result conn.old conn.new }
     ensures shows { HasCleanDisk (state S.Store conn.new)
         → OnOk result (ShowsVersion version (state S.Store conn.new)) }
-    ensures explained { HasCleanDisk (state S.Store conn.new)
-        → IfErr result (λ fault. Explains fault version [] (state S.Store conn.old)) }
+    ensures told { HasCleanDisk (state S.Store conn.new)
+        → IfErr result (λ fault. TellsOffice fault version (state S.Store conn.old)) }
+    ensures judged { IfErr result (λ fault. (fault ≡ OpenFault.Damaged) → ⊥) }
 {
     let rows = read(conn, Query::Office)?;
     judge_office(&rows, version)
@@ -105,8 +110,8 @@ pub(crate) fn see_first<S: Alter>(
     version: u32,
 ) -> Result<(), OpenFault>
     ensures looks { OnlyLooks (state S.Store conn.old) (state S.Store conn.new) }
-    ensures shows { HasCleanDisk (state S.Store conn.new)
-        → OnOk result (ShowsVersion version (state S.Store conn.new)) }
+    ensures suits { IsCommitted (state S.Store conn.old) → HasCleanDisk (state S.Store conn.new)
+        → OnOk result (Suits (IsTrue own) version [] (state S.Store conn.old)) }
     ensures version { IsCommitted (state S.Store conn.old) → HasFirstSchema conn.old.schema
         → HasCleanDisk (state S.Store conn.new)
         → OnOk result (HasVersion version (state S.Store conn.old).now.trees) }
@@ -115,7 +120,11 @@ pub(crate) fn see_first<S: Alter>(
         (λ db fault. RefusalSays fault version (Unit {0}) db.trees))
         result conn.old conn.new }
     ensures explained { IsCommitted (state S.Store conn.old) → HasCleanDisk (state S.Store conn.new)
-        → IfErr result (λ fault. Explains fault version [] (state S.Store conn.old)) }
+        → IfErr result (λ fault. Explains fault (IsTrue own) version []
+        (state S.Store conn.old)) }
+    ensures judged { IfErr result (λ fault. (fault ≡ OpenFault.Damaged) → ⊥) }
+    ensures live { HasCleanDisk (state S.Store conn.new)
+        → OnOk result (IsTrue (state S.Store conn.new).is_open) }
 {
     let queries = [
         Query::Office,

@@ -19,7 +19,8 @@ use std::alloc::Global;
 impl<S: Alter> Store<S> {
     /// Makes the portal's tables in an empty database in one commit: an empty world in setup, with
     /// this office code. On a clean disk, a crash right after that leaves the new tables; right
-    /// after an error in an empty database, those or none. A store that is clean is settled, too.
+    /// after `Store` or `Memory` in an empty database, those or none. A store that is clean is
+    /// settled and consistent, too.
     ///
     /// # Errors
     ///

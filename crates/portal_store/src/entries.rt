@@ -7,10 +7,10 @@ ghost use Rattle.portal_rules.specs.Good.{Sound};
 ghost use Rattle.portal_rules.specs.Good as meant_by;
 ghost use Rattle.portal_rules.specs.Meaning.{change_model};
 ghost use Rattle.portal_rules.specs.declared.phase.Round.TheVariants.{Second};
-ghost use Rattle.portal_list.specs.inner.Rows.{HasEntries};
+ghost use Rattle.portal_list.specs.Rows.{HasEntries};
 ghost use Rattle.portal_store.specs.World.{world_of};
 ghost use Rattle.portal_store.specs.inner.Keeping.{AreEntries};
-ghost use Rattle.portal_tables.specs.inner.Reads.{Reads, Gives};
+ghost use Rattle.portal_tables.specs.Reads.{Reads, Gives};
 
 use crate::fault::rows_fault_of;
 use crate::load::load_entries;

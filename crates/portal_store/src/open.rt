@@ -9,15 +9,14 @@ ghost use Rattle.portal_rules.specs.declared.phase.Round.TheVariants.{First, Sec
 ghost use Rattle.portal_rules.specs.declared.phase.Phase.TheVariants.{Published};
 ghost use Rattle.portal_tables.specs.Tables.{HasFirstSchema, version};
 ghost use Rattle.portal_tables.specs.inner.Queries.{round_asked};
-ghost use Rattle.portal_tables.specs.inner.Reads.{Always, GivesOrFails, Gives, IsCommitted};
-ghost use Rattle.portal_tables.specs.inner.Reads.{OnlyLooks, Reads};
-ghost use Rattle.portal_list.specs.inner.Rows.{HasEntries};
+ghost use Rattle.portal_tables.specs.Reads.{Always, GivesOrFails, Gives, IsCommitted};
+ghost use Rattle.portal_tables.specs.Reads.{OnlyLooks, Reads};
+ghost use Rattle.portal_list.specs.Rows.{HasEntries};
 ghost use Rattle.portal_store.specs.Kept.{HasSecond, HasGoodWorld, HasGoodWorldIn};
 ghost use Rattle.portal_store.specs.inner.Keeping.{AreEmpty};
 ghost use Rattle.portal_store.specs.World.{phase_in, round_in, world_of};
 ghost use Rattle.portal_store.specs.Calls.{OpensStore, RefusesToOpen};
-ghost use Rattle.portal_store.specs.Crash.{Explains, HasVersion, Refutes, ShowsVersion};
-ghost use Rattle.portal_store.specs.Crash.{later_queries};
+ghost use Rattle.portal_store.specs.Crash.{Explains, HasVersion, Refutes, Suits, later_queries};
 ghost use Rattle.portal_store.specs.inner.Asked.{Admits, SaysNot, IsJudged, IsOfRows};
 ghost use Rattle.portal_store.specs.inner.Asked.{NumbersDiffer, SaysNothing};
 ghost use Rattle.portal_store.specs.inner.Reading.{ReadsAll, IsSoundIfOpen, queried_rows};
@@ -141,8 +140,8 @@ fn examine<S: Alter>(
     own: bool,
 ) -> Result<Entries, OpenFault>
     ensures looks { OnlyLooks (state S.Store conn.old) (state S.Store conn.new) }
-    ensures shows { IsCommitted (state S.Store conn.old) → HasCleanDisk (state S.Store conn.new)
-        → OnOk result (ShowsVersion version (state S.Store conn.new)) }
+    ensures suits { IsCommitted (state S.Store conn.old) → HasCleanDisk (state S.Store conn.new)
+        → OnOk result (Suits (IsTrue own) version later_queries (state S.Store conn.old)) }
     ensures version { IsCommitted (state S.Store conn.old) → HasFirstSchema conn.old.schema
         → HasCleanDisk (state S.Store conn.new)
         → OnOk result (HasVersion version (state S.Store conn.old).now.trees) }
@@ -151,7 +150,8 @@ fn examine<S: Alter>(
         (λ db fault. Refutes fault db.trees))
         result conn.old conn.new }
     ensures explained { IsCommitted (state S.Store conn.old) → HasCleanDisk (state S.Store conn.new)
-        → IfErr result (λ fault. Explains fault version later_queries (state S.Store conn.old)) }
+        → IfErr result (λ fault. Explains fault (IsTrue own) version later_queries
+        (state S.Store conn.old)) }
 {
     see_first(conn, own, VERSION)?;
     let queries = [
@@ -167,10 +167,10 @@ fn examine<S: Alter>(
 
 impl<S: Alter> Store<S> {
     /// Opens the portal in a database. If `Ok` is returned on a clean disk, own tables represent a
-    /// good world; of other tables, this is not said.
-    /// Whatever the tables are, it changes nothing if the disk is clean and the connection open,
-    /// and a crash right after it leaves only what one before left. Tables of which the first six
-    /// are the portal's are opened only in version 2. A store that is clean is settled, too.
+    /// good world; other tables answer the eleven queries, and show version 2. Whatever the tables
+    /// are, it changes nothing if the disk is clean and the connection open, and a crash right
+    /// after it leaves only what one before left. Tables of which the first six are the portal's
+    /// are opened only in version 2. A store that is clean is settled and consistent, too.
     ///
     /// # Errors
     ///
@@ -179,11 +179,13 @@ impl<S: Alter> Store<S> {
     /// has no row. `OtherVersion`: that row has a version other than 2. `Damaged`: it has version
     /// 2, and the rows represent no good world. `Store`: the store reports an error. `Memory`:
     /// memory runs out. What the first three say is proved of own tables, so that a good world in
-    /// them is refused only for the latter two. Of any tables it is proved that `NotPortal` means
+    /// them is refused only for the latter two. Of other tables it is proved that `NotPortal` means
     /// that one of the first six queries fails with an error that is not the store's, that the one
     /// of `portal` shows no row, or that its first row has version 2 and one of the five queries of
-    /// the second round fails so; the next two faults tell the version in that row. So tables of
-    /// version 1 that can be queried are refused as `OtherVersion`.
+    /// the second round fails so; that `OtherVersion` means that the first six are answered, and
+    /// `Damaged` that all are; and that these two tell the version in that row. So if a query is
+    /// not answered, and the store and memory suffice, they are refused as `NotPortal`, and tables
+    /// of version 1 that can be queried as `OtherVersion`.
     pub fn open(alloc: Global, mut conn: Connection<S>) -> Result<Store<S>, NotOpened<OpenFault, S>>
         requires idle { conn.in_transaction ≡ false }
         ensures opens { IfOk result (OpensStore S.Store conn) }

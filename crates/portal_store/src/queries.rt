@@ -8,7 +8,7 @@ ghost use Rattle.portal_rules.specs.declared.phase.Round.TheVariants.{Second};
 ghost use Rattle.portal_rules.specs.View.{sight_of, caller_among, OfficeCaller};
 ghost use Rattle.portal_rules.specs.View.{student_with};
 ghost use Rattle.portal_tables.specs.inner.Queries as asked;
-ghost use Rattle.portal_tables.specs.inner.Reads.{Always, MayRead, Reads, Gives};
+ghost use Rattle.portal_tables.specs.Reads.{Always, MayRead, Reads, Gives};
 ghost use Rattle.portal_tables.specs.inner.Shown.{as_list};
 ghost use Rattle.portal_store.specs.World.{world_in, world_of};
 ghost use Rattle.portal_store.specs.Kept.{IsConsistent};

@@ -5,7 +5,7 @@ ghost use Rattle.sqlite.specs.Effect.{IsDatabase};
 ghost use Rattle.portal_rules.specs.declared.phase.Round.{Round as ThatRound};
 ghost use Rattle.portal_rules.specs.declared.phase.Round.TheVariants.{First, Second};
 ghost use Rattle.portal_rules.specs.World.{is_setup};
-ghost use Rattle.portal_tables.specs.inner.Reads.{GivesOrFails, Blames, Reads, Gives};
+ghost use Rattle.portal_tables.specs.Reads.{GivesOrFails, Blames, Reads, Gives};
 ghost use Rattle.portal_store.specs.World as meant_by;
 ghost use Rattle.portal_store.specs.inner.Reading.{IsNow};
 ghost use Rattle.portal_store.specs.Kept.{HasSecond, HasGoodWorldIn};

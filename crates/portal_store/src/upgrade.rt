@@ -7,13 +7,13 @@ ghost use Rattle.portal_rules.specs.declared.phase.Round.TheVariants.{First};
 ghost use Rattle.portal_tables.specs.Tables.{first_version, IsFirstSchema};
 ghost use Rattle.portal_tables.specs.Making.{has_names};
 ghost use Rattle.portal_tables.specs.declared.names.Names.TheVariants.{OfSecond};
-ghost use Rattle.portal_tables.specs.inner.Reads.{GivesOrFails, Reads, IsCommitted, OnlyLooks};
-ghost use Rattle.portal_list.specs.inner.Rows.{HasEntries};
+ghost use Rattle.portal_tables.specs.Reads.{GivesOrFails, Reads, IsCommitted, OnlyLooks};
+ghost use Rattle.portal_list.specs.Rows.{HasEntries};
 ghost use Rattle.portal_store.specs.Calls.{RefusesToUpgrade, UpgradesStore};
 ghost use Rattle.portal_store.specs.Kept.{HasGoodFirst};
 ghost use Rattle.portal_store.specs.World.{world_in};
-ghost use Rattle.portal_store.specs.Crash.{Explains, RefusalSays, ShowsVersion};
-ghost use Rattle.portal_store.specs.inner.Asked.{AdmitsAs};
+ghost use Rattle.portal_store.specs.Crash.{Explains, RefusalSays, Suits};
+ghost use Rattle.portal_store.specs.inner.Asked.{AdmitsAs, Judges};
 ghost use Rattle.portal_store.specs.inner.Reading.{IsSoundIfOpen, OverLive};
 ghost use Rattle.portal_store.specs.inner.Upgrading.{UpgradesWithEntries};
 
@@ -35,10 +35,10 @@ fn examine_first<S: Alter>(
     own: bool,
 ) -> Result<Entries, OpenFault>
     ensures looks { OnlyLooks (state S.Store conn.old) (state S.Store conn.new) }
-    ensures shows { HasCleanDisk (state S.Store conn.new)
-        → OnOk result (ShowsVersion first_version (state S.Store conn.new)) }
+    ensures suits { IsCommitted (state S.Store conn.old) → HasCleanDisk (state S.Store conn.new)
+        → OnOk result (Suits (IsTrue own) first_version [] (state S.Store conn.old)) }
     ensures judged { IsCommitted (state S.Store conn.old) → OverLive First S.Store conn.old conn.new
-        (OnOk result (HasGoodFirst first_version (state S.Store conn.old).now.trees)) }
+        (Judges result (HasGoodFirst first_version (state S.Store conn.old).now.trees)) }
     ensures reads { IsTrue own → Reads First S.Store (IsSoundIfOpen S.Store conn.old)
         (GivesOrFails (λ db e. AdmitsAs first_version db.trees
         × HasEntries e (world_in First db.trees))
@@ -46,7 +46,8 @@ fn examine_first<S: Alter>(
         (HasGoodFirst first_version db.trees) db.trees))
         result conn.old conn.new }
     ensures explained { IsCommitted (state S.Store conn.old) → HasCleanDisk (state S.Store conn.new)
-        → IfErr result (λ fault. Explains fault first_version [] (state S.Store conn.old)) }
+        → IfErr result (λ fault. Explains fault (IsTrue own) first_version []
+        (state S.Store conn.old)) }
 {
     see_first(conn, own, FIRST_VERSION)?;
     judge_first(alloc, conn, FIRST_VERSION)
@@ -83,23 +84,26 @@ fn upgrade_with_entries<S: Alter>(
 
 impl<S: Alter> Store<S> {
     /// Upgrades tables of a good world from version 1 to 2 in one transaction; the world stays. On
-    /// a clean disk, a crash right after it leaves the new tables; right after an error, the old
-    /// ones or, if no new name was taken, the new ones. All this is proved of own tables of version
-    /// 1, and that these keep their world also after an error. A store that is clean is settled,
-    /// too.
+    /// a clean disk, a crash right after it leaves the new tables; right after `Store` or `Memory`,
+    /// the old ones or, if no new name was taken, the new ones. All this is proved of own tables of
+    /// version 1, and that these keep their world also after an error. Any tables that are upgraded
+    /// answer the first six queries and show version 1; if the first six are the portal's, their
+    /// world is good. A store that is clean is settled and consistent, too.
     ///
     /// # Errors
     ///
     /// Every error hands the connection back, with the file unchanged if the disk is clean and the
-    /// connection open. `NotPortal`: a table cannot be queried, or `portal` has no row.
-    /// `OtherVersion`: that row has a version other than 1. `Damaged`: it has version 1, and the
-    /// rows represent no good world. `Exists`: a table or view has one of the five new names, the
-    /// version is 1 and, if the first six tables are the portal's, their world is good. `Store`:
-    /// the store reports an error. `Memory`: memory runs out. The first four are checked in this
-    /// order, and a fault of the device or memory shortage never causes them. What the first three
-    /// say is proved of own tables. Of any tables it is proved that `NotPortal` means that one of
+    /// connection open; but for `Store` and `Memory`, a crash right after it leaves any tables as
+    /// one before. `NotPortal`: a table cannot be queried, or `portal` has no row. `OtherVersion`:
+    /// that row has a version other than 1. `Damaged`: it has version 1, and the rows represent no
+    /// good world. `Exists`: a table or view has one of the five new names, and else the tables
+    /// would be upgraded. `Store`: the store reports an error. `Memory`: memory runs out. The first
+    /// four are checked in this order, and a fault of the device or memory shortage never causes
+    /// them. What the first three say is proved of own tables; what `Damaged` says, of all whose
+    /// first six are the portal's. Of other tables it is proved that `NotPortal` means that one of
     /// the first six queries fails with an error that is not the store's, or that the one of
-    /// `portal` shows no row, and that the next two tell the version in the first row shown.
+    /// `portal` shows no row; that they are answered in every case but this and the latter two; and
+    /// that `OtherVersion` and `Damaged` tell the version in the first row shown.
     pub fn upgrade(
         alloc: Global,
         mut conn: Connection<S>,

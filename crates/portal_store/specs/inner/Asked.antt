@@ -1,11 +1,13 @@
 -- What a refusal to open or to upgrade says of the tables.
-use Rattle.std.specs.Prelude.{ℕ, ◌++◌}
+use Rattle.std.specs.Prelude.{◌≡◌, ℕ, ◌++◌, [], Result, Ok, Err}
+use Rattle.sqlite.specs.State.{State}
 use Rattle.sqlite.specs.Tree.{Trees}
 use Rattle.portal_rules.specs.Good.{Good}
 use Rattle.portal_tables.specs.Tables.{portal_tree, first_trees, later_trees, own_trees, version}
 use Rattle.portal_tables.specs.Rows.{HasOffice}
 use Rattle.portal_store.specs.World.{round_in, world_of}
 use Rattle.portal_store.specs.Kept.{AreWhole, HasGoodWorld, HasGoodFirst}
+use Rattle.portal_store.specs.Crash.{ShowsOffice, ShowsOther}
 use Rattle.portal_store.specs.inner.Keeping.{AllNumbersDiffer, early_trees}
 use Rattle.portal_store.specs.declared.store.OpenFault.{OpenFault}
 use Rattle.portal_store.specs.declared.store.OpenFault.TheVariants as opening
@@ -25,6 +27,19 @@ SaysNothing fault = SaysNot fault (Unit {0})
 -- a refusal is for the rows, for the store or for want of memory
 abbrev pub IsOfRows : OpenFault → Type 0
 IsOfRows fault = SaysNot fault ⊥
+
+-- what a refusal says of the row of the office, which should have this version
+abbrev pub TellsOffice : OpenFault → ℕ → State → Type 0
+TellsOffice opening.NotPortal of s = ShowsOffice s []
+TellsOffice opening.OtherVersion of s = ShowsOther of s
+TellsOffice opening.Damaged of s = ⊥
+TellsOffice opening.Store of s = Unit {0}
+TellsOffice opening.Memory of s = Unit {0}
+
+-- the tables stand so after Ok, and do not after `Damaged`
+abbrev pub Judges : {V : Type 0} → Result V OpenFault → Type 0 → Type 0
+Judges (Ok v) so = so
+Judges (Err fault) so = fault ≡ opening.Damaged → so → ⊥
 
 -- row numbers of the tables of many rows differ
 abbrev pub NumbersDiffer : Trees → Type 0

@@ -12,7 +12,7 @@ use Rattle.portal_rules.specs.World.{World, Change, changed}
 use Rattle.portal_rules.specs.Good.{Good}
 use Rattle.portal_rules.specs.inner.ViewCache.{IsCacheOf}
 use Rattle.portal_rules.specs.declared.view_cache.ViewCache.{ViewCache}
-use Rattle.portal_list.specs.inner.Rows.{AllEntries, HasEntries}
+use Rattle.portal_list.specs.Rows.{AllEntries, HasEntries}
 use Rattle.portal_tables.specs.Tables.{lecturer_tree, project_tree, student_tree, choice_tree, later_trees}
 use Rattle.portal_tables.specs.Tables.{ranking_tree}
 use Rattle.portal_tables.specs.Rows.{RowNumbersDiffer}

@@ -5,7 +5,7 @@ use Rattle.sqlite.specs.Tree.{Trees}
 use Rattle.portal_rules.specs.declared.phase.Phase.{Phase}
 use Rattle.portal_rules.specs.Words.{Key}
 use Rattle.portal_rules.specs.World.{Student, World}
-use Rattle.portal_list.specs.inner.Rows.{RowsOfWorld, world_rows}
+use Rattle.portal_list.specs.Rows.{RowsOfWorld, world_rows}
 use Rattle.portal_views.specs.inner.Contents.{AllRows}
 use Rattle.portal_tables.specs.Tables.{portal_tree, version}
 use Rattle.portal_store.specs.World.{world_in}

@@ -11,12 +11,12 @@ use Rattle.portal_rules.specs.World.{World}
 use Rattle.portal_rules.specs.inner.ViewCache.{IsCacheOf}
 use Rattle.portal_rules.specs.declared.view_cache.ViewCache.{ViewCache}
 use Rattle.portal_rules.specs.Good.{Good}
-use Rattle.portal_list.specs.inner.Rows.{AllEntries}
+use Rattle.portal_list.specs.Rows.{AllEntries}
 use Rattle.portal_tables.specs.inner.Changes.{every}
 use Rattle.portal_tables.specs.inner.Queries.{selection}
 use Rattle.portal_tables.specs.declared.office.Office.{Office}
 use Rattle.portal_tables.specs.declared.select.Query.{Query}
-use Rattle.portal_tables.specs.inner.Reads.{HasRound}
+use Rattle.portal_tables.specs.Reads.{HasRound}
 use Rattle.portal_store.specs.Kept.{IsConsistent, IsConsistentIn}
 use Rattle.portal_store.specs.inner.Keeping.{AreEntries}
 use Rattle.portal_store.specs.World.{world_in, world_of}

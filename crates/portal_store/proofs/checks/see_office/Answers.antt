@@ -2,7 +2,7 @@ use Rattle.portal_store.proofs.Base.{◌∷◌, ListsBy, [], columns, every, on_
 use Rattle.portal_store.proofs.Base.{subst, sym, MatchResult-from_both}
 use Rattle.portal_store.specs.Crash.{ShowsOffice}
 use Rattle.portal_store.proofs.Asked.{blames_none, office_refuted, office_version, reads_said}
-use Rattle.portal_store.proofs.Explained.{converted, explains_office, explains_said, version_still}
+use Rattle.portal_store.proofs.Explained.{converted, no_damage, tells_office, tells_said, version_still}
 use Rattle.portal_store.proofs.checks.see_office.Goals as goal
 
 pub returns-clause-reads : goal.returns-clause-reads
@@ -28,12 +28,15 @@ returns-clause-shows g c clean =
     (λ is. version_still c.args.version old new same.0.now_is same.0.is_open (record { row = is.0; rest = is.1; shown = subst (ShowsOffice old) is.2 shown; version_is = is.3 }))
     c.judge_office.ensures.version
 
-pub returns-clause-explained : goal.returns-clause-explained
-returns-clause-explained g c clean =
+pub returns-clause-told : goal.returns-clause-told
+returns-clause-told g c clean =
     let old = state g.S.Store c.args.conn.now in
     let judged = c.judge_office.ensures in
     let shown = subst (ShowsOffice old) (sym c.deref.ensures.value) (c.in_ok-rows.ensures.answers clean) in
-    explains_office c.judge_office.result c.args.version c.deref.result.now old shown judged.none.0 judged.other judged.judged
+    tells_office c.judge_office.result c.args.version c.deref.result.now old shown judged.none.0 judged.other judged.judged
 
-pub returns-in_err-rows-clause-explained : goal.returns-in_err-rows-clause-explained
-returns-in_err-rows-clause-explained g c clean = converted c.from_residual.result c.from_residual.ensures.1 (λ f so. explains_said f _ _ _ so.0)
+pub returns-in_err-rows-clause-told : goal.returns-in_err-rows-clause-told
+returns-in_err-rows-clause-told g c clean = converted c.from_residual.result c.from_residual.ensures.1 (λ f so. tells_said f _ _ so.0)
+
+pub returns-in_err-rows-clause-judged : goal.returns-in_err-rows-clause-judged
+returns-in_err-rows-clause-judged g c = converted c.from_residual.result c.from_residual.ensures.1 (λ f so. no_damage f so.0)

@@ -1,13 +1,12 @@
 use Rattle.portal_store.proofs.Base.{◌∙◌, Err, IfErr-weaker, Admits, GivesOrFails, SaysNot, HasEntries, HasGoodWorld}
-use Rattle.portal_store.proofs.Base.{[], Held, inr}
+use Rattle.portal_store.proofs.Base.{Held, IsTrue, inr}
 use Rattle.portal_store.proofs.Base.{MatchResult-weaker, Second, current_own, reads_as, reads_handed, reads_of}
 use Rattle.portal_store.proofs.Base.{reads_open, reads_then_of, subst, world_of, Reads, IsSoundIfOpen, clean_before}
 use Rattle.portal_store.proofs.Base.{looks_by, looks_then, on_ok_weaker, settled_still, state, version}
 use Rattle.portal_store.specs.Crash.{later_queries}
 use Rattle.portal_store.proofs.Asked.{blamed, blames_more}
 use Rattle.portal_store.proofs.Base.{IsCommitted}
-use Rattle.portal_store.proofs.Explained.{explains_rows, explains_so, explains_tables, explains_wide, handed}
-use Rattle.portal_store.proofs.Explained.{version_so, version_still}
+use Rattle.portal_store.proofs.Explained.{explains_rows, explains_tables, explains_wide, handed, one_so, passes_so}
 use Rattle.portal_store.proofs.open.examine.Goals as goal
 
 pub returns-in_err-see_first-clause-reads : goal.returns-in_err-see_first-clause-reads
@@ -31,18 +30,22 @@ returns-in_err-see_tables-clause-looks g c = looks_then _ _ _ c.see_first.ensure
 pub returns-clause-looks : goal.returns-clause-looks
 returns-clause-looks g c = looks_then _ _ _ c.see_first.ensures.looks (looks_then _ _ _ c.see_tables.ensures.looks (looks_by c.judge_both.result c.judge_both.ensures.reads))
 
-pub returns-clause-shows : goal.returns-clause-shows
-returns-clause-shows g c settled clean =
+-- the tables suit, as they were before all these looks
+pub returns-clause-suits : goal.returns-clause-suits
+returns-clause-suits g c settled clean =
     let old = state g.S.Store c.args.conn.now in
     let mid = state g.S.Store c.see_first.new.conn in
     let seen = state g.S.Store c.see_tables.new.conn in
     let new = state g.S.Store c.judge_both.new.conn in
     let later = clean_before seen new _ c.judge_both.ensures.reads.crash clean in
     let early = clean_before mid seen _ c.see_tables.ensures.looks.crash later in
-    on_ok_weaker c.judge_both.result
-    (λ same.
-    let still = c.see_tables.ensures.looks.stays (λ on. settled_still old mid settled (c.see_first.ensures.looks.stays settled early on)) later same.0.was_open in
-    version_still _ mid new (same.0.now_is ∙ still.1) same.0.is_open (c.in_ok-see_first.ensures.shows early)) (c.judge_both.ensures.reads.same clean tt)
+    let first = c.see_first.ensures.looks in
+    let rest : IsCommitted mid = λ on. settled_still old mid settled (first.stays settled early on) in
+    let before = c.in_ok-see_first.ensures.suits settled early in
+    let after = passes_so old mid settled first early (IsTrue c.args.own) later_queries
+    (c.in_ok-see_tables.ensures.passes rest later) in
+    on_ok_weaker c.judge_both.result (λ same. record { passes = before.passes; shows = before.shows; passes_later = after })
+    (c.judge_both.ensures.reads.same clean tt)
 
 pub returns-clause-version : goal.returns-clause-version
 returns-clause-version g c settled first clean =
@@ -56,7 +59,7 @@ returns-in_err-see_first-clause-explained g c settled clean =
     let f = c.in_err-see_first in
     let old = state g.S.Store c.args.conn.now in
     handed _ _ c.from_residual.ensures.1
-    (explains_wide f.field-0.0 version [] later_queries old (λ no. absurd no) (f.ensures.explained settled clean))
+    (explains_wide f.field-0.0 (IsTrue c.args.own) version later_queries old f.ensures.judged (f.ensures.explained settled clean))
 
 pub returns-in_err-see_tables-clause-explained : goal.returns-in_err-see_tables-clause-explained
 returns-in_err-see_tables-clause-explained g c settled clean =
@@ -66,16 +69,23 @@ returns-in_err-see_tables-clause-explained g c settled clean =
     let early = clean_before mid (state g.S.Store c.see_tables.new.conn) _ c.see_tables.ensures.looks.crash clean in
     let first = c.see_first.ensures.looks in
     let rest : IsCommitted mid = λ on. settled_still old mid settled (first.stays settled early on) in
-    let shows = c.in_ok-see_first.ensures.shows early in
-    let told = explains_tables (Err f.field-0.0) version later_queries mid f.ensures.damaged f.ensures.version (λ is. inr (inr (shows, f.ensures.refused rest clean is))) in
+    let suits = c.in_ok-see_first.ensures.suits settled early in
     handed _ _ c.from_residual-in_err-see_tables.ensures.1
-    (explains_so old mid settled first early f.field-0.0 version later_queries told)
+    (explains_tables (Err f.field-0.0) (IsTrue c.args.own) version later_queries old f.ensures.damaged f.ensures.version
+    (λ is. inr (suits.passes, inr (suits.shows, one_so old mid settled first early later_queries (f.ensures.refused rest clean is)))))
 
 pub returns-clause-explained : goal.returns-clause-explained
 returns-clause-explained g c settled clean =
     let old = state g.S.Store c.args.conn.now in
     let mid = state g.S.Store c.see_first.new.conn in
     let seen = state g.S.Store c.see_tables.new.conn in
-    let early = clean_before mid seen _ c.see_tables.ensures.looks.crash (clean_before seen (state g.S.Store c.judge_both.new.conn) _ c.judge_both.ensures.reads.crash clean) in
-    let shows = version_so old mid settled c.see_first.ensures.looks early version (c.in_ok-see_first.ensures.shows early) in
-    IfErr-weaker c.judge_both.result _ _ (λ f. explains_rows f version later_queries old shows) c.judge_both.ensures.refused
+    let later = clean_before seen (state g.S.Store c.judge_both.new.conn) _ c.judge_both.ensures.reads.crash clean in
+    let early = clean_before mid seen _ c.see_tables.ensures.looks.crash later in
+    let first = c.see_first.ensures.looks in
+    let rest : IsCommitted mid = λ on. settled_still old mid settled (first.stays settled early on) in
+    let before = c.in_ok-see_first.ensures.suits settled early in
+    let after = passes_so old mid settled first early (IsTrue c.args.own) later_queries
+    (c.in_ok-see_tables.ensures.passes rest later) in
+    IfErr-weaker c.judge_both.result _ _
+    (λ f. explains_rows f (IsTrue c.args.own) version later_queries old (record { passes = before.passes; shows = before.shows; passes_later = after }))
+    c.judge_both.ensures.refused

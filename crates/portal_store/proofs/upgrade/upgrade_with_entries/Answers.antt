@@ -1,8 +1,8 @@
-use Rattle.portal_store.proofs.Base.{Err, ap, rules, sym, ◌∙◌, state, Upgrades, clean_before, commits_asked, stays_then}
-use Rattle.portal_store.proofs.Base.{survives_weaker}
+use Rattle.portal_store.proofs.Base.{[], Err, ap, rules, subst, sym, ◌∙◌, state, Upgrades, clean_before, first_version}
+use Rattle.portal_store.proofs.Base.{stays_then, survives_weaker}
 use Rattle.portal_store.proofs.Asked.{blames_none}
-use Rattle.portal_store.proofs.Calls.{looked_at, never_exists, not_upgraded}
-use Rattle.portal_store.proofs.Explained.{explains_said}
+use Rattle.portal_store.proofs.Calls.{after_late, looked_at, never_exists, not_upgraded}
+use Rattle.portal_store.proofs.Explained.{explains_for, explains_said, no_damage, suits_for}
 use Rattle.portal_store.proofs.Keeps.{not_both}
 use Rattle.portal_tables.proofs.Owned.{first_own}
 use Rattle.portal_store.proofs.Upgraded.{first_untaken, leaves_upgraded, leaves_world}
@@ -18,8 +18,9 @@ returns-in-Err-clause-refuses g c =
     let reads = c.in-Err.ensures.reads in
     not_upgraded g.S.Store _ c.in-Err.fault old mid c.upgrade_fault_of.ensures
     (looked_at g.S.Store _ old mid rest.settled c.requires.idle looks)
-    (λ clean. c.in-Err.ensures.explained rest.settled clean)
+    (λ clean. explains_for _ _ c.requires.first.0 (state g.S.Store old) c.in-Err.fault first_version [] (c.in-Err.ensures.explained rest.settled clean))
     (λ first clean. (reads (c.requires.first.1 first)).told (first_own _ first) (λ on. (rest.live on).0) clean)
+    (λ damaged first clean. c.in-Err.ensures.judged rest.settled first rest.live clean damaged)
     (λ first. survives_weaker _ _ _ _ (λ clean db no. absurd no) looks.crash)
 
 -- a name is taken, as none is of tables of version 1 alone
@@ -31,11 +32,19 @@ returns-then-is_taken-clause-refuses g c =
     let taken = sym c.requires.taken ∙ c.if-is_taken.true in
     record {
       back = looked_at g.S.Store _ old c.examine_first.new.conn rest.settled c.requires.idle looks;
-      explained = λ found is clean. absurd (never_exists found (sym is));
-      barred = λ first clean. absurd (not_both _ taken (first_untaken _ first));
+      judged = λ clean. record {
+        explained = λ found is. absurd (never_exists found (sym is));
+        barred = λ first. absurd (not_both _ taken (first_untaken _ first));
+        damaged = λ is. absurd (cc);
+        exists = λ is. (
+          record {
+            suits = suits_for _ _ c.requires.first.0 (state g.S.Store old) first_version [] (c.in-Ok.ensures.suits rest.settled clean);
+            good = λ first. c.in-Ok.ensures.judged rest.settled first rest.live clean;
+          },
+          taken,
+        );
+      };
       taken = λ is. taken;
-      order = λ is clean. c.in-Ok.ensures.shows clean;
-      judged = λ is first clean. c.in-Ok.ensures.judged rest.settled first rest.live clean;
       left = λ first. survives_weaker _ _ _ _ (λ clean db no. absurd no) looks.crash;
     }
 
@@ -53,11 +62,16 @@ returns-in-Ok-upgrade_tables-clause-upgrades g c =
     record {
       idle = c.upgrade_tables.ensures.idle;
       free = free;
+      first = λ clean. record {
+        suits = suits_for _ _ c.requires.first.0 old first_version [] (c.in-Ok.ensures.suits c.settled.ensures.settled (early clean));
+        good = λ first. c.in-Ok.ensures.judged c.settled.ensures.settled first c.settled.ensures.live (early clean);
+      };
       admitted = λ first clean. ((reads (mine first)).told (first_own _ first) (λ on. (c.settled.ensures.live on).0) (early clean)).0;
       entered = λ first clean. ((reads (mine first)).told (first_own _ first) (λ on. (c.settled.ensures.live on).0) (early clean)).1;
-      commits = λ first clean.
-          commits_asked old mid new Upgrades Upgrades (λ clean after up. up) (early clean) ((reads (mine first)).same (early clean) tt)
-          (c.in-Ok-upgrade_tables.ensures.ok clean);
+      commits = λ clean.
+          let done = c.in-Ok-upgrade_tables.ensures.ok clean in
+          let stays = c.examine_first.ensures.looks.stays c.settled.ensures.settled (early clean) done.was_open in
+          record { was_open = stays.0; is_open = done.is_open; settled = done.settled; changed = subst (λ d. Upgrades d new.now) stays.1 done.changed };
       durable = c.in-Ok-upgrade_tables.ensures.durable;
       crash = leaves_upgraded old mid new looks crash free (λ first clean. ((reads (mine first)).same clean tt).0.now_is);
       left = λ first. leaves_world old mid new looks crash first
@@ -87,10 +101,12 @@ returns-in-Err-upgrade_tables-clause-refuses g c =
       stays = λ clean on.
           let later = fails.ensures.err clean on in
           stays_then old mid new (looks.stays rest.settled (early clean) later.0) later;
-      crash = leaves_upgraded old mid new looks.crash crash free (λ first clean. ((reads (mine first)).same clean tt).0.now_is);
+      crash = survives_weaker old new _ _ (λ clean db left. after_late _ c.from.result old db c.upgrade_fault_of-in-Err-upgrade_tables.ensures nothing left)
+          (leaves_upgraded old mid new looks.crash crash free (λ first clean. ((reads (mine first)).same clean tt).0.now_is));
     })
-    (λ clean. explains_said _ _ _ _ nothing)
+    (λ clean. explains_said _ _ _ _ _ nothing)
     (λ first clean. blames_none _ _ _ _ nothing)
+    (λ damaged. absurd (no_damage _ nothing damaged))
     (λ first. leaves_world old mid new looks.crash crash first
     (λ clean.
     let r = reads (mine first) in

@@ -1,7 +1,8 @@
-use Rattle.portal_store.proofs.Base.{clean_if_open}
+use Rattle.portal_store.proofs.Base.{clean_if_open, state, version}
+use Rattle.portal_store.specs.Crash.{later_queries}
 use Rattle.portal_store.proofs.Asked.{blames_none}
 use Rattle.portal_store.proofs.Calls.{looked_at, open_entered, open_kept, opened, untouched}
-use Rattle.portal_store.proofs.Explained.{explains_said}
+use Rattle.portal_store.proofs.Explained.{explains_for, explains_said}
 use Rattle.portal_store.proofs.store.Store.open.Goals as goal
 
 pub invariant_of-result : goal.invariant_of-result
@@ -28,7 +29,7 @@ returns-clause-opens g c =
     let sees = c.in-Ok-examine in
     let shut = clean_if_open _ _ (g.met.S.Store.shut_if_dirty new.store) in
     opened g.S.Store own.result c.args.conn new shut (g.met.S.Store.settled new.store) own.ensures.current rest.settled rest.live
-    c.requires.idle c.examine.ensures.looks sees.entries sees.ensures.reads (sees.ensures.shows rest.settled)
+    c.requires.idle c.examine.ensures.looks sees.entries sees.ensures.reads (sees.ensures.suits rest.settled)
     (sees.ensures.version rest.settled)
 
 pub returns-in-Err-examine-clause-refuses : goal.returns-in-Err-examine-clause-refuses
@@ -37,14 +38,19 @@ returns-in-Err-examine-clause-refuses g c =
     let reads = c.in-Err-examine.ensures.reads in
     record {
       back = looked_at g.S.Store _ c.args.conn c.examine.new.conn rest.settled c.requires.idle c.examine.ensures.looks;
-      explained = λ clean. c.in-Err-examine.ensures.explained rest.settled clean;
-      refuted = λ current clean. (reads (c.fits-own.ensures.current.1 current)).told current (λ on. (rest.live on).0) clean;
+      judged = λ clean. record {
+        explained = explains_for _ _ c.fits-own.ensures.current.0 (state g.S.Store c.args.conn) c.in-Err-examine.fault version later_queries
+            (c.in-Err-examine.ensures.explained rest.settled clean);
+        refuted = λ current. (reads (c.fits-own.ensures.current.1 current)).told current (λ on. (rest.live on).0) clean;
+      };
     }
 
 pub returns-in-Err-clause-refuses : goal.returns-in-Err-clause-refuses
 returns-in-Err-clause-refuses g c =
     record {
       back = untouched g.S.Store _ c.args.conn c.requires.idle;
-      explained = λ clean. explains_said _ _ _ _ c.from.ensures.0;
-      refuted = λ current clean. blames_none _ _ _ _ c.from.ensures.0;
+      judged = λ clean. record {
+        explained = explains_said _ _ _ _ _ c.from.ensures.0;
+        refuted = λ current. blames_none _ _ _ _ c.from.ensures.0;
+      };
     }

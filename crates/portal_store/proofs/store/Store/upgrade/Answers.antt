@@ -2,7 +2,7 @@ use Rattle.portal_store.proofs.Base.{ap, ◌∙◌, has_names, OfSecond, clean_i
 use Rattle.portal_tables.proofs.Runs.{survives_same}
 use Rattle.portal_store.proofs.Asked.{blames_none}
 use Rattle.portal_store.proofs.Calls.{not_upgraded, untouched, upgraded}
-use Rattle.portal_store.proofs.Explained.{explains_said}
+use Rattle.portal_store.proofs.Explained.{explains_said, no_damage}
 use Rattle.portal_store.proofs.Upgraded.{still_entered, upgraded_kept}
 use Rattle.portal_store.proofs.store.Store.upgrade.Goals as goal
 
@@ -37,7 +37,8 @@ returns-in-Err-clause-refuses g c =
     let conn = c.args.conn in
     let s = state g.S.Store conn in
     not_upgraded g.S.Store _ c.from.result conn conn c.upgrade_fault_of.ensures (untouched g.S.Store _ conn c.requires.idle)
-    (λ clean. explains_said _ _ _ _ c.from.ensures.0) (λ first clean. blames_none _ _ _ _ c.from.ensures.0) (λ first. survives_weaker s s _ _ (λ clean db no. absurd no) (survives_same s))
+    (λ clean. explains_said _ _ _ _ _ c.from.ensures.0) (λ first clean. blames_none _ _ _ _ c.from.ensures.0)
+    (λ damaged. absurd (no_damage _ c.from.ensures.0 damaged)) (λ first. survives_weaker s s _ _ (λ clean db no. absurd no) (survives_same s))
 
 pub upgrade_with_entries-requires : goal.upgrade_with_entries-requires
 upgrade_with_entries-requires g c = record {
