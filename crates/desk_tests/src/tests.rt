@@ -14,6 +14,7 @@ mod portal;
 mod reopening;
 mod requests;
 mod second_sheets;
+mod series;
 mod streams;
 mod times;
 mod trials;

@@ -1,11 +1,11 @@
--- What is told of connections, one after another.
+-- The counts of connections that are served one after another.
 use Rattle.portal_serve.proofs.Base.{◌≡◌, ◌∙◌, ◌+◌, ◌≤◌, Bool, true, false, if◌then◌else◌, ℕ, List, [], ◌∷◌, ◌++◌}
-use Rattle.portal_serve.proofs.Base.{length, length-append, Option, Some, None, Result, Ok, Err, refl, sym, ap, subst}
-use Rattle.portal_serve.proofs.Base.{arith, is_own_fault, is_store_cause, is_store_fault, Adds, Settles, SettlesBy}
-use Rattle.portal_serve.proofs.Base.{EndsBy}
+use Rattle.portal_serve.proofs.Base.{length, length-append, Option, Result, Ok, Err, refl, sym, ap, subst, rules}
+use Rattle.portal_serve.proofs.Base.{arith, is_own_fault, is_store_cause, is_store_fault, Settles, SettlesBy}
+use Rattle.portal_serve.proofs.Base.{EndsBy, KeeperState, Kept, Series, ServesInTurn}
+use Rattle.portal_serve.proofs.Turns.{turned, turns_end, turns_more, turns_none}
 use Rattle.portal_serve.proofs.Base.{StillWorks, CountsOutcomes, is_faulty}
 use Rattle.std.specs.Prelude.{All, count_by}
-use Rattle.std.proofs.lemmas.List.{append_assoc}
 use Rattle.std.proofs.lemmas.List.Elements.{All-push}
 use Rattle.std.proofs.lemmas.List.Sums.{sum_by_push, count_by-le-length}
 use Rattle.portal_desk.specs.declared.served.Cause.{Cause}
@@ -18,21 +18,17 @@ use Rattle.portal_serve.specs.declared.server.Ended.TheVariants.{StoreFault}
 use Rattle.portal_serve.specs.declared.server.Outcome.{Outcome}
 
 -- so many connections were accepted, so many of them faulty, and the desk stands after each
-pub record Passed (old new : Option (List Outcome)) (accepted faults : ℕ) : Type 0 where
+pub record Passed {K : Type 0} (state : K → KeeperState) (first last : Kept K) (old new : Option Series)
+    (accepted faults : ℕ) : Type 0 where
   pub es : List Outcome
-  pub adds : Adds old new es
+  pub turns : ServesInTurn state first last old new es
   pub long : accepted ≡ length es
   pub counted : faults ≡ count_by is_faulty es
   pub stand : All StillWorks es
 
-pub adds_more : (a b c : Option (List Outcome)) (xs ys : List Outcome) → Adds a b xs → Adds b c ys → Adds a c (xs ++ ys)
-adds_more None b c xs ys p q = tt
-adds_more (Some es) b c xs ys p q =
-    let q' : Adds (Some (es ++ xs)) c ys = subst (λ o. Adds o c ys) p q in
-    q' ∙ ap Some (append_assoc es xs ys)
-
-pub passed_few : (a b : Option (List Outcome)) (accepted faults : ℕ) → Passed a b accepted faults → faults ≤ accepted
-passed_few a b accepted faults p = omega (arith, p.long, p.counted, count_by-le-length is_faulty p.es)
+pub passed_few : {K : Type 0} (state : K → KeeperState) (first last : Kept K) (a b : Option Series)
+    (accepted faults : ℕ) → Passed state first last a b accepted faults → faults ≤ accepted
+passed_few state first last a b accepted faults p = omega (arith, p.long, p.counted, count_by-le-length is_faulty p.es)
 
 -- the counts after one more connection
 pub counted_more : (es : List Outcome) (o : Outcome) (accepted faults : ℕ) → accepted ≡ length es
@@ -56,28 +52,48 @@ stands_after o old new settles is calm =
     go (Ok served) h = refl
     go (Err fault) h = by_cause fault.cause h
 
+-- none so far
+pub passed_none : {K : Type 0} (state : K → KeeperState) (desk : Kept K) (a : Option Series) → Passed state desk desk a a 0 0
+passed_none state desk a =
+    record { es = []; turns = turns_none state desk a; long = refl; counted = refl; stand = search rules }
+
 -- one more connection, after which the desk stands
-pub passed_more : (a b c : Option (List Outcome)) (o : Outcome) (old new : Bool) (accepted faults : ℕ)
-    → Passed a b accepted faults → Adds b c (o ∷ [])
-    → Settles o.ended old new → o.failed ≡ new → o.failed ≡ false → Passed a c (accepted + 1) (faults + (if is_own_fault o.ended then 1 else 0))
-passed_more a b c o old new accepted faults p more settles is calm =
+pub passed_more : {K : Type 0} (state : K → KeeperState) (first old new : Kept K) (a b c : Option Series) (o : Outcome)
+    (accepted faults : ℕ)
+    → Passed state first old a b accepted faults → ServesInTurn state old new b c (o ∷ []) → o.failed ≡ false
+    → Passed state first new a c (accepted + 1) (faults + (if is_own_fault o.ended then 1 else 0))
+passed_more state first old new a b c o accepted faults p more calm =
     let n = counted_more p.es o accepted faults p.long p.counted in
+    let one = turned state old new b c o more in
     record {
       es = p.es ++ o ∷ [];
-      adds = adds_more a b c p.es (o ∷ []) p.adds more;
+      turns = turns_more state first old new a b c p.es (o ∷ []) p.turns more;
       long = n.0;
       counted = n.1;
-      stand = All-push StillWorks p.es o p.stand (stands_after o old new settles is calm);
+      stand = All-push StillWorks p.es o p.stand (stands_after o old.failed new.failed one.settles one.failed calm);
     }
 
+-- no more connections
+pub told_over : {K : Type 0} (state : K → KeeperState) (first old last : Kept K) (a b c : Option Series) (accepted faults : ℕ)
+    → Passed state first old a b accepted faults → ServesInTurn state old last b c []
+    → (hall : Hall) → hall.accepted ≡ accepted → hall.faults ≡ faults → ((es : List Outcome) → All StillWorks es → EndsBy hall.ended es)
+    → (es : List Outcome) × ServesInTurn state first last a c es × CountsOutcomes hall es
+told_over state first old last a b c accepted faults p none hall e f ends = (
+  p.es,
+  turns_end state first old last a b c p.es p.turns none,
+  record { accepted = e ∙ p.long; faults = f ∙ p.counted; ends = ends p.es p.stand },
+)
+
 -- one more connection, after which the desk has failed
-pub told_failed : (a b c : Option (List Outcome)) (o : Outcome) (accepted faults : ℕ) → Passed a b accepted faults
-    → Adds b c (o ∷ []) → o.failed ≡ true
-    → (hall : Hall) → hall.accepted ≡ accepted + 1 → hall.faults ≡ faults + (if is_own_fault o.ended then 1 else 0) → hall.ended ≡ StoreFault
-    → (es : List Outcome) × Adds a c es × CountsOutcomes hall es
-told_failed a b c o accepted faults p more failed hall e f g =
+pub told_failed : {K : Type 0} (state : K → KeeperState) (first old new : Kept K) (a b c : Option Series) (o : Outcome)
+    (accepted faults : ℕ)
+    → Passed state first old a b accepted faults → ServesInTurn state old new b c (o ∷ []) → o.failed ≡ true
+    → (hall : Hall) → hall.accepted ≡ accepted + 1 → hall.faults ≡ faults + (if is_own_fault o.ended then 1 else 0)
+    → hall.ended ≡ StoreFault
+    → (es : List Outcome) × ServesInTurn state first new a c es × CountsOutcomes hall es
+told_failed state first old new a b c o accepted faults p more failed hall e f g =
     let n = counted_more p.es o accepted faults p.long p.counted in (
       p.es ++ o ∷ [],
-      adds_more a b c p.es (o ∷ []) p.adds more,
+      turns_more state first old new a b c p.es (o ∷ []) p.turns more,
       record { accepted = e ∙ n.0; faults = f ∙ n.1; ends = subst (λ (x : Ended). EndsBy x (p.es ++ o ∷ [])) (sym g) (p.es, o, refl, p.stand, failed) },
     )

@@ -1,6 +1,6 @@
 -- The outcomes of the accepted connections, in order, and the report to the office.
 use Rattle.std.specs.Prelude.{Bool, true, false, not, Result, Ok, Err, ◌≡◌, ◌≢◌, ◌≤◌, List, [], ◌∷◌, ◌++◌, length}
-use Rattle.std.specs.Prelude.{count_by, All, Option, Some, IfSome, ℕ, if◌then◌else◌}
+use Rattle.std.specs.Prelude.{count_by, All, ℕ, if◌then◌else◌}
 use Rattle.portal_desk.specs.declared.served.Cause.{Cause}
 use Rattle.portal_desk.specs.declared.served.Cause.TheVariants.{Store}
 use Rattle.portal_desk.specs.declared.served.Served.{Served}
@@ -33,10 +33,6 @@ is_own_fault (Err fault) = not (is_store_cause fault.cause)
 abbrev pub is_store_fault : Result Served ServeFault → Bool
 is_store_fault (Ok served) = false
 is_store_fault (Err fault) = is_store_cause fault.cause
-
--- if the outcomes are recorded, these are appended
-abbrev pub Adds : Option (List Outcome) → Option (List Outcome) → List Outcome → Type 0
-Adds old new more = IfSome old (λ outcomes. new ≡ Some (outcomes ++ more))
 
 -- the desk has not failed by the end of the connection
 pub record StillWorks (outcome : Outcome) : Type 0 where

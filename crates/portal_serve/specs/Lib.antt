@@ -1,2 +1,3 @@
 pub mod Hall
+pub mod Streams
 pub mod inner

@@ -6,7 +6,7 @@ mod reporting;
 mod server;
 mod timeouts;
 
-pub use listening::{serve_on, serve_stream};
+pub use listening::{serve_on, serve_one, serve_stream};
 pub use reporting::report;
 pub use server::{Connections, Ended, Hall, Outcome, Service, serve_each};
-pub use timeouts::TimedStream;
+pub use timeouts::{TimedRead, TimedWrite};

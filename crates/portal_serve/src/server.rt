@@ -1,12 +1,10 @@
 //! The server loop: serves one connection after another, and counts faults other than store faults.
 
-ghost use Rattle.std.specs.Prelude.{◌≡◌, ◌+◌, ◌-◌, ◌^◌, ◌<◌, if◌then◌else◌, List};
-ghost use Rattle.std.specs.Prelude.{Option, None, IfSome};
+ghost use Rattle.std.specs.Prelude.{◌≡◌, ◌+◌, ◌-◌, ◌^◌, ◌<◌, if◌then◌else◌, List, Option, None};
 ghost use Rattle.std.specs.Option.{option_to_list};
 ghost use Rattle.portal_wire.specs.Conversation.{Exchange};
-ghost use Rattle.portal_desk.specs.Kept.{Worked};
-ghost use Rattle.portal_desk.specs.Session.{Settles};
-ghost use Rattle.portal_serve.specs.Hall.{is_own_fault, Adds, IsMovedBy, ServesHall, CountsOutcomes};
+ghost use Rattle.portal_serve.specs.Hall.{is_own_fault, IsMovedBy, ServesHall, CountsOutcomes};
+ghost use Rattle.portal_serve.specs.Streams.{Series, ServesInTurn};
 ghost use Rattle.portal_serve.specs.declared.server.Outcome.{Outcome};
 
 use portal_core::Keeper;
@@ -44,20 +42,16 @@ pub struct Outcome {
 
 /// A series of connections, each of which is served on a desk.
 pub trait Connections {
-    /// The outcomes of the connections so far, if they are recorded.
-    ghost outcomes: { Self → Option (List Outcome) } = { λ _. None };
+    /// The connections so far, and the streams of those to come, if they are known.
+    ghost series: { Self → Option Series } = { λ _. None };
 
     /// No further connection can be accepted.
     ghost over: { Self → Type 0 } = { λ _. Unit {0} };
 
     /// Serves the next connection and returns its outcome, or `None` if none can be accepted.
     fn serve_next<K: Keeper>(&mut self, desk: &mut Desk<K>) -> Option<Outcome>
-        ensures worked { Worked K.state desk.old desk.new }
-        ensures adds { Adds (outcomes self.old) (outcomes self.new) (option_to_list result) }
-        ensures failed { IfSome result (λ outcome. outcome.failed ≡ desk.new.failed) }
-        ensures settles { IfSome result (λ outcome.
-            Settles outcome.ended desk.old.failed desk.new.failed) }
-        ensures none { result ≡ None → desk.new ≡ desk.old }
+        ensures serves { ServesInTurn K.state desk.old desk.new (series self.old) (series self.new)
+            (option_to_list result) }
         ensures over { result ≡ None → over self.new };
 }
 
@@ -100,14 +94,14 @@ fn faults_with(faults: u32, ended: &Result<Served, ServeFault>) -> u32
 
 /// Serves up to `most` connections one after another, all of them if the result is `Full`. Counts
 /// their outcomes, and those with faults of their own. Stops early if the desk fails or none can be
-/// accepted.
+/// accepted. If the series is known, each of the accepted ones was served, in order.
 pub fn serve_each<C: Connections, K: Keeper>(
     connections: &mut C,
     most: u32,
     desk: &mut Desk<K>,
 ) -> Hall
-    ensures told { (outcomes : List Outcome)
-        × Adds (C.outcomes connections.old) (C.outcomes connections.new) outcomes
+    ensures told { (outcomes : List Outcome) × ServesInTurn K.state desk.old desk.new
+        (C.series connections.old) (C.series connections.new) outcomes
         × CountsOutcomes result outcomes }
     ensures serves { ServesHall K.state result most desk.old desk.new }
     ensures listen { result.ended ≡ Ended.ListenFault → C.over connections.new }

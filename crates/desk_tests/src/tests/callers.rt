@@ -1,6 +1,12 @@
 //! Simulates a clock, and a caller who acts by it.
 
-use portal_serve::TimedStream;
+ghost use Rattle.std.specs.Prelude.{[], ◌∷◌, None};
+ghost use Rattle.portal_serve.specs.Streams.{ServesInTurn};
+
+use portal_core::Keeper;
+use portal_desk::Desk;
+use portal_serve::{Outcome, TimedRead, TimedWrite, serve_one};
+use std::alloc::Global;
 use std::cell::Cell;
 use std::io;
 use std::io::{ErrorKind, Read};
@@ -132,37 +138,66 @@ impl<'a> Caller<'a> {
     }
 }
 
-impl<'a> TimedStream for Caller<'a> {
-    fn read_within(&self, buf: &mut [u8], timeout: Duration) -> io::Result<usize> {
-        let (seconds, act) = self.next_act();
-        self.clock.wait(seconds, timeout)?;
+/// What a caller sends.
+#[derive(Drop)]
+struct Mouth<'a> {
+    caller: &'a Caller<'a>,
+}
+
+impl<'a> TimedRead for Mouth<'a> {
+    fn read_within(&mut self, buf: &mut [u8], timeout: Duration) -> io::Result<usize> {
+        let caller = self.caller;
+        let (seconds, act) = caller.next_act();
+        caller.clock.wait(seconds, timeout)?;
         match act {
             Act::Sends(text) => {
-                self.meet();
+                caller.meet();
                 let mut bytes = text.as_bytes();
                 bytes.read(buf)
             }
             Act::Signal => {
-                self.meet();
+                caller.meet();
                 Err(io::Error::from(ErrorKind::Interrupted))
             }
             Act::Ends => Ok(0),
         }
     }
+}
 
-    fn write_within(&self, buf: &[u8], timeout: Duration) -> io::Result<usize> {
-        self.clock.wait(self.pace.seconds, timeout)?;
-        let signals = self.signals.get();
+/// What a caller takes.
+#[derive(Drop)]
+struct Ear<'a> {
+    caller: &'a Caller<'a>,
+}
+
+impl<'a> TimedWrite for Ear<'a> {
+    fn write_within(&mut self, buf: &[u8], timeout: Duration) -> io::Result<usize> {
+        let caller = self.caller;
+        caller.clock.wait(caller.pace.seconds, timeout)?;
+        let signals = caller.signals.get();
         if signals > 0 {
-            self.signals.set(signals.saturating_sub(1));
+            caller.signals.set(signals.saturating_sub(1));
             return Err(io::Error::from(ErrorKind::Interrupted));
         }
-        let n = buf.len().min(self.pace.bytes);
-        self.taken.set(self.taken.get().saturating_add(n));
+        let n = buf.len().min(caller.pace.bytes);
+        caller.taken.set(caller.taken.get().saturating_add(n));
         Ok(n)
     }
 
-    fn end_writing(&self) -> io::Result<()> {
+    fn end_writing(&mut self) -> io::Result<()> {
         Ok(())
     }
+}
+
+/// Serves a caller on a desk, and returns the outcome.
+pub(crate) fn serve<'a, K: Keeper>(
+    alloc: Global,
+    caller: &'a Caller<'a>,
+    desk: &mut Desk<K>,
+) -> Outcome
+    ensures { ServesInTurn K.state desk.old desk.new None None (result ∷ []) }
+{
+    let mut mouth = Mouth { caller: &*caller };
+    let mut ear = Ear { caller: &*caller };
+    serve_one(&(caller.clock, alloc), &mut mouth, &mut ear, desk)
 }

@@ -1,15 +1,15 @@
 //! Tests how many connections are accepted, and the outcome of each.
 
-ghost use Rattle.std.specs.Prelude.{◌≡◌, ◌<◌, ◌∷◌, ◌++◌, [], Some, vec_len, vec_capacity};
+ghost use Rattle.std.specs.Prelude.{◌≡◌, ◌<◌, ◌∷◌, ◌++◌, [], None, vec_len, vec_capacity};
 
 use crate::tests::callers::Act::{Ends, Sends};
-use crate::tests::callers::{Act, Caller, ME, PROMPT, TestClock};
+use crate::tests::callers::{Act, Caller, ME, PROMPT, TestClock, serve};
 use crate::tests::failing::Failing;
 use crate::tests::portal::fresh_keeper;
 use crate::tests::times::{end, fault};
 use portal_core::Keeper;
 use portal_desk::{Cause, Desk};
-use portal_serve::{Connections, Ended, Hall, Outcome, serve_each, serve_stream};
+use portal_serve::{Connections, Ended, Hall, Outcome, serve_each};
 use std::alloc::Global;
 use std::process::Abort;
 
@@ -35,7 +35,7 @@ fn note(outcomes: &mut Vec<Outcome>, outcome: Outcome)
 }
 
 impl<'a> Connections for Queue<'a> {
-    ghost outcomes = { λ queue. Some queue.outcomes.items };
+    ghost series = { λ _. None };
 
     fn serve_next<K: Keeper>(&mut self, desk: &mut Desk<K>) -> Option<Outcome> {
         let Some(acts) = self.callers.get(self.served) else {
@@ -46,9 +46,7 @@ impl<'a> Connections for Queue<'a> {
         }
         self.served = self.served.saturating_add(1);
         let caller = Caller::new(self.clock, acts, PROMPT);
-        let ended = serve_stream(&(self.clock, self.alloc), &caller, desk);
-        let failed = desk.failed();
-        let outcome = Outcome { ended, failed };
+        let outcome = serve(self.alloc, &caller, desk);
         note(&mut self.outcomes, outcome);
         Some(outcome)
     }

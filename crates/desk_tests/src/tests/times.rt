@@ -1,10 +1,9 @@
 //! Tests the timeouts of a connection, by a clock that moves only during waits.
 
 use crate::tests::callers::Act::{Ends, Sends, Signal};
-use crate::tests::callers::{Act, Caller, ME, PROMPT, Pace, TestClock, pace_of};
+use crate::tests::callers::{Act, Caller, ME, PROMPT, Pace, TestClock, pace_of, serve};
 use crate::tests::portal::fresh_keeper;
 use portal_desk::{Cause, Desk, Ending, ServeFault, Served};
-use portal_serve::serve_stream;
 use std::process::Abort;
 
 /// The request of `ME` that also asks to close the connection. Its reply has 118 bytes.
@@ -37,8 +36,8 @@ fn comes(
     let clock = TestClock::new();
     let caller = Caller::new(&clock, acts, pace);
     let mut desk = Desk::new(fresh_keeper(rt));
-    let found = serve_stream(&(&clock, rt.alloc()), &caller, &mut desk);
-    has_ended(rt, found, ended);
+    let found = serve(rt.alloc(), &caller, &mut desk);
+    has_ended(rt, found.ended, ended);
     has_taken(rt, (caller.taken(), clock.seconds()), bytes, seconds);
 }
 

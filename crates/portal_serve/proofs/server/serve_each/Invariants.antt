@@ -7,7 +7,8 @@ abbrev pub invariant-loop-accepted : goal.invariant-loop-accepted
 invariant-loop-accepted g l = record {
   worked : Worked g.K.Keeper.state l.initial.desk l.desk;
   few : l.faults ≤ l.accepted;
-  told : Passed (g.C.Connections.outcomes l.initial.connections) (g.C.Connections.outcomes l.connections) l.accepted l.faults;
+  told : Passed g.K.Keeper.state l.initial.desk l.desk (g.C.Connections.series l.initial.connections)
+      (g.C.Connections.series l.connections) l.accepted l.faults;
   shut : l.desk.failed ≡ true → l.accepted ≡ 0;
   calm : l.desk.failed ≡ l.initial.desk.failed;
 }
