@@ -36,6 +36,7 @@ upgrades r a b on is = record {
   lasting = on_ok r _ _ (λ lasting. on.ends _ lasting) is.lasting;
   none = on_ok r _ _ (λ none w finds. none w (on.finds Current w finds)) is.none;
   judged = on.begins _ is.judged;
+  stood = on_ok r _ _ (λ stood. on.begins _ stood) is.stood;
   refused = if_err r _ _ (λ fault refused w finds. refused w (on.finds First w finds)) is.refused;
   kept = if_err r _ _ (λ fault kept. on.ends _ kept) is.kept;
 }
@@ -43,6 +44,7 @@ upgrades r a b on is = record {
 opens : {A : Type 0} (r : Result A OpenFault) (a b : Work) → Carries a b → OpensTables r a → OpensTables r b
 opens r a b on is = record {
   judged = on.begins _ is.judged;
+  stood = on_ok r _ _ (λ stood. on.begins _ stood) is.stood;
   refused = if_err r _ _ (λ fault refused w finds. refused w (on.finds Current w finds)) is.refused;
   lasting = on_ok r _ _ (λ lasting. on.ends _ lasting) is.lasting;
   kept = if_err r _ _ (λ fault kept. on.ends _ kept) is.kept;

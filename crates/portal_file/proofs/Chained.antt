@@ -14,18 +14,14 @@ use Rattle.portal_rules.specs.Heard.{Heard, replies_to}
 use Rattle.portal_wire.specs.Conversation.{Exchange, Reaches, requests_of, replies_of, exchange_text}
 use Rattle.portal_desk.specs.Kept.{MayReach}
 use Rattle.portal_desk.specs.Headline.{Visit, AreVisits, IsVisit, exchanges_of, worlds_of, IsAnswered, IsLikeAll, texts_to}
-use Rattle.portal_desk.proofs.Steps.{answered_apart}
-use Rattle.portal_desk.proofs.Promised.{RunsGood, StepsBest, RunsBest, are_unseen, publishes_best, has_promise}
+use Rattle.portal_desk.proofs.Steps.{answered_apart, end_more, Run-append}
+use Rattle.portal_desk.proofs.Promised.{RunsGood, StepsBest, RunsBest, upheld, has_promise}
 use Rattle.portal_desk.proofs.Heeding.{same_texts}
 use Rattle.portal_file.specs.Tables.{Stream, Either}
 use Rattle.portal_file.specs.inner.Connected.{TellsIn}
 use Rattle.portal_file.specs.Files.{HoldsSome, HoldsWorld}
-use Rattle.portal_file.specs.Chain.{Process, IsProcess, AreProcesses, left_after, exchanges_by, MayStandFor, IsKeptRun}
+use Rattle.portal_file.specs.Chain.{Process, IsProcess, AreProcesses, left_after, exchanges_by, MayStandFor}
 use Rattle.portal_file.specs.Chain.{KeptOverFiles, AllTellOfProcesses, IsKnown, PromisedOverFiles}
-
-end_more : (w : World) (us vs : List World) → end_of (end_of w us) vs ≡ end_of w (us ++ vs)
-end_more w [] vs = refl
-end_more w (u ∷ us) vs = end_more u us vs
 
 -- processes whose bytes are known, or which have no requests
 
@@ -102,7 +98,6 @@ promised run_good step_best run_best w image ps good holds are known all =
     let a = are_visits w image ps holds are known all in (
       a.0,
       a.1,
-      a.2,
       has_promise run_good step_best run_best w a.0 good a.2,
       a.3,
     )
@@ -130,13 +125,6 @@ reached w v es (inr (front, back, e, other, is, untold, run)) =
       run,
     )
 
-run_both : (w : World) (es fs : List Exchange) (us vs : List World) → Run w (requests_of es) (replies_of es) us
-    → Run (end_of w us) (requests_of fs) (replies_of fs) vs → Run w (requests_of (es ++ fs)) (replies_of (es ++ fs)) (us ++ vs)
-run_both w [] fs [] vs run next = next
-run_both w [] fs (u ∷ us) vs run next = absurd run
-run_both w (e ∷ es) fs [] vs run next = absurd run
-run_both w (e ∷ es) fs (u ∷ us) vs run next = (run.0, run_both u es fs us vs run.1 next)
-
 -- the requests of all processes are a run to a world that the files hold
 abbrev RunsOver : World → Image → List Process → Type 0
 RunsOver w image ps =
@@ -156,23 +144,9 @@ runs_over w image (p ∷ ps) holds (is, process, later) =
       one.0 ++ more.0,
       stands_both p.exchanges one.0 (exchanges_by ps) more.0 one.1 more.1,
       one.2.0 ++ more.2,
-      run_both w one.0 more.0 one.2.0 more.2 one.2.1 next,
+      Run-append w one.0 more.0 one.2.0 more.2 one.2.1 next,
       holds_last,
     ) in r))
-
--- a run
-
-kept_run : RunsGood → StepsBest → RunsBest → (w : World) (es : List Exchange) (worlds : List World) → Good w
-    → Run w (requests_of es) (replies_of es) worlds → IsKeptRun w es worlds
-kept_run run_good step_best run_best w es worlds good run =
-    let all = run_good w (requests_of es) (replies_of es) worlds good run in
-    record {
-      run = run;
-      good = all;
-      unseen = λ c. are_unseen c w _ _ worlds good all run;
-      published = publishes_best step_best w _ _ worlds good all run;
-      best = λ first. run_best w _ _ worlds first run;
-    }
 
 -- the replies that were given
 
@@ -221,4 +195,4 @@ like_all w es fs worlds stands run v others later other c items mine theirs alik
 pub kept : RunsGood → StepsBest → RunsBest → KeptOverFiles
 kept run_good step_best run_best w image ps good holds are =
     ∥∥₁_map (runs_over w image ps holds are)
-    (λ r. (r.0, r.1, r.2, kept_run run_good step_best run_best w r.0 r.2 good r.3, like_all w (exchanges_by ps) r.0 r.2 r.1 r.3, r.4))
+    (λ r. (r.0, r.1, r.2, upheld run_good step_best run_best w r.0 r.2 good r.3, like_all w (exchanges_by ps) r.0 r.2 r.1 r.3, r.4))

@@ -37,7 +37,7 @@ pub same_world : {S : Type 0} (g : Ghosts S) (old new : Held S) (made : Seen S) 
     → AllStand Current (state g new).may_leave (λ v. v ≡ w)
 same_world g old new made closes is clean w shows db may =
     ∥∥₁_elim shows.stands squash₁ (λ first.
-    let done = is.commits first.schema (subst (λ h. HasCleanDisk (state g h)) closes.same clean) in
+    let done = is.commits (subst (λ h. HasCleanDisk (state g h)) closes.same clean) in
     let on : IsCleanStore g made = (is.makes.own.1 first.schema, done.is_open) in
     let same : kept_world g made ≡ w = is.world on ∙ first.world in
     closed_world g made new closes on w same (subst Good same (is.makes.good on)) db may)

@@ -23,11 +23,11 @@ use Rattle.sqlite.specs.Tree.{Trees}
 use Rattle.sqlite.specs.Effect.{Database}
 use Rattle.sqlite.specs.Store.{Ghosts}
 use Rattle.sqlite.specs.Held.{Held, state}
-use Rattle.sqlite.specs.State.{State, HasCleanDisk, IsLive}
+use Rattle.sqlite.specs.State.{State, HasCleanDisk}
 use Rattle.sqlite_trees.specs.Objects.{number_in}
 use Rattle.portal_store.specs.Kept.{AreConsistent, HasDisk, HasGoodWorld, IsCleanStore, IsConsistent, LeavesWorld}
 use Rattle.portal_store.specs.Kept.{Seen, kept_state, kept_world}
-use Rattle.portal_store.specs.Crash.{Refutes}
+use Rattle.portal_store.specs.Crash.{AreOpened, Refutes}
 use Rattle.portal_tables.specs.Tables.{IsCurrentSchema}
 use Rattle.portal_store.specs.inner.Keeping.{KeepsClean}
 use Rattle.portal_store.specs.World.{world_of}
@@ -40,12 +40,11 @@ use Rattle.portal_store.proofs.Again.{holds_again, none_but_store}
 use Rattle.portal_tables.proofs.Owned.{first_own}
 use Rattle.portal_tables.proofs.InTurn.{clean_before}
 use Rattle.portal_file.specs.Tables.{IsTurn, Stands, StandsCurrent, StandsFirst}
-use Rattle.portal_file.specs.inner.Connected.{AllStand, IsUnlimited, TreesStand, ClosesAs, Shows}
+use Rattle.portal_file.specs.inner.Connected.{AllStand, TreesStand, ClosesAs, Shows}
 use Rattle.portal_file.specs.Tables.{Stream}
 use Rattle.portal_file.specs.inner.Connected.{TellsIn}
 use Rattle.portal_file.specs.Tables.{First, Current, Either}
-use Rattle.portal_file.specs.Jobs.{AreOpened, IsOfStore, ReportsStream}
-use Rattle.portal_file.proofs.Judged.{are_opened}
+use Rattle.portal_file.specs.Jobs.{IsOfStore, ReportsStream}
 use Rattle.portal_file.proofs.Sets.{World-set}
 
 pub good_end : (w : World) (worlds : List World) → Good w → AllByRecursion Good worlds → Good (end_of w worlds)
@@ -150,7 +149,7 @@ module _ {S : Type 0} (g : Ghosts S) (old new : Held S) (opened served : Seen S)
   -- tables of version 1 are not opened
   not_first : (w : World) → StandsFirst (state g old).now w → HasDisk g opened → ⊥
   not_first w first disk =
-      let version = opens.version (first_own old.schema first.schema) disk in
+      let version = (opens.judged disk).version_is (first_own old.schema first.schema) in
       let same = ap number_in (version.version_is _ first.stands.office.is) in
       absurd (omega (arith, same))
 
@@ -202,9 +201,8 @@ module _ {S : Type 0} (g : Ghosts S) (old new : Held S) (opened served : Seen S)
   disk_before breaks clean = disk_first (breaks (disk_at clean)).0
 
   -- the tables that the connection showed were opened
-  pub opened_so : LastsOrBreaks (keeper opened) (keeper served) → HasCleanDisk (state g new) → IsLive (state g old)
-      → IsUnlimited (state g old) → AreOpened (state g old).now
-  opened_so breaks clean live free = are_opened g old opened opens (breaks (disk_at clean)).0 live free
+  pub opened_so : LastsOrBreaks (keeper opened) (keeper served) → HasCleanDisk (state g new) → AreOpened (state g old)
+  opened_so breaks clean = opens.judged (breaks (disk_at clean)).0
 
   -- own tables are left such as each change may rely on
   pub left_consistent : LastsOrBreaks (keeper opened) (keeper served) → HasCleanDisk (state g new) → (db : Trees)
@@ -293,7 +291,7 @@ pub denied : {S : Type 0} (g : Ghosts S) (old new : Held S) (fault : OpenFault) 
     → (w : World) → Shows Current (state g old) w → IsOfStore fault
 denied g old new fault refuses clean w shows =
     of_store fault (∥∥₁_map shows.stands (λ stands.
-    only_store (state g old).now.trees stands.stands fault (refuses.refuted stands.schema clean)))
+    only_store (state g old).now.trees stands.stands fault ((refuses.judged clean).refuted stands.schema)))
 
 abbrev IsOfStoreToo : UpgradeFault → Type 0
 IsOfStoreToo fault = (fault ≡ upgrading.Store) ⊎ (fault ≡ upgrading.Memory)
@@ -307,4 +305,4 @@ pub denied_first : {S : Type 0} (g : Ghosts S) (old new : Held S) (fault : Upgra
     → RefusesToUpgrade g fault old new → HasCleanDisk (state g new)
     → (w : World) → Shows First (state g old) w → IsOfStoreToo fault
 denied_first g old new fault refuses clean w shows =
-    of_store_too fault (∥∥₁_map shows.stands (λ stands. none_but_store (state g old).now.trees stands.stands fault (refuses.barred stands.schema clean)))
+    of_store_too fault (∥∥₁_map shows.stands (λ stands. none_but_store (state g old).now.trees stands.stands fault ((refuses.judged clean).barred stands.schema)))

@@ -8,13 +8,11 @@ use Rattle.sqlite_disk.specs.declared.Files.{Files}
 use Rattle.sqlite_wal.specs.Files.{outcomes}
 use Rattle.sqlite_wal.specs.Reads.{AreClean}
 use Rattle.sqlite_wal.specs.Recovery.{Image}
-use Rattle.portal_rules.specs.Words.{Key}
 use Rattle.portal_rules.specs.World.{World}
 use Rattle.portal_rules.specs.Good.{Good}
-use Rattle.portal_core.specs.Honest.{ShowsBest}
-use Rattle.portal_rules.specs.Run.{Run, AllAnswered, end_of, unavailable}
-use Rattle.portal_wire.specs.Conversation.{Exchange, requests_of, replies_of}
-use Rattle.portal_desk.specs.Headline.{Visit, AreVisits, worlds_of, AreUnseen, HasPromise, IsLikeAll, PublishesBest}
+use Rattle.portal_rules.specs.Run.{AllAnswered, end_of, unavailable}
+use Rattle.portal_wire.specs.Conversation.{Exchange, replies_of}
+use Rattle.portal_desk.specs.Headline.{Visit, worlds_of, HasPromise, IsLikeAll, IsUpheld}
 use Rattle.portal_file.specs.Closing.{IfNotCopied, IfStands}
 use Rattle.portal_file.specs.Tables.{IsTurn, Stream, Work, Either}
 use Rattle.portal_file.specs.declared.closing.NotCopied.{NotCopied}
@@ -53,20 +51,12 @@ MayStandFor (e ∷ es) (f ∷ fs) =
     (f.request ≡ e.request) × ((f.reply ≡ e.reply) ⊎ (e.reply ≡ unavailable)) × MayStandFor es fs
 MayStandFor _ _ = ⊥
 
--- a run, and what holds of it: good worlds, requests unseen by others, and the best results
-pub record IsKeptRun (w : World) (es : List Exchange) (worlds : List World) : Type 0 where
-  pub run : Run w (requests_of es) (replies_of es) worlds
-  pub good : AllByRecursion Good worlds
-  pub unseen : (c : Key) → AreUnseen c w (requests_of es) worlds
-  pub published : PublishesBest w worlds
-  pub best : ShowsBest w → AllByRecursion ShowsBest worlds
-
 -- the requests of the processes are a run from the world that the files held, and they hold its end;
 -- with the replies that were given, it is like all other runs to each caller who got no 503
 abbrev pub KeptOverFiles : Type 0
 KeptOverFiles =
     (w : World) (image : Image) (ps : List Process) → Good w → HoldsWorld image w → AreProcesses image ps
-    → ∥ ((es : List Exchange) × MayStandFor (exchanges_by ps) es × (worlds : List World) × IsKeptRun w es worlds
+    → ∥ ((es : List Exchange) × MayStandFor (exchanges_by ps) es × (worlds : List World) × IsUpheld w es worlds
     × IsLikeAll w (exchanges_by ps) worlds × HoldsWorld (left_after image ps) (end_of w worlds)) ∥₁
 
 -- processes whose bytes are known, or which have no requests
@@ -93,7 +83,7 @@ abbrev pub PromisedOverFiles : Type 0
 PromisedOverFiles =
     (w : World) (image : Image) (ps : List Process) → Good w → HoldsWorld image w → AreProcesses image ps
     → AllByRecursion IsKnown ps → AllAnswered (replies_of (exchanges_by ps))
-    → (visits : List Visit) × AllTellOfProcesses ps visits × AreVisits w visits × HasPromise w visits
+    → (visits : List Visit) × AllTellOfProcesses ps visits × HasPromise w visits
     × HoldsWorld (left_after image ps) (end_of w (worlds_of visits))
 
 -- what the functions of this crate say

@@ -1,5 +1,5 @@
 -- How the files of a store are closed: its log is copied into the database file, or that fails.
-use Rattle.std.specs.Prelude.{◌≡◌, false, Result, Ok, Err, IfErr, IsTrue}
+use Rattle.std.specs.Prelude.{◌≡◌, ◌⊎◌, true, false, Result, Ok, Err, IfErr, IsTrue}
 use Rattle.sqlite_disk.specs.Disk.{MoreFaults}
 use Rattle.sqlite_disk.specs.declared.Disk.{Ghosts}
 use Rattle.sqlite_disk.specs.declared.Files.{Files}
@@ -8,7 +8,7 @@ use Rattle.sqlite_wal.specs.Reads.{AreClean}
 use Rattle.sqlite_wal.specs.Recovery.{Image}
 use Rattle.sqlite_trees.specs.View.{HasCause, IsClean}
 use Rattle.sqlite_store.specs.declared.store.FileStore.{FileStore}
-use Rattle.sqlite_store.specs.FileStore.{faults, files, view}
+use Rattle.sqlite_store.specs.FileStore.{HasSpilled, faults, files, log_frames, view}
 use Rattle.sqlite.specs.Files.{file_state}
 use Rattle.sqlite.specs.Held.{Held}
 use Rattle.sqlite.specs.State.{State, HasCleanDisk}
@@ -19,6 +19,13 @@ use Rattle.portal_file.specs.declared.closing.NotCopied.{NotCopied}
 abbrev pub IfStands : {D : Type 0} → Result (Files D) (NotCopied D) → (Files D → Type 0) → Type 0
 IfStands (Ok closed) Kind = Kind closed
 IfStands (Err left) Kind = IsTrue left.stands → Kind left.files
+
+-- these are the files of a store whose log was copied: it has no frame left, unless pages of a
+-- transaction had spilled into it; or the store is broken, and they are as it left them
+abbrev pub IsCopied : {D : Type 0} {g : Ghosts D} → FileStore D g → Files D → Type 0
+IsCopied {D} {g} old closed =
+    (IsClean (view old) → (view old).is_broken ≡ true)
+    ⊎ ((new : FileStore D g) × ((closed.log, closed.db) ≡ files new) × (¬ HasSpilled old → log_frames new ≡ 0))
 
 -- the log of this store was not copied
 pub record FailsToCopy {D : Type 0} {g : Ghosts D} (old new : FileStore D g) (left : NotCopied D) : Type 0 where

@@ -1,6 +1,6 @@
 -- What the commands promise of their work, by what they return.
-use Rattle.std.specs.Prelude.{◌≡◌, ◌≢◌, ◌⊎◌, ◌↔◌, ℕ, Bool, false, List, [], ◌++◌, length, Option, Some, None, IfSome}
-use Rattle.std.specs.Prelude.{IsSomeAnd, IsTrue, Result, Ok, Err, IfOk, IfErr, OnOk, MatchResult, Vec}
+use Rattle.std.specs.Prelude.{◌≡◌, ◌≢◌, ◌⊎◌, ◌↔◌, ℕ, Bool, List, [], ◌++◌, length, Option, Some, None, IfSome}
+use Rattle.std.specs.Prelude.{IsSomeAnd, Result, Ok, Err, IfOk, IfErr, OnOk, MatchResult, Vec}
 use Rattle.std.specs.declared.alloc.Global.{Global}
 use Rattle.sqlite.specs.Effect.{Database}
 use Rattle.sqlite.specs.Tree.{Trees}
@@ -14,14 +14,11 @@ use Rattle.portal_desk.specs.Session.{count_of, finish_of}
 use Rattle.portal_desk.specs.declared.served.Served.{Served}
 use Rattle.portal_desk.specs.declared.served.ServeFault.{ServeFault}
 use Rattle.portal_serve.specs.Hall.{office_report}
-use Rattle.portal_tables.specs.Tables.{HasFirstSchema, IsCurrentSchema, IsFirstSchema, first_version, no_schema}
-use Rattle.portal_tables.specs.Tables.{version}
-use Rattle.portal_tables.specs.Making.{IsFresh, has_names}
-use Rattle.portal_tables.specs.declared.names.Names.TheVariants.{OfSecond}
-use Rattle.portal_store.specs.Kept.{AreConsistent, HasGoodFirst}
+use Rattle.portal_tables.specs.Tables.{IsCurrentSchema, IsFirstSchema, no_schema}
+use Rattle.portal_tables.specs.Making.{IsFresh}
+use Rattle.portal_store.specs.Kept.{AreConsistent}
 use Rattle.portal_store.specs.World.{first_world}
-use Rattle.portal_store.specs.Crash.{Bars, Explains, LeavesUpgraded, Refutes, ShowsVersion, as_upgrading}
-use Rattle.portal_store.specs.Crash.{later_queries}
+use Rattle.portal_store.specs.Crash.{AfterUpgrading, AreBarred, AreOpened, AreRefused, AreUpgraded}
 use Rattle.portal_store.specs.declared.store.CreateFault.{CreateFault}
 use Rattle.portal_store.specs.declared.store.CreateFault.TheVariants as creating
 use Rattle.portal_store.specs.declared.store.OpenFault.{OpenFault}
@@ -60,30 +57,10 @@ pub record MakesTables {A : Type 0} (office : Key) (r : Result A CreateFault) (w
 
 -- upgrading the tables
 
--- tables that were upgraded: the portal's own ones of version 1 stood for a good world
-pub record AreUpgraded (db : Database) : Type 0 where
-  -- no table or view had one of the five new names
-  pub free : has_names OfSecond db.schema ≡ false
-  -- own tables stood for a good world
-  pub good : IsFirstSchema db.schema → (w : World) × StandsFirst db w
-
--- tables that were not, for this fault
-pub record AreBarred (fault : UpgradeFault) (db : Database) : Type 0 where
-  -- of any tables, a fault of opening tells what the first six queries show, or that one is refused
-  pub explained : (found : OpenFault) → fault ≡ as_upgrading found → Explains found first_version [] (opened_over db)
-  -- the fault tells why own tables were refused
-  pub barred : IsFirstSchema db.schema → Bars fault db.trees
-  -- `Exists` means that a table or view has one of the five new names
-  pub taken : fault ≡ upgrading.Exists → IsTrue (has_names OfSecond db.schema)
-  -- that the first row of `portal` has version 1
-  pub order : fault ≡ upgrading.Exists → ShowsVersion first_version (opened_over db)
-  -- and that the first six tables, if they are the portal's, stand for a good world
-  pub stands : fault ≡ upgrading.Exists → HasFirstSchema db.schema → HasGoodFirst first_version db.trees
-
--- after this refusal: what was there, or all of the upgraded tables, unless a name was taken
+-- after this refusal: what was there; or, if the store failed or memory ran out, all of the upgraded
+-- tables
 abbrev pub MayUpgrade : UpgradeFault → Database → Trees → Type 0
-MayUpgrade upgrading.Exists db left = IsSame db left
-MayUpgrade _ db left = IsSame db left ⊎ LeavesUpgraded (opened_over db) left
+MayUpgrade fault db left = IsSame db left ⊎ AfterUpgrading fault (opened_over db) left
 
 -- upgrading them to version 2
 pub record UpgradesTables {A : Type 0} (r : Result A UpgradeFault) (work : Work) : Type 0 where
@@ -95,12 +72,15 @@ pub record UpgradesTables {A : Type 0} (r : Result A UpgradeFault) (work : Work)
   pub lasting : OnOk r (work.ends (λ db left. IsFirstSchema db.schema → AreConsistent left))
   -- and none was found in version 2
   pub none : OnOk r ((w : World) → work.finds Current w → ⊥)
-  -- the answer tells what was found
-  pub judged : work.begins (λ db. MatchResult r (λ _. AreUpgraded db) (λ fault. AreBarred fault db))
+  -- the answer tells what was found, as the store says it
+  pub judged : work.begins (λ db. MatchResult r (λ _. AreUpgraded (opened_over db))
+      (λ fault. AreBarred fault (opened_over db)))
+  -- own tables that were upgraded stood for a good world of version 1
+  pub stood : OnOk r (work.begins (λ db. IsFirstSchema db.schema → (w : World) × StandsFirst db w))
   -- a world that was found in version 1 is refused for a fault of the store or want of memory alone
   pub refused : IfErr r (λ fault. (w : World) → work.finds First w
       → (fault ≡ upgrading.Store) ⊎ (fault ≡ upgrading.Memory))
-  -- a refusal leaves what was there, or all of the upgraded tables
+  -- a refusal leaves what was there; only after `Store` or `Memory` perhaps all of the upgraded tables
   pub kept : IfErr r (λ fault. work.ends (MayUpgrade fault))
 
 -- opening the tables for a command
@@ -109,25 +89,13 @@ pub record UpgradesTables {A : Type 0} (r : Result A UpgradeFault) (work : Work)
 abbrev pub IsOfStore : OpenFault → Type 0
 IsOfStore fault = (fault ≡ opening.Store) ⊎ (fault ≡ opening.Memory)
 
--- tables that were opened: the portal's own ones, which stand for a good world of version 2; or
--- others, of which is said only the first
-pub record AreOpened (db : Database) : Type 0 where
-  -- the first row of `portal` has version 2
-  pub shows : ShowsVersion version (opened_over db)
-  -- own tables stand for a good world
-  pub good : IsCurrentSchema db.schema → (w : World) × StandsCurrent db w
-
--- tables that were not, for this fault
-pub record AreRefused (fault : OpenFault) (db : Database) : Type 0 where
-  -- of any tables, the fault tells what the queries of the eleven tables show, or that one is refused
-  pub explained : Explains fault version later_queries (opened_over db)
-  -- the fault tells why own tables were refused
-  pub refuted : IsCurrentSchema db.schema → Refutes fault db.trees
-
 -- opening them for work with this result; what is done after `Ok` begins with these tables
 pub record OpensTables {A : Type 0} (r : Result A OpenFault) (work : Work) : Type 0 where
-  -- the result tells what was found
-  pub judged : work.begins (λ db. MatchResult r (λ _. AreOpened db) (λ fault. AreRefused fault db))
+  -- the result tells what was found, as the store says it
+  pub judged : work.begins (λ db. MatchResult r (λ _. AreOpened (opened_over db))
+      (λ fault. AreRefused fault (opened_over db)))
+  -- own tables that were opened stood for a good world of version 2
+  pub stood : OnOk r (work.begins (λ db. IsCurrentSchema db.schema → (w : World) × StandsCurrent db w))
   -- tables with a good world of version 2 are refused for a fault of the store or of memory alone
   pub refused : IfErr r (λ fault. (w : World) → work.finds Current w → IsOfStore fault)
   -- opened tables, if they are own, are left such as each change may rely on

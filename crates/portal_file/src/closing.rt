@@ -1,6 +1,6 @@
 //! Closes a database file.
 
-ghost use Rattle.std.specs.Prelude.{◌≡◌, false, IfErr, IsTrue, MatchResult};
+ghost use Rattle.std.specs.Prelude.{◌≡◌, true, false, IfErr, IfOk, IsTrue, MatchResult};
 ghost use Rattle.sqlite_wal.specs.Files.{outcomes};
 ghost use Rattle.sqlite_wal.specs.Reads.{AreClean};
 ghost use Rattle.sqlite_wal.specs.Recovery.{Image};
@@ -10,7 +10,7 @@ ghost use Rattle.sqlite_trees.specs.Tree.{Trees};
 ghost use Rattle.sqlite.specs.Held.{AreDatabases};
 ghost use Rattle.sqlite.specs.Files.{file_state};
 ghost use Rattle.sqlite_store.specs.declared.store.FileStore.{FileStore};
-ghost use Rattle.portal_file.specs.Closing.{ClosesConnection, ComesOf, FailsToCopy, IfStands};
+ghost use Rattle.portal_file.specs.Closing.{ClosesConnection, ComesOf, FailsToCopy, IfStands, IsCopied};
 ghost use Rattle.portal_file.specs.Files.{HoldsTrees};
 
 use sqlite::{Connection, FileStore, Files};
@@ -28,11 +28,16 @@ pub struct NotCopied<D: Disk> {
     pub stands: bool,
 }
 
+/// The files of a database that was closed: as `Ok` unless copying the log failed.
+pub type Closed<D> = Result<Files<D>, NotCopied<D>>;
+
 /// Returns whether the log of a store is to be copied: if `copies` says so and the store stands.
 fn is_to_copy<D: Disk + Drop>(store: &FileStore<D>, copies: bool) -> bool
     ensures copies { IsTrue result → IsTrue copies }
     ensures stands { IsTrue result → IsClean (view store.now)
         → (view store.now).is_broken ≡ false }
+    ensures broken { result ≡ false → IsTrue copies → IsClean (view store.now)
+        → (view store.now).is_broken ≡ true }
 {
     copies && !store.is_broken()
 }
@@ -41,10 +46,7 @@ fn is_to_copy<D: Disk + Drop>(store: &FileStore<D>, copies: bool) -> bool
 /// an error gives them back too. Without `copies`, and of a broken store, they are given back as
 /// they are. A crash then leaves only what it could leave before, unless copying failed and shut
 /// the store.
-fn close_store<D: Disk + Drop>(
-    mut store: FileStore<D>,
-    copies: bool,
-) -> Result<Files<D>, NotCopied<D>>
+fn close_store<D: Disk + Drop>(mut store: FileStore<D>, copies: bool) -> Closed<D>
     ensures clean { IfStands result (λ files. AreClean D.Disk files.log files.db
         → IsClean (view store)) }
     ensures left { IfStands result (λ files. AreClean D.Disk files.log files.db
@@ -53,6 +55,7 @@ fn close_store<D: Disk + Drop>(
         → HoldsTrees image (recovers store)) }
     ensures untouched { copies ≡ false
         → MatchResult result (λ files. (files.log, files.db) ≡ files_of store) (λ _. ⊥) }
+    ensures copied { IsTrue copies → IfOk result (IsCopied store) }
     ensures failed { IfErr result (λ left. (last : FileStore D D.Disk)
         × FailsToCopy store last left) }
 {
@@ -88,14 +91,14 @@ pub fn release_store<D: Disk + Drop>(conn: Connection<FileStore<D>>) -> FileStor
 /// into the database file first, and the result is `Ok` unless that failed. Otherwise the files are
 /// given back as the connection left them. A crash then leaves only what it could leave before,
 /// unless copying failed and shut the store.
-pub fn close_files<D: Disk + Drop>(
-    conn: Connection<FileStore<D>>,
-    copies: bool,
-) -> Result<Files<D>, NotCopied<D>>
+pub fn close_files<D: Disk + Drop>(conn: Connection<FileStore<D>>, copies: bool) -> Closed<D>
     ensures closes { ClosesConnection D.Disk conn result }
     ensures untouched { copies ≡ false → MatchResult result (λ files. (released : FileStore D D.Disk)
         × ComesOf (file_state conn) (IsClean (view released)) (store_state released).may_leave
         × ((files.log, files.db) ≡ files_of released)) (λ _. ⊥) }
+    ensures copied { IsTrue copies → IfOk result (λ files. (released : FileStore D D.Disk)
+        × ComesOf (file_state conn) (IsClean (view released)) (store_state released).may_leave
+        × IsCopied released files) }
 {
     close_store(release_store(conn), copies)
 }

@@ -7,10 +7,14 @@ ghost use Rattle.sqlite_wal.specs.Recovery.{Image};
 ghost use Rattle.portal_file.specs.Tables.{Work};
 ghost use Rattle.portal_file.specs.inner.Lift.{OpensOver, RunsOver, WorksOver};
 
-use crate::closing::{NotCopied, close_files};
-use sqlite::{Alter, Connection, Error, FileFrom, FileStore, Files, Start};
+use crate::closing::{Closed, close_files};
+use sqlite::{Alter, Connection, Error, FileFrom, FileStore, Start};
 use sqlite_disk::Disk;
 use std::alloc::Global;
+
+/// What a command over a database file returns: what it did, and the closed files; or why the file
+/// could not be opened.
+pub type OverFile<S, T, E> = Result<(Result<T, E>, Closed<FileFrom<S>>), Error>;
 
 /// The work of a command over the portal's tables.
 pub(crate) trait Job {
@@ -58,7 +62,7 @@ fn run_closing<D: Disk + Drop, J: Job>(
     alloc: Global,
     conn: Connection<FileStore<D>>,
     job: &mut J,
-) -> (Result<J::Done, J::Fault>, Result<Files<D>, NotCopied<D>>)
+) -> (Result<J::Done, J::Fault>, Closed<D>)
     requires idle { conn.in_transaction ≡ false }
     ensures runs { (found : Image) → OpensOver found conn
         → RunsOver D.Disk found (J.does job.old job.new result.0) result.1 }
@@ -77,13 +81,7 @@ pub(crate) fn over_file<S: Start, J: Job>(
     path: &str,
     start: S,
     job: &mut J,
-) -> Result<
-    (
-        Result<J::Done, J::Fault>,
-        Result<Files<FileFrom<S>>, NotCopied<FileFrom<S>>>,
-    ),
-    Error,
->
+) -> OverFile<S, J::Done, J::Fault>
     ensures runs { IfOk result (λ r. RunsOver ⟦<FileFrom<S> as Disk>⟧
         (image_at S.Start) (J.does job.old job.new r.0) r.1) }
     ensures becomes { IfOk result (λ r. J.becomes job.old job.new r.0) }

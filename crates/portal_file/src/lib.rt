@@ -11,7 +11,8 @@ mod serving;
 mod tables;
 mod upgrading;
 
-pub use closing::{NotCopied, close_files, release_store};
+pub use closing::{Closed, NotCopied, close_files, release_store};
+pub use job::OverFile;
 pub use making::make_file;
 pub use piping::pipe_file;
 pub use reporting::report_file;

@@ -5,14 +5,13 @@ ghost use Rattle.sqlite_wal.specs.Files.{image_at};
 ghost use Rattle.portal_file.specs.Jobs.{MakesTables};
 ghost use Rattle.portal_file.specs.Chain.{OverClosed};
 
-use crate::closing::NotCopied;
-use crate::job::{Job, over_file};
+use crate::job::{Job, OverFile, over_file};
 use crate::tables::close_tables;
 use portal_core::Code;
 use portal_store::{CreateFault, NotOpened, Store};
 use portal_tables::names::is_empty;
 use portal_tables::settled;
-use sqlite::{Alter, Connection, Error, FileFrom, Files, Start};
+use sqlite::{Alter, Connection, FileFrom, Start};
 use sqlite_disk::Disk;
 use std::alloc::Global;
 
@@ -66,13 +65,7 @@ pub fn make_file<S: Start>(
     path: &str,
     start: S,
     office: Code,
-) -> Result<
-    (
-        Result<(), CreateFault>,
-        Result<Files<FileFrom<S>>, NotCopied<FileFrom<S>>>,
-    ),
-    Error,
->
+) -> OverFile<S, (), CreateFault>
     ensures { IfOk result (λ r. OverClosed ⟦<FileFrom<S> as Disk>⟧ (image_at S.Start)
         (MakesTables office r.0) r.1) }
 {

@@ -6,13 +6,12 @@ ghost use Rattle.portal_desk.specs.Kept.{TakesAtMost, taken_limit};
 ghost use Rattle.portal_file.specs.Jobs.{PipesStream};
 ghost use Rattle.portal_file.specs.Chain.{OverClosed};
 
-use crate::closing::NotCopied;
-use crate::job::{Job, over_file};
+use crate::job::{Job, OverFile, over_file};
 use crate::tables::{close_tables, open_tables};
 use portal_core::laws::run_good;
 use portal_desk::{Desk, ServeFault, Served, pipe};
 use portal_store::OpenFault;
-use sqlite::{Alter, Connection, Error, FileFrom, Files, Start};
+use sqlite::{Alter, Connection, FileFrom, Start};
 use sqlite_disk::Disk;
 use std::alloc::Global;
 use std::io::{Read, Write};
@@ -67,7 +66,7 @@ impl<'r, 'w, R: Read, W: Write> Job for PipeStream<'r, 'w, R, W> {
 /// disk failed in a request, then this says what a stop in that request leaves. If the bytes of
 /// reader and writer are known, the process has them, and the result counts its requests and says
 /// how it ended. Own tables that were opened held a good world of version 2, and the work begins
-/// with it; of other ones only this is said: the first row of `portal` has version 2.
+/// with it; of other ones `AreOpened` says that they answer the eleven queries, and show version 2.
 ///
 /// # Errors
 ///
@@ -81,13 +80,7 @@ pub fn pipe_file<S: Start, R: Read, W: Write>(
     start: S,
     reader: &mut R,
     writer: &mut W,
-) -> Result<
-    (
-        Result<Result<Served, ServeFault>, OpenFault>,
-        Result<Files<FileFrom<S>>, NotCopied<FileFrom<S>>>,
-    ),
-    Error,
->
+) -> OverFile<S, Result<Served, ServeFault>, OpenFault>
     ensures taken { TakesAtMost taken_limit (R.remaining reader.old) (R.remaining reader.new) }
     ensures pipes { IfOk result (λ r. OverClosed ⟦<FileFrom<S> as Disk>⟧
         (image_at S.Start) (PipesStream r.0 (record {

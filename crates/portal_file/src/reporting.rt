@@ -10,14 +10,13 @@ ghost use Rattle.portal_store.specs.Kept.{IsCleanStore, kept_state, kept_world};
 ghost use Rattle.portal_file.specs.Jobs.{ReportsWorld};
 ghost use Rattle.portal_file.specs.Chain.{OverClosed};
 
-use crate::closing::NotCopied;
-use crate::job::{Job, over_file};
+use crate::job::{Job, OverFile, over_file};
 use crate::tables::{close_tables, open_tables};
 use portal_core::KeepFault;
 use portal_core::laws::run_good;
 use portal_serve::report;
 use portal_store::{OpenFault, Store};
-use sqlite::{Alter, Connection, Error, FileFrom, Files, Start};
+use sqlite::{Alter, Connection, FileFrom, Start};
 use sqlite_disk::Disk;
 use std::alloc::Global;
 
@@ -75,13 +74,7 @@ pub fn report_file<S: Start>(
     rt: &HostRuntime,
     path: &str,
     start: S,
-) -> Result<
-    (
-        Result<Result<Vec<u8>, KeepFault>, OpenFault>,
-        Result<Files<FileFrom<S>>, NotCopied<FileFrom<S>>>,
-    ),
-    Error,
->
+) -> OverFile<S, Result<Vec<u8>, KeepFault>, OpenFault>
     ensures { IfOk result (λ r. OverClosed ⟦<FileFrom<S> as Disk>⟧ (image_at S.Start)
         (ReportsWorld r.0) r.1) }
 {

@@ -6,14 +6,13 @@ ghost use Rattle.portal_wire.specs.Conversation.{Exchange};
 ghost use Rattle.portal_file.specs.Jobs.{ServesRequests};
 ghost use Rattle.portal_file.specs.Chain.{OverClosed};
 
-use crate::closing::NotCopied;
-use crate::job::{Job, over_file};
+use crate::job::{Job, OverFile, over_file};
 use crate::tables::{close_tables, open_tables};
 use portal_core::laws::run_good;
 use portal_desk::Desk;
 use portal_serve::Service;
 use portal_store::OpenFault;
-use sqlite::{Alter, Connection, Error, FileFrom, Files, Start};
+use sqlite::{Alter, Connection, FileFrom, Start};
 use sqlite_disk::Disk;
 use std::alloc::Global;
 
@@ -63,13 +62,7 @@ pub fn serve_file<S: Start, L: Service>(
     path: &str,
     start: S,
     service: &mut L,
-) -> Result<
-    (
-        Result<(), OpenFault>,
-        Result<Files<FileFrom<S>>, NotCopied<FileFrom<S>>>,
-    ),
-    Error,
->
+) -> OverFile<S, (), OpenFault>
     ensures serves { IfOk result (λ r. OverClosed ⟦<FileFrom<S> as Disk>⟧ (image_at S.Start)
         (ServesRequests r.0 (L.told service.old service.new)) r.1) }
     ensures refused { IfOk result (λ r. IfErr r.0 (λ _. service.new ≡ service.old)) }

@@ -5,12 +5,11 @@ ghost use Rattle.sqlite_wal.specs.Files.{image_at};
 ghost use Rattle.portal_file.specs.Jobs.{UpgradesTables};
 ghost use Rattle.portal_file.specs.Chain.{OverClosed};
 
-use crate::closing::NotCopied;
-use crate::job::{Job, over_file};
+use crate::job::{Job, OverFile, over_file};
 use crate::tables::close_tables;
 use portal_store::{NotOpened, Store, UpgradeFault};
 use portal_tables::settled;
-use sqlite::{Alter, Connection, Error, FileFrom, Files, Start};
+use sqlite::{Alter, Connection, FileFrom, Start};
 use sqlite_disk::Disk;
 use std::alloc::Global;
 
@@ -45,23 +44,18 @@ impl Job for UpgradeTables {
 /// If the tables were upgraded and the disk was clean, then own ones had a good world in version 1,
 /// and each thing that a crash may leave of the files holds the same world, in version 2; before,
 /// the files held none in version 2. Whatever the answer, files that hold a world in either version
-/// keep it. Of other tables only this is said: no new name was taken.
+/// keep it. Of other tables `AreUpgraded` says that they answer the first six queries, show version
+/// 1, and had no new name taken.
 ///
 /// # Errors
 ///
 /// Other than `Store` and `Memory`, a fault means that the files held no good world of version 1,
-/// and `AreBarred` says why. After `Exists`, any tables keep their rows.
+/// and `AreBarred` says why; then any tables keep their rows.
 pub fn upgrade_file<S: Start>(
     rt: &HostRuntime,
     path: &str,
     start: S,
-) -> Result<
-    (
-        Result<(), UpgradeFault>,
-        Result<Files<FileFrom<S>>, NotCopied<FileFrom<S>>>,
-    ),
-    Error,
->
+) -> OverFile<S, (), UpgradeFault>
     ensures { IfOk result (λ r. OverClosed ⟦<FileFrom<S> as Disk>⟧ (image_at S.Start)
         (UpgradesTables r.0) r.1) }
 {

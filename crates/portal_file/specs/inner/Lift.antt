@@ -10,10 +10,11 @@ use Rattle.sqlite.specs.Files.{file_state, IsOpened}
 use Rattle.sqlite.specs.Start.{FindsIn}
 use Rattle.portal_rules.specs.World.{World}
 use Rattle.portal_store.specs.declared.store.OpenFault.{OpenFault}
-use Rattle.portal_file.specs.Tables.{Work, Current}
+use Rattle.portal_store.specs.Crash.{AreRefused}
+use Rattle.portal_file.specs.Tables.{Work, Current, opened_over}
 use Rattle.portal_file.specs.declared.closing.NotCopied.{NotCopied}
 use Rattle.portal_file.specs.Closing.{ClosesConnection}
-use Rattle.portal_file.specs.Jobs.{AreRefused, IsOfStore, IsSame}
+use Rattle.portal_file.specs.Jobs.{IsOfStore, IsSame}
 use Rattle.portal_file.specs.inner.Connected.{work_of}
 
 -- a connection that was just opened over files with these contents
@@ -38,6 +39,6 @@ pub record RunsOver {D : Type 0} (g : Ghosts D) (found : Image) (Does : Work →
 -- the tables were not opened, for this fault
 pub record RefusesTables (fault : OpenFault) (work : Work) : Type 0 where
   pub serves : work.serves [] None
-  pub judged : work.begins (AreRefused fault)
+  pub judged : work.begins (λ db. AreRefused fault (opened_over db))
   pub denies : (w : World) → work.finds Current w → IsOfStore fault
   pub kept : work.ends IsSame

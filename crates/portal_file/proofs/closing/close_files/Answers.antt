@@ -1,5 +1,5 @@
 use Rattle.std.proofs.Math.Logic.{∥∥₁_map}
-use Rattle.std.proofs.lemmas.Result.{MatchResult-weaker}
+use Rattle.std.proofs.lemmas.Result.{IfOk-weaker, MatchResult-weaker}
 use Rattle.sqlite.specs.Tree.{Trees}
 use Rattle.sqlite.specs.Files.{HoldsDatabase, file_state}
 use Rattle.portal_file.proofs.Base.{if_err, if_stands_both}
@@ -22,3 +22,7 @@ pub returns-clause-untouched : goal.returns-clause-untouched
 returns-clause-untouched g c none =
     MatchResult-weaker c.close_store.result (c.close_store.ensures.untouched none)
     (λ files same. (c.release_store.result, c.release_store.ensures.comes, same)) (λ left never. never)
+
+pub returns-clause-copied : goal.returns-clause-copied
+returns-clause-copied g c copies =
+    IfOk-weaker c.close_store.result _ _ (λ files is. (c.release_store.result, c.release_store.ensures.comes, is)) (c.close_store.ensures.copied copies)

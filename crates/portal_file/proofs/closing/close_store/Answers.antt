@@ -37,6 +37,7 @@ returns-in-Ok g c =
           (may_leave_is last.pool image sure_now (subst (λ p. outcomes g.D.Disk p.0 p.1 image) c.close-in-Ok.ensures may)))
           (λ h. let r : (db : Trees) × recovers c.args.store db × HoldsDatabase image db = (h.0, q.outcomes h.0 h.1, h.2) in r);
       untouched = λ none. absurd (let e : false ≡ true = sym none ∙ c.is_to_copy.ensures.copies c.if-not-is_to_copy.false in cc);
+      copied = λ copies. inr (last, c.close-in-Ok.ensures, c.in-Ok.ensures.moved);
       failed = tt;
     }
 
@@ -49,6 +50,7 @@ returns-then-not-is_to_copy g c =
           opens_again store numbered sound image
           (may_leave_is store.pool image (subst (λ p. AreClean g.D.Disk p.0 p.1) c.close.ensures honest) (subst (λ p. outcomes g.D.Disk p.0 p.1 image) c.close.ensures may));
       untouched = λ none. c.close.ensures;
+      copied = λ copies. inl (c.is_to_copy.ensures.broken c.if-not-is_to_copy.true copies);
       failed = tt;
     }
 
@@ -71,6 +73,7 @@ returns-in-Err g c =
           (may_leave_is last.pool image sure_now (subst (λ p. outcomes g.D.Disk p.0 p.1 image) c.close-in-Err.ensures may)))
           (λ h. let r : (db : Trees) × recovers store db × HoldsDatabase image db = (h.0, q.outcomes h.0 h.1, h.2) in r);
       untouched = λ none. absurd (let e : false ≡ true = sym none ∙ c.is_to_copy.ensures.copies c.if-not-is_to_copy.false in cc);
+      copied = λ copies. tt;
       failed = (
         last,
         record {

@@ -3,7 +3,7 @@ use Rattle.sqlite.specs.Held.{state}
 use Rattle.sqlite.specs.State.{State, HasCleanDisk, Survives}
 use Rattle.sqlite.specs.Tree.{Trees}
 use Rattle.portal_tables.proofs.InTurn.{clean_before}
-use Rattle.portal_file.proofs.Judged.{are_refused, same_by}
+use Rattle.portal_file.proofs.Judged.{refused_still, same_by}
 use Rattle.portal_file.proofs.Served.{denied, unserved}
 use Rattle.portal_file.proofs.tables.open_tables.Goals as goal
 
@@ -23,7 +23,7 @@ returns-in-Err-clause-refused g c =
       did = λ clean. record {
         serves = unserved old new c.settled.ensures.settled (g.met.S.Store.settled c.args.conn.store)
             (λ w stands db may. inl (left_before old new refuses.back.crash clean db may));
-        judged = are_refused g.S.Store c.args.conn c.in-Err.field-0.connection c.in-Err.field-0.fault refuses clean;
+        judged = λ free. refused_still old free c.in-Err.field-0.fault (refuses.judged clean);
         denies = denied g.S.Store c.args.conn c.in-Err.field-0.connection c.in-Err.field-0.fault refuses clean;
         kept = λ free. same_by old c.settled.ensures.settled (g.met.S.Store.settled c.args.conn.store) free new clean
             refuses.back.crash;

@@ -70,8 +70,7 @@ returns-in-Err-clause-works g c =
             (λ office. (db : Trees) → new.may_leave db → MayMake c.in-Err.field-0.fault office old.now db)
             c.in-Ok.ensures
             (may_make old c.settled.ensures.settled (g.met.S.Store.settled c.args.conn.store) free new clean
-            c.in-Err.field-0.fault _ empty is.back.crash
-            (λ exists. none_taken c.args.conn.schema empty (is.exists.1 exists)));
+            c.in-Err.field-0.fault _ empty is.back.crash);
       };
     }
 

@@ -1,6 +1,8 @@
 use Rattle.std.proofs.Common.{None, [], refl, sym, subst}
 use Rattle.portal_store.specs.Calls.{OpensStore}
 use Rattle.portal_file.specs.inner.Connected.{ClosesAs}
+use Rattle.sqlite.specs.Held.{state}
+use Rattle.portal_file.proofs.Judged.{opened_still, stood_current}
 use Rattle.portal_file.proofs.Served.{disk_before, left_consistent, opened_so, serves_stream}
 use Rattle.portal_file.proofs.piping.PipeStreamJob.run.Goals as goal
 
@@ -10,22 +12,24 @@ returns-in-Ok-clause-works g c =
     let closes = subst (λ s. ClosesAs g.S.Store s c.close_tables.result) c.into_keeper.ensures.same
     c.close_tables.ensures.closes in
     let did = c.pipe-ended.ensures.serves in
+    let old = state g.S.Store c.args.conn in
     record {
       disk = disk_before g.S.Store c.args.conn c.close_tables.result c.new-desk.result.keeper
           c.pipe-ended.new.desk.keeper c.run_good.ensures opens closes did.worked.moves.1.breaks;
-      did = λ clean. record {
-        serves = serves_stream g.S.Store c.args.conn c.close_tables.result c.new-desk.result.keeper
-            c.pipe-ended.new.desk.keeper c.run_good.ensures opens closes
-            c.pipe-ended.result c.pipe-ended.new.desk.failed _ _ _ _ did.worked.moves did.served clean;
-        opens = record {
-          judged = opened_so g.S.Store c.args.conn c.close_tables.result c.new-desk.result.keeper
-              c.pipe-ended.new.desk.keeper c.run_good.ensures opens closes did.worked.moves.1.breaks clean c.in-Ok.ensures.live;
-          refused = tt;
-          lasting = λ free. left_consistent g.S.Store c.args.conn c.close_tables.result c.new-desk.result.keeper
-              c.pipe-ended.new.desk.keeper c.run_good.ensures opens closes did.worked.moves.1.breaks clean;
-          kept = tt;
-        };
-      };
+      did = λ clean.
+          let opened = opened_so g.S.Store c.args.conn c.close_tables.result c.new-desk.result.keeper c.pipe-ended.new.desk.keeper c.run_good.ensures opens closes did.worked.moves.1.breaks clean in record {
+            serves = serves_stream g.S.Store c.args.conn c.close_tables.result c.new-desk.result.keeper
+                c.pipe-ended.new.desk.keeper c.run_good.ensures opens closes
+                c.pipe-ended.result c.pipe-ended.new.desk.failed _ _ _ _ did.worked.moves did.served clean;
+            opens = record {
+              judged = λ free. opened_still old free opened;
+              stood = λ free. stood_current old c.in-Ok.ensures.live free.is_open opened;
+              refused = tt;
+              lasting = λ free. left_consistent g.S.Store c.args.conn c.close_tables.result c.new-desk.result.keeper
+                  c.pipe-ended.new.desk.keeper c.run_good.ensures opens closes did.worked.moves.1.breaks clean;
+              kept = tt;
+            };
+          };
     }
 
 pub returns-in-Err-clause-works : goal.returns-in-Err-clause-works
@@ -36,6 +40,6 @@ returns-in-Err-clause-works g c =
       did = λ clean. let is = refused.did clean in
           record {
             serves = ([], None, is.serves, (refl, refl, refl));
-            opens = record { judged = is.judged; refused = is.denies; lasting = tt; kept = is.kept };
+            opens = record { judged = is.judged; stood = tt; refused = is.denies; lasting = tt; kept = is.kept };
           };
     }

@@ -2,7 +2,7 @@ use Rattle.std.proofs.Common.{None, [], sym, subst}
 use Rattle.sqlite.specs.Held.{state}
 use Rattle.sqlite.specs.State.{HasCleanDisk}
 use Rattle.portal_tables.proofs.InTurn.{clean_before}
-use Rattle.portal_file.proofs.Judged.{are_barred, are_upgraded, may_upgrade}
+use Rattle.portal_file.proofs.Judged.{barred_still, may_upgrade, stood_first, upgraded_still, upgrades_late}
 use Rattle.portal_file.proofs.Made.{current_taken, same_world, upgrade_leaves}
 use Rattle.portal_file.proofs.Served.{IsTurnOf, denied_first, unserved}
 use Rattle.portal_file.proofs.upgrading.UpgradeTablesJob.run.Goals as goal
@@ -26,8 +26,10 @@ returns-in-Ok-clause-works g c =
             (subst (λ h. HasCleanDisk (state g.S.Store h)) closes.same clean) db
             (subst (λ h. (state g.S.Store h).may_leave db) closes.same may);
         none = λ w shows. current_taken g.S.Store c.args.conn w is.free shows;
-        judged = are_upgraded g.S.Store c.args.conn c.in-Ok.store is
-            (subst (λ h. HasCleanDisk (state g.S.Store h)) closes.same clean) c.settled.ensures.live;
+        judged = λ free. upgraded_still old free
+            (is.judged (subst (λ h. HasCleanDisk (state g.S.Store h)) closes.same clean));
+        stood = λ free. stood_first old c.settled.ensures.live free.is_open
+            (is.judged (subst (λ h. HasCleanDisk (state g.S.Store h)) closes.same clean));
         refused = tt;
         kept = tt;
       };
@@ -42,13 +44,14 @@ returns-in-Err-clause-works g c =
       disk = clean_before old new _ is.back.crash;
       did = λ clean. record {
         serves = unserved old new c.settled.ensures.settled (g.met.S.Store.settled c.args.conn.store)
-            (upgrade_leaves old new is.back.crash is.left clean);
+            (upgrade_leaves old new (upgrades_late old new c.in-Err.field-0.fault is.back.crash) is.left clean);
         upgraded = tt;
         lasting = tt;
         none = tt;
-        judged = are_barred g.S.Store c.args.conn c.in-Err.field-0.connection c.in-Err.field-0.fault is clean;
+        judged = λ free. barred_still old free c.in-Err.field-0.fault (is.judged clean);
+        stood = tt;
         refused = denied_first g.S.Store c.args.conn c.in-Err.field-0.connection c.in-Err.field-0.fault is clean;
         kept = λ free. may_upgrade old c.settled.ensures.settled (g.met.S.Store.settled c.args.conn.store) free new clean
-            c.in-Err.field-0.fault is.back.crash is.taken;
+            c.in-Err.field-0.fault is.back.crash;
       };
     }
