@@ -1,7 +1,7 @@
 //! The program's entry point.
 #![tactic(auto)]
 
-use portal_run::{run, say};
+use portal_run::{NamedFiles, Unknown, run, say};
 use std::env::Env;
 use std::io::ErrorKind;
 use std::process::ExitCode;
@@ -15,7 +15,10 @@ fn words_of(rt: &(impl Env + AllocGlobal)) -> io::Result<Vec<String>> {
 fn main(rt: HostRuntime) -> ExitCode {
     let mut writer = io::writer(&rt);
     let status = match words_of(&rt) {
-        Ok(words) => run(&rt, words.as_slice(), &mut rt.reader(), &mut writer),
+        Ok(words) => {
+            let files = NamedFiles { start: Unknown };
+            run(&rt, words.as_slice(), files, &mut rt.reader(), &mut writer)
+        }
         Err(error) => match error.kind() {
             ErrorKind::InvalidData => say(&mut writer, b"error: a word is no UTF-8 text\n", 2),
             _ => say(&mut writer, b"fault memory\n", 3),

@@ -1,7 +1,7 @@
 -- What is known of an input that is longer than a file may be, and of one that is not.
-use Rattle.portal_run.proofs.Base.{◌≡◌, ◌≢◌, ◌⊎◌, ◌<◌, ◌≤◌, ℕ, Bool, true, length, Option, Some, None, take, subst, inl}
+use Rattle.portal_run.proofs.Base.{◌≡◌, ◌<◌, ℕ, Bool, true, length, Option, Some, None, take, subst, inl}
 use Rattle.portal_run.proofs.Base.{inr, arith, IfSome, Appends, cases_lt, lt-ltb, length-take, take_all, Text, Output}
-use Rattle.portal_run.proofs.Base.{IfLonger, IsAnswer, WritesAnswer, AnswersSome}
+use Rattle.portal_run.proofs.Base.{IfLonger, IsAnswer, WritesAnswer, AnswersSome, Says}
 use Rattle.portal_answer.specs.declared.answer.Task.{Task}
 
 -- of a longer file nothing is read
@@ -18,26 +18,23 @@ cut_answer task b t h = elim (cases_lt 4194304 (length b)) [
   | inr le ↦ subst (λ (xs : Text). IsAnswer task xs t) (take_all 4194305 b (omega arith)) h
 ]
 
--- the status of what was said
-pub said_bound : (a n : ℕ) → (a ≡ n) ⊎ (a ≡ 3) → n ≤ 2 → a ≤ 3
-said_bound a n h small = elim h [ inl e ↦ omega (arith, e) | inr e ↦ omega (arith, e) ]
-
-pub said_status : (a n : ℕ) → (a ≡ n) ⊎ (a ≡ 3) → a < 3 → a ≡ n
-said_status a n h small = elim h [ inl e ↦ e | inr e ↦ absurd (omega (arith, e)) ]
-
--- a text that was said with its status, or the status 3
-abbrev pub IsSaid : ℕ → Option Text → Option Text → Output → Type 0
-IsSaid status old new t = ((status ≡ t.status) ⊎ (status ≡ 3)) × (status ≢ 3 → Appends old new t.text)
+-- what was said with a status below 3
+pub said_whole : (t : Output) (status : ℕ) (old new : Option Text) → Says t status old new → status < 3
+    → (status ≡ t.status) × Appends old new t.text
+said_whole t status old new (inl h) small = h
+said_whole t status old new (inr f) small = absurd (omega (arith, f.status_is))
 
 -- what was said is what is answered to the whole input
 pub said : (task : Task) (k : Option Text) (bytes : Text) (old new : Option Text) (status : ℕ) (t : Output)
     → IfSome k (λ b. bytes ≡ take 4194305 b) → IsAnswer task bytes t
-    → IsSaid status old new t → status < 3 → WritesAnswer task k status old new
+    → Says t status old new → status < 3 → WritesAnswer task k status old new
 said task None bytes old new status t cut is done small = tt
 said task (Some b) bytes old new status t cut is done small =
-    (t, cut_answer task b t (subst (λ (xs : Text). IsAnswer task xs t) cut is), said_status status t.status done.0 small, done.1 (omega arith))
+    let whole = said_whole t status old new done small in
+    (t, cut_answer task b t (subst (λ (xs : Text). IsAnswer task xs t) cut is), whole.0, whole.1)
 
 -- what was said is an answer to these bytes
 pub said_some : (task : Task) (bytes : Text) (old new : Option Text) (status : ℕ) (t : Output) → IsAnswer task bytes t
-    → IsSaid status old new t → status < 3 → AnswersSome task status old new
-said_some task bytes old new status t is done small = (bytes, t, is, said_status status t.status done.0 small, done.1 (omega arith))
+    → Says t status old new → status < 3 → AnswersSome task status old new
+said_some task bytes old new status t is done small =
+    let whole = said_whole t status old new done small in (bytes, t, is, whole.0, whole.1)

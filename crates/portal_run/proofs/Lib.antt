@@ -1,4 +1,6 @@
 pub mod Base
+pub mod FirstLine
 pub mod Known
 pub mod Taken
-pub mod Upgraded
+pub mod Told
+pub mod Written

@@ -1,2 +1,5 @@
+pub mod Commands
+pub mod Databases
+pub mod Lines
 pub mod Run
 pub mod inner

@@ -1,3 +1,3 @@
 pub mod Beginnings
-pub mod Commands
-pub mod Lines
+pub mod Input
+pub mod Taken

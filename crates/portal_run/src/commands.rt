@@ -3,18 +3,19 @@
 ghost use Rattle.std.specs.Prelude.{◌≡◌, ◌<◌, ◌≤◌, ◌⊎◌, ◌∷◌, [], codes, drop, map, None};
 ghost use Rattle.std.specs.Prelude.{IfSome, IfOk, IsErr, IsTrue};
 ghost use Rattle.clap.specs.Words.{Text};
-ghost use Rattle.portal_words.specs.Line.{is_file_word};
-ghost use Rattle.portal_run.specs.Run.{WritesAnswer, AnswersSome};
-ghost use Rattle.portal_run.specs.inner.Commands.{IsOfFile, IsUpgrade, task_of};
-ghost use Rattle.portal_run.specs.Run.{ConsumesAtMost};
-ghost use Rattle.portal_run.specs.inner.Commands.{SaysUpgrade};
+ghost use Rattle.portal_words.specs.Line.{TakesDatabase, is_file_word};
+ghost use Rattle.portal_run.specs.Databases.{PerformsCommand, PerformsNamed, known};
+ghost use Rattle.portal_run.specs.Run.{AnswersSome, ConsumesAtMost, WritesAnswer};
+ghost use Rattle.portal_run.specs.Commands.{IsOfFile, task_of};
 ghost use Rattle.portal_desk.specs.Kept.{TakesAtMost, taken_limit};
 
+use crate::databases::Databases;
 use crate::init::{init, upgrade_over};
 use crate::input::{InputFault, bytes_of};
-use crate::output::{say, say_memory, say_read};
+use crate::output::{say, say_fault};
 use crate::serve::{pipe_over, report_over, serve_over};
 use portal_answer::{Task, answer_to};
+use portal_desk::Cause;
 use portal_words::{Asked, Command, command_of};
 use std::alloc::Global;
 use std::convert::AsStr;
@@ -35,12 +36,12 @@ fn answer<R: Read, W: Write>(alloc: Global, task: Task, reader: &mut R, writer: 
 {
     let bytes = match bytes_of(alloc, reader) {
         Ok(bytes) => bytes,
-        Err(InputFault::Read) => return say_read(writer),
-        Err(InputFault::Memory) => return say_memory(writer),
+        Err(InputFault::Read) => return say_fault(writer, Cause::Read),
+        Err(InputFault::Memory) => return say_fault(writer, Cause::Memory),
     };
     match answer_to(alloc, task, &bytes) {
         Ok(told) => say(writer, &told.text, told.status),
-        Err(_) => say_memory(writer),
+        Err(_) => say_fault(writer, Cause::Memory),
     }
 }
 
@@ -61,7 +62,7 @@ fn answer_opened<F: Read + Drop, W: Write>(
 {
     match opened {
         Ok(mut file) => answer(alloc, task, &mut file, writer),
-        Err(_) => say_read(writer),
+        Err(_) => say_fault(writer, Cause::Read),
     }
 }
 
@@ -88,17 +89,19 @@ fn answer_file<R: Read, W: Write>(
 }
 
 /// Performs a command and returns the exit status. `check` and `solve` write the answer to their
-/// task for the bytes of the instance file; the status is 3 if reading or writing fails. `upgrade`
-/// writes the line for the store's answer and returns its status. It reports a missing file as
-/// `refused not_portal` with status 2.
+/// task for the bytes of the instance file; the status is 3 if reading or writing fails. A command
+/// over a database does its work over the one at the path that is named, once, and writes the line
+/// of what came of it, with that line's status; or it stops before, and says why. `init` makes the
+/// tables with the first line of the input as the office's code. If the output fails, beginnings of
+/// these lines are written, and the status is 3.
 ///
-/// No contract says that a command over a database works on the file and the port that are named,
-/// prints what its function of `portal_file` returns, or does nothing else to files: this is read
-/// in this crate, and tested.
+/// No contract says which file `NamedFiles` finds at a path, that nothing else is done to files, or
+/// that the port that is told is the one listened on: this is read in this crate, and tested.
 #[tactic(auto, using(crate::proofs::Taken::few_taken, crate::proofs::Taken::same_left))]
-pub fn run_command<R: Read, W: Write>(
+pub fn run_command<F: Databases, R: Read, W: Write>(
     rt: &HostRuntime,
     command: Command<'_>,
+    files: F,
     reader: &mut R,
     writer: &mut W,
 ) -> u8
@@ -115,32 +118,39 @@ pub fn run_command<R: Read, W: Write>(
     ensures solve { command.entry ≡ Command.Solve None → result < 3
         → WritesAnswer Task.Solve (R.remaining reader.old) result (W.contents writer.old)
         (W.contents writer.new) }
-    ensures upgrade { IsUpgrade command.entry → result < 3
-        → SaysUpgrade result (W.contents writer.old) (W.contents writer.new) }
+    ensures performs { PerformsCommand W.contents (known F.stands F.over files) (record {
+      remaining = R.remaining reader.old;
+      left = R.remaining reader.new;
+      before = W.contents writer.old;
+      after = W.contents writer.new;
+    }) result command.entry }
 {
     match command {
         Command::Check(file) => answer_file(rt, Task::Check, file, reader, writer),
         Command::Solve(file) => answer_file(rt, Task::Solve, file, reader, writer),
-        Command::Init(database) => init(rt, database, reader, writer),
+        Command::Init(database) => init(rt, files, database, reader, writer),
         Command::Serve {
             database,
             port,
             connections,
-        } => serve_over(rt, database, port, connections, writer),
-        Command::Pipe(database) => pipe_over(rt, database, reader, writer),
-        Command::Report(database) => report_over(rt, database, writer),
-        Command::Upgrade(database) => upgrade_over(rt, database, writer),
+        } => serve_over(rt, files, database, port, connections, writer),
+        Command::Pipe(database) => pipe_over(rt, files, database, reader, writer),
+        Command::Report(database) => report_over(rt, files, database, writer),
+        Command::Upgrade(database) => upgrade_over(rt, files, database, writer),
     }
 }
 
 /// Performs the command that the words name, and returns the exit status, at most 3. It takes at
 /// most 272,629,760 bytes from a reader whose bytes are known; `check` and `solve` take at most
 /// 4,194,305. `check FILE` and `solve FILE` write the answer to their task unless the name begins
-/// with `-`. Their status is 3 if reading the file or writing the answer fails.
+/// with `-`. Their status is 3 if reading the file or writing the answer fails. `init`, `pipe`,
+/// `report` and `upgrade` work over the database that is named unless its name begins with `-`, and
+/// say what came of it, as `run_command` does; no clause says how the words of `serve` are read.
 #[tactic(auto, using(crate::proofs::Taken::same_left))]
-pub fn run<S: AsStr, R: Read, W: Write>(
+pub fn run<S: AsStr, F: Databases, R: Read, W: Write>(
     rt: &HostRuntime,
     words: &[S],
+    files: F,
     reader: &mut R,
     writer: &mut W,
 ) -> u8
@@ -165,10 +175,18 @@ pub fn run<S: AsStr, R: Read, W: Write>(
         → IsTrue (is_file_word file)
         → result < 3 → AnswersSome Task.Solve result (W.contents writer.old)
         (W.contents writer.new) }
+    ensures database { (name db : Text) → TakesDatabase name
+        → drop 1 (map S.text words.entry.now) ≡ name ∷ db ∷ [] → IsTrue (is_file_word db)
+        → PerformsNamed W.contents (known F.stands F.over files) (record {
+          remaining = R.remaining reader.old;
+          left = R.remaining reader.new;
+          before = W.contents writer.old;
+          after = W.contents writer.new;
+        }) result name db }
 {
     match command_of(rt.alloc(), words) {
-        Ok(Asked::Do(command)) => run_command(rt, command, reader, writer),
+        Ok(Asked::Do(command)) => run_command(rt, command, files, reader, writer),
         Ok(Asked::Show { text, status }) => say(writer, text.as_bytes(), status.min(MOST)),
-        Err(_) => say_memory(writer),
+        Err(_) => say_fault(writer, Cause::Memory),
     }
 }

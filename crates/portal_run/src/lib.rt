@@ -1,8 +1,9 @@
-//! Runs the program's commands, over any reader and writer.
+//! Runs the program's commands, over any reader, writer and databases.
 #![tactic(auto)]
 
 mod commands;
-mod database;
+mod databases;
+mod expecting;
 mod init;
 mod input;
 mod output;
@@ -10,4 +11,7 @@ mod place;
 mod serve;
 
 pub use commands::{run, run_command};
+pub use databases::{Databases, NamedFiles};
 pub use output::say;
+pub use place::Place;
+pub use sqlite::Unknown;

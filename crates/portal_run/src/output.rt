@@ -1,11 +1,16 @@
 //! Writes a text, a fault or a refusal to the output, and returns the exit status.
 
-ghost use Rattle.std.specs.Prelude.{◌≡◌, ◌≢◌, ◌⊎◌, IfErr, IfOk};
+ghost use Rattle.std.specs.Prelude.{◌≡◌, ◌≤◌, IfErr, IfOk, IsTrue, codes};
 ghost use Rattle.std.specs.Io.KnownBytes.{Appends};
+ghost use Rattle.portal_desk.specs.declared.served.Cause.{Cause};
+ghost use Rattle.portal_store.specs.Crash.{as_upgrading};
 ghost use Rattle.portal_store.specs.declared.store.UpgradeFault.{UpgradeFault};
-ghost use Rattle.portal_run.specs.inner.Commands.{refusal_line, refusal_status};
-ghost use Rattle.portal_run.specs.inner.Lines.{Says, connect_refusal, create_refusal, open_refusal};
+ghost use Rattle.portal_run.specs.Databases.{create_refusal};
+ghost use Rattle.portal_run.specs.Lines.{Says, fault, refusal, success};
+ghost use Rattle.portal_run.specs.inner.Input.{connect_refusal};
+ghost use Rattle.portal_run.specs.inner.Taken.{AppendsFront};
 
+use portal_desk::{Cause, write_again};
 use portal_store::{CreateFault, OpenFault};
 use sqlite::{Error, ErrorCode};
 use std::io::Write;
@@ -13,45 +18,58 @@ use std::io::Write;
 // Each reason why some command refuses a database is one of an upgrade's.
 pub(crate) use portal_store::UpgradeFault as Refusal;
 
+/// Writes a text, and returns whether all of it was written.
+fn write_whole<W: Write>(writer: &mut W, text: &[u8]) -> bool
+    ensures whole { IsTrue result
+        → Appends (W.contents writer.old) (W.contents writer.new) text.now }
+    ensures front { AppendsFront (W.contents writer.old) (W.contents writer.new) text.now }
+{
+    let mut done = 0;
+    while done < text.len() {
+        match write_again(writer, &text[done..]) {
+            Ok(0) | Err(_) => return false,
+            Ok(n) => done += n,
+        }
+    }
+    true
+}
+
+/// Writes a text and flushes the output, and returns whether all of that was done.
+pub(crate) fn write_flushed<W: Write>(writer: &mut W, text: &[u8]) -> bool
+    ensures whole { IsTrue result
+        → Appends (W.contents writer.old) (W.contents writer.new) text.now }
+    ensures front { AppendsFront (W.contents writer.old) (W.contents writer.new) text.now }
+{
+    if !write_whole(writer, text) {
+        return false;
+    }
+    writer.flush().is_ok()
+}
+
 /// Writes a text and returns its exit status, or 3 if the writer fails.
 pub fn say<W: Write>(writer: &mut W, text: &[u8], status: u8) -> u8
-    ensures status { (result ≡ status) ⊎ (result ≡ 3) }
-    ensures written { result ≢ 3 → Appends (W.contents writer.old)
-        (W.contents writer.new) text.now }
+    ensures says { Says (record { text = text.now; status = status }) result
+        (W.contents writer.old) (W.contents writer.new) }
+    ensures bound { status ≤ 3 → result ≤ 3 }
 {
-    if writer.write_all(text).is_ok() && writer.flush().is_ok() {
+    if write_flushed(writer, text) {
         return status;
     }
-    let _ = writer.write_all(b"fault write\n");
+    let _ = write_whole(writer, b"fault write\n");
     3
 }
 
-/// Reports that memory ran out.
-pub(crate) fn say_memory<W: Write>(writer: &mut W) -> u8
-    ensures { result ≡ 3 }
+/// Reports that a device or memory failed.
+pub(crate) fn say_fault<W: Write>(writer: &mut W, cause: Cause) -> u8
+    ensures says { Says (fault cause) result (W.contents writer.old) (W.contents writer.new) }
+    ensures bound { result ≤ 3 }
 {
-    say(writer, b"fault memory\n", 3)
-}
-
-/// Reports that the store failed.
-pub(crate) fn say_store<W: Write>(writer: &mut W) -> u8
-    ensures { result ≡ 3 }
-{
-    say(writer, b"fault store\n", 3)
-}
-
-/// Reports that the input could not be read.
-pub(crate) fn say_read<W: Write>(writer: &mut W) -> u8
-    ensures { result ≡ 3 }
-{
-    say(writer, b"fault read\n", 3)
-}
-
-/// Reports that the output could not be written.
-pub(crate) fn say_write<W: Write>(writer: &mut W) -> u8
-    ensures { result ≡ 3 }
-{
-    say(writer, b"fault write\n", 3)
+    match cause {
+        Cause::Read => say(writer, b"fault read\n", 3),
+        Cause::Write => say(writer, b"fault write\n", 3),
+        Cause::Memory => say(writer, b"fault memory\n", 3),
+        Cause::Store => say(writer, b"fault store\n", 3),
+    }
 }
 
 /// What keeps a command from its work over a database.
@@ -76,7 +94,7 @@ impl Fault for Error {
 }
 
 impl Fault for OpenFault {
-    ghost refusal = { open_refusal };
+    ghost refusal = { as_upgrading };
 
     fn why(self) -> Refusal {
         match self {
@@ -111,25 +129,26 @@ impl Fault for Refusal {
 
 /// Reports why a command refuses a database, and returns the exit status.
 pub(crate) fn refuse<W: Write>(writer: &mut W, why: Refusal) -> u8
-    ensures { Says (refusal_line why) (refusal_status why) result (W.contents writer.old)
-        (W.contents writer.new) }
+    ensures says { Says (refusal why) result (W.contents writer.old) (W.contents writer.new) }
+    ensures bound { result ≤ 3 }
 {
     match why {
         Refusal::NotPortal => say(writer, b"refused not_portal\n", 2),
         Refusal::OtherVersion => say(writer, b"refused other_version\n", 2),
         Refusal::Damaged => say(writer, b"refused damaged\n", 2),
         Refusal::Exists => say(writer, b"refused exists\n", 2),
-        Refusal::Store => say_store(writer),
-        Refusal::Memory => say_memory(writer),
+        Refusal::Store => say_fault(writer, Cause::Store),
+        Refusal::Memory => say_fault(writer, Cause::Memory),
     }
 }
 
 /// Writes `line` on success, or reports the refusal, and returns the exit status.
 pub(crate) fn say_done<W: Write>(writer: &mut W, done: Result<(), Refusal>, line: &[u8]) -> u8
-    ensures done { IfOk done (λ _. Says line.now 0 result (W.contents writer.old)
+    ensures done { IfOk done (λ _. Says (success line.now) result (W.contents writer.old)
         (W.contents writer.new)) }
-    ensures refused { IfErr done (λ why. Says (refusal_line why) (refusal_status why) result
+    ensures refused { IfErr done (λ why. Says (refusal why) result
         (W.contents writer.old) (W.contents writer.new)) }
+    ensures bound { result ≤ 3 }
 {
     match done {
         Ok(()) => say(writer, line, 0),

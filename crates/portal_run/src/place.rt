@@ -10,7 +10,7 @@ use std::io::ErrorKind;
 
 /// What stands at the path of a database.
 #[derive(Clone, Copy, Debug, Drop, PartialEq, Eq)]
-pub(crate) enum Place {
+pub enum Place {
     /// No file.
     Missing,
     /// An empty file, or one that a stopped `init` has begun.

@@ -1,7 +1,7 @@
--- What the parser makes of the words that ask for `check` and `solve`.
+-- What the parser makes of the words that ask for a command with one word, or for `check` and `solve` without.
 use Rattle.portal_words.proofs.Base.{◌≡◌, ◌∙◌, ◌&&◌, Bool, true, false, Option, Some, None, List, [], ◌∷◌, refl, sym}
 use Rattle.portal_words.proofs.Base.{ap, subst, inl, inr, codes, rules, Row, Text, is_simple, subcommand_of, takes}
-use Rattle.portal_words.proofs.Base.{AsksFile, MeetsFile, TakesFile, portal_app}
+use Rattle.portal_words.proofs.Base.{AsksDatabase, AsksFile, MeetsDatabase, MeetsFile, TakesDatabase, TakesFile, portal_app}
 use Rattle.std.specs.Prelude.{◌==◌, IsTrue}
 use Rattle.std.specs.Str.{bytes_eq}
 use Rattle.clap.specs.Lexer.{strip_byte}
@@ -62,3 +62,31 @@ is_met words name None h = subst (λ ws. MeetsFile (met ws) name None) (sym h.1)
 is_met words name (Some file) h =
     let plain = is_no_option file h.2 in
     subst (λ ws. MeetsFile (met ws) name (Some file)) (sym h.1) (file_met name file h.0 plain.0 plain.1)
+
+-- of the commands over a database
+
+database_taken : (name db : Text) → TakesDatabase name → strip_byte 45 db ≡ None → bytes_eq db (codes "--") ≡ false
+    → is_taken (name ∷ db ∷ []) ≡ true
+unfolding clap_on_literals
+database_taken name db (inl e) short long = rw e (simp (short, long))
+database_taken name db (inr (inl e)) short long = rw e (simp (short, long))
+database_taken name db (inr (inr (inl e))) short long = rw e (simp (short, long))
+database_taken name db (inr (inr (inr e))) short long = rw e (simp (short, long))
+
+database_met : (name db : Text) → TakesDatabase name → strip_byte 45 db ≡ None → bytes_eq db (codes "--") ≡ false
+    → MeetsDatabase (met (name ∷ db ∷ [])) name db
+unfolding clap_on_literals
+database_met name db (inl e) short long = rw e (_, refl, simp (short, long))
+database_met name db (inr (inl e)) short long = rw e (_, refl, simp (short, long))
+database_met name db (inr (inr (inl e))) short long = rw e (_, refl, simp (short, long))
+database_met name db (inr (inr (inr e))) short long = rw e (_, refl, simp (short, long))
+
+pub taken_database : (words : List Text) (name db : Text) → AsksDatabase words name db → takes portal_app words ≡ true
+taken_database words name db h =
+    let plain = is_no_option db h.2 in ap is_taken h.1 ∙ database_taken name db h.0 plain.0 plain.1
+
+pub is_met_database : (words : List Text) (name db : Text) → AsksDatabase words name db
+    → MeetsDatabase (subcommand_of portal_app words) name db
+is_met_database words name db h =
+    let plain = is_no_option db h.2 in
+    subst (λ ws. MeetsDatabase (met ws) name db) (sym h.1) (database_met name db h.0 plain.0 plain.1)

@@ -3,9 +3,10 @@
 ghost use Rattle.std.specs.Prelude.{◌≡◌, ◌∷◌, [], codes, drop, map, IfOk, IfErr, IsTrue, IsSomeAnd};
 ghost use Rattle.std.specs.Prelude.{Option, Some, None};
 ghost use Rattle.clap.specs.Words.{Text, first_of, found_of, kind_of, rows_of, subcommand_rows_of};
-ghost use Rattle.portal_words.specs.inner.Asks.{Asks, ChecksFile, SolvesFile};
-ghost use Rattle.portal_words.specs.Line.{is_file_word};
-ghost use Rattle.portal_words.specs.inner.Arguments.{AsksFile, MeetsFile};
+ghost use Rattle.portal_words.specs.inner.Asks.{Asks, ChecksFile, IsOverDatabase, SolvesFile};
+ghost use Rattle.portal_words.specs.Line.{TakesDatabase, is_file_word};
+ghost use Rattle.portal_words.specs.inner.Arguments.{AsksDatabase, AsksFile, MeetsDatabase};
+ghost use Rattle.portal_words.specs.inner.Arguments.{MeetsFile};
 
 use crate::build::portal;
 use clap::error::ErrorKind;
@@ -53,7 +54,9 @@ fn serve_command<'a>(matches: &ArgMatches<'a>) -> Option<Command<'a>> {
 }
 
 // Returns the command for the name of a subcommand that takes only a database.
-fn on_database<'a>(name: &str, database: &'a str) -> Option<Command<'a>> {
+fn on_database<'a>(name: &str, database: &'a str) -> Option<Command<'a>>
+    ensures { TakesDatabase name.now → IsSomeAnd result (IsOverDatabase name.now database.now) }
+{
     match name {
         "init" => Some(Command::Init(database)),
         "pipe" => Some(Command::Pipe(database)),
@@ -69,6 +72,9 @@ fn command_named<'a>(name: &str, matches: &ArgMatches<'a>) -> Option<Command<'a>
         → IsSomeAnd result (ChecksFile (first_of (codes "FILE") (rows_of (found_of matches.now)))) }
     ensures solve { name.now ≡ codes "solve"
         → IsSomeAnd result (SolvesFile (first_of (codes "FILE") (rows_of (found_of matches.now)))) }
+    ensures database { (db : Text) → TakesDatabase name.now
+        → first_of (codes "DB") (rows_of (found_of matches.now)) ≡ Some db
+        → IsSomeAnd result (IsOverDatabase name.now db) }
 {
     match name {
         "check" => Some(Command::Check(matches.get_str("FILE"))),
@@ -86,6 +92,9 @@ fn command_matched<'a>(matches: &ArgMatches<'a>) -> Option<Command<'a>>
     ensures solve { (file : Option Text)
         → MeetsFile (subcommand_rows_of matches.now) (codes "solve") file
         → IsSomeAnd result (SolvesFile file) }
+    ensures database { (name db : Text)
+        → MeetsDatabase (subcommand_rows_of matches.now) name db → TakesDatabase name
+        → IsSomeAnd result (IsOverDatabase name db) }
 {
     match matches.subcommand() {
         Some((name, inner)) => command_named(name, inner),
@@ -101,12 +110,19 @@ fn matches_of<'a, S: AsStr>(alloc: Global, words: &'a [S]) -> Result<ArgMatches<
     ensures passes { (name : Text) (file : Option Text)
         → AsksFile (map S.text words.entry.now) name file
         → IfErr result (λ e. kind_of e ≡ ErrorKind.OutOfMemory) }
+    ensures database { (name db : Text)
+        → AsksDatabase (map S.text words.entry.now) name db
+        → IfOk result (λ m. MeetsDatabase (subcommand_rows_of m) name db) }
+    ensures passes_database { (name db : Text)
+        → AsksDatabase (map S.text words.entry.now) name db
+        → IfErr result (λ e. kind_of e ≡ ErrorKind.OutOfMemory) }
 {
     portal(alloc)?.try_get_matches_from(words)
 }
 
 /// Parses the words of a command line. The first word is the program's name. After `check` or
-/// `solve`, a word that does not begin with `-` names the file.
+/// `solve`, a word that does not begin with `-` names the file; after `init`, `pipe`, `report` or
+/// `upgrade`, the database.
 pub fn command_of<'a, S: AsStr>(alloc: Global, words: &'a [S]) -> Result<Asked<'a>, AllocError>
     ensures check { drop 1 (map S.text words.entry.now) ≡ codes "check" ∷ []
         → IfOk result (λ a. a ≡ Asked.Do (Command.Check None)) }
@@ -118,6 +134,9 @@ pub fn command_of<'a, S: AsStr>(alloc: Global, words: &'a [S]) -> Result<Asked<'
     ensures solve_file { (file : Text)
         → drop 1 (map S.text words.entry.now) ≡ codes "solve" ∷ file ∷ []
         → IsTrue (is_file_word file) → IfOk result (Asks (SolvesFile (Some file))) }
+    ensures database { (name db : Text) → TakesDatabase name
+        → drop 1 (map S.text words.entry.now) ≡ name ∷ db ∷ []
+        → IsTrue (is_file_word db) → IfOk result (Asks (IsOverDatabase name db)) }
 {
     match matches_of(alloc, words) {
         Ok(matches) => match command_matched(&matches) {

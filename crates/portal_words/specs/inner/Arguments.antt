@@ -5,7 +5,7 @@ use Rattle.clap.specs.Words.{App, Row, Rule, Text, app_of, first_of, new_app, ne
 use Rattle.clap.specs.declared.builder.command.Command.{Command}
 use Rattle.clap.specs.declared.builder.command.Command.TheViews.{out-Command}
 use Rattle.clap.specs.declared.builder.value_parser.ValueParser.TheVariants.{Unsigned}
-use Rattle.portal_words.specs.Line.{is_file_word}
+use Rattle.portal_words.specs.Line.{TakesDatabase, is_file_word}
 
 -- a command with one optional word
 abbrev pub file_app : Text → App
@@ -61,3 +61,11 @@ AsksFile words name (Some file) = TakesFile name × (drop 1 words ≡ name ∷ f
 -- a subcommand of this name was met, with this file
 abbrev pub MeetsFile : Option (Text × List Row) → Text → Option Text → Type 0
 MeetsFile met name file = (rows : List Row) × (met ≡ Some (name, rows)) × (first_of (codes "FILE") rows ≡ file)
+
+-- the words are the program's name and a command over a database, with the database
+abbrev pub AsksDatabase : List Text → Text → Text → Type 0
+AsksDatabase words name db = TakesDatabase name × (drop 1 words ≡ name ∷ db ∷ []) × IsTrue (is_file_word db)
+
+-- a subcommand of this name was met, with this database
+abbrev pub MeetsDatabase : Option (Text × List Row) → Text → Text → Type 0
+MeetsDatabase met name db = (rows : List Row) × (met ≡ Some (name, rows)) × (first_of (codes "DB") rows ≡ Some db)

@@ -50,3 +50,12 @@ returns-clause-check_file g c file is plain = search (rules, c.in-Err.ensures.pa
 
 pub returns-clause-solve_file : goal.returns-clause-solve_file
 returns-clause-solve_file g c file is plain = search (rules, c.in-Err.ensures.passes (codes "solve") (Some file) (inr refl, is, plain))
+
+pub returns-in-Some-clause-database : goal.returns-in-Some-clause-database
+returns-in-Some-clause-database g c name db takes is plain = c.in-Some.ensures.database name db (c.in-Ok.ensures.database name db (takes, is, plain)) takes
+
+pub returns-in-Ok-clause-database : goal.returns-in-Ok-clause-database
+returns-in-Ok-clause-database g c name db takes is plain = c.in-None.ensures.database name db (c.in-Ok.ensures.database name db (takes, is, plain)) takes
+
+pub returns-clause-database : goal.returns-clause-database
+returns-clause-database g c name db takes is plain = search (rules, c.in-Err.ensures.passes_database name db (takes, is, plain))
