@@ -14,8 +14,11 @@ mod PortalReports
 mod PortalRolls
 mod PortalRules
 mod PortalRulesLaws
+mod PortalRun
+mod PortalServe
 mod PortalStore
 mod PortalTables
+mod PortalWhole
 mod PortalWire
 mod SpaCheck
 mod SpaHonest

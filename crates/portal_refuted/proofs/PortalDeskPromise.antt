@@ -16,8 +16,8 @@ use Rattle.portal_rules.specs.World.{World, Choices, changed}
 use Rattle.portal_core.specs.Honest.{ShowsBest}
 use Rattle.portal_wire.specs.Conversation.{Closed, Exchange, common_lines, reply_text}
 use Rattle.portal_wire.specs.Wish.{route_at, the_paths}
-use Rattle.portal_desk.specs.Headline.{IsAnswered, Hears, IsLikeAll, IsUpheld, IsVisit, Visit}
-use Rattle.portal_desk.specs.Session.{Ended, Finish}
+use Rattle.portal_desk.specs.Headline.{AreVisits, IsAnswered, Hears, IsLikeAll, IsUpheld, IsVisit, Visit}
+use Rattle.portal_desk.specs.Session.{Ended}
 use Rattle.spa_model.specs.Spa.{IsBest}
 use Rattle.spa_model.specs.declared.letter.Letter.TheVariants.{A}
 use Rattle.portal_refuted.proofs.GoodWorld.{ann, ben, published, published_best, published_good}
@@ -26,41 +26,32 @@ use Rattle.portal_refuted.proofs.PortalFrame.{plain_bytes}
 use Rattle.portal_refuted.proofs.PortalDesk.{accepted, kept_none}
 use Rattle.portal_refuted.proofs.PortalDeskServe.{digit, exchange, no_route_reply, not_found, plain_tells, sent}
 
--- a visit with one exchange, after which the world is this one
-abbrev visit : List ℕ → List ℕ → Finish → Exchange → World → Visit
-visit bytes written finish e w =
-    record { bytes = bytes; written = written; finish = finish; exchanges = e ∷ []; worlds = w ∷ [] }
+-- ---- upheld: the exchanges are a run
 
--- ---- upheld: the visits are a run
-
-pub reply_of_no_run_is_not_upheld : (bytes written : List ℕ) (finish : Finish) (a : Answer) → a.status ≡ 200
-    → IsUpheld published (visit bytes written finish (record exchange { reply = a }) published ∷ []) → ⊥
+pub reply_of_no_run_is_not_upheld : (a : Answer) → a.status ≡ 200
+    → IsUpheld published (record exchange { reply = a } ∷ []) (published ∷ []) → ⊥
 unfolding route_at the_paths
-reply_of_no_run_is_not_upheld bytes written finish a ok upheld = no_step upheld.are.0.run.0
+reply_of_no_run_is_not_upheld a ok upheld = no_step upheld.run.0
   where
     no_step : Serves published exchange.request a published → ⊥
     no_step (inl refused) = omega (arith, ok, ap (λ (b : Answer). b.status) refused.0)
     no_step (inr failed) = omega (arith, ok, ap (λ (b : Answer). b.status) failed.0)
 
-pub accepted_list_that_is_not_kept_is_not_upheld : (bytes written : List ℕ) (finish : Finish)
-    → IsUpheld choosing (visit bytes written finish accepted choosing ∷ []) → ⊥
-accepted_list_that_is_not_kept_is_not_upheld bytes written finish upheld = kept_none upheld.are.0.run.0
+pub accepted_list_that_is_not_kept_is_not_upheld : IsUpheld choosing (accepted ∷ []) (choosing ∷ []) → ⊥
+accepted_list_that_is_not_kept_is_not_upheld upheld = kept_none upheld.run.0
 
 -- a request that acts twice, and one whose world is left out
-pub visit_with_two_worlds_is_not_upheld : (bytes written : List ℕ) (finish : Finish) (e : Exchange) (w v u : World)
-    → IsUpheld w (record (visit bytes written finish e v) { worlds = v ∷ u ∷ [] } ∷ []) → ⊥
-visit_with_two_worlds_is_not_upheld bytes written finish e w v u upheld = upheld.are.0.run.1
+pub run_with_two_worlds_is_not_upheld : (e : Exchange) (w v u : World) → IsUpheld w (e ∷ []) (v ∷ u ∷ []) → ⊥
+run_with_two_worlds_is_not_upheld e w v u upheld = upheld.run.1
 
-pub visit_without_its_last_world_is_not_upheld : (bytes written : List ℕ) (finish : Finish) (e : Exchange)
-    (w v : World)
-    → IsUpheld w (record (visit bytes written finish e v) { worlds = [] } ∷ []) → ⊥
-visit_without_its_last_world_is_not_upheld bytes written finish e w v upheld = upheld.are.0.run
+pub run_without_its_last_world_is_not_upheld : (e : Exchange) (w : World) → IsUpheld w (e ∷ []) [] → ⊥
+run_without_its_last_world_is_not_upheld e w upheld = upheld.run
 
 -- ---- its worlds are good
 
-pub world_without_an_office_code_is_not_upheld : (bytes written : List ℕ) (finish : Finish) (w : World) (e : Exchange)
-    → IsUpheld w (visit bytes written finish e (record published { office = [] }) ∷ []) → ⊥
-world_without_an_office_code_is_not_upheld bytes written finish w e upheld = cc (upheld.good.0.sound.office_form)
+pub world_without_an_office_code_is_not_upheld : (w : World) (e : Exchange)
+    → IsUpheld w (e ∷ []) (record published { office = [] } ∷ []) → ⊥
+world_without_an_office_code_is_not_upheld w e upheld = cc (upheld.good.0.sound.office_form)
 
 -- ---- a request of a student or lecturer changes no other view
 
@@ -76,9 +67,9 @@ list_length (sees.Student v) = length v.choices
 list_length _ = 0
 
 -- and Bea's is replaced
-pub list_of_somebody_else_replaced_is_not_unseen : (bytes written : List ℕ) (finish : Finish)
-    → IsUpheld choosing (visit bytes written finish by_ann (changed choosing (Choices (codes "S2") [])) ∷ []) → ⊥
-list_of_somebody_else_replaced_is_not_unseen bytes written finish upheld =
+pub list_of_somebody_else_replaced_is_not_unseen :
+    IsUpheld choosing (by_ann ∷ []) (changed choosing (Choices (codes "S2") []) ∷ []) → ⊥
+list_of_somebody_else_replaced_is_not_unseen upheld =
     omega (arith, ap list_length ((upheld.unseen (codes "bea-code-2")).0 tt refl refl))
 
 -- ---- each step that publishes leaves the best result
@@ -93,36 +84,43 @@ ranking = record nobody_placed { phase = Ranking }
 not_best : IsBest (instance nobody_placed) (matching_of nobody_placed) → ⊥
 not_best best = best.stable.unblocked 0 0 A ((omega arith, _), omega arith, omega arith)
 
-pub worse_result_is_not_published : (bytes written : List ℕ) (finish : Finish) (e : Exchange)
-    → IsUpheld ranking (visit bytes written finish e nobody_placed ∷ []) → ⊥
-worse_result_is_not_published bytes written finish e upheld = not_best (upheld.published.0 refl refl).best
+pub worse_result_is_not_published : (e : Exchange) → IsUpheld ranking (e ∷ []) (nobody_placed ∷ []) → ⊥
+worse_result_is_not_published e upheld = not_best (upheld.published.0 refl refl).best
 
 -- ---- a shown result stays the best
 
 shows_best : ShowsBest published
 shows_best = record { good = published_good; now = λ e. published_best; before = λ e. absurd (cc) }
 
-pub worse_result_afterwards_is_not_best : (bytes written : List ℕ) (finish : Finish) (e : Exchange)
-    → IsUpheld published (visit bytes written finish e nobody_placed ∷ []) → ⊥
-worse_result_afterwards_is_not_best bytes written finish e upheld = not_best ((upheld.best shows_best).0.now refl)
+pub worse_result_afterwards_is_not_best : (e : Exchange) → IsUpheld published (e ∷ []) (nobody_placed ∷ []) → ⊥
+worse_result_afterwards_is_not_best e upheld = not_best ((upheld.best shows_best).0.now refl)
 
 -- ---- the right visit: a path that nobody has, and its 404
 
 abbrev pub right : Visit
-right = visit plain_bytes sent (Ended Closed) exchange published
+right = record {
+  bytes = plain_bytes;
+  written = sent;
+  finish = Ended Closed;
+  exchanges = exchange ∷ [];
+  worlds = published ∷ [];
+}
 
 is_right : IsVisit published right
 unfolding route_at the_paths
 is_right = record { tells = plain_tells; run = (inl (refl, refl), tt) }
 
-pub right_visit_is_upheld : IsUpheld published (right ∷ [])
-right_visit_is_upheld = record {
-  are = (is_right, tt);
-  good = (published_good, tt);
-  unseen = λ c. ((λ member other office. refl), tt);
-  published = ((λ e. absurd (cc)), tt);
-  best = λ shows. (shows, tt);
-}
+pub right_visit_is_upheld : AreVisits published (right ∷ []) × IsUpheld published right.exchanges right.worlds
+right_visit_is_upheld = (
+  (is_right, tt),
+  record {
+    run = is_right.run;
+    good = (published_good, tt);
+    unseen = λ c. ((λ member other office. refl), tt);
+    published = ((λ e. absurd (cc)), tt);
+    best = λ shows. (shows, tt);
+  },
+)
 
 -- ---- alike: other replies to a caller who asks the same
 

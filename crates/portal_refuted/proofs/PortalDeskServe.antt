@@ -160,23 +160,23 @@ one_request_is_served = record {
   settles = refl;
 }
 
--- the one exchange of this stream, whoever serves it
+-- the one exchange of this stream, whoever serves it and from whatever world
 pub record Told (written : List ℕ) : Type 0 where
   pub reply : Answer
   pub text_is : written ≡ reply_text reply false true
   pub reply_is : (reply ≡ no_route_reply) ⊎ (reply ≡ unavailable)
 
-same_reply : (a : Answer) (v : World) → Serves listed (request_of true plain_asked) a v
+pub same_reply : (w : World) (a : Answer) (v : World) → Serves w (request_of true plain_asked) a v
     → (a ≡ no_route_reply) ⊎ (a ≡ unavailable)
 unfolding route_at the_paths
-same_reply a v (inl answers) = inl answers.0
-same_reply a v (inr failed) = inr failed.0
+same_reply w a v (inl answers) = inl answers.0
+same_reply w a v (inr failed) = inr failed.0
 
 first_reply : (r : Request) (a : Answer) (worlds : List World) → r ≡ request_of true plain_asked
     → Run listed (r ∷ []) (a ∷ []) worlds
     → (a ≡ no_route_reply) ⊎ (a ≡ unavailable)
 first_reply r a [] is run = absurd run
-first_reply r a (v ∷ worlds) is run = same_reply a v (subst (λ (q : Request). Serves listed q a v) is run.0)
+first_reply r a (v ∷ worlds) is run = same_reply listed a v (subst (λ (q : Request). Serves listed q a v) is run.0)
 
 abbrev no_more : List Request
 no_more = []
@@ -202,7 +202,7 @@ told (e ∷ []) written counted moved tells =
     let asks = asks_plain e written tells in
     record { reply = e.reply; text_is = asks.1; reply_is = first_reply e.request e.reply found.0 asks.0 found.1 }
 
-tells_once : (after : List ℕ)
+pub tells_once : (after : List ℕ)
     → ServesOne state (Ok served_one) desk desk (Some plain_bytes) (Some []) (Some []) (Some after) → Told after
 tells_once after one =
     subst Told (sym one.served.1.adds) (told one.served.0 one.served.1.written one.served.1.counted one.served.1.moves one.served.1.tells)
@@ -212,14 +212,14 @@ pub not_found : get_or (reply_text no_route_reply false true) 9 0 ≡ 52
 unfolding common_lines digits
 not_found = refl
 
-not_available : get_or (reply_text unavailable false true) 9 0 ≡ 53
+pub not_available : get_or (reply_text unavailable false true) 9 0 ≡ 53
 unfolding common_lines digits
 not_available = refl
 
 abbrev pub digit : List ℕ → ℕ
 digit bytes = get_or bytes 9 0
 
-other_digit : (after : List ℕ) (n : ℕ) → digit after ≡ n → n < 52 → Told after → ⊥
+pub other_digit : (after : List ℕ) (n : ℕ) → digit after ≡ n → n < 52 → Told after → ⊥
 other_digit after n is low one = elim (one.reply_is) [
   | inl is_so ↦ omega (arith, is, low, not_found, ap digit one.text_is, ap (λ a. digit (reply_text a false true)) is_so)
   | inr is_so ↦ omega (arith, is, low, not_available, ap digit one.text_is, ap (λ a. digit (reply_text a false true)) is_so)
@@ -234,20 +234,19 @@ sent_twice : digit (sent ++ sent) ≡ 52
 unfolding common_lines digits
 sent_twice = refl
 
+pub not_twice : Told (sent ++ sent) → ⊥
+not_twice one = elim (one.reply_is) [
+  | inl is_so ↦
+      let same : once ++ once ≡ once = ap (λ t. t ++ t) (sym (append-nil once)) ∙ (one.text_is ∙ ap (λ a. reply_text a false true) is_so) in
+      omega (arith, not_found, ap digit (not_itself_twice once same))
+  | inr is_so ↦ omega (arith, sent_twice, not_available, ap digit one.text_is, ap (λ a. digit (reply_text a false true)) is_so)
+] where
+  once : List ℕ
+  once = reply_text no_route_reply false true
+
 pub reply_written_twice_tells_no_exchanges : ServesOne state (Ok served_one) desk desk (Some plain_bytes) (Some [])
     (Some []) (Some (sent ++ sent)) → ⊥
 reply_written_twice_tells_no_exchanges one = not_twice (tells_once (sent ++ sent) one)
-  where
-    once : List ℕ
-    once = reply_text no_route_reply false true
-
-    not_twice : Told (sent ++ sent) → ⊥
-    not_twice one = elim (one.reply_is) [
-      | inl is_so ↦
-          let same : once ++ once ≡ once = ap (λ t. t ++ t) (sym (append-nil once)) ∙ (one.text_is ∙ ap (λ a. reply_text a false true) is_so) in
-          omega (arith, not_found, ap digit (not_itself_twice once same))
-      | inr is_so ↦ omega (arith, sent_twice, not_available, ap digit one.text_is, ap (λ a. digit (reply_text a false true)) is_so)
-    ]
 
 -- the code of an earlier request, where this one has no line for it
 pub code_of_another_request_tells_no_exchange : (e : Exchange) (written : List ℕ) → length e.request.code ≡ 10

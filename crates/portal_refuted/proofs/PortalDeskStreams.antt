@@ -5,7 +5,7 @@ use Rattle.std.specs.Io.KnownBytes.{Appends}
 use Rattle.portal_rules.specs.Keeping.{KeeperState}
 use Rattle.portal_wire.specs.Conversation.{Ends, Exchange, Rest}
 use Rattle.portal_desk.specs.Headline.{AreServedOn}
-use Rattle.portal_desk.specs.inner.Served.{AreSessionsOf, IsEnded, ServesEach}
+use Rattle.portal_desk.specs.Served.{AreSessionsOf, IsEnded, ServesEach}
 use Rattle.portal_desk.specs.Session.{Ended, Finish, IsSession, Session, Stopped, TellsExchanges}
 use Rattle.portal_refuted.proofs.PortalDeskServe.{no_end, some_text}
 use Rattle.portal_refuted.proofs.PortalFrame.{plain_asked, plain_bytes, plain_opens}

@@ -1,8 +1,8 @@
 -- Refutes wrong outcomes of commands over a file: tables made where no world is left, damaged or foreign tables that
 -- are opened, refusals exchanged, a refused file changed, an upgrade of nothing, requests counted wrong.
-use Rattle.std.proofs.Common.{◌≡◌, ◌≢◌, ◌⊎◌, ℕ, List, [], ◌∷◌, ◌++◌, length, Some, None, Ok, Err, Option, inl, inr}
-use Rattle.std.proofs.Common.{refl, sym, ap, ◌∙◌, subst, false, arith}
-use Rattle.std.specs.Prelude.{IfSome, pos, Vec}
+use Rattle.std.proofs.Common.{◌≡◌, ◌≢◌, ℕ, List, [], ◌∷◌, ◌++◌, length, Some, Ok, Err, Option, inl, inr}
+use Rattle.std.proofs.Common.{refl, sym, ap, ◌∙◌, subst, false}
+use Rattle.std.specs.Prelude.{IfSome, pos, slice_index_or, Vec}
 use Rattle.std.specs.declared.alloc.Global.{Global}
 use Rattle.sqlite.specs.Effect.{Database}
 use Rattle.sqlite.specs.Tree.{Trees}
@@ -10,7 +10,6 @@ use Rattle.sqlite.specs.Order.{Row, column}
 use Rattle.sqlite.specs.declared.types.Value.TheVariants.{Int}
 use Rattle.portal_rules.specs.Words.{Key}
 use Rattle.portal_rules.specs.World.{World}
-use Rattle.portal_rules.specs.Good.{Good}
 use Rattle.portal_rules.specs.View.{office_sees}
 use Rattle.portal_wire.specs.Conversation.{Exchange, End}
 use Rattle.portal_wire.specs.declared.Ending.TheVariants as ending
@@ -18,14 +17,14 @@ use Rattle.portal_desk.specs.Session.{Ended}
 use Rattle.portal_desk.specs.declared.served.Served.{Served}
 use Rattle.portal_serve.specs.Hall.{office_report}
 use Rattle.portal_tables.specs.Tables.{IsCurrentSchema, IsFirstSchema, no_schema, portal_tree, version}
-use Rattle.portal_store.specs.World.{first_world}
 use Rattle.portal_store.specs.Kept.{AreConsistent}
-use Rattle.portal_store.specs.Crash.{Refutes, ShowsVersion, later_queries}
+use Rattle.portal_store.specs.Crash.{AreOpened, Passes, Refutes, ShowsVersion, first_queries}
 use Rattle.portal_store.specs.declared.store.CreateFault.TheVariants as creating
 use Rattle.portal_store.specs.declared.store.OpenFault.{OpenFault}
 use Rattle.portal_store.specs.declared.store.OpenFault.TheVariants as opening
-use Rattle.portal_file.specs.Tables.{Stands, StandsCurrent, StandsFirst, Stream, Work, Version, First, Current, opened_over}
-use Rattle.portal_file.specs.Jobs.{AreOpened, AreRefused, Devices, IsSame, MakesTables, OpensTables, PipesStream}
+use Rattle.portal_store.specs.declared.store.UpgradeFault.TheVariants as upgrading
+use Rattle.portal_file.specs.Tables.{Stands, StandsCurrent, StandsFirst, Stream, Work, Version, Current, opened_over}
+use Rattle.portal_file.specs.Jobs.{Devices, MakesTables, OpensTables, PipesStream}
 use Rattle.portal_file.specs.Jobs.{ReportsWorld, ServesRequests, UpgradesTables}
 
 -- work that begins with this database, and leaves these trees
@@ -81,7 +80,7 @@ exists_told_of_a_table_is_right office db some = record {
 pub damaged_tables_are_not_opened : {A : Type 0} (x : A) (db : Database) (left : Trees) → IsCurrentSchema db.schema
     → ((w : World) → StandsCurrent db w → ⊥)
     → OpensTables (Ok x) (over db left) → ⊥
-damaged_tables_are_not_opened x db left own none opens = let found = opens.judged.good own in none found.0 found.1
+damaged_tables_are_not_opened x db left own none opens = let found = opens.stood own in none found.0 found.1
 
 pub damaged_tables_are_not_served : {A : Type 0} (x : A) (Told : List Exchange → Type 0) (db : Database) (left : Trees)
     → IsCurrentSchema db.schema → ((w : World) → StandsCurrent db w → ⊥)
@@ -91,14 +90,34 @@ damaged_tables_are_not_served x Told db left own none serves = damaged_tables_ar
 -- another program's database, which shows no version 2
 pub tables_without_version_2_are_not_opened : {A : Type 0} (x : A) (db : Database) (left : Trees)
     → (ShowsVersion version (opened_over db) → ⊥) → OpensTables (Ok x) (over db left) → ⊥
-tables_without_version_2_are_not_opened x db left none opens = none opens.judged.shows
+tables_without_version_2_are_not_opened x db left none opens = none opens.judged.suits.shows
+
+-- other tables that do not answer the first six queries
+pub tables_that_answer_no_query_are_not_opened : {A : Type 0} (x : A) (db : Database) (left : Trees)
+    → (Passes (IsCurrentSchema db.schema) first_queries (opened_over db) → ⊥)
+    → OpensTables (Ok x) (over db left) → ⊥
+tables_that_answer_no_query_are_not_opened x db left none opens = none opens.judged.suits.passes
 
 -- own tables with a good world are opened
+
+opened : (db : Database) (w : World) → ShowsVersion version (opened_over db) → StandsCurrent db w → AreOpened (opened_over db)
+opened db w shows stands =
+    let office = stands.stands.1.office in
+    record {
+      suits = record { passes = inl stands.schema; shows = shows; passes_later = inl stands.schema };
+      version_is = λ _. record {
+        there = λ none. let e = sym office.is ∙ none in cc;
+        version_is = λ row is. ap (λ (rows : List Row). column (slice_index_or rows 0 []) 2) (sym is ∙ office.is);
+      };
+      good = λ _. stands.stands;
+    }
+
 pub good_tables_are_opened : {A : Type 0} (x : A) (db : Database) (w : World) → ShowsVersion version (opened_over db)
     → StandsCurrent db w → AreConsistent db.trees
     → OpensTables (Ok x) (over db db.trees)
 good_tables_are_opened x db w shows stands consistent = record {
-  judged = record { shows = shows; good = λ _. (w, stands) };
+  judged = opened db w shows stands;
+  stood = λ _. (w, stands);
   refused = tt;
   lasting = λ _. consistent;
   kept = tt;
@@ -135,11 +154,12 @@ pub refused_tables_that_change_are_refuted : {A : Type 0} (fault : OpenFault) (d
 refused_tables_that_change_are_refuted fault db left changed opens = changed opens.kept
 
 -- own tables of version 2 with no good world are `Damaged`, and stay
-pub damaged_tables_are_refused : {A : Type 0} (db : Database) → ShowsVersion version (opened_over db)
+pub damaged_tables_are_refused : {A : Type 0} (db : Database) → IsCurrentSchema db.schema → ShowsVersion version (opened_over db)
     → Refutes opening.Damaged db.trees
     → ((w : World) → StandsCurrent db w → ⊥) → OpensTables {A = A} (Err opening.Damaged) (over db db.trees)
-damaged_tables_are_refused db shows refutes none = record {
-  judged = record { explained = shows; refuted = λ _. refutes };
+damaged_tables_are_refused db own shows refutes none = record {
+  judged = record { explained = record { passes = inl own; shows = shows; passes_later = inl own }; refuted = λ _. refutes };
+  stood = tt;
   refused = λ w stands. absurd (none w stands);
   lasting = tt;
   kept = refl;
@@ -151,12 +171,17 @@ damaged_tables_are_refused db shows refutes none = record {
 pub damaged_tables_are_not_upgraded : {A : Type 0} (x : A) (db : Database) (left : Trees) → IsFirstSchema db.schema
     → ((w : World) → StandsFirst db w → ⊥)
     → UpgradesTables (Ok x) (over db left) → ⊥
-damaged_tables_are_not_upgraded x db left own none upgrades = let found = upgrades.judged.good own in none found.0 found.1
+damaged_tables_are_not_upgraded x db left own none upgrades = let found = upgrades.stood own in none found.0 found.1
 
 -- `upgraded` of a year of version 2
 pub version_2_upgraded_again_is_refuted : {A : Type 0} (x : A) (db : Database) (left : Trees) (w : World) → StandsCurrent db w
     → UpgradesTables (Ok x) (over db left) → ⊥
 version_2_upgraded_again_is_refuted x db left w stands upgrades = upgrades.none w stands
+
+-- a refused file, whatever it holds, is not changed, nor left upgraded
+pub refused_upgrade_that_changes_is_refuted : {A : Type 0} (db : Database) (left : Trees) → left ≢ db.trees
+    → UpgradesTables {A = A} (Err upgrading.Damaged) (over db left) → ⊥
+refused_upgrade_that_changes_is_refuted db left changed upgrades = elim upgrades.kept [ inl same ↦ changed same | inr never ↦ never ]
 
 -- ---- the report
 
@@ -200,7 +225,8 @@ pub no_request_counted_of_none_is_right : (db : Database) (w : World) → ShowsV
 no_request_counted_of_none_is_right db w shows stands consistent = record {
   serves = ([], Some nothing, (refl, refl), record { known = known; counted = refl; ended = (false, refl) });
   opens = record {
-    judged = record { shows = shows; good = λ _. (w, stands) };
+    judged = opened db w shows stands;
+    stood = λ _. (w, stands);
     refused = tt;
     lasting = λ _. consistent;
     kept = tt;
