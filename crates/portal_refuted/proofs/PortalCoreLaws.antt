@@ -50,7 +50,7 @@ ann = codes "ann-code-1"
 abbrev by : Key → AbstractCall → Request
 by code ask = record { code = code; head = false; closes = false; wish = Calls ask }
 
-abbrev new : World
+abbrev pub new : World
 new = record { round = First; phase = Setup; office = office; lecturers = []; projects = []; students = [] }
 
 abbrev lecturers : List LecturerRow
@@ -77,7 +77,7 @@ with_students = changed with_projects (Students students)
 abbrev opened : World
 opened = changed with_students (To Choosing)
 
-good_new : Good new
+pub good_new : Good new
 good_new = record {
   sound = record {
     lecturers_rise = tt;

@@ -28,7 +28,7 @@ use Rattle.portal_file.specs.Jobs.{Devices, MakesTables, OpensTables, PipesStrea
 use Rattle.portal_file.specs.Jobs.{ReportsWorld, ServesRequests, UpgradesTables}
 
 -- work that begins with this database, and leaves these trees
-abbrev over : Database → Trees → Work
+abbrev pub over : Database → Trees → Work
 over db left = record {
   finds = λ version w. Stands version db w;
   is_new = ⊥;

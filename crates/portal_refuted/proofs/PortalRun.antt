@@ -38,23 +38,12 @@ use Rattle.portal_run.specs.Lines.{Says, bad_code, fault, hall_line, listening_l
 use Rattle.portal_run.specs.Databases.{CountsUpTo, Inits, Known, Listens, Performs, PerformsNamed, after, create_refusal, cause_of}
 use Rattle.portal_run.specs.Databases.{end_said, first_line, hall_said, making, piping, report_said, reporting, said_of, serving}
 use Rattle.portal_run.specs.Databases.{stream_said, upgrading as to_upgrade}
-use Rattle.portal_refuted.proofs.PortalFile.{another_report_is_refuted, made_of_a_database_with_a_table_is_refuted}
+use Rattle.portal_refuted.proofs.PortalFile.{another_report_is_refuted, made_of_a_database_with_a_table_is_refuted, over}
 use Rattle.portal_refuted.proofs.PortalFile.{refused_tables_that_change_are_refuted, tables_without_version_2_are_not_opened}
 
 -- databases over each of which only this work was done
 abbrev only : Work → Known
 only work = record { stands = λ path place. Unit {0}; over = λ path Does. Does work }
-
--- work that begins with this database, and leaves these trees
-abbrev over : Database → Trees → Work
-over db left = record {
-  finds = λ version w. Stands version db w;
-  is_new = ⊥;
-  begins = λ Kind. Kind db;
-  ends = λ Comes. Comes db left;
-  leaves = λ version Kind. (w : World) × Kind w × (after : Database) × (after.trees ≡ left) × Stands version after w;
-  serves = λ es stream. Unit {0};
-}
 
 -- ---- a status of success
 

@@ -5,11 +5,9 @@ use Rattle.std.proofs.Common.{refl, sym, ap, ◌∙◌, subst, arith}
 use Rattle.std.specs.Bool.{MatchBool}
 use Rattle.std.specs.Fmt.{digits}
 use Rattle.std.specs.List.{AllByRecursion}
-use Rattle.std.specs.Prelude.{codes}
 use Rattle.httparse.specs.Grammar.{print_request}
 use Rattle.portal_frame.proofs.Unique.{Opens-unique}
 use Rattle.portal_frame.specs.Stream.{HasNoHead, Opens, RequestContent, fault, over, whole}
-use Rattle.portal_rules.specs.Good.{Good}
 use Rattle.portal_rules.specs.Run.{Request, Run, Serves, end_of}
 use Rattle.portal_rules.specs.World.{World}
 use Rattle.portal_wire.specs.Conversation.{Closed, End, Ends, Exchange, Last, Leads, Limit, Refused, Rest}
@@ -20,8 +18,8 @@ use Rattle.portal_desk.proofs.Heeding.{same_texts, whole_run}
 use Rattle.portal_desk.specs.declared.served.Cause.{Cause}
 use Rattle.portal_desk.specs.Headline.{AreVisits, HasPromise, Visit, exchanges_of, worlds_of}
 use Rattle.portal_desk.specs.Session.{Ended, Finish, Stopped, TellsExchanges}
-use Rattle.portal_store.specs.World.{first_world}
 use Rattle.portal_whole.specs.Whole.{IsServedToEnd, KeepsPromise}
+use Rattle.portal_refuted.proofs.PortalCoreLaws.{good_new, new}
 use Rattle.portal_refuted.proofs.PortalDeskServe.{Told, asks_plain, digit, exchange, no_end, not_twice, other_digit}
 use Rattle.portal_refuted.proofs.PortalDeskServe.{plain_tells, same_reply, sent}
 use Rattle.portal_refuted.proofs.PortalFrame.{plain_asked, plain_bytes, plain_opens}
@@ -192,39 +190,6 @@ last_stream_over_a_new_store_has_no_promise w v bytes written finish changed pro
 
 -- ---- the right texts, of a new store
 
-abbrev new : World
-new = first_world (codes "office-code-0")
-
-new_good : Good new
-new_good = record {
-  sound = record {
-    lecturers_rise = tt;
-    projects_rise = tt;
-    students_rise = tt;
-    lecturer_forms = tt;
-    project_forms = tt;
-    student_forms = tt;
-    office_form = refl;
-    few_lecturers = omega arith;
-    few_projects = omega arith;
-    few_students = omega arith;
-    codes = (refl, tt);
-    lecturers_known = tt;
-    choices = tt;
-    no_choices_yet = λ e. tt;
-    no_rankings_yet = λ e. tt;
-    rankings = tt;
-    no_result_yet = λ e. tt;
-    all_ranked = λ e. tt;
-    no_earlier_lists = λ e. tt;
-    no_earlier_rankings = λ e. tt;
-    no_second_setup = λ e. absurd (cc);
-    only_left = tt;
-  };
-  stable = λ e. absurd (cc);
-  before = λ e. absurd (cc);
-}
-
 abbrev silent : Visit
 silent = record { bytes = []; written = []; finish = Ended End; exchanges = []; worlds = [] }
 
@@ -246,7 +211,7 @@ right_promise = (
   are_right,
   record {
     run = whole_run new visits are_right;
-    good = (new_good, tt);
+    good = (good_new, tt);
     unseen = λ c. ((λ member other office. refl), tt);
     published = ((λ off on. absurd (cc)), tt);
     best = λ shows. (shows, tt);
