@@ -1,7 +1,7 @@
 -- Refutes wrong outcomes of commands over a file: tables made where no world is left, damaged or foreign tables that
 -- are opened, refusals exchanged, a refused file changed, an upgrade of nothing, requests counted wrong.
 use Rattle.std.proofs.Common.{◌≡◌, ◌≢◌, ℕ, List, [], ◌∷◌, ◌++◌, length, Some, Ok, Err, Option, inl, inr}
-use Rattle.std.proofs.Common.{refl, sym, ap, ◌∙◌, subst, false}
+use Rattle.std.proofs.Common.{refl, sym, ap, ◌∙◌, subst, true, false}
 use Rattle.std.specs.Prelude.{IfSome, pos, slice_index_or, Vec}
 use Rattle.std.specs.declared.alloc.Global.{Global}
 use Rattle.sqlite.specs.Effect.{Database}
@@ -24,6 +24,12 @@ use Rattle.portal_store.specs.declared.store.OpenFault.{OpenFault}
 use Rattle.portal_store.specs.declared.store.OpenFault.TheVariants as opening
 use Rattle.portal_store.specs.declared.store.UpgradeFault.TheVariants as upgrading
 use Rattle.portal_file.specs.Tables.{Stands, StandsCurrent, StandsFirst, Stream, Work, Version, Current, opened_over}
+use Rattle.sqlite_disk.specs.declared.Disk.{Ghosts}
+use Rattle.sqlite_disk.specs.declared.Files.{Files}
+use Rattle.sqlite_trees.specs.View.{IsClean}
+use Rattle.sqlite_store.specs.declared.store.FileStore.{FileStore}
+use Rattle.sqlite_store.specs.FileStore.{HasSpilled, files, log_frames, view}
+use Rattle.portal_file.specs.Closing.{IsCopied}
 use Rattle.portal_file.specs.Jobs.{Devices, MakesTables, OpensTables, PipesStream}
 use Rattle.portal_file.specs.Jobs.{ReportsWorld, ServesRequests, UpgradesTables}
 
@@ -194,8 +200,8 @@ another_report_is_refuted text db left w stands other reports = other (reports.t
 -- ---- requests counted
 
 -- work that serves these requests of this stream, and no others
-abbrev serving : List Exchange → Stream → Database → Work
-serving es stream db = record {
+abbrev pub streaming : List Exchange → Stream → Database → Work
+streaming es stream db = record {
   finds = λ version w. Stands version db w;
   is_new = ⊥;
   begins = λ Kind. Kind db;
@@ -206,7 +212,7 @@ serving es stream db = record {
 
 pub requests_counted_wrong_are_refuted : (es : List Exchange) (stream : Stream) (db : Database) (served : Served) (ends : Devices)
     → served.requests ≢ length es
-    → PipesStream (Ok (Ok served)) ends (serving es stream db) → ⊥
+    → PipesStream (Ok (Ok served)) ends (streaming es stream db) → ⊥
 requests_counted_wrong_are_refuted es stream db served ends wrong pipes =
     let (fs, s, (same, known), reports) = pipes.serves in
     let counted : served.requests ≡ length fs = subst (λ (o : Option Stream). IfSome o (λ _. served.requests ≡ length fs)) known reports.counted in
@@ -221,7 +227,7 @@ still = record { remaining = Some []; left = Some []; before = Some []; after = 
 -- a stream of no requests over own tables with a good world
 pub no_request_counted_of_none_is_right : (db : Database) (w : World) → ShowsVersion version (opened_over db) → StandsCurrent db w
     → AreConsistent db.trees
-    → PipesStream (Ok (Ok (record { requests = 0; ending = ending.End }))) still (serving [] nothing db)
+    → PipesStream (Ok (Ok (record { requests = 0; ending = ending.End }))) still (streaming [] nothing db)
 no_request_counted_of_none_is_right db w shows stands consistent = record {
   serves = ([], Some nothing, (refl, refl), record { known = known; counted = refl; ended = (false, refl) });
   opens = record {
@@ -238,3 +244,18 @@ no_request_counted_of_none_is_right db w shows stands consistent = record {
       let none_after : [] ≡ after = cc in
       let none_before : [] ≡ before = cc in
       (cc, sym none_after ∙ ap (λ (x : List ℕ). x ++ []) none_before)
+
+-- ---- the log copied
+
+-- `Ok` of a store that stands, though frames of its log are left
+pub log_that_is_left_is_not_copied : {D : Type 0} {g : Ghosts D} (old : FileStore D g) (closed : Files D)
+    → IsClean (view old) → (view old).is_broken ≡ false → (HasSpilled old → ⊥)
+    → ((new : FileStore D g) → (closed.log, closed.db) ≡ files new → log_frames new ≡ 0 → ⊥)
+    → IsCopied old closed → ⊥
+log_that_is_left_is_not_copied old closed clean sound spilled left (inl broken) =
+    let e : true ≡ false = sym (broken clean) ∙ sound in cc
+log_that_is_left_is_not_copied old closed clean sound spilled left (inr (new, is, none)) = left new is (none spilled)
+
+pub log_without_frames_is_copied : {D : Type 0} {g : Ghosts D} (old new : FileStore D g) (closed : Files D)
+    → (closed.log, closed.db) ≡ files new → log_frames new ≡ 0 → IsCopied old closed
+log_without_frames_is_copied old new closed is none = inr (new, is, λ spilled. none)

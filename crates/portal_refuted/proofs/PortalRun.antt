@@ -39,6 +39,7 @@ use Rattle.portal_run.specs.Databases.{CountsUpTo, Inits, Known, Listens, Perfor
 use Rattle.portal_run.specs.Databases.{end_said, first_line, hall_said, making, piping, report_said, reporting, said_of, serving}
 use Rattle.portal_run.specs.Databases.{stream_said, upgrading as to_upgrade}
 use Rattle.portal_refuted.proofs.PortalFile.{another_report_is_refuted, made_of_a_database_with_a_table_is_refuted, over}
+use Rattle.portal_refuted.proofs.PortalFile.{streaming}
 use Rattle.portal_refuted.proofs.PortalFile.{refused_tables_that_change_are_refuted, tables_without_version_2_are_not_opened}
 
 -- databases over each of which only this work was done
@@ -182,17 +183,6 @@ made_up_report_is_refuted db left w path text stands other (inr works) = of work
     of (Err found) did says = no_refusal (as_upgrading found) _ _ says
 
 -- ---- replies
-
--- work that serves these requests of this stream, and no others
-abbrev streaming : List Exchange → Stream → Database → Work
-streaming es stream db = record {
-  finds = λ version w. Stands version db w;
-  is_new = ⊥;
-  begins = λ Kind. Kind db;
-  ends = λ Comes. Comes db db.trees;
-  leaves = λ version P. ⊥;
-  serves = λ fs s. (fs ≡ es) × (s ≡ Some stream);
-}
 
 abbrev ends_of : Text → Text → Devices
 ends_of bytes written = record { remaining = Some bytes; left = Some []; before = Some []; after = Some written }
