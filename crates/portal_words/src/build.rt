@@ -12,7 +12,7 @@ use clap::{Arg, Command};
 use std::alloc::{AllocError, Global};
 
 /// The version of the portal, as `portal --version` prints it.
-const VERSION: &str = "1.1.0";
+const VERSION: &str = "1.2.0";
 
 const CHECK_PRINTS: &str =
     "Prints a line `block STUDENT PROJECT LETTER` for each pair, and then `blocking N`.
