@@ -4,6 +4,8 @@ import os
 import socket
 import subprocess
 
+from ports import free_port
+
 TOP = os.path.dirname(os.path.dirname(os.path.dirname(os.path.abspath(__file__))))
 with open(os.path.join(TOP, "checks", "constants.json"), encoding="utf-8") as _file:
     CONSTANTS = json.load(_file)
@@ -29,12 +31,6 @@ def ran(program, *words, stdin=b"", before=None, timeout=None):
     """What the program prints, and its status; `before` is done in its process first."""
     done = subprocess.run([program, *words], input=stdin, stdout=subprocess.PIPE, preexec_fn=before, timeout=timeout)
     return done.stdout, done.returncode
-
-
-def free_port():
-    with socket.socket() as free:
-        free.bind(("127.0.0.1", 0))
-        return free.getsockname()[1]
 
 
 def serving(program, path, connections=100000, before=None):

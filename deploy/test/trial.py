@@ -13,6 +13,8 @@ import time
 
 TOP = os.path.dirname(os.path.dirname(os.path.dirname(os.path.abspath(__file__))))
 DEPLOY = os.path.join(TOP, "deploy")
+sys.path.append(os.path.join(TOP, "checks", "plain"))
+from ports import free_port  # noqa: E402, F401
 with open(os.path.join(TOP, "checks", "constants.json"), encoding="utf-8") as file:
     CONSTANTS = json.load(file)
 LIMITS = CONSTANTS["limits"]
@@ -24,13 +26,6 @@ STUDENTS = b'id,name,code\nS1,Ann,ann-code-1\nS2,"Roe, Bea",bea-code-2\nS3,Cyr,c
 PROGRAM = os.environ.get("PORTAL_PROGRAM") or os.path.join(TOP, "crates", "portal", "out", "portal")
 if not os.access(PROGRAM, os.X_OK):
     sys.exit(f"the program is not built: there is no {PROGRAM}; ./portal builds it")
-
-
-def free_port():
-    """A port of this machine that nobody listens on."""
-    with socket.socket() as free:
-        free.bind(("127.0.0.1", 0))
-        return free.getsockname()[1]
 
 
 def low_port():

@@ -17,8 +17,9 @@ WEB = Path(__file__).resolve().parent.parent
 TOP = WEB.parent
 OFFICE = "office-of-2026"
 
-sys.path += [str(TOP / "examples"), str(TOP / "deploy")]
+sys.path += [str(TOP / "examples"), str(TOP / "deploy"), str(TOP / "checks/plain")]
 from large import Large, STEPS  # noqa: E402
+from ports import free_port  # noqa: E402
 from standin import StandIn  # noqa: E402
 
 # The databases of the large department, by the step to which each was played: once for all tests of a run.
@@ -42,14 +43,10 @@ def program():
     return path.resolve() if path.is_file() else None
 
 
-def free_port():
-    with socket.socket() as free:
-        free.bind(("127.0.0.1", 0))
-        return free.getsockname()[1]
-
-
-def wait_for(port):
+def wait_for(port, process):
     for _ in range(1200):
+        if process.poll() is not None:
+            raise RuntimeError(f"{process.args[0]} has ended, with status {process.returncode}")
         with socket.socket() as client:
             if client.connect_ex(("127.0.0.1", port)) == 0:
                 return
@@ -94,7 +91,7 @@ class Door:
     def start_portal(self):
         words = [program(), "serve", self.path / "year.db", "--port", str(self.portal_port), "--connections", "100000"]
         self.portal = subprocess.Popen(words, stdout=subprocess.DEVNULL)
-        wait_for(self.portal_port)
+        wait_for(self.portal_port, self.portal)
 
     def stop_portal(self):
         self.portal.kill()
@@ -110,7 +107,7 @@ class Door:
         words = ["caddy", "run", "--config", TOP / "deploy/Caddyfile", "--adapter", "caddyfile"]
         with open(self.path / "door.log", "w") as log:
             self.door = subprocess.Popen(words, stdout=log, stderr=log, env={**os.environ, **own})
-        wait_for(self.port)
+        wait_for(self.port, self.door)
 
     def stop_door(self):
         self.door.terminate()
